@@ -1,0 +1,28 @@
+-- An environment on which no refusal is due can be indexed, and all that its bounds lead to is declared.
+use Prim.Native.Nat.{ℕ, zero, suc, _≤_}
+use mathlib.Core.Bool.{Bool}
+use mathlib.Core.Path.{_≡_, refl}
+use native.Mathlib.Omega.{arith}
+use lib.ListN.{length, replicate, length-take}
+use Rattle.lifetimes.specs.declared.env.LifetimeEnv.{LifetimeEnv}
+use Rattle.lifetimes.specs.Env.{boundsOf}
+use Rattle.lifetimes.specs.Index.{Fine, graphOf, Zeros, Within}
+use Rattle.lifetimes.proofs.EnvLaws.{Valid, far-declared}
+
+module _ {e : LifetimeEnv} (v : Valid e) where
+  pub bounds-length : length (e .bounds) ≡ 256 → length (boundsOf e) ≡ e .pushed
+  bounds-length full = simp length-take (omega (arith, v .few))
+
+  pub bounds-fine : length (e .bounds) ≡ 256 → Fine (boundsOf e)
+  bounds-fine full = record {
+    few = omega (arith, bounds-length full, v .few);
+    small = λ b k. let h = v .below b k in omega (arith, h, v .declares, v .counted);
+  }
+
+  pub bounds-within : (d : Bool) (n : ℕ) → e .declared ≤ n → Within (graphOf d e) n
+  bounds-within d n h b k = omega (arith, far-declared d v b k)
+
+pub zeros : (n : ℕ) → Zeros (replicate n 0)
+zeros zero x = refl
+zeros (suc n) zero = refl
+zeros (suc n) (suc x) = zeros n x

@@ -1,0 +1,27 @@
+-- Laws of the definitions, and of the loops over plain values.
+-- Of definitions:
+pub mod SetLaws
+pub mod WordLaws
+pub mod RefusalLaws
+pub mod Answering
+pub mod EnvLaws
+pub mod NeighbourLaws
+pub mod WalkLaws
+pub mod OutlivesLaws
+pub mod ReachLaws
+pub mod IntegerLaws
+pub mod ChainLaws
+pub mod IndexLaws
+-- The main theorems:
+pub mod Theorems
+-- Of loops:
+pub mod MembersLoop
+pub mod EnvLoops
+pub mod PairLaws
+pub mod Linking
+pub mod Skipping
+pub mod Walking
+pub mod Copying
+pub mod Laying
+-- Answers:
+pub mod Traversing

@@ -1,0 +1,148 @@
+-- Pairs longer, shorter as words: how a loop reads them, and the loops of `pairs_below` and `filled`. Then the answers of `LifetimeEnv::new`.
+use Prim.Native.Nat.{ℕ, zero, suc, _+_, _-_, _/_, _%_, _≤_, _<_}
+use mathlib.Core.Bool.{true, false}
+use mathlib.Core.Path.{_≡_, refl, ap, _∙_}
+use mathlib.Core.List.{List, [], _∷_, _++_}
+use native.Mathlib.Nat.{zero-add, sub-zero, zero-sub, suc-sub-suc}
+use native.Mathlib.Numerals.{add-one}
+use native.Mathlib.Omega.{arith}
+use borrow.Author.Tests.{eq-eqb, ne-eqb}
+use lib.ListN.{length, getD, drop, set, replicate, drop-of-length-le}
+use lib.Seq.{drop-cons, sets, sets-eq}
+use Rattle.lifetimes.specs.declared.answer.Refusal.{Refusal}
+use Rattle.lifetimes.specs.declared.answer.Refusal.the-variants.{Malformed}
+use Rattle.lifetimes.specs.declared.answer.Verdict.the-variants.{Accepted, Refused}
+use Rattle.lifetimes.specs.declared.lifetime.Lifetime.{Lifetime}
+use Rattle.lifetimes.specs.declared.env.Bound.{Bound}
+use Rattle.lifetimes.specs.declared.env.LifetimeEnv.{LifetimeEnv}
+use Rattle.lifetimes.specs.declared.env.Made.{Made}
+use Rattle.lifetimes.specs.Numbers.{lifetime}
+use Rattle.lifetimes.specs.Refusals.{FirstDue, here, later, NoneDue, next}
+use Rattle.lifetimes.specs.Env.{above, bothBelow, allBelow, limitChecks, pairsOf, newChecks, envOf, newEnv, made}
+use Rattle.lifetimes.proofs.RefusalLaws.{due-given, due-refused}
+
+-- ---- reading the pairs, from the first to the last
+
+-- at most a bound for every two words
+pairs-few : (words : List ℕ) → length (pairsOf words) + length (pairsOf words) ≤ length words
+unfolding pairsOf
+pairs-few [] = omega arith
+pairs-few (l ∷ []) = omega arith
+pairs-few (l ∷ s ∷ words) = let r = pairs-few words in omega arith
+
+pairs-end : (words : List ℕ) (i : ℕ) → length words ≤ i → pairsOf (drop i words) ≡ []
+unfolding pairsOf
+pairs-end words i h = rw (drop-of-length-le words {i = i} h)
+
+-- a pair begins at i, or the words have ended
+pub record AtPair (words : List ℕ) (i : ℕ) : Type 0 where
+  pub even : (length words - i) % 2 ≡ 0
+
+at-start : (words : List ℕ) → length words % 2 ≡ 0 → AtPair words 0
+at-start words e = record { even = omega arith }
+
+module _ {words : List ℕ} {i : ℕ} (at : AtPair words i) (h : i < length words) where
+  pub pair-second : i + 1 < length words
+  pair-second = omega (arith, at .even)
+
+  pair-next : AtPair words (i + 2)
+  pair-next = record { even = omega (arith, at .even) }
+
+  module _ {a b : Lifetime} (ea : a ≡ lifetime (getD words i 0)) (eb : b ≡ lifetime (getD words (i + 1) 0)) where
+    pair-read : pairsOf (drop i words) ≡ record { longer = a; shorter = b } ∷ pairsOf (drop (i + 2) words)
+    unfolding pairsOf
+    pair-read =
+        let two : i + 2 ≡ suc (suc i) = omega arith in
+        let k : suc i < length words = omega (arith, pair-second) in
+        rw (ea, eb, two, add-one i, drop-cons words i 0 h, drop-cons words (suc i) 0 k)
+
+-- ---- `pairs_below`
+
+pub record Below (limit : ℕ) (words : List ℕ) (i : ℕ) : Type 0 where
+  pub at : AtPair words i
+  pub left : allBelow limit (pairsOf words) ≡ allBelow limit (pairsOf (drop i words))
+
+pub below-start : (limit : ℕ) (words : List ℕ) → length words % 2 ≡ 0 → Below limit words 0
+below-start limit words e = record { at = at-start words e; left = refl }
+
+module _ {limit : ℕ} {words : List ℕ} {i : ℕ} (inv : Below limit words i) where
+  pub below-end : length words ≤ i → true ≡ allBelow limit (pairsOf words)
+  unfolding allBelow
+  below-end h = rw (inv .left, pairs-end words i h)
+
+  module _ (h : i < length words) {a b : Lifetime} (ea : a ≡ lifetime (getD words i 0)) (eb : b ≡ lifetime (getD words (i + 1) 0)) where
+    pub below-refused : bothBelow limit (record { longer = a; shorter = b }) ≡ false → false ≡ allBelow limit (pairsOf words)
+    unfolding allBelow
+    below-refused f = rw (inv .left, pair-read (inv .at) h ea eb, f)
+
+    pub below-more : bothBelow limit (record { longer = a; shorter = b }) ≡ true → Below limit words (i + 2)
+    unfolding allBelow
+    below-more t = record { at = pair-next (inv .at) h; left = inv .left ∙ rw (pair-read (inv .at) h ea eb, t) }
+
+-- ---- `filled`
+
+-- what is left to store, stored from here, gives what all pairs give from the array's start
+pub record Filling (words : List ℕ) (bounds : List Bound) (pushed i : ℕ) : Type 0 where
+  pub at : AtPair words i
+  pub places : pushed + length (pairsOf (drop i words)) ≡ length (pairsOf words)
+  pub stored : sets bounds pushed (pairsOf (drop i words)) ≡ sets (replicate 256 (above 0 0)) 0 (pairsOf words)
+
+pub filling-start : (words : List ℕ) → length words % 2 ≡ 0 → {b : Bound} → b ≡ above 0 0 → Filling words (replicate 256 b) 0 0
+filling-start words e {b} q = record { at = at-start words e; places = zero-add (length (pairsOf words)); stored = rw q }
+
+drop-replicate : {A : Type 0} (n m : ℕ) (x : A) → drop n (replicate m x) ≡ replicate (m - n) x
+drop-replicate zero m x = rw sub-zero
+drop-replicate (suc n) zero x = rw zero-sub
+drop-replicate (suc n) (suc m) x = rw suc-sub-suc (drop-replicate n m x)
+
+module _ {words : List ℕ} {bounds : List Bound} {pushed i : ℕ} (inv : Filling words bounds pushed i) where
+  pub filling-more : i < length words → {a b : Lifetime} → a ≡ lifetime (getD words i 0) → b ≡ lifetime (getD words (i + 1) 0)
+      → Filling words (set bounds pushed (record { longer = a; shorter = b })) (pushed + 1) (i + 2)
+  filling-more h ea eb =
+      let e = pair-read (inv .at) h ea eb in
+      record {
+        at = pair-next (inv .at) h;
+        places = omega (arith, inv .places, ap length e);
+        stored = rw (add-one pushed) (rw e at (inv .stored));
+      }
+
+  module _ (few : length words ≤ 512) where
+    pub filling-room : i < length words → pushed < 256
+    filling-room h = omega (arith, inv .places, ap length (pair-read (inv .at) h refl refl), pairs-few words)
+
+    all-stored : length words ≤ i → bounds ≡ pairsOf words ++ replicate (256 - length (pairsOf words)) (above 0 0)
+    all-stored h =
+        rw (pairs-end words i h) at (inv .stored)
+        ∙ sets-eq (pairsOf words) (replicate 256 (above 0 0)) 0 (omega (arith, pairs-few words))
+        ∙ rw (zero-add, drop-replicate (length (pairsOf words)) 256 (above 0 0))
+
+    pub filling-end : length words ≤ i → (declared count : ℕ)
+        → record { declared = declared; count = count; pushed = pushed; bounds = bounds } ≡ envOf declared count (pairsOf words)
+    unfolding envOf
+    filling-end h declared count =
+        let all : pushed ≡ length (pairsOf words) = omega (arith, inv .places, ap length (pairs-end words i h)) in
+        rw (all, all-stored h)
+
+-- ---- `LifetimeEnv::new`
+
+module _ (declared count : ℕ) (words : List ℕ) where
+  refused-by : {r : Refusal} {m : Made} → FirstDue r (newChecks declared count words)
+      → m ≡ record { verdict = Refused r; env = envOf 0 0 [] } → m ≡ made (envOf 0 0 []) (newEnv declared count words)
+  unfolding newEnv
+  refused-by f e = rw (due-refused (envOf declared count (pairsOf words)) f) e
+
+  pub new-half : {m : Made} → length words % 2 ≡ 1
+      → m ≡ record { verdict = Refused Malformed; env = envOf 0 0 [] } → m ≡ made (envOf 0 0 []) (newEnv declared count words)
+  new-half h e = refused-by (here (eq-eqb (length words % 2) 1 h) refl) e
+
+  module _ (even : length words % 2 ≡ 1 → ⊥) where
+    pub new-refused : {r : Refusal} {m : Made} → FirstDue r (limitChecks declared count (length words / 2) (pairsOf words))
+        → m ≡ record { verdict = Refused r; env = envOf 0 0 [] } → m ≡ made (envOf 0 0 []) (newEnv declared count words)
+    new-refused f e = refused-by (later (ne-eqb (length words % 2) 1 even) f) e
+
+    pub new-given : {e : LifetimeEnv} → NoneDue (limitChecks declared count (length words / 2) (pairsOf words))
+        → e ≡ envOf declared count (pairsOf words) → record { verdict = Accepted; env = e } ≡ made (envOf 0 0 []) (newEnv declared count words)
+    unfolding newEnv
+    new-given n e =
+        let none : NoneDue (newChecks declared count words) = next (ne-eqb (length words % 2) 1 even) n in
+        rw (due-given (envOf declared count (pairsOf words)) none, e)

@@ -1,0 +1,327 @@
+-- Laws of specs/Lists.antt and specs/Sets.antt, over plain values.
+-- In order: numbers in a row, the entries that pass a test, membership and one member more, union, equality by members,
+-- the members in ascending order, how many, the set of a list. Assumes nothing.
+use Prim.Native.Nat.{ℕ, zero, suc, _+_, _-_, _/_, _%_, _^_, _≤_, _<_}
+use mathlib.Core.Bool.{Bool, true, false, cond, _||_, true≢false, false≢true}
+use mathlib.Core.Logic.{_⊎_, inl, inr, ⊎-elim, _↔_, ∥∥₁-elim, ∥∥₁-map}
+use mathlib.Core.Path.{_≡_, refl, sym, ap, _∙_}
+use mathlib.Core.List.{List, [], _∷_, _++_, List·Memᴰ, List·Memᴰ·head, List·Memᴰ·tail, List·Memᴰ·not-nil, List·Memᴰ·cases-cons, List·Nodup, Pairwise, Pairwise·nil, Pairwise·cons, Pairwise·imp}
+use native.Mathlib.Nat.{zero-div, div-one, div-self, div-eq-of-lt, div-div-eq-div-mul, mul-mod-left, pow-suc, pow-succ', lt-of-lt-of-le}
+use native.Mathlib.Decide.{decLt, ℕ-discrete}
+use native.Mathlib.Bridge.{le-prop}
+use native.Mathlib.Numerals.{add-one}
+use native.Mathlib.Omega.{arith}
+use lib.Dec.{eqb}
+use lib.ListN.{length, getD}
+use lib.Pow.{pow-pos, pow-lt, pow-mono, pow-add, shl-shr, shr-lt}
+use lib.Bits.{bitOr, or-shr, or-mod, or-lt, or-zero-r}
+use lib.Count.{ones, ones-step, ones-le}
+use Rattle.lifetimes.specs.Lists.{ascending, select}
+use Rattle.lifetimes.specs.Sets.{member, insert, union, members, count, insertAll, setOf}
+
+-- ---- numbers in a row
+
+pub length-ascending : (x n : ℕ) → length (ascending x n) ≡ n
+unfolding ascending
+length-ascending x zero = refl
+length-ascending x (suc n) = ap suc (length-ascending (suc x) n)
+
+pub getD-ascending : (x n i d : ℕ) → i < n → getD (ascending x n) i d ≡ x + i
+unfolding ascending
+getD-ascending x zero i d h = absurd (omega arith)
+getD-ascending x (suc n) zero d h = omega arith
+getD-ascending x (suc n) (suc i) d h = let r = getD-ascending (suc x) n i d (omega arith) in omega arith
+
+-- what stands in the row: the numbers from x up to, not including, x + n
+pub ascending-has : (x n y : ℕ) → List·Memᴰ y (ascending x n) ↔ ((x ≤ y) × (y < x + n))
+unfolding ascending
+ascending-has x zero y = (λ m. absurd (List·Memᴰ·not-nil m), λ h. absurd (omega arith))
+ascending-has x (suc n) y =
+    let rest = ascending-has (suc x) n y in (
+      λ m. ⊎-elim (λ (e : y ≡ x). (omega arith, omega arith)) (λ k. let r = rest .0 k in (omega arith, omega arith)) (List·Memᴰ·cases-cons m),
+      λ h. elim (ℕ-discrete y x) [ yes e ↦ List·Memᴰ·head e | no a ↦ List·Memᴰ·tail (rest .1 (omega arith, omega arith)) ],
+    )
+
+-- one more at the end
+pub ascending-snoc : (x n : ℕ) → ascending x (suc n) ≡ ascending x n ++ ((x + n) ∷ [])
+unfolding ascending
+ascending-snoc x zero = let e : x ≡ x + 0 = omega arith in ap (λ (k : ℕ). k ∷ []) e
+ascending-snoc x (suc n) =
+    let e : suc x + n ≡ x + suc n = omega arith in
+    ap (λ (l : List ℕ). x ∷ l) (ascending-snoc (suc x) n ∙ ap (λ (k : ℕ). ascending (suc x) n ++ (k ∷ [])) e)
+
+-- ---- the entries that pass a test
+
+pub select-has : (f : ℕ → Bool) (l : List ℕ) (y : ℕ) → List·Memᴰ y (select f l) ↔ (List·Memᴰ y l × (f y ≡ true))
+unfolding select
+select-has f [] y = (λ m. absurd (List·Memᴰ·not-nil m), λ h. absurd (List·Memᴰ·not-nil (h .0)))
+select-has f (x ∷ l) y = go (f x) refl (select-has f l y)
+  where
+    go : (t : Bool) → f x ≡ t → List·Memᴰ y (select f l) ↔ (List·Memᴰ y l × (f y ≡ true))
+        → List·Memᴰ y (cond t (x ∷ select f l) (select f l)) ↔ (List·Memᴰ y (x ∷ l) × (f y ≡ true))
+    go true e rest = (
+      λ m. ⊎-elim (λ q. (List·Memᴰ·head q, ap f q ∙ e)) (λ k. let r = rest .0 k in (List·Memᴰ·tail (r .0), r .1)) (List·Memᴰ·cases-cons m),
+      λ h. ⊎-elim (λ q. List·Memᴰ·head q) (λ k. List·Memᴰ·tail (rest .1 (k, h .1))) (List·Memᴰ·cases-cons (h .0)),
+    )
+    go false e rest = (
+      λ m. let r = rest .0 m in (List·Memᴰ·tail (r .0), r .1),
+      λ h. ⊎-elim (λ q. absurd (true≢false (sym (h .1) ∙ ap f q ∙ e))) (λ k. rest .1 (k, h .1)) (List·Memᴰ·cases-cons (h .0)),
+    )
+
+pub select-append : (f : ℕ → Bool) (l m : List ℕ) → select f (l ++ m) ≡ select f l ++ select f m
+unfolding select
+select-append f [] m = refl
+select-append f (x ∷ l) m = go (f x) (select-append f l m)
+  where
+    go : (t : Bool) → select f (l ++ m) ≡ select f l ++ select f m
+        → cond t (x ∷ select f (l ++ m)) (select f (l ++ m)) ≡ cond t (x ∷ select f l) (select f l) ++ select f m
+    go true r = ap (λ (k : List ℕ). x ∷ k) r
+    go false r = r
+
+pub select-few : (f : ℕ → Bool) (l : List ℕ) → length (select f l) ≤ length l
+unfolding select
+select-few f [] = omega arith
+select-few f (x ∷ l) = go (f x) (select-few f l)
+  where
+    go : (t : Bool) → length (select f l) ≤ length l → length (cond t (x ∷ select f l) (select f l)) ≤ suc (length l)
+    go true r = omega arith
+    go false r = omega arith
+
+-- two tests that agree on the entries
+pub select-agree : (f g : ℕ → Bool) (l : List ℕ) → ((x : ℕ) → List·Memᴰ x l → f x ≡ g x) → select f l ≡ select g l
+unfolding select
+select-agree f g [] h = refl
+select-agree f g (x ∷ l) h =
+    rw (h x (List·Memᴰ·head refl), select-agree f g l (λ y m. h y (List·Memᴰ·tail m)))
+
+-- the entries selected stand in the order that they had
+select-pairwise : (f : ℕ → Bool) {l : List ℕ} → Pairwise _<_ l → Pairwise _<_ (select f l)
+unfolding select
+select-pairwise f Pairwise·nil = Pairwise·nil
+select-pairwise f (Pairwise·cons {a = x} {l = l} h p) = go (f x) (select-pairwise f p)
+  where
+    go : (t : Bool) → Pairwise _<_ (select f l) → Pairwise _<_ (cond t (x ∷ select f l) (select f l))
+    go true r = Pairwise·cons (λ y m. h y (∥∥₁-map m (λ d. select-has f l y .0 d .0))) r
+    go false r = r
+
+-- ---- membership, and one member more
+
+pub member-empty : (x : ℕ) → member 0 x ≡ false
+unfolding member
+member-empty x = rw zero-div
+
+-- bit y of the number whose one bit is x
+bit-same : (x : ℕ) → 2 ^ x / 2 ^ x % 2 ≡ 1
+bit-same x = rw (div-self (pow-pos x))
+
+bit-other : (x y : ℕ) → (x ≡ y → ⊥) → 2 ^ x / 2 ^ y % 2 ≡ 0
+bit-other x y h = elim (decLt x y) [ yes l ↦ rw (div-eq-of-lt (pow-lt l)) | no g ↦ above (x - (y + 1)) (omega arith) ]
+  where
+    above : (k : ℕ) → x ≡ suc k + y → 2 ^ x / 2 ^ y % 2 ≡ 0
+    above k e = rw (e, pow-add 2 (suc k) y, shl-shr (2 ^ suc k) y, pow-suc 2 k) (mul-mod-left (2 ^ k) 2)
+
+bit-or : (s t x : ℕ) → bitOr s t / 2 ^ x % 2 ≡ bitOr (s / 2 ^ x % 2) (t / 2 ^ x % 2)
+bit-or s t x = rw or-shr (or-mod (s / 2 ^ x) (t / 2 ^ x) 1)
+
+or-one : (a : ℕ) → a < 2 → bitOr a 1 ≡ 1
+or-one zero h = refl
+or-one (suc zero) h = refl
+or-one (suc (suc n)) h = absurd (omega arith)
+
+pub member-insert-same : (s x : ℕ) → member (insert s x) x ≡ true
+unfolding member insert
+member-insert-same s x = rw (bit-or s (2 ^ x) x, bit-same x, or-one (s / 2 ^ x % 2) (omega arith))
+
+pub member-insert-other : (s x y : ℕ) → (x ≡ y → ⊥) → member (insert s x) y ≡ member s y
+unfolding member insert
+member-insert-other s x y h = rw (bit-or s (2 ^ x) y, bit-other x y h, or-zero-r (s / 2 ^ y % 2))
+
+-- what a test of a set with one member more says of the set
+pub member-insert-true : (s x y : ℕ) → member (insert s x) y ≡ true → (x ≡ y) ⊎ (member s y ≡ true)
+member-insert-true s x y h = elim (ℕ-discrete x y) [ yes e ↦ inl e | no n ↦ inr (sym (member-insert-other s x y n) ∙ h) ]
+
+pub member-insert-false : (s x y : ℕ) → member (insert s x) y ≡ false → (x ≡ y → ⊥) × (member s y ≡ false)
+member-insert-false s x y h = (apart, sym (member-insert-other s x y apart) ∙ h)
+  where
+    apart : x ≡ y → ⊥
+    apart e = true≢false (sym (member-insert-same s x) ∙ ap (member (insert s x)) e ∙ h)
+
+-- a member stays one
+pub member-insert-keeps : (s x y : ℕ) → member s y ≡ true → member (insert s x) y ≡ true
+member-insert-keeps s x y h =
+    elim (ℕ-discrete x y) [ yes e ↦ ap (member (insert s x)) (sym e) ∙ member-insert-same s x | no n ↦ member-insert-other s x y n ∙ h ]
+
+pub insert-lt : (w s x : ℕ) → s < 2 ^ w → x < w → insert s x < 2 ^ w
+unfolding insert
+insert-lt w s x hs hx = or-lt w s (2 ^ x) hs (pow-lt hx)
+
+-- a set of w bits has no member from w on
+pub member-past : (w s x : ℕ) → s < 2 ^ w → w ≤ x → member s x ≡ false
+unfolding member
+member-past w s x hs hx = rw (div-eq-of-lt (lt-of-lt-of-le hs (pow-mono hx)))
+
+-- bit 0, and the bits above it
+member-zero : (s : ℕ) → member s 0 ≡ eqb (s % 2) 1
+unfolding member
+member-zero s = rw (div-one s)
+
+member-suc : (s x : ℕ) → member s (suc x) ≡ member (s / 2) x
+unfolding member
+member-suc s x = rw (pow-succ' 2 x, ← div-div-eq-div-mul s 2 (2 ^ x))
+
+half-lt : (w s : ℕ) → s < 2 ^ suc w → s / 2 < 2 ^ w
+half-lt w s h = shr-lt w 1 (rw (add-one w) h)
+
+-- ---- union
+
+pub member-union : (s t x : ℕ) → member (union s t) x ≡ member s x || member t x
+unfolding member union
+member-union s t x = rw (bit-or s t x) (digits (s / 2 ^ x % 2) (t / 2 ^ x % 2) (omega arith) (omega arith))
+  where
+    digits : (a b : ℕ) → a < 2 → b < 2 → eqb (bitOr a b) 1 ≡ eqb a 1 || eqb b 1
+    digits zero zero h k = refl
+    digits zero (suc zero) h k = refl
+    digits zero (suc (suc b)) h k = absurd (omega arith)
+    digits (suc zero) zero h k = refl
+    digits (suc zero) (suc zero) h k = refl
+    digits (suc zero) (suc (suc b)) h k = absurd (omega arith)
+    digits (suc (suc a)) b h k = absurd (omega arith)
+
+pub union-lt : (w s t : ℕ) → s < 2 ^ w → t < 2 ^ w → union s t < 2 ^ w
+unfolding union
+union-lt w s t hs ht = or-lt w s t hs ht
+
+-- ---- two sets with the same members are one number
+
+pub same-members : (w s t : ℕ) → s < 2 ^ w → t < 2 ^ w → ((x : ℕ) → x < w → member s x ≡ member t x) → s ≡ t
+same-members zero s t hs ht h = omega arith
+same-members (suc w) s t hs ht h =
+    let high = same-members w (s / 2) (t / 2) (half-lt w s hs) (half-lt w t ht) (λ x k. sym (member-suc s x) ∙ h (suc x) (omega arith) ∙ member-suc t x) in
+    let low = digit (s % 2) (t % 2) (omega arith) (omega arith) (sym (member-zero s) ∙ h 0 (omega arith) ∙ member-zero t) in
+    omega arith
+  where
+    digit : (a b : ℕ) → a < 2 → b < 2 → eqb a 1 ≡ eqb b 1 → a ≡ b
+    digit zero zero h k e = refl
+    digit zero (suc zero) h k e = absurd (false≢true e)
+    digit zero (suc (suc b)) h k e = absurd (omega arith)
+    digit (suc zero) zero h k e = absurd (true≢false e)
+    digit (suc zero) (suc zero) h k e = refl
+    digit (suc zero) (suc (suc b)) h k e = absurd (omega arith)
+    digit (suc (suc a)) b h k e = absurd (omega arith)
+
+-- ---- the members in ascending order
+
+pub members-has : (s x : ℕ) → List·Memᴰ x (members s) ↔ ((x < 64) × (member s x ≡ true))
+unfolding members
+members-has s x =
+    let tested = select-has (member s) (ascending 0 64) x in
+    let row = ascending-has 0 64 x in
+    (λ m. let (k, e) = tested .0 m in let r = row .0 k in (omega arith, e), λ h. tested .1 (row .1 (omega arith, omega arith), h .1))
+
+ascending-pairwise : (x n : ℕ) → Pairwise _<_ (ascending x n)
+unfolding ascending
+ascending-pairwise x zero = Pairwise·nil
+ascending-pairwise x (suc n) = Pairwise·cons (λ y m. ∥∥₁-elim m le-prop (λ d. ascending-has (suc x) n y .0 d .0)) (ascending-pairwise (suc x) n)
+
+-- each is less than those after it
+pub members-ascending : (s : ℕ) → Pairwise _<_ (members s)
+unfolding members
+members-ascending s = select-pairwise (member s) (ascending-pairwise 0 64)
+
+pub members-once : (s : ℕ) → List·Nodup (members s)
+members-once s = Pairwise·imp (λ a b h e. omega arith) (members-ascending s)
+
+pub members-few : (s : ℕ) → length (members s) ≤ 64
+unfolding members
+members-few s = omega (arith, select-few (member s) (ascending 0 64), length-ascending 0 64)
+
+-- ---- how many
+
+-- one member more, counted over a row that has it once
+insert-before : (s x y n : ℕ) → x < y → select (member (insert s x)) (ascending y n) ≡ select (member s) (ascending y n)
+insert-before s x y n h =
+    select-agree (member (insert s x)) (member s) (ascending y n)
+    (λ z m. let r = ascending-has y n z .0 m in member-insert-other s x z (λ e. omega arith))
+
+insert-within : (s x y n : ℕ) → member s x ≡ false → y ≤ x → x < y + n
+    → length (select (member (insert s x)) (ascending y n)) ≡ length (select (member s) (ascending y n)) + 1
+unfolding ascending select
+insert-within s x y zero m h k = absurd (omega arith)
+insert-within s x y (suc n) m h k = go (ℕ-discrete x y) (insert-within s x (suc y) n m)
+  where
+    both : (t : Bool) (l l′ : List ℕ) → length l ≡ length l′ + 1 → length (cond t (y ∷ l) l) ≡ length (cond t (y ∷ l′) l′) + 1
+    both true l l′ r = omega arith
+    both false l l′ r = r
+
+    go : Dec (x ≡ y)
+        → (suc y ≤ x → x < suc y + n → length (select (member (insert s x)) (ascending (suc y) n)) ≡ length (select (member s) (ascending (suc y) n)) + 1)
+        → length (cond (member (insert s x) y) (y ∷ select (member (insert s x)) (ascending (suc y) n)) (select (member (insert s x)) (ascending (suc y) n)))
+        ≡ length (cond (member s y) (y ∷ select (member s) (ascending (suc y) n)) (select (member s) (ascending (suc y) n))) + 1
+    go (yes e) r = rw (← e, member-insert-same s x, m, insert-before s x (suc x) n (omega arith)) (omega arith)
+    go (no a) r =
+        rw (member-insert-other s x y a)
+        (both (member s y) (select (member (insert s x)) (ascending (suc y) n)) (select (member s) (ascending (suc y) n)) (r (omega arith) (omega arith)))
+
+pub count-empty : count 0 ≡ 0
+unfolding count members select ascending member
+count-empty = refl
+
+pub count-insert : (s x : ℕ) → x < 64 → member s x ≡ false → count (insert s x) ≡ count s + 1
+unfolding count members
+count-insert s x h m = insert-within s x 0 64 m (omega arith) (omega arith)
+
+-- a row's numbers one higher, with a test that looks one lower
+select-shift : (f g : ℕ → Bool) (x n : ℕ) → ((y : ℕ) → f (suc y) ≡ g y) → length (select f (ascending (suc x) n)) ≡ length (select g (ascending x n))
+unfolding ascending select
+select-shift f g x zero h = refl
+select-shift f g x (suc n) h = rw (h x) (go (g x) (select-shift f g (suc x) n h))
+  where
+    go : (t : Bool) → length (select f (ascending (suc (suc x)) n)) ≡ length (select g (ascending (suc x) n))
+        → length (cond t (suc x ∷ select f (ascending (suc (suc x)) n)) (select f (ascending (suc (suc x)) n)))
+        ≡ length (cond t (x ∷ select g (ascending (suc x) n)) (select g (ascending (suc x) n)))
+    go true r = ap suc r
+    go false r = r
+
+ones-row : (w s : ℕ) → s < 2 ^ w → ones s ≡ length (select (member s) (ascending 0 w))
+unfolding ascending select
+ones-row zero s h = omega (arith, ones-le 0 s h)
+ones-row (suc w) s h =
+    rw (ones-step s, member-zero s, ones-row w (s / 2) (half-lt w s h), ← select-shift (member s) (member (s / 2)) 0 w (member-suc s))
+    (digit (s % 2) (select (member s) (ascending 1 w)) (omega arith))
+  where
+    digit : (a : ℕ) (l : List ℕ) → a < 2 → a + length l ≡ length (cond (eqb a 1) (0 ∷ l) l)
+    digit zero l k = omega arith
+    digit (suc zero) l k = omega arith
+    digit (suc (suc a)) l k = absurd (omega arith)
+
+pub count-ones : (s : ℕ) → s < 2 ^ 64 → ones s ≡ count s
+unfolding count members
+count-ones s h = ones-row 64 s h
+
+-- ---- the set of a list
+
+pub insertAll-has : (s : ℕ) (l : List ℕ) (x : ℕ) → (member (insertAll s l) x ≡ true) ↔ ((member s x ≡ true) ⊎ List·Memᴰ x l)
+unfolding insertAll
+insertAll-has s [] x = (λ h. inl h, ⊎-elim (λ h. h) (λ m. absurd (List·Memᴰ·not-nil m)))
+insertAll-has s (y ∷ l) x =
+    let rest = insertAll-has (insert s y) l x in (
+      λ h. ⊎-elim (λ k. ⊎-elim (λ e. inr (List·Memᴰ·head (sym e))) (λ i. inl i) (member-insert-true s y x k)) (λ m. inr (List·Memᴰ·tail m)) (rest .0 h),
+      ⊎-elim
+          (λ h. rest .1 (inl (member-insert-keeps s y x h)))
+          (λ m. ⊎-elim (λ e. rest .1 (inl (ap (member (insert s y)) e ∙ member-insert-same s y))) (λ k. rest .1 (inr k)) (List·Memᴰ·cases-cons m)),
+    )
+
+pub setOf-has : (l : List ℕ) (x : ℕ) → (member (setOf l) x ≡ true) ↔ List·Memᴰ x l
+setOf-has l x =
+    let all = insertAll-has 0 l x in
+    (λ h. ⊎-elim (λ k. absurd (false≢true (sym (member-empty x) ∙ k))) (λ m. m) (all .0 h), λ m. all .1 (inr m))
+
+pub insertAll-append : (s : ℕ) (l m : List ℕ) → insertAll s (l ++ m) ≡ insertAll (insertAll s l) m
+unfolding insertAll
+insertAll-append s [] m = refl
+insertAll-append s (x ∷ l) m = insertAll-append (insert s x) l m
+
+pub insertAll-lt : (w s : ℕ) (l : List ℕ) → s < 2 ^ w → ((x : ℕ) → List·Memᴰ x l → x < w) → insertAll s l < 2 ^ w
+unfolding insertAll
+insertAll-lt w s [] h k = h
+insertAll-lt w s (x ∷ l) h k = insertAll-lt w (insert s x) l (insert-lt w s x h (k x (List·Memᴰ·head refl))) (λ y m. k y (List·Memᴰ·tail m))

@@ -1,0 +1,62 @@
+-- The main theorems, proved: for each statement of specs/Theorems.antt a term of exactly its type.
+use Prim.Native.Nat.{ℕ, _≤_, _<_}
+use mathlib.Core.Path.{refl, _∙_}
+use mathlib.Core.List.{List·Memᴰ}
+use native.Mathlib.Nat.{le-refl, le-trans}
+use native.Mathlib.Omega.{arith}
+use lib.IntN.{ℤ, pos}
+use lib.Signed.{_≤ℤ_, ≤ℤ-refl}
+use Rattle.lifetimes.specs.Env.{boundsOf}
+use Rattle.lifetimes.specs.Walk.{Order, LastFirst, traversal, reachSet}
+use Rattle.lifetimes.specs.Theorems.{RefusedIfFirstDue, TraversalOrder, ReachIsOutlives, OutlivesIsForced}
+use Rattle.lifetimes.proofs.SetLaws.{setOf-has}
+use Rattle.lifetimes.proofs.RefusalLaws.{due-given, due-refused, refused-due, given-due}
+use Rattle.lifetimes.proofs.EnvLaws.{valid, near-declared, far-declared}
+use Rattle.lifetimes.proofs.IntegerLaws.{≤ℤ-trans, zero-one, not-one-zero}
+use Rattle.lifetimes.proofs.WalkLaws.{walk-nil, walk-seen, walk-new, pending-few}
+use Rattle.lifetimes.proofs.ReachLaws.{listed-toward, traversal-only, traversal-first, traversal-once, traversal-alone, outlives-forces, forced-outlives}
+
+pub refused-if-first-due : RefusedIfFirstDue
+refused-if-first-due A checks a = record {
+  refused = λ r. (refused-due a r checks, due-refused a);
+  given = λ b. (given-due a b checks, λ h. due-given a (h .0) ∙ rw (h .1));
+}
+
+pub traversal-order : TraversalOrder
+unfolding traversal
+traversal-order o d bs = record {
+  starts = λ k. refl;
+  ends = walk-nil o d bs;
+  passes-over = walk-seen o d bs;
+  lists = walk-new o d bs;
+  few-pending = λ k p s r. pending-few o d bs r;
+}
+
+pub reach-is-outlives : ReachIsOutlives
+unfolding reachSet
+reach-is-outlives o d e none k h =
+    let v = valid e none in
+    let inside : (p : Order) (b : ℕ) → List·Memᴰ b (traversal p d (boundsOf e) k) → b < e .count =
+    λ p. traversal-only p d (boundsOf e) k (λ b. b < e .count) (λ b i _. omega (arith, far-declared d v b i, v .declares)) h in
+    record {
+      members = λ b. (λ i. (inside o b i, (listed-toward o d (boundsOf e) k b) .0 i), λ t. (listed-toward o d (boundsOf e) k b) .1 (t .1));
+      first = (_, traversal-first o d (boundsOf e) k);
+      once = traversal-once o d (boundsOf e) k;
+      elided = λ past. traversal-alone o d (boundsOf e) k (λ b i q. omega (arith, near-declared d v b i));
+      set = λ b. (
+        λ m. let i = (setOf-has (traversal LastFirst d (boundsOf e) k) b) .0 m in (inside LastFirst b i, (listed-toward LastFirst d (boundsOf e) k b) .0 i),
+        λ t. (setOf-has (traversal LastFirst d (boundsOf e) k) b) .1 ((listed-toward LastFirst d (boundsOf e) k b) .1 (t .1)),
+      );
+    }
+
+pub outlives-is-forced : OutlivesIsForced
+outlives-is-forced bs a b = (
+  (
+    outlives-forces ℕ _≤_ le-refl (λ x y z p q. le-trans p q) 0 1 (omega arith) (λ h. omega arith) bs,
+    forced-outlives ℕ _≤_ le-refl (λ x y z p q. le-trans p q) 0 1 (omega arith) (λ h. omega arith) bs a b,
+  ),
+  (
+    outlives-forces ℤ _≤ℤ_ ≤ℤ-refl ≤ℤ-trans (pos 0) (pos 1) zero-one not-one-zero bs,
+    forced-outlives ℤ _≤ℤ_ ≤ℤ-refl ≤ℤ-trans (pos 0) (pos 1) zero-one not-one-zero bs a b,
+  ),
+)

@@ -1,0 +1,114 @@
+-- `all_lists` meets its contract: each of its answers is that of the first check that is due, or all lists as `lay` lays them.
+use mathlib.Core.Path.{_≡_, refl, sym, _∙_}
+use native.Mathlib.Omega.{arith}
+use borrow.Author.Needs.{needs}
+use borrow.Author.Tests.{leb-true, leb-false, not-true, not-false}
+use lib.ListN.{length, length-map}
+use Rattle.lifetimes.specs.Refusals.{NoneDue}
+use Rattle.lifetimes.specs.Env.{envChecks}
+use Rattle.lifetimes.specs.Index.{graphOf, Within, Fits}
+use Rattle.lifetimes.proofs.RefusalLaws.{refused-first, accepted-none}
+use Rattle.lifetimes.proofs.EnvLaws.{Valid, valid}
+use Rattle.lifetimes.proofs.IndexLaws.{bounds-length, bounds-fine, bounds-within, zeros}
+use Rattle.lifetimes.proofs.Traversing.{lists-refused, lists-no-ends, lists-no-words, lists-given}
+use Rattle.lifetimes.proofs.env.LifetimeEnv.all_lists.Statement.{statement}
+use Rattle.lifetimes.proofs.env.LifetimeEnv.all_lists.Tie as tie
+
+full : (c : tie.Start) → length (c .args .self .bounds) ≡ 256
+full c = simp length-map at (c .good .0 .1 .1 .1 .1 .1 .0 .1 .0 .1)
+
+-- the three clauses of the contract, as the need nests them
+parts : {A B C : Type 0} → A × B × C → A × (B × C)
+parts p = (p .0, (p .1, p .2))
+
+-- no refusal of the environment is due
+none : (c : tie.After-enum-told) → NoneDue (envChecks (c .before .before .before .before .before .args .self))
+none c = accepted-none (c .before .before .before .before .before .args .self) (envChecks (c .before .before .before .before .before .args .self)) (sym (c .before .before .check .ensures) ∙ c .enum-told .given .1)
+
+holds : (c : tie.After-enum-told) → Valid (c .before .before .before .before .before .args .self)
+holds c = valid (c .before .before .before .before .before .args .self) (none c)
+
+-- whether the words have room
+fit : (c : tie.After-all-fit) → let s = c .before .before .before .before .before .before .before .before .before .before .before .before .before .before in Fits (graphOf (s .args .longer) (s .args .self)) (s .args .self .count) (length (s .args .words .now)) (c .all-fit .result)
+fit c =
+    let s = c .before .before .before .before .before .before .before .before .before .before .before .before .before .before in
+    c .all-fit .ensures (graphOf (s .args .longer) (s .args .self)) (c .before .before .before .before .link .ensures) (bounds-within (holds (c .before .before .before .before .before .before .before .before .before)) (s .args .longer) _ (omega arith))
+
+check-requires : tie.Need-check-requires
+check-requires c κs = search needs
+
+enum-known-verdict : tie.Need-enum-known-verdict
+enum-known-verdict c = search needs
+
+returns : tie.Need-returns
+returns c =
+    let s = c .before .before .before .before .before .before in
+    parts (lists-refused (s .args .longer) (s .args .self) (s .args .words .now) (s .args .ends .now) (refused-first (s .args .self) _ (envChecks (s .args .self)) (sym (c .before .before .before .check .ensures) ∙ c .before .verdict .given .1)))
+
+enum-told : tie.Need-enum-told
+enum-told c = search needs
+
+returns-2 : tie.Need-returns-2
+returns-2 c =
+    let s = c .before .before .before .before .before .before in
+    parts (lists-no-ends (s .args .longer) (s .args .self) (s .args .words .now) (s .args .ends .now) (none (c .before)) (c .if1 .taken))
+
+link-requires : tie.Need-link-requires
+link-requires c κs =
+    let s = c .before .before .before .before .before .before .before .before .before in
+    let v = holds (c .before .before .before .before) in
+    ((bounds-fine v (full s), bounds-length v (full s)), (zeros 64, (refl, refl, refl)))
+
+all-fit-requires : tie.Need-all-fit-requires
+all-fit-requires c κs =
+    let s = c .before .before .before .before .before .before .before .before .before .before .before .before .before in
+    let v = holds (c .before .before .before .before .before .before .before .before) in
+    ((graphOf (s .args .longer) (s .args .self), c .before .before .before .link .ensures, bounds-within v (s .args .longer) _ (omega arith)), v .declares, v .counted)
+
+returns-3 : tie.Need-returns-3
+returns-3 c =
+    let s = c .before .before .before .before .before .before .before .before .before .before .before .before .before .before .before in
+    parts (lists-no-words (s .args .longer) (s .args .self) (s .args .words .now) (s .args .ends .now) (none (c .before .before .before .before .before .before .before .before .before .before)) (c .before .before .before .before .before .before .before .before .before .if1 .left)
+    (leb-false _ _ (sym ((fit (c .before)) .fits) ∙ not-true _ (c .if2 .taken))))
+
+lay-requires : tie.Need-lay-requires
+lay-requires c κs =
+    let s = c .before .before .before .before .before .before .before .before .before .before .before .before .before .before .before .before .before .before .before .before .before in
+    let v = holds (c .before .before .before .before .before .before .before .before .before .before .before .before .before .before .before .before) in (
+      (
+        (graphOf (s .args .longer) (s .args .self), c .before .before .before .before .before .before .before .before .before .before .before .link .ensures, bounds-within v (s .args .longer) _ (omega arith), leb-true _ _ (sym ((fit (c .before .before .before .before .before .before .before)) .fits) ∙ not-false _ (c .before .before .before .before .before .before .if2 .left))),
+        v .declares,
+        v .counted,
+      ),
+      (c .before .before .before .before .before .before .before .before .before .before .before .before .before .before .before .if1 .left, refl),
+    )
+
+same-length : tie.Need-same-length
+same-length c = search needs
+
+same-length-2 : tie.Need-same-length-2
+same-length-2 c = search needs
+
+returns-4 : tie.Need-returns-4
+returns-4 c =
+    let s = c .before .before .before .before .before .before .before .before .before .before .before .before .before .before .before .before .before .before .before .before .before .before .before .before .before .before in
+    parts (lists-given (s .args .longer) (s .args .self) (s .args .words .now) (s .args .ends .now) (none (c .before .before .before .before .before .before .before .before .before .before .before .before .before .before .before .before .before .before .before .before .before)) (c .before .before .before .before .before .before .before .before .before .before .before .before .before .before .before .before .before .before .before .before .if1 .left)
+    (leb-true _ _ (sym ((fit (c .before .before .before .before .before .before .before .before .before .before .before .before)) .fits) ∙ not-false _ (c .before .before .before .before .before .before .before .before .before .before .before .if2 .left)))
+    (c .before .before .before .before .lay .ensures (graphOf (s .args .longer) (s .args .self)) (c .before .before .before .before .before .before .before .before .before .before .before .before .before .before .before .before .link .ensures) (bounds-within (holds (c .before .before .before .before .before .before .before .before .before .before .before .before .before .before .before .before .before .before .before .before .before)) (s .args .longer) _ (omega arith))))
+
+pub all-lists-spec : {M : Type 1} → statement M
+all-lists-spec =
+    tie.close
+    (tie.spec
+    check-requires
+    enum-known-verdict
+    returns
+    enum-told
+    returns-2
+    link-requires
+    all-fit-requires
+    returns-3
+    lay-requires
+    same-length
+    same-length-2
+    returns-4)

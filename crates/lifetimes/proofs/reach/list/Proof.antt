@@ -1,0 +1,43 @@
+-- `list` meets its contract: the index is that of the environment, and the walk over it lists the traversal.
+use mathlib.Core.Path.{_≡_, refl}
+use native.Mathlib.Omega.{arith}
+use borrow.Author.Needs.{needs}
+use lib.ListN.{length, length-map}
+use Rattle.lifetimes.specs.Index.{graphOf}
+use Rattle.lifetimes.proofs.EnvLaws.{Valid, valid}
+use Rattle.lifetimes.proofs.IndexLaws.{bounds-length, bounds-fine, bounds-within, zeros}
+use Rattle.lifetimes.proofs.reach.list.Statement.{statement}
+use Rattle.lifetimes.proofs.reach.list.Tie as tie
+
+full : (c : tie.Start) → length (c .args .env .bounds) ≡ 256
+full c = simp length-map at (c .good .0 .1 .1 .1 .1 .1 .0 .1 .0 .1)
+
+holds : (c : tie.Start) → Valid (c .args .env)
+holds c = valid (c .args .env) (c .pre .0 .0)
+
+link-requires : tie.Need-link-requires
+link-requires c κs =
+    let s = c .before .before .before in
+    let v = holds s in
+    ((bounds-fine v (full s), bounds-length v (full s)), (zeros 64, (refl, refl, refl)))
+
+limit-of-requires : tie.Need-limit-of-requires
+limit-of-requires c κs = (c .before .before .before .before .pre .0 .1, (holds (c .before .before .before .before)) .declares)
+
+walk-requires : tie.Need-walk-requires
+walk-requires c κs =
+    let s = c .before .before .before .before .before .before .before .before .before in
+    let m = c .before .before .before .before .limit-of .ensures in
+    (((graphOf (s .args .longer) (s .args .env), c .before .before .before .before .before .link .ensures, bounds-within (holds s) (s .args .longer) _ (m .2)), omega (arith, (holds s) .counted, m), m .0), s .pre .1)
+
+returns : tie.Need-returns
+returns c =
+    let s = c .before .before .before .before .before .before .before .before .before .before in
+    let w = c .walk in (
+      w .ensures .0 .0,
+      w .ensures .0 .1,
+      (w .ensures .1 (graphOf (s .args .longer) (s .args .env)) (c .before .before .before .before .before .before .link .ensures) (bounds-within (holds s) (s .args .longer) _ (c .before .before .before .before .before .limit-of .ensures .2))) .items,
+    )
+
+pub list-spec : {M : Type 1} → statement M
+list-spec = tie.close (tie.spec link-requires limit-of-requires walk-requires returns)

@@ -1,0 +1,80 @@
+-- `traverse` meets its contract: each of its answers is that of the first check that is due, or the list.
+use Prim.Native.Nat.{_<_}
+use mathlib.Core.Path.{_≡_, refl, sym, ap, _∙_}
+use native.Mathlib.Omega.{arith}
+use borrow.Author.Needs.{needs}
+use Rattle.lifetimes.specs.Refusals.{NoneDue}
+use Rattle.lifetimes.specs.Env.{envChecks}
+use Rattle.lifetimes.proofs.RefusalLaws.{refused-first, accepted-none}
+use Rattle.lifetimes.proofs.Traversing.{list-refused, list-past, list-short, list-given}
+use Rattle.lifetimes.proofs.reach.traverse.Statement.{statement}
+use Rattle.lifetimes.proofs.reach.traverse.Tie as tie
+
+-- no refusal of the environment is due
+none : (c : tie.After-enum-told) → NoneDue (envChecks (c .before .before .before .before .args .env))
+none c = accepted-none (c .before .before .before .before .args .env) (envChecks (c .before .before .before .before .args .env)) (sym (c .before .before .check .ensures) ∙ c .enum-told .given .1)
+
+check-requires : tie.Need-check-requires
+check-requires c κs = search needs
+
+enum-known-verdict : tie.Need-enum-known-verdict
+enum-known-verdict c = search needs
+
+returns : tie.Need-returns
+returns c =
+    let s = c .before .before .before .before .before in
+    list-refused (s .args .longer) (s .args .env) (s .args .lifetime .0) (s .args .out .now) (refused-first (s .args .env) _ (envChecks (s .args .env)) (sym (c .before .before .before .check .ensures) ∙ c .before .verdict .given .1))
+
+enum-told : tie.Need-enum-told
+enum-told c = search needs
+
+index-requires : tie.Need-index-requires
+index-requires c κs = search needs
+
+returns-2 : tie.Need-returns-2
+returns-2 c =
+    let s = c .before .before .before .before .before .before .before in
+    list-past (s .args .longer) (s .args .env) (s .args .lifetime .0) (s .args .out .now) (none (c .before .before .before)) (omega (arith, c .before .before .index .ensures))
+
+list-requires : tie.Need-list-requires
+list-requires c κs =
+    ((none (c .before .before .before .before), omega (arith, c .before .before .before .index .ensures)), refl)
+
+returns-3 : tie.Need-returns-3
+returns-3 c =
+    let s = c .before .before .before .before .before .before .before .before .before .before in
+    let l = c .before .list in
+    let i = c .before .before .before .before .before .index .ensures in
+    list-short (s .args .longer) (s .args .env) (s .args .lifetime .0) (s .args .out .now) (none (c .before .before .before .before .before .before)) (omega (arith, i, c .before .before .before .if1 .left)) _ (l .result)
+    (omega (arith, l .ensures)) (rw i at (l .ensures .2)) (c .if2 .taken)
+
+copy-to-requires : tie.Need-copy-to-requires
+copy-to-requires c κs = search needs
+
+same-length : tie.Need-same-length
+same-length c = search needs
+
+returns-4 : tie.Need-returns-4
+returns-4 c =
+    let s = c .before .before .before .before .before .before .before .before .before .before .before .before .before .before .before in
+    let l = c .before .before .before .before .before .before .list in
+    let i = c .before .before .before .before .before .before .before .before .before .before .index .ensures in
+    let a = list-given (s .args .longer) (s .args .env) (s .args .lifetime .0) (s .args .out .now) (none (c .before .before .before .before .before .before .before .before .before .before .before)) (omega (arith, i, c .before .before .before .before .before .before .before .before .if1 .left)) _ (l .result)
+    (omega (arith, l .ensures)) (rw i at (l .ensures .2)) (c .before .before .before .before .before .if2 .left) in
+    (a .0, c .before .before .copy-to .ensures ∙ a .1)
+
+pub traverse-spec : {M : Type 1} → statement M
+traverse-spec =
+    tie.close
+    (tie.spec
+    check-requires
+    enum-known-verdict
+    returns
+    enum-told
+    index-requires
+    returns-2
+    list-requires
+    returns-3
+    copy-to-requires
+    same-length
+    returns-4)

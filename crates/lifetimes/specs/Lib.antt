@@ -1,0 +1,14 @@
+-- Definitions that the contracts cite, and the statements of the main theorems.
+pub mod Lists
+pub mod Numbers
+pub mod LoweredWords
+pub mod Refusals
+pub mod Lent
+pub mod Sets
+pub mod Env
+pub mod Walk
+pub mod Outlives
+pub mod Reach
+pub mod Linked
+pub mod Index
+pub mod Theorems

@@ -1,0 +1,47 @@
+-- Refusals: 01's number of each, and which one a call gives: the first that is due in one ordered list of checks.
+use Prim.Native.Nat.{ℕ}
+use mathlib.Core.Bool.{Bool, true, false, cond}
+use mathlib.Core.Path.{_≡_}
+use mathlib.Core.List.{List, [], _∷_}
+use Rattle.lifetimes.specs.declared.answer.Refusal.{Refusal}
+use Rattle.lifetimes.specs.declared.answer.Refusal.the-variants.{Malformed, Duplicate, Undeclared, Full, NoSource, Ambiguous, Mismatch, OutOfRange, NoRoom, Unreadable}
+
+abbrev pub numberOf : Refusal → ℕ
+numberOf Malformed = 1
+numberOf Duplicate = 2
+numberOf Undeclared = 3
+numberOf Full = 4
+numberOf NoSource = 5
+numberOf Ambiguous = 6
+numberOf Mismatch = 7
+numberOf OutOfRange = 8
+numberOf NoRoom = 9
+numberOf Unreadable = 10
+
+-- a check: whether its refusal is due
+pub record Check : Type 0 where
+  pub due : Bool
+  pub refusal : Refusal
+
+abbrev pub check : Bool → Refusal → Check
+check t r = record { due = t; refusal = r }
+
+-- what a call gives: its result, or a refusal
+pub data Outcome (A : Type 0) : Type 0 where
+  Gives : A → Outcome A
+  Refuses : Refusal → Outcome A
+
+-- the result, unless a check is due; then the first such check's refusal
+unfoldable pub unless : {A : Type 0} → List Check → A → Outcome A
+unless [] a = Gives a
+unless (c ∷ cs) a = cond (c .due) (Refuses (c .refusal)) (unless cs a)
+
+-- r is the refusal of the first check that is due
+pub data FirstDue (r : Refusal) : List Check → Type 0 where
+  here : {c : Check} {cs : List Check} → c .due ≡ true → c .refusal ≡ r → FirstDue r (c ∷ cs)
+  later : {c : Check} {cs : List Check} → c .due ≡ false → FirstDue r cs → FirstDue r (c ∷ cs)
+
+-- no check is due
+pub data NoneDue : List Check → Type 0 where
+  end : NoneDue []
+  next : {c : Check} {cs : List Check} → c .due ≡ false → NoneDue cs → NoneDue (c ∷ cs)

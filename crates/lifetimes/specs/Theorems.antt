@@ -1,0 +1,52 @@
+-- The main theorems of this crate, stated. Each has its proof, a term of exactly this type and of the same name in small letters, in proofs/Theorems.antt.
+use Prim.Native.Nat.{ℕ, suc, _+_, _≤_, _<_}
+use mathlib.Core.Bool.{Bool, true, false}
+use mathlib.Core.Path.{_≡_}
+use mathlib.Core.Logic.{_↔_}
+use mathlib.Core.List.{List, [], _∷_, List·Memᴰ, List·Nodup}
+use lib.ListN.{length}
+use Rattle.lifetimes.specs.declared.answer.Refusal.{Refusal}
+use Rattle.lifetimes.specs.declared.env.Bound.{Bound}
+use Rattle.lifetimes.specs.declared.env.LifetimeEnv.{LifetimeEnv}
+use Rattle.lifetimes.specs.Refusals.{Check, Outcome, Gives, Refuses, unless, FirstDue, NoneDue}
+use Rattle.lifetimes.specs.Sets.{empty, member, insert}
+use Rattle.lifetimes.specs.Env.{boundsOf, envChecks}
+use Rattle.lifetimes.specs.Walk.{neighbours, Order, push, walk, traversal, reachSet, Pending}
+use Rattle.lifetimes.specs.Outlives.{Outlives, Toward, Forced, Forcedℤ}
+
+-- Refusals ("Each is given in its condition only"): a call answers a refusal exactly if it is the first due in the call's order, and gives its result exactly if none is due.
+pub record InOrderDue (A : Type 0) (checks : List Check) (a : A) : Type 0 where
+  pub refused : (r : Refusal) → (unless checks a ≡ Refuses r) ↔ FirstDue r checks
+  pub given : (b : A) → (unless checks a ≡ Gives b) ↔ (NoneDue checks × (a ≡ b))
+
+abbrev pub RefusedIfFirstDue : Type 1
+RefusedIfFirstDue = (A : Type 0) (checks : List Check) (a : A) → InOrderDue A checks a
+
+-- The traversals' order (01: "start with the lifetime itself, push a list in order and take the last pushed first; the walk passes over lifetimes already seen
+-- until one is yielded. Never more than 1 plus the bounds' number are pending"), for both directions, and for the AST's order too.
+pub record TraversesInOrder (o : Order) (d : Bool) (bs : List Bound) : Type 0 where
+  pub starts : (k : ℕ) → traversal o d bs k ≡ walk o d bs (k ∷ []) empty
+  pub ends : (seen : ℕ) → walk o d bs [] seen ≡ []
+  pub passes-over : (x : ℕ) (pending : List ℕ) (seen : ℕ) → member seen x ≡ true → walk o d bs (x ∷ pending) seen ≡ walk o d bs pending seen
+  pub lists : (x : ℕ) (pending : List ℕ) (seen : ℕ) → member seen x ≡ false
+      → walk o d bs (x ∷ pending) seen ≡ x ∷ walk o d bs (push o (neighbours d bs x) pending) (insert seen x)
+  pub few-pending : (k : ℕ) (pending : List ℕ) (seen : ℕ) → Pending o d bs k pending seen → length pending ≤ length bs + 1
+
+abbrev pub TraversalOrder : Type 0
+TraversalOrder = (o : Order) (d : Bool) (bs : List Bound) → TraversesInOrder o d bs
+
+-- Reach against the Reference: a traversal lists exactly the lifetimes that outlive its start (that its start outlives), first the start, none twice; an elided lifetime lists
+-- itself only; the set of a traversal has its members. For every environment on which no refusal is due and every lifetime of it.
+pub record ListsTheReach (o : Order) (d : Bool) (e : LifetimeEnv) (k : ℕ) : Type 0 where
+  pub members : (b : ℕ) → List·Memᴰ b (traversal o d (boundsOf e) k) ↔ ((b < e .count) × Toward d (boundsOf e) k b)
+  pub first : (rest : List ℕ) × (traversal o d (boundsOf e) k ≡ k ∷ rest)
+  pub once : List·Nodup (traversal o d (boundsOf e) k)
+  pub elided : e .declared ≤ k → traversal o d (boundsOf e) k ≡ k ∷ []
+  pub set : (b : ℕ) → (member (reachSet d (boundsOf e) k) b ≡ true) ↔ ((b < e .count) × Toward d (boundsOf e) k b)
+
+abbrev pub ReachIsOutlives : Type 0
+ReachIsOutlives = (o : Order) (d : Bool) (e : LifetimeEnv) → NoneDue (envChecks e) → (k : ℕ) → k < e .count → ListsTheReach o d e k
+
+-- Outlives is *forced above*: b outlives a exactly if every numbering that respects the bounds puts b at a's number or higher; by natural numbers and by integers. For all bounds.
+abbrev pub OutlivesIsForced : Type 0
+OutlivesIsForced = (bs : List Bound) (a b : ℕ) → (Outlives bs b a ↔ Forced bs a b) × (Outlives bs b a ↔ Forcedℤ bs a b)

@@ -1,0 +1,58 @@
+// Refusals, and what a call answers.
+ghost use mathlib.Core.Path.{_≡_};
+ghost use Rattle.lifetimes.specs.Refusals.{numberOf};
+
+// Why a call is refused. `number` is 01's number; the comments give 01's words.
+pub enum Refusal {
+    // 1, torn: a record that is not in its shape, or a row, field or parameter asked for that is not there.
+    Malformed,
+    // 2, twice: a name declared again.
+    Duplicate,
+    // 3, stranger: an undeclared name where one is looked up.
+    Undeclared,
+    // 4, full: one more than a limit takes.
+    Full,
+    // 5, no source: an elided lifetime in an output, with no input to take it from.
+    NoSource,
+    // 6, ambiguous: the same, with several inputs.
+    Ambiguous,
+    // 7, misfit: not as many lifetimes as the definition has.
+    Mismatch,
+    // 8, outside: a lifetime past those that there are.
+    OutOfRange,
+    // 9, short: more answers than the lent slice takes.
+    NoRoom,
+    // 10, unreadable: bytes that are not the text of a sheet.
+    Unreadable,
+}
+
+impl Refusal {
+    pub fn number(self) -> usize
+        ensures { λ r. ⌜ r ≡ numberOf self ⌝ }
+    {
+        match self {
+            Refusal::Malformed => 1,
+            Refusal::Duplicate => 2,
+            Refusal::Undeclared => 3,
+            Refusal::Full => 4,
+            Refusal::NoSource => 5,
+            Refusal::Ambiguous => 6,
+            Refusal::Mismatch => 7,
+            Refusal::OutOfRange => 8,
+            Refusal::NoRoom => 9,
+            Refusal::Unreadable => 10,
+        }
+    }
+}
+
+// Whether a call is refused.
+pub enum Verdict {
+    Accepted,
+    Refused(Refusal),
+}
+
+// What a call answers that writes words to a lent slice: how many it wrote, or why it is refused.
+pub enum Listed {
+    Count(usize),
+    Refused(Refusal),
+}

@@ -1,0 +1,37 @@
+// The index of an environment: for each lifetime its neighbours, in the order in which a traversal takes them.
+//
+// A list is pushed in order and its last entry is taken first, so each list is needed backwards: a chain that is linked at its head.
+// Made once for all traversals in a direction, in one pass over the bounds.
+ghost use mathlib.Core.Path.{_≡_};
+ghost use lib.ListN.{length};
+ghost use Rattle.lifetimes.specs.Env.{boundsOf};
+ghost use Rattle.lifetimes.specs.Index.{graphOf, Fine, Zeros, Indexed};
+use super::env::LifetimeEnv;
+
+// For each bound its far side, and the bound before it with the same near side; for each lifetime the last bound whose near side it is.
+// A bound's number is its place counted from 1, and 0 stands for none.
+pub(crate) fn link(
+    env: LifetimeEnv,
+    longer: bool,
+    far: &mut [usize; 256],
+    before: &mut [usize; 256],
+    last: &mut [usize; 64],
+)
+    requires { ⌜ Fine (boundsOf env) × (length (boundsOf env) ≡ env .pushed) ⌝ }
+    requires { ⌜ Zeros (now last) ⌝ }
+    requires { ⌜ (length (now far) ≡ 256) × (length (now before) ≡ 256) × (length (now last) ≡ 64) ⌝ }
+    ensures { λ _. ⌜ Indexed (graphOf longer env) (now (far .exit)) (now (before .exit)) (now (last .exit)) ⌝ }
+{
+    let n = env.pushed;
+    let mut i = 0;
+    while i < n {
+        let b = env.bounds[i];
+        let x = b.near(longer);
+        let y = b.far(longer);
+        let older = last[x];
+        far[i] = y;
+        before[i] = older;
+        i += 1;
+        last[x] = i;
+    }
+}

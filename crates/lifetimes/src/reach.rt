@@ -1,0 +1,260 @@
+// Reach along bounds: the lifetimes that outlive a lifetime, and those that it outlives.
+//
+// One index serves all traversals of a call. A traversal takes as many steps as it meets lifetimes and bounds.
+ghost use mathlib.Core.Path.{_≡_};
+ghost use mathlib.Core.Bool.{true, false};
+ghost use Prim.Native.Nat.{_+_, _≤_, _<_};
+ghost use lib.ListN.{length, take};
+ghost use lib.Seq.{sets};
+ghost use Rattle.lifetimes.specs.Refusals.{NoneDue};
+ghost use Rattle.lifetimes.specs.Lent.{counted, written};
+ghost use Rattle.lifetimes.specs.Env.{boundsOf, envChecks};
+ghost use Rattle.lifetimes.specs.Walk.{LastFirst, traversal};
+ghost use Rattle.lifetimes.specs.Reach.{listReach, reachSets, listWords, listEnds, listsAnswer};
+ghost use Rattle.lifetimes.specs.Index.{Graph, Indexed, Within, Measurable, Measures, Fits, Layable, Lays};
+use super::answer::Listed;
+use super::answer::Refusal;
+use super::answer::Verdict;
+use super::env::LifetimeEnv;
+use super::index::link;
+use super::lifetime::Lifetime;
+use super::walk::walk;
+
+// The reach of all lifetimes: the set of the lifetime x at place x. Places past the count hold 0, and all do beside a refusal.
+pub struct ReachSets {
+    pub verdict: Verdict,
+    pub sets: [u64; 64],
+}
+
+// How many words all lists have together, and the sets as in `ReachSets`.
+pub struct Lists {
+    pub listed: Listed,
+    pub sets: [u64; 64],
+}
+
+impl LifetimeEnv {
+    // Write the lifetimes that outlive a lifetime to a slice, itself first, in the order of the Rust. Refused by 4 and 8 as the environment is,
+    // by 8 for a lifetime past the count, by 9 where the slice is too short.
+    pub fn all_longer_lifetimes(self, lifetime: Lifetime, out: &mut [usize]) -> Listed
+        ensures { λ r. ⌜ r ≡ counted (listReach true self (lifetime .0) (length (now (out .entry)))) ⌝ }
+        ensures { λ _. ⌜ now (out .exit) ≡ written (listReach true self (lifetime .0) (length (now (out .entry)))) (now (out .entry)) ⌝ }
+    {
+        traverse(self, lifetime, true, out)
+    }
+
+    // Write the lifetimes that a lifetime outlives, in the same way.
+    pub fn all_shorter_lifetimes(self, lifetime: Lifetime, out: &mut [usize]) -> Listed
+        ensures { λ r. ⌜ r ≡ counted (listReach false self (lifetime .0) (length (now (out .entry)))) ⌝ }
+        ensures { λ _. ⌜ now (out .exit) ≡ written (listReach false self (lifetime .0) (length (now (out .entry)))) (now (out .entry)) ⌝ }
+    {
+        traverse(self, lifetime, false, out)
+    }
+
+    // The reach of all lifetimes as sets, in the direction longer or shorter. Refused by 4 and 8 as the environment is.
+    pub fn reach_sets(self, longer: bool) -> ReachSets
+        ensures { λ r. ⌜ r ≡ reachSets longer self ⌝ }
+    {
+        let mut sets = [0u64; 64];
+        let verdict = self.check();
+        let Verdict::Accepted = verdict else {
+            return ReachSets { verdict, sets };
+        };
+        let declared = self.declared;
+        let count = self.count;
+        let mut far = [0usize; 256];
+        let mut before = [0usize; 256];
+        let mut last = [0usize; 64];
+        link(self, longer, &mut far, &mut before, &mut last);
+        measure(&far, &before, &last, declared, count, &mut sets);
+        ReachSets {
+            verdict: Verdict::Accepted,
+            sets,
+        }
+    }
+
+    // Write all lists of a direction, one after another, to one slice, and where each ends to another. Refused by 4 and 8 as the environment is,
+    // by 9 where either slice is too short. A slice of 64 words for each lifetime is always enough; with less the lists are measured first.
+    pub fn all_lists(self, longer: bool, words: &mut [usize], ends: &mut [usize]) -> Lists
+        ensures { λ r. ⌜ r ≡ listsAnswer longer self (length (now (words .entry))) (length (now (ends .entry))) ⌝ }
+        ensures { λ _. ⌜ now (words .exit) ≡ written (listWords longer self (length (now (words .entry))) (length (now (ends .entry)))) (now (words .entry)) ⌝ }
+        ensures { λ _. ⌜ now (ends .exit) ≡ written (listEnds longer self (length (now (words .entry))) (length (now (ends .entry)))) (now (ends .entry)) ⌝ }
+    {
+        let mut sets = [0u64; 64];
+        let verdict = self.check();
+        if let Verdict::Refused(refusal) = verdict {
+            return Lists {
+                listed: Listed::Refused(refusal),
+                sets,
+            };
+        }
+        let declared = self.declared;
+        let count = self.count;
+        if ends.len() < count {
+            return Lists {
+                listed: Listed::Refused(Refusal::NoRoom),
+                sets,
+            };
+        }
+        let mut far = [0usize; 256];
+        let mut before = [0usize; 256];
+        let mut last = [0usize; 64];
+        link(self, longer, &mut far, &mut before, &mut last);
+        if !all_fit(&far, &before, &last, declared, count, words.len()) {
+            return Lists {
+                listed: Listed::Refused(Refusal::NoRoom),
+                sets,
+            };
+        }
+        let total = lay(
+            &far,
+            &before,
+            &last,
+            declared,
+            count,
+            words,
+            ends,
+            &mut sets,
+        );
+        Lists {
+            listed: Listed::Count(total),
+            sets,
+        }
+    }
+}
+
+// The list of one lifetime in one direction, with all refusals.
+fn traverse(env: LifetimeEnv, lifetime: Lifetime, longer: bool, out: &mut [usize]) -> Listed
+    ensures { λ r. ⌜ r ≡ counted (listReach longer env (lifetime .0) (length (now (out .entry)))) ⌝ }
+    ensures { λ _. ⌜ now (out .exit) ≡ written (listReach longer env (lifetime .0) (length (now (out .entry)))) (now (out .entry)) ⌝ }
+{
+    let verdict = env.check();
+    if let Verdict::Refused(refusal) = verdict {
+        return Listed::Refused(refusal);
+    }
+    let start = lifetime.index();
+    if env.count <= start {
+        return Listed::Refused(Refusal::OutOfRange);
+    }
+    let mut items = [0usize; 64];
+    let n = list(env, longer, start, &mut items);
+    if out.len() < n {
+        return Listed::Refused(Refusal::NoRoom);
+    }
+    copy_to(&items, n, out, 0);
+    Listed::Count(n)
+}
+
+// The list of one lifetime of an environment, to the first places of `items`. Answers how many it lists.
+fn list(env: LifetimeEnv, longer: bool, start: usize, items: &mut [usize; 64]) -> usize
+    requires { ⌜ NoneDue (envChecks env) × (start < env .count) ⌝ }
+    requires { ⌜ length (now items) ≡ 64 ⌝ }
+    ensures { λ r. ⌜ (r ≤ 64) × (length (now (items .exit)) ≡ 64) × (take r (now (items .exit)) ≡ traversal LastFirst longer (boundsOf env) start) ⌝ }
+{
+    let declared = env.declared;
+    let count = env.count;
+    let mut far = [0usize; 256];
+    let mut before = [0usize; 256];
+    let mut last = [0usize; 64];
+    link(env, longer, &mut far, &mut before, &mut last);
+    let limit = limit_of(declared, count, start);
+    walk(&far, &before, &last, limit, start, items).count
+}
+
+// How many lifetimes a traversal can list: the declared ones, unless it starts past them.
+fn limit_of(declared: usize, count: usize, start: usize) -> usize
+    requires { ⌜ (start < count) × (declared ≤ count) ⌝ }
+    ensures { λ r. ⌜ (start < r) × (r ≤ count) × (declared ≤ r) ⌝ }
+{
+    if start < declared {
+        return declared;
+    }
+    count
+}
+
+// Copy the first n items to a place of a slice.
+fn copy_to(items: &[usize; 64], n: usize, out: &mut [usize], at: usize)
+    requires { ⌜ (n ≤ 64) × (length (now items) ≡ 64) × (at + n ≤ length (now out)) ⌝ }
+    ensures { λ _. ⌜ now (out .exit) ≡ sets (now (out .entry)) at (take n (now (items .entry))) ⌝ }
+{
+    let mut i = 0;
+    while i < n {
+        out[at + i] = items[i];
+        i += 1;
+    }
+}
+
+// Whether all lists over an index have room together. With 64 words for each lifetime they have; with less they are measured.
+fn all_fit(
+    far: &[usize; 256],
+    before: &[usize; 256],
+    last: &[usize; 64],
+    declared: usize,
+    count: usize,
+    room: usize,
+) -> bool
+    requires { ⌜ Measurable (now far) (now before) (now last) declared count ⌝ }
+    ensures { λ r. ⌜ ((g : Graph) → Indexed g (now (far .entry)) (now (before .entry)) (now (last .entry)) → Within g declared → Fits g count room r) ⌝ }
+{
+    if 64 * count <= room {
+        return true;
+    }
+    let mut measured = [0u64; 64];
+    measure(far, before, last, declared, count, &mut measured) <= room
+}
+
+// All traversals over an index: the set of each to its place, and how many words all lists have together.
+fn measure(
+    far: &[usize; 256],
+    before: &[usize; 256],
+    last: &[usize; 64],
+    declared: usize,
+    count: usize,
+    reach: &mut [u64; 64],
+) -> usize
+    requires { ⌜ Measurable (now far) (now before) (now last) declared count ⌝ }
+    requires { ⌜ length (now reach) ≡ 64 ⌝ }
+    ensures { λ r. ⌜ ((g : Graph) → Indexed g (now (far .entry)) (now (before .entry)) (now (last .entry)) → Within g declared → Measures g count (now (reach .entry)) (now (reach .exit)) r) ⌝ }
+{
+    let mut items = [0usize; 64];
+    let mut total = 0;
+    let mut x = 0;
+    while x < count {
+        let limit = limit_of(declared, count, x);
+        let walked = walk(far, before, last, limit, x, &mut items);
+        reach[x] = walked.seen;
+        total += walked.count;
+        x += 1;
+    }
+    total
+}
+
+// All traversals over an index: the lists one after another, where each ends, and the set of each.
+fn lay(
+    far: &[usize; 256],
+    before: &[usize; 256],
+    last: &[usize; 64],
+    declared: usize,
+    count: usize,
+    words: &mut [usize],
+    ends: &mut [usize],
+    reach: &mut [u64; 64],
+) -> usize
+    requires { ⌜ Layable (now far) (now before) (now last) declared count (length (now words)) ⌝ }
+    requires { ⌜ (count ≤ length (now ends)) × (length (now reach) ≡ 64) ⌝ }
+    ensures { λ r. ⌜ ((g : Graph) → Indexed g (now (far .entry)) (now (before .entry)) (now (last .entry)) → Within g declared → Lays g count (now (words .entry)) (now (ends .entry)) (now (reach .entry)) (now (words .exit)) (now (ends .exit)) (now (reach .exit)) r) ⌝ }
+{
+    let mut items = [0usize; 64];
+    let mut at = 0;
+    let mut x = 0;
+    while x < count {
+        let limit = limit_of(declared, count, x);
+        let walked = walk(far, before, last, limit, x, &mut items);
+        let n = walked.count;
+        copy_to(&items, n, words, at);
+        at += n;
+        ends[x] = at;
+        reach[x] = walked.seen;
+        x += 1;
+    }
+    at
+}

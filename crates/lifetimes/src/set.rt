@@ -1,0 +1,89 @@
+// Sets of lifetimes as 64 bits: a lifetime is in a set where the bit with its number is 1.
+//
+// Every `u64` is a set, of lifetimes below 64; nothing is asked of a caller. Nothing here shifts by 64 or more.
+ghost use mathlib.Core.Path.{_≡_};
+ghost use mathlib.Core.Bool.{cond};
+ghost use Prim.Native.Nat.{_<_};
+ghost use lib.Dec.{ltb};
+ghost use lib.ListN.{length};
+ghost use Rattle.lifetimes.specs.Lent.{counted, written};
+ghost use Rattle.lifetimes.specs.Sets as sets;
+use super::answer::Listed;
+use super::answer::Refusal;
+
+// The set without members.
+pub const EMPTY: u64 = 0;
+
+// How many lifetimes a set can tell apart.
+pub const CAPACITY: usize = 64;
+
+// Whether a lifetime is in a set.
+pub fn contains(set: u64, lifetime: usize) -> bool
+    ensures { λ r. ⌜ r ≡ sets.member set lifetime ⌝ }
+{
+    if lifetime < CAPACITY {
+        return holds(set, lifetime);
+    }
+    false
+}
+
+// The set with one lifetime more. One of 64 or more is in no set: the set stays.
+pub fn insert(set: u64, lifetime: usize) -> u64
+    ensures { λ r. ⌜ r ≡ cond (ltb lifetime 64) (sets.insert set lifetime) set ⌝ }
+{
+    if lifetime < CAPACITY {
+        return with(set, lifetime);
+    }
+    set
+}
+
+// The lifetimes of either set.
+pub fn union(first: u64, second: u64) -> u64
+    ensures { λ r. ⌜ r ≡ sets.union first second ⌝ }
+{
+    first | second
+}
+
+// How many lifetimes are in a set.
+pub fn count(set: u64) -> usize
+    ensures { λ r. ⌜ r ≡ sets.count set ⌝ }
+{
+    u64::count_ones(set) as usize
+}
+
+// Write a set's lifetimes to a slice, ascending. Refused by 9 where the slice is too short. Looks at each of the 64 bits once.
+pub fn members(set: u64, out: &mut [usize]) -> Listed
+    ensures { λ r. ⌜ r ≡ counted (sets.listMembers set (length (now (out .entry)))) ⌝ }
+    ensures { λ _. ⌜ now (out .exit) ≡ written (sets.listMembers set (length (now (out .entry)))) (now (out .entry)) ⌝ }
+{
+    let n = count(set);
+    if out.len() < n {
+        return Listed::Refused(Refusal::NoRoom);
+    }
+    let mut at = 0;
+    let mut x = 0;
+    while x < CAPACITY {
+        if contains(set, x) {
+            out[at] = x;
+            at += 1;
+        }
+        x += 1;
+    }
+    Listed::Count(n)
+}
+
+// As `contains`, of a lifetime that is known to be below 64.
+pub(crate) fn holds(set: u64, lifetime: usize) -> bool
+    requires { ⌜ lifetime < 64 ⌝ }
+    ensures { λ r. ⌜ r ≡ sets.member set lifetime ⌝ }
+{
+    (set >> lifetime) % 2 == 1
+}
+
+// As `insert`, of a lifetime that is known to be below 64.
+pub(crate) fn with(set: u64, lifetime: usize) -> u64
+    requires { ⌜ lifetime < 64 ⌝ }
+    ensures { λ r. ⌜ r ≡ sets.insert set lifetime ⌝ }
+{
+    set | (1u64 << lifetime)
+}

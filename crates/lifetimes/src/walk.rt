@@ -1,0 +1,101 @@
+// One traversal over the index.
+ghost use mathlib.Core.Path.{_≡_};
+ghost use Prim.Native.Nat.{_≤_, _<_};
+ghost use lib.ListN.{length};
+ghost use Rattle.lifetimes.specs.Index.{Graph, Chained, Indexed, Ready, Standing, Steps, Within, Walkable, Lists};
+use super::lifetime::Lifetime;
+use super::set;
+
+// What a step yields: the next unseen lifetime, or none.
+enum Next {
+    Yield(Lifetime),
+    Nothing,
+}
+
+// What a step yields, and where the traversal stands after it: the chain that it is in, and how many the stack holds.
+struct Stepped {
+    next: Next,
+    at: usize,
+    depth: usize,
+}
+
+// A traversal that is done: how many lifetimes it lists, and their set.
+pub(crate) struct Walked {
+    pub(crate) count: usize,
+    pub(crate) seen: u64,
+}
+
+// The next unseen lifetime: pending entries that were seen are passed over.
+fn advance(
+    far: &[usize; 256],
+    before: &[usize; 256],
+    stack: &[usize; 64],
+    seen: u64,
+    from: usize,
+    deep: usize,
+) -> Stepped
+    requires { ⌜ Standing (now far) (now before) (now stack) from deep ⌝ }
+    ensures { λ r. ⌜ ((g : Graph) → Chained g (now (far .entry)) (now (before .entry)) → Ready g (now (stack .entry)) from deep → Steps g (now (stack .entry)) seen from deep r) ⌝ }
+{
+    let mut at = from;
+    let mut depth = deep;
+    let next = 'pending: loop {
+        if at == 0 {
+            if depth == 0 {
+                break 'pending Next::Nothing;
+            }
+            depth -= 1;
+            at = stack[depth];
+        } else {
+            let i = at - 1;
+            let y = far[i];
+            at = before[i];
+            if !set::holds(seen, y) {
+                break 'pending Next::Yield(Lifetime::new(y));
+            }
+        }
+    };
+    Stepped { next, at, depth }
+}
+
+// The traversal from a lifetime, over the index of an environment whose lifetimes are below a limit, to the first places of `items`.
+// It stops when as many are listed as there are. A chain that is at its end is not stacked.
+pub(crate) fn walk(
+    far: &[usize; 256],
+    before: &[usize; 256],
+    last: &[usize; 64],
+    limit: usize,
+    start: usize,
+    items: &mut [usize; 64],
+) -> Walked
+    requires { ⌜ Walkable (now far) (now before) (now last) limit start ⌝ }
+    requires { ⌜ length (now items) ≡ 64 ⌝ }
+    ensures { λ r. ⌜ (r .count ≤ 64) × (length (now (items .exit)) ≡ 64) ⌝ }
+    ensures { λ r. ⌜ ((g : Graph) → Indexed g (now (far .entry)) (now (before .entry)) (now (last .entry)) → Within g limit → Lists g start (now (items .exit)) r) ⌝ }
+{
+    let mut stack = [0usize; 64];
+    items[0] = start;
+    let mut count = 1;
+    let mut seen = set::with(set::EMPTY, start);
+    let mut depth = 0;
+    let mut at = last[start];
+    while count < limit {
+        let stepped = advance(far, before, &stack, seen, at, depth);
+        let next = stepped.next;
+        let Next::Yield(lifetime) = next else {
+            return Walked { count, seen };
+        };
+        let y = lifetime.index();
+        let rest = stepped.at;
+        depth = stepped.depth;
+        seen = set::with(seen, y);
+        items[count] = y;
+        count += 1;
+        if rest != 0 {
+            stack[depth] = rest;
+            depth += 1;
+        }
+        at = last[y];
+    }
+    Walked { count, seen }
+}
