@@ -7,7 +7,7 @@ use native.Mathlib.Omega.{arith}
 use native.Mathlib.Numerals.{add-one}
 use lib.ListN.{length, set, length-append}
 use lib.Seq.{sets}
-use Rattle.lifetimes.specs.Lists.{ascending}
+use Rattle.lifetimes.specs.Ranges.{ascending}
 use Rattle.lifetimes.specs.Walk.{LastFirst, traversal, reachSet}
 use Rattle.lifetimes.specs.Reach.{endsFrom}
 use Rattle.lifetimes.specs.Index.{Graph, Within, listsFrom, setsFrom, Measures, Lays}
@@ -23,14 +23,14 @@ ascending-none : (x count : ℕ) → count ≤ x → ascending x (count - x) ≡
 unfolding ascending
 ascending-none x count h = let e : count - x ≡ 0 = omega arith in rw e
 
+-- the list of a lifetime, and its set
+abbrev pub listOf : Graph → ℕ → List ℕ
+listOf g x = traversal LastFirst (g .longer) (g .bounds) x
+
+abbrev pub setAt : Graph → ℕ → ℕ
+setAt g x = reachSet (g .longer) (g .bounds) x
+
 module _ (g : Graph) (count : ℕ) where
-  -- the list of a lifetime
-  abbrev pub listOf : ℕ → List ℕ
-  listOf x = traversal LastFirst (g .longer) (g .bounds) x
-
-  abbrev pub setAt : ℕ → ℕ
-  setAt x = reachSet (g .longer) (g .bounds) x
-
   -- the lists, and the sets, that are left
   abbrev pub listsLeft : ℕ → List (List ℕ)
   listsLeft x = listsFrom g x (count - x)
@@ -38,13 +38,13 @@ module _ (g : Graph) (count : ℕ) where
   abbrev pub setsLeft : ℕ → List ℕ
   setsLeft x = setsFrom g x (count - x)
 
-  lists-next : (x : ℕ) → x < count → listsLeft x ≡ listOf x ∷ listsLeft (x + 1)
+  lists-next : (x : ℕ) → x < count → listsLeft x ≡ listOf g x ∷ listsLeft (x + 1)
   lists-next x h = rw (ascending-next x count h)
 
-  sets-next : (x : ℕ) → x < count → setsLeft x ≡ setAt x ∷ setsLeft (x + 1)
+  sets-next : (x : ℕ) → x < count → setsLeft x ≡ setAt g x ∷ setsLeft (x + 1)
   sets-next x h = rw (ascending-next x count h)
 
-  words-next : (x : ℕ) → x < count → flatten (listsLeft x) ≡ listOf x ++ flatten (listsLeft (x + 1))
+  words-next : (x : ℕ) → x < count → flatten (listsLeft x) ≡ listOf g x ++ flatten (listsLeft (x + 1))
   unfolding flatten
   words-next x h = rw (lists-next x h)
 
@@ -58,7 +58,7 @@ pub measuring-start : (g : Graph) (count : ℕ) (reach : List ℕ) → Measuring
 measuring-start g count reach = record { here = omega arith; total-left = rw (zero-add, sub-zero); reach-left = rw sub-zero }
 
 module _ {g : Graph} {count : ℕ} {reach₀ reach : List ℕ} {x total : ℕ} (inv : Measuring g count reach₀ reach x total) where
-  pub measuring-more : x < count → (n s : ℕ) → n ≡ length (listOf g count x) → s ≡ setAt g count x → Measuring g count reach₀ (set reach x s) (x + 1) (total + n)
+  pub measuring-more : x < count → (n s : ℕ) → n ≡ length (listOf g x) → s ≡ setAt g x → Measuring g count reach₀ (set reach x s) (x + 1) (total + n)
   measuring-more h n s p q = record {
     here = omega arith;
     total-left = omega (arith, p, rw (words-next g count x h, length-append) at (inv .total-left));
@@ -82,17 +82,17 @@ laying-start g count words ends reach = record { measuring = measuring-start g c
 
 module _ {g : Graph} {count : ℕ} {words₀ ends₀ reach₀ words ends reach : List ℕ} {x at : ℕ} (inv : Laying g count words₀ ends₀ reach₀ words ends reach x at) where
   -- there is room for the next list
-  pub laying-room : x < count → length (flatten (listsFrom g 0 count)) ≤ length words → at + length (listOf g count x) ≤ length words
+  pub laying-room : x < count → length (flatten (listsFrom g 0 count)) ≤ length words → at + length (listOf g x) ≤ length words
   laying-room h room = omega (arith, rw (words-next g count x h, length-append) at (inv .measuring .total-left))
 
-  pub laying-more : x < count → (items : List ℕ) (n s : ℕ) → items ≡ listOf g count x → n ≡ length items → s ≡ setAt g count x
+  pub laying-more : x < count → (items : List ℕ) (n s : ℕ) → items ≡ listOf g x → n ≡ length items → s ≡ setAt g x
       → Laying g count words₀ ends₀ reach₀ (sets words at items) (set ends x (at + n)) (set reach x s) (x + 1) (at + n)
   unfolding endsFrom
   laying-more h items n s i p q =
-      let e : n ≡ length (listOf g count x) = p ∙ ap length i in
+      let e : n ≡ length (listOf g x) = p ∙ ap length i in
       record {
         measuring = measuring-more (inv .measuring) h n s e q;
-        words-left = rw (i, e) (sym (sets-append words at (listOf g count x) (flatten (listsLeft g count (x + 1)))) ∙ (rw (words-next g count x h) at (inv .words-left)));
+        words-left = rw (i, e) (sym (sets-append words at (listOf g x) (flatten (listsLeft g count (x + 1)))) ∙ (rw (words-next g count x h) at (inv .words-left)));
         ends-left = rw (e, add-one x) (rw (lists-next g count x h, add-one x) at (inv .ends-left));
       }
 

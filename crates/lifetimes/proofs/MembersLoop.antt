@@ -12,7 +12,7 @@ use lib.Seq.{sets, sets-eq}
 use borrow.Author.Tests.{lt-ltb, le-ltb}
 use Rattle.lifetimes.specs.declared.answer.Refusal.the-variants.{NoRoom}
 use Rattle.lifetimes.specs.declared.answer.Listed.the-variants as listed
-use Rattle.lifetimes.specs.Lists.{ascending, select}
+use Rattle.lifetimes.specs.Ranges.{ascending, select}
 use Rattle.lifetimes.specs.Refusals.{Gives, Refuses, unless}
 use Rattle.lifetimes.specs.Lent.{counted, written}
 use Rattle.lifetimes.specs.Sets.{member, members, count, listMembers}

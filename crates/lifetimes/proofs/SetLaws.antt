@@ -16,7 +16,7 @@ use lib.ListN.{length, getD}
 use lib.Pow.{pow-pos, pow-lt, pow-mono, pow-add, shl-shr, shr-lt}
 use lib.Bits.{bitOr, or-shr, or-mod, or-lt, or-zero-r}
 use lib.Count.{ones, ones-step, ones-le}
-use Rattle.lifetimes.specs.Lists.{ascending, select}
+use Rattle.lifetimes.specs.Ranges.{ascending, select}
 use Rattle.lifetimes.specs.Sets.{member, insert, union, members, count, insertAll, setOf}
 
 -- ---- numbers in a row

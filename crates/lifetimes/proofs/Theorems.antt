@@ -6,9 +6,12 @@ use native.Mathlib.Nat.{le-refl, le-trans}
 use native.Mathlib.Omega.{arith}
 use lib.IntN.{ℤ, pos}
 use lib.Signed.{_≤ℤ_, ≤ℤ-refl}
-use Rattle.lifetimes.specs.Env.{boundsOf}
-use Rattle.lifetimes.specs.Walk.{Order, LastFirst, traversal, reachSet}
-use Rattle.lifetimes.specs.Theorems.{RefusedIfFirstDue, TraversalOrder, ReachIsOutlives, OutlivesIsForced}
+use Rattle.lifetimes.specs.Refusals.{unless}
+use Rattle.lifetimes.specs.Sets.{member, insert}
+use Rattle.lifetimes.specs.Env.{boundsOf, allBelow, envOf}
+use Rattle.lifetimes.specs.Walk.{Order, LastFirst, neighbours, unpushed, walkFor, walk, traversal, reachSet}
+use Rattle.lifetimes.specs.Reach.{listReach}
+use Rattle.lifetimes.specs.Theorems.{RefusedIfFirstDue, TraversalOrder, ReachIsOutlives, OutlivesIsForced, ExamplesHold}
 use Rattle.lifetimes.proofs.SetLaws.{setOf-has}
 use Rattle.lifetimes.proofs.RefusalLaws.{due-given, due-refused, refused-due, given-due}
 use Rattle.lifetimes.proofs.EnvLaws.{valid, near-declared, far-declared}
@@ -60,3 +63,7 @@ outlives-is-forced bs a b = (
     forced-outlives ℤ _≤ℤ_ ≤ℤ-refl ≤ℤ-trans (pos 0) (pos 1) zero-one not-one-zero bs a b,
   ),
 )
+
+pub examples-hold : ExamplesHold
+unfolding listReach unless allBelow envOf traversal walk walkFor unpushed neighbours member insert
+examples-hold = (refl, (refl, (refl, (refl, (refl, tt)))))

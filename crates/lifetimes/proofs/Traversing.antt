@@ -14,7 +14,7 @@ use Rattle.lifetimes.specs.declared.answer.Verdict.the-variants as verdi
 use Rattle.lifetimes.specs.declared.answer.Listed.the-variants as listed
 use Rattle.lifetimes.specs.declared.env.LifetimeEnv.{LifetimeEnv}
 use Rattle.lifetimes.specs.declared.reach.Lists.{Lists}
-use Rattle.lifetimes.specs.Lists.{ascending}
+use Rattle.lifetimes.specs.Ranges.{ascending}
 use Rattle.lifetimes.specs.Refusals.{unless, FirstDue, here, later, NoneDue, end, next}
 use Rattle.lifetimes.specs.Lent.{counted, written}
 use Rattle.lifetimes.specs.Env.{boundsOf, envChecks}

@@ -15,7 +15,7 @@ use Rattle.lifetimes.specs.declared.walk.Next.the-variants.{Yield, Nothi
 use Rattle.lifetimes.specs.declared.walk.Stepped.{Stepped}
 use Rattle.lifetimes.specs.Sets.{empty, member, insert, insertAll, setOf}
 use Rattle.lifetimes.specs.Walk.{neighbours, LastFirst, walk, traversal, reachSet}
-use Rattle.lifetimes.specs.Index.{Graph, lastOf, chain, chains, pending, skip, Indexed, Ready, Steps, Within, Lists}
+use Rattle.lifetimes.specs.Index.{Graph, lastOf, chain, chains, pending, skip, Indexed, Ready, Steps, Within, Complete}
 use Rattle.lifetimes.proofs.SetLaws.{member-empty, insertAll-append}
 use Rattle.lifetimes.proofs.NeighbourLaws.{neighbours-only, push-in}
 use Rattle.lifetimes.proofs.WalkLaws.{walks, walk-nil, walk-seen, walk-new, unseen, unseen-empty, unseen-insert, walks-few}
@@ -78,18 +78,18 @@ going-start g limit start items h = record {
 }
 
 module _ {g : Graph} {limit start : ℕ} (within : Within g limit) {items : List ℕ} {n : ℕ} {p : List ℕ} {seen : ℕ} (go : Going g limit start items n p seen) where
-  going-done : walk LastFirst (g .longer) (g .bounds) p seen ≡ [] → Lists g start items (record { count = n; seen = seen })
+  going-done : walk LastFirst (g .longer) (g .bounds) p seen ≡ [] → Complete g start items (record { count = n; seen = seen })
   unfolding reachSet
   going-done none =
       let all : take n items ≡ traversal LastFirst (g .longer) (g .bounds) start = sym (append-nil (take n items)) ∙ (rw none at (go .rest)) in
       record { items = all; seen = go .marked ∙ ap setOf all }
 
   -- nothing is unseen of what is pending
-  pub going-end : skip seen p ≡ [] → Lists g start items (record { count = n; seen = seen })
+  pub going-end : skip seen p ≡ [] → Complete g start items (record { count = n; seen = seen })
   going-end e = going-done (skip-end (g .longer) (g .bounds) seen p e)
 
   -- as many are listed as there are
-  pub going-full : limit ≤ n → Lists g start items (record { count = n; seen = seen })
+  pub going-full : limit ≤ n → Complete g start items (record { count = n; seen = seen })
   going-full h = going-done (no-items _ (omega (arith, go .count, walks-few LastFirst (g .longer) (g .bounds) limit within (walks LastFirst (g .longer) (g .bounds) p seen) (go .small))))
 
   module _ {x : ℕ} {q : List ℕ} (e : skip seen p ≡ x ∷ q) where
@@ -153,7 +153,7 @@ module _ {g : Graph} {fars befores lasts : List ℕ} (linked : Indexed g fars be
       fresh x = rw (member-empty x)
 
   module _ {items stack : List ℕ} {n seen depth at : ℕ} (inv : Walking g limit start items stack n seen depth at) {r : Stepped} (steps : Steps g stack seen at depth r) where
-    pub walking-end : r .next ≡ Nothing → Lists g start items (record { count = n; seen = seen })
+    pub walking-end : r .next ≡ Nothing → Complete g start items (record { count = n; seen = seen })
     walking-end h = going-end within (inv .going) (rw h at (steps .skips))
 
     module _ {l : Lifetime} (h : r .next ≡ Yield l) where

@@ -15,7 +15,7 @@ use Rattle.lifetimes.specs.declared.walk.Next.{Next}
 use Rattle.lifetimes.specs.declared.walk.Next.the-variants.{Yield, Nothing}
 use Rattle.lifetimes.specs.declared.walk.Stepped.{Stepped}
 use Rattle.lifetimes.specs.declared.walk.Walked.{Walked}
-use Rattle.lifetimes.specs.Lists.{ascending}
+use Rattle.lifetimes.specs.Ranges.{ascending}
 use Rattle.lifetimes.specs.Sets.{member}
 use Rattle.lifetimes.specs.Env.{above, boundsOf}
 use Rattle.lifetimes.specs.Walk.{near, far, LastFirst, traversal, reachSet}
@@ -108,8 +108,8 @@ Within g limit = (b : Bound) → List·Memᴰ b (g .bounds) → far (g .longer) 
 abbrev pub Walkable : List ℕ → List ℕ → List ℕ → ℕ → ℕ → Type 0
 Walkable fars befores lasts limit start = ((g : Graph) × Indexed g fars befores lasts × Within g limit) × (limit ≤ 64) × (start < limit)
 
--- a traversal that is done: its items stand in the first places, and their set is the seen one
-pub record Lists (g : Graph) (start : ℕ) (held : List ℕ) (r : Walked) : Type 0 where
+-- a traversal that is complete: its items stand in the first places, and their set is the seen one
+pub record Complete (g : Graph) (start : ℕ) (held : List ℕ) (r : Walked) : Type 0 where
   pub items : take (r .count) held ≡ traversal LastFirst (g .longer) (g .bounds) start
   pub seen : r .seen ≡ reachSet (g .longer) (g .bounds) start
 

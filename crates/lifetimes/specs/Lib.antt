@@ -1,5 +1,5 @@
 -- Definitions that the contracts cite, and the statements of the main theorems.
-pub mod Lists
+pub mod Ranges
 pub mod Numbers
 pub mod LoweredWords
 pub mod Refusals
@@ -10,5 +10,7 @@ pub mod Walk
 pub mod Outlives
 pub mod Reach
 pub mod Linked
-pub mod Index
+pub mod Examples
 pub mod Theorems
+-- For private functions only
+pub mod Index

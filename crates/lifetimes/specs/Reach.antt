@@ -8,7 +8,7 @@ use Rattle.lifetimes.specs.declared.answer.Refusal.the-variants.{OutOfRa
 use Rattle.lifetimes.specs.declared.env.LifetimeEnv.{LifetimeEnv}
 use Rattle.lifetimes.specs.declared.reach.ReachSets.{ReachSets}
 use Rattle.lifetimes.specs.declared.reach.Lists.{Lists}
-use Rattle.lifetimes.specs.Lists.{ascending}
+use Rattle.lifetimes.specs.Ranges.{ascending}
 use Rattle.lifetimes.specs.Refusals.{Check, check, Outcome, unless}
 use Rattle.lifetimes.specs.Lent.{counted, verdictOf, resultOr, roomCheck}
 use Rattle.lifetimes.specs.Env.{boundsOf, envChecks}

@@ -7,7 +7,7 @@ use mathlib.Core.List.{List, [], _∷_}
 use lib.Bits.{bitOr}
 use lib.Dec.{eqb}
 use lib.ListN.{length}
-use Rattle.lifetimes.specs.Lists.{ascending, select}
+use Rattle.lifetimes.specs.Ranges.{ascending, select}
 use Rattle.lifetimes.specs.Refusals.{Outcome, unless}
 use Rattle.lifetimes.specs.Lent.{roomCheck}
 

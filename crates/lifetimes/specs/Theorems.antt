@@ -13,6 +13,7 @@ use Rattle.lifetimes.specs.Sets.{empty, member, insert}
 use Rattle.lifetimes.specs.Env.{boundsOf, envChecks}
 use Rattle.lifetimes.specs.Walk.{neighbours, Order, push, walk, traversal, reachSet, Pending}
 use Rattle.lifetimes.specs.Outlives.{Outlives, Toward, Forced, Forcedℤ}
+use Rattle.lifetimes.specs.Examples.{examples, Right}
 
 -- Refusals ("Each is given in its condition only"): a call answers a refusal exactly if it is the first due in the call's order, and gives its result exactly if none is due.
 pub record InOrderDue (A : Type 0) (checks : List Check) (a : A) : Type 0 where
@@ -50,3 +51,7 @@ ReachIsOutlives = (o : Order) (d : Bool) (e : LifetimeEnv) → NoneDue (envCheck
 -- Outlives is *forced above*: b outlives a exactly if every numbering that respects the bounds puts b at a's number or higher; by natural numbers and by integers. For all bounds.
 abbrev pub OutlivesIsForced : Type 0
 OutlivesIsForced = (bs : List Bound) (a b : ℕ) → (Outlives bs b a ↔ Forced bs a b) × (Outlives bs b a ↔ Forcedℤ bs a b)
+
+-- The starred examples
+abbrev pub ExamplesHold : Type 0
+ExamplesHold = Right examples

@@ -10,6 +10,7 @@ ghost use Rattle.lifetimes.specs.Lent.{counted, written};
 ghost use Rattle.lifetimes.specs.Sets as sets;
 use super::answer::Listed;
 use super::answer::Refusal;
+use super::lifetime::Lifetime;
 
 // The set without members.
 pub const EMPTY: u64 = 0;
@@ -18,21 +19,23 @@ pub const EMPTY: u64 = 0;
 pub const CAPACITY: usize = 64;
 
 // Whether a lifetime is in a set.
-pub fn contains(set: u64, lifetime: usize) -> bool
-    ensures { λ r. ⌜ r ≡ sets.member set lifetime ⌝ }
+pub fn contains(set: u64, lifetime: Lifetime) -> bool
+    ensures { λ r. ⌜ r ≡ sets.member set (lifetime .0) ⌝ }
 {
-    if lifetime < CAPACITY {
-        return holds(set, lifetime);
+    let number = lifetime.index();
+    if number < CAPACITY {
+        return holds(set, number);
     }
     false
 }
 
 // The set with one lifetime more. One of 64 or more is in no set: the set stays.
-pub fn insert(set: u64, lifetime: usize) -> u64
-    ensures { λ r. ⌜ r ≡ cond (ltb lifetime 64) (sets.insert set lifetime) set ⌝ }
+pub fn insert(set: u64, lifetime: Lifetime) -> u64
+    ensures { λ r. ⌜ r ≡ cond (ltb (lifetime .0) 64) (sets.insert set (lifetime .0)) set ⌝ }
 {
-    if lifetime < CAPACITY {
-        return with(set, lifetime);
+    let number = lifetime.index();
+    if number < CAPACITY {
+        return with(set, number);
     }
     set
 }
@@ -63,7 +66,7 @@ pub fn members(set: u64, out: &mut [usize]) -> Listed
     let mut at = 0;
     let mut x = 0;
     while x < CAPACITY {
-        if contains(set, x) {
+        if holds(set, x) {
             out[at] = x;
             at += 1;
         }
@@ -72,18 +75,18 @@ pub fn members(set: u64, out: &mut [usize]) -> Listed
     Listed::Count(n)
 }
 
-// As `contains`, of a lifetime that is known to be below 64.
-pub(crate) fn holds(set: u64, lifetime: usize) -> bool
-    requires { ⌜ lifetime < 64 ⌝ }
-    ensures { λ r. ⌜ r ≡ sets.member set lifetime ⌝ }
+// As `contains`, of a number that is known to be below 64.
+pub(crate) fn holds(set: u64, number: usize) -> bool
+    requires { ⌜ number < 64 ⌝ }
+    ensures { λ r. ⌜ r ≡ sets.member set number ⌝ }
 {
-    (set >> lifetime) % 2 == 1
+    (set >> number) % 2 == 1
 }
 
-// As `insert`, of a lifetime that is known to be below 64.
-pub(crate) fn with(set: u64, lifetime: usize) -> u64
-    requires { ⌜ lifetime < 64 ⌝ }
-    ensures { λ r. ⌜ r ≡ sets.insert set lifetime ⌝ }
+// As `insert`, of a number that is known to be below 64.
+pub(crate) fn with(set: u64, number: usize) -> u64
+    requires { ⌜ number < 64 ⌝ }
+    ensures { λ r. ⌜ r ≡ sets.insert set number ⌝ }
 {
-    set | (1u64 << lifetime)
+    set | (1u64 << number)
 }

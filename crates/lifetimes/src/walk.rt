@@ -2,7 +2,7 @@
 ghost use mathlib.Core.Path.{_≡_};
 ghost use Prim.Native.Nat.{_≤_, _<_};
 ghost use lib.ListN.{length};
-ghost use Rattle.lifetimes.specs.Index.{Graph, Chained, Indexed, Ready, Standing, Steps, Within, Walkable, Lists};
+ghost use Rattle.lifetimes.specs.Index.{Graph, Chained, Indexed, Ready, Standing, Steps, Within, Walkable, Complete};
 use super::lifetime::Lifetime;
 use super::set;
 
@@ -19,7 +19,7 @@ struct Stepped {
     depth: usize,
 }
 
-// A traversal that is done: how many lifetimes it lists, and their set.
+// A traversal that is complete: how many lifetimes it lists, and their set.
 pub(crate) struct Walked {
     pub(crate) count: usize,
     pub(crate) seen: u64,
@@ -71,7 +71,7 @@ pub(crate) fn walk(
     requires { ⌜ Walkable (now far) (now before) (now last) limit start ⌝ }
     requires { ⌜ length (now items) ≡ 64 ⌝ }
     ensures { λ r. ⌜ (r .count ≤ 64) × (length (now (items .exit)) ≡ 64) ⌝ }
-    ensures { λ r. ⌜ ((g : Graph) → Indexed g (now (far .entry)) (now (before .entry)) (now (last .entry)) → Within g limit → Lists g start (now (items .exit)) r) ⌝ }
+    ensures { λ r. ⌜ ((g : Graph) → Indexed g (now (far .entry)) (now (before .entry)) (now (last .entry)) → Within g limit → Complete g start (now (items .exit)) r) ⌝ }
 {
     let mut stack = [0usize; 64];
     items[0] = start;

@@ -23,11 +23,11 @@ returns c = let s = c .before .before .before in too-short (s .args .set) (s .ar
 loop-holds : tie.Need-loop-holds Inv-loop μ-loop
 loop-holds c = let s = c .before .before .before in listing-start (s .args .set) (s .args .out .now) (c .before .count .ensures) (c .if1 .left)
 
-contains-requires : tie.Need-contains-requires Inv-loop μ-loop
-contains-requires c κs = search needs
+holds-requires : tie.Need-holds-requires Inv-loop μ-loop
+holds-requires c κs = search needs
 
 slice-write-out : tie.Need-slice-write-out Inv-loop μ-loop
-slice-write-out c = listing-room (c .before .before .before .loop .inv) (c .before .before .loop-test .taken) (sym (c .before .contains .ensures) ∙ c .if2 .taken)
+slice-write-out c = listing-room (c .before .before .before .loop .inv) (c .before .before .loop-test .taken) (sym (c .before .holds .ensures) ∙ c .if2 .taken)
 
 mul-out : tie.Need-mul-out Inv-loop μ-loop
 mul-out c = omega (arith, slice-write-out c)
@@ -45,7 +45,7 @@ loop-again : tie.Need-loop-again Inv-loop μ-loop
 loop-again c =
     let l = c .before .before .before .loop in
     let below = c .before .before .loop-test .taken in
-    let told = sym (c .before .contains .ensures) in
+    let told = sym (c .before .holds .ensures) in
     ⊎-elim
     (λ w. rw (w .1, w .2) (listing-member (l .inv) below (told ∙ w .0 .taken)))
     (λ w. rw (w .1, w .2) (listing-other (l .inv) below (told ∙ w .0 .left)))
@@ -66,7 +66,7 @@ members-spec =
     count-requires
     returns
     loop-holds
-    contains-requires
+    holds-requires
     mul-out
     slice-write-out
     add-at

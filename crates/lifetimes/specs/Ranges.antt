@@ -1,4 +1,4 @@
--- Small words on lists that the definitions share.
+-- Numbers in a row, and those of a list that pass a test.
 use Prim.Native.Nat.{ℕ, zero, suc}
 use mathlib.Core.Bool.{Bool, cond}
 use mathlib.Core.List.{List, [], _∷_}
