@@ -6,8 +6,10 @@ use native.Mathlib.Omega.{arith}
 use lib.ListN.{length, replicate, length-take}
 use Rattle.lifetimes.specs.declared.env.LifetimeEnv.{LifetimeEnv}
 use Rattle.lifetimes.specs.Env.{boundsOf}
-use Rattle.lifetimes.specs.Index.{Fine, graphOf, Zeros, Within}
+use Rattle.lifetimes.specs.Walk.{Order}
+use Rattle.lifetimes.specs.Index.{Fine, graphIn, Zeros, Within}
 use Rattle.lifetimes.proofs.EnvLaws.{Valid, far-declared}
+use Rattle.lifetimes.proofs.ReverseLaws.{linked-in}
 
 module _ {e : LifetimeEnv} (v : Valid e) where
   pub bounds-length : length (e .bounds) ≡ 256 → length (boundsOf e) ≡ e .pushed
@@ -19,8 +21,8 @@ module _ {e : LifetimeEnv} (v : Valid e) where
     small = λ b k. let h = v .below b k in omega (arith, h, v .declares, v .counted);
   }
 
-  pub bounds-within : (d : Bool) (n : ℕ) → e .declared ≤ n → Within (graphOf d e) n
-  bounds-within d n h b k = omega (arith, far-declared d v b k)
+  pub bounds-within : (o : Order) (d : Bool) (n : ℕ) → e .declared ≤ n → Within (graphIn o d e) n
+  bounds-within o d n h b k = omega (arith, far-declared d v b (linked-in o (boundsOf e) k))
 
 pub zeros : (n : ℕ) → Zeros (replicate n 0)
 zeros zero x = refl

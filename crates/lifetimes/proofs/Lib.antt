@@ -6,6 +6,7 @@ pub mod RefusalLaws
 pub mod Answering
 pub mod EnvLaws
 pub mod NeighbourLaws
+pub mod ReverseLaws
 pub mod WalkLaws
 pub mod OutlivesLaws
 pub mod ReachLaws

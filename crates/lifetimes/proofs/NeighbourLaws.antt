@@ -58,7 +58,7 @@ neighbours-none d (b ∷ bs) x h =
     rw (ne-eqb (near d b) x (h b (List·Memᴰ·head refl))) (neighbours-none d bs x (λ c k. h c (List·Memᴰ·tail k)))
 
 -- members of what is pending after a push
-reversed-in : {y : ℕ} (l p : List ℕ) → List·Memᴰ y (reverseAux l p) → List·Memᴰ y l ⊎ List·Memᴰ y p
+pub reversed-in : {A : Type 0} {y : A} (l p : List A) → List·Memᴰ y (reverseAux l p) → List·Memᴰ y l ⊎ List·Memᴰ y p
 reversed-in [] p m = inr m
 reversed-in (x ∷ l) p m = ⊎-elim (λ h. inl (List·Memᴰ·tail h)) (λ h. ⊎-elim (λ e. inl (List·Memᴰ·head e)) (λ k. inr k) (List·Memᴰ·cases-cons h)) (reversed-in l (x ∷ p) m)
 

@@ -9,10 +9,11 @@ use lib.ListN.{length}
 use Rattle.lifetimes.specs.declared.env.Bound.{Bound}
 use Rattle.lifetimes.specs.Sets.{empty, insert}
 use Rattle.lifetimes.specs.Walk.{near, far, neighbours, Order, LastFirst, push, walk, traversal}
+use Rattle.lifetimes.specs.Index.{linkedIn}
 use Rattle.lifetimes.specs.Outlives.{Outlives, Toward, ForcedIn}
 use Rattle.lifetimes.proofs.SetLaws.{member-empty}
 use Rattle.lifetimes.proofs.NeighbourLaws.{neighbours-none, push-nil}
-use Rattle.lifetimes.proofs.WalkLaws.{Walks, walks, walk-nil, walk-new, Met, walks-only, walks-all, walks-closed, walks-once, unseen-empty, walks-few}
+use Rattle.lifetimes.proofs.WalkLaws.{Walks, walks, walks-same, walk-nil, walk-new, Met, walks-only, walks-all, walks-closed, walks-once, walks-linked, unseen-empty, walks-few}
 use Rattle.lifetimes.proofs.OutlivesLaws.{least, toward-itself, toward-through, toward-bound, toward-hands-on}
 
 module _ (o : Order) (d : Bool) (bs : List Bound) (k : ℕ) where
@@ -54,6 +55,10 @@ module _ (o : Order) (d : Bool) (bs : List Bound) (k : ℕ) where
   pub traversal-few : (n : ℕ) → ((b : Bound) → List·Memᴰ b bs → far d b < n) → k < n → length (traversal o d bs k) ≤ n
   traversal-few n within h =
       rw unseen-empty at (walks-few o d bs n within traverses (λ y i. subst (λ (z : ℕ). z < n) (sym (List·Memᴰ·eq-of-singleton i)) h))
+
+-- the AST's order over the bounds is the HIR's over the bounds reversed
+pub traversal-linked : (o : Order) (d : Bool) (bs : List Bound) (k : ℕ) → traversal LastFirst d (linkedIn o bs) k ≡ traversal o d bs k
+traversal-linked o d bs k = walks-same LastFirst d (linkedIn o bs) (traverses LastFirst d (linkedIn o bs) k) (walks-linked o d bs (traverses o d bs k))
 
 listed? : (y : ℕ) (l : List ℕ) → Dec (List·Memᴰ y l)
 listed? y [] = no List·Memᴰ·not-nil

@@ -1,12 +1,11 @@
 -- What the public traversals answer, by what their tests show: one list, all sets, all lists.
-use Prim.Native.Nat.{ℕ, _+_, _*_, _-_, _≤_, _<_}
+use Prim.Native.Nat.{ℕ, _≤_, _<_}
 use mathlib.Core.Bool.{Bool}
 use mathlib.Core.Path.{_≡_, refl, sym, ap, _∙_}
-use mathlib.Core.List.{List, [], _∷_, _++_, map, flatten}
-use native.Mathlib.Nat.{sub-zero}
+use mathlib.Core.List.{List, map, flatten}
 use native.Mathlib.Omega.{arith}
 use borrow.Author.Tests.{le-leb, lt-leb, le-ltb}
-use lib.ListN.{length, take, replicate, length-map, length-append}
+use lib.ListN.{length, take, length-map}
 use lib.Seq.{sets, length-take-le}
 use Rattle.lifetimes.specs.declared.answer.Refusal.{Refusal}
 use Rattle.lifetimes.specs.declared.answer.Refusal.the-variants.{OutOfRange, NoRoom}
@@ -15,11 +14,11 @@ use Rattle.lifetimes.specs.declared.answer.Listed.the-variants as listed
 use Rattle.lifetimes.specs.declared.env.LifetimeEnv.{LifetimeEnv}
 use Rattle.lifetimes.specs.declared.reach.Lists.{Lists}
 use Rattle.lifetimes.specs.Ranges.{ascending}
-use Rattle.lifetimes.specs.Refusals.{unless, FirstDue, here, later, NoneDue, end, next}
+use Rattle.lifetimes.specs.Refusals.{FirstDue, here, later, NoneDue, end, next}
 use Rattle.lifetimes.specs.Lent.{counted, written}
 use Rattle.lifetimes.specs.Env.{boundsOf, envChecks}
-use Rattle.lifetimes.specs.Walk.{LastFirst, traversal, reachSet}
-use Rattle.lifetimes.specs.Index.{Graph, graphOf, listsFrom, Measures, Lays}
+use Rattle.lifetimes.specs.Walk.{Order, traversal, reachSet}
+use Rattle.lifetimes.specs.Index.{graphOf, listsFrom, Measures, Lays}
 use Rattle.lifetimes.specs.Reach.{listReach, allSets, noSets, reachSets, allLists, endsFrom, listsChecks, listWords, listEnds, listsAnswer}
 use Rattle.lifetimes.proofs.SetLaws.{length-ascending}
 use Rattle.lifetimes.proofs.RefusalLaws.{due-given, due-refused, first-more, first-after, none-more}
@@ -27,34 +26,32 @@ use Rattle.lifetimes.proofs.Answering.{answers-refusal, answers-list, n
 use Rattle.lifetimes.proofs.Copying.{sets-front, drop-replicate}
 use Rattle.lifetimes.proofs.EnvLaws.{valid}
 use Rattle.lifetimes.proofs.Laying.{length-ends}
-use Rattle.lifetimes.proofs.ReachLaws.{traversal-few}
-use Rattle.lifetimes.proofs.IndexLaws.{bounds-within}
 
 -- one list
-module _ (d : Bool) (e : LifetimeEnv) (x : ℕ) (slice : List ℕ) where
-  pub list-refused : {r : Refusal} → FirstDue r (envChecks e) → (listed.Refused r ≡ counted (listReach d e x (length slice))) × (slice ≡ written (listReach d e x (length slice)) slice)
+module _ (o : Order) (d : Bool) (e : LifetimeEnv) (x : ℕ) (slice : List ℕ) where
+  pub list-refused : {r : Refusal} → FirstDue r (envChecks e) → (listed.Refused r ≡ counted (listReach o d e x (length slice))) × (slice ≡ written (listReach o d e x (length slice)) slice)
   unfolding listReach
   list-refused f = answers-refusal _ slice (first-more _ f)
 
   module _ (none : NoneDue (envChecks e)) where
-    pub list-past : e .count ≤ x → (listed.Refused OutOfRange ≡ counted (listReach d e x (length slice))) × (slice ≡ written (listReach d e x (length slice)) slice)
+    pub list-past : e .count ≤ x → (listed.Refused OutOfRange ≡ counted (listReach o d e x (length slice))) × (slice ≡ written (listReach o d e x (length slice)) slice)
     unfolding listReach
     list-past h = answers-refusal _ slice (first-after none (here (le-leb (e .count) x h) refl))
 
-    module _ (inside : x < e .count) (items : List ℕ) (n : ℕ) (few : n ≤ length items) (is : take n items ≡ traversal LastFirst d (boundsOf e) x) where
-      long : n ≡ length (traversal LastFirst d (boundsOf e) x)
+    module _ (inside : x < e .count) (items : List ℕ) (n : ℕ) (few : n ≤ length items) (is : take n items ≡ traversal o d (boundsOf e) x) where
+      long : n ≡ length (traversal o d (boundsOf e) x)
       long = sym (length-take-le n items few) ∙ ap length is
 
-      pub list-short : length slice < n → (listed.Refused NoRoom ≡ counted (listReach d e x (length slice))) × (slice ≡ written (listReach d e x (length slice)) slice)
+      pub list-short : length slice < n → (listed.Refused NoRoom ≡ counted (listReach o d e x (length slice))) × (slice ≡ written (listReach o d e x (length slice)) slice)
       unfolding listReach
-      list-short h = answers-refusal _ slice (first-after none (later (lt-leb (e .count) x inside) (no-room (length slice) (traversal LastFirst d (boundsOf e) x) (omega (arith, long)))))
+      list-short h = answers-refusal _ slice (first-after none (later (lt-leb (e .count) x inside) (no-room (length slice) (traversal o d (boundsOf e) x) (omega (arith, long)))))
 
-      pub list-given : n ≤ length slice → (listed.Count n ≡ counted (listReach d e x (length slice))) × (sets slice 0 (take n items) ≡ written (listReach d e x (length slice)) slice)
+      pub list-given : n ≤ length slice → (listed.Count n ≡ counted (listReach o d e x (length slice))) × (sets slice 0 (take n items) ≡ written (listReach o d e x (length slice)) slice)
       unfolding listReach
       list-given h =
-          let room : length (traversal LastFirst d (boundsOf e) x) ≤ length slice = omega (arith, long) in
-          let a = answers-list (traversal LastFirst d (boundsOf e) x) slice (none-more none (next (lt-leb (e .count) x inside) (has-room (length slice) (traversal LastFirst d (boundsOf e) x) room end))) in
-          (rw long (a .0), rw is (sets-front slice (traversal LastFirst d (boundsOf e) x) room ∙ a .1))
+          let room : length (traversal o d (boundsOf e) x) ≤ length slice = omega (arith, long) in
+          let a = answers-list (traversal o d (boundsOf e) x) slice (none-more none (next (lt-leb (e .count) x inside) (has-room (length slice) (traversal o d (boundsOf e) x) room end))) in
+          (rw long (a .0), rw is (sets-front slice (traversal o d (boundsOf e) x) room ∙ a .1))
 
 -- the sets of all lifetimes, in an array of zeros
 sets-all : (d : Bool) (e : LifetimeEnv) → e .count ≤ 64 → (reach : List ℕ) → reach ≡ sets noSets 0 (map (reachSet d (boundsOf e)) (ascending 0 (e .count))) → reach ≡ allSets d e

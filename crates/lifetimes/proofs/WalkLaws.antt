@@ -13,9 +13,11 @@ use native.Mathlib.Omega.{arith}
 use lib.ListN.{length}
 use Rattle.lifetimes.specs.declared.env.Bound.{Bound}
 use Rattle.lifetimes.specs.Sets.{empty, member, insert}
-use Rattle.lifetimes.specs.Walk.{near, far, neighbours, Order, push, unpushed, walkFor, walk, Pending, at-start, passed-over, listed}
+use Rattle.lifetimes.specs.Walk.{near, far, neighbours, Order, LastFirst, push, unpushed, walkFor, walk, Pending, at-start, passed-over, listed}
+use Rattle.lifetimes.specs.Index.{linkedIn}
 use Rattle.lifetimes.proofs.SetLaws.{member-empty, member-insert-same, member-insert-other, member-insert-true, member-insert-false}
 use Rattle.lifetimes.proofs.NeighbourLaws.{neighbours-has, neighbours-only, push-in, push-old, push-new, unpushed-all, push-unpushed}
+use Rattle.lifetimes.proofs.ReverseLaws.{push-linked}
 
 -- the walk from what is pending and seen, and what it lists
 pub data Walks (o : Order) (d : Bool) (bs : List Bound) : List ℕ → ℕ → List ℕ → Type 0 where
@@ -43,7 +45,7 @@ module _ (o : Order) (d : Bool) (bs : List Bound) where
   unfolding walk
   walks p s = walks-for (length p + unpushed d bs s) p s (omega arith)
 
-  walks-same : {p : List ℕ} {s : ℕ} {l m : List ℕ} → Walks o d bs p s l → Walks o d bs p s m → l ≡ m
+  pub walks-same : {p : List ℕ} {s : ℕ} {l m : List ℕ} → Walks o d bs p s l → Walks o d bs p s m → l ≡ m
   walks-same ends ends = refl
   walks-same (passes h w) (passes k v) = walks-same w v
   walks-same (passes h w) (lists k v) = absurd (true≢false (sym h ∙ k))
@@ -117,6 +119,12 @@ module _ (o : Order) (d : Bool) (bs : List Bound) where
   walks-once ends = nodup-nil
   walks-once (passes e w) = walks-once w
   walks-once (lists {x} {p} {s} e w) = nodup-cons .1 (λ k. ∥∥₁-elim k ⊥-prop (λ i. (member-insert-false s x x (walks-fresh w x i)) .0 refl), walks-once w)
+
+-- a walk in either order is a walk in the HIR's over the bounds in the order in which they are linked
+pub walks-linked : (o : Order) (d : Bool) (bs : List Bound) {p : List ℕ} {s : ℕ} {l : List ℕ} → Walks o d bs p s l → Walks LastFirst d (linkedIn o bs) p s l
+walks-linked o d bs ends = ends
+walks-linked o d bs (passes h w) = passes h (walks-linked o d bs w)
+walks-linked o d bs (lists {x} {p} h w) = lists h (rw (← push-linked o d bs x p) at (walks-linked o d bs w))
 
 -- how many of the numbers below n are not in the set
 unfoldable pub unseen : ℕ → ℕ → ℕ

@@ -7,18 +7,18 @@ use Rattle.lifetimes.specs.declared.answer.Refusal.the-variants.{OutOfRa
 use Rattle.lifetimes.specs.declared.env.Bound.{Bound}
 use Rattle.lifetimes.specs.Refusals.{Outcome, Gives, Refuses}
 use Rattle.lifetimes.specs.Env.{above, envOf}
-use Rattle.lifetimes.specs.Walk.{FirstFirst, traversal}
+use Rattle.lifetimes.specs.Walk.{LastFirst, FirstFirst}
 use Rattle.lifetimes.specs.Reach.{listReach}
 
 pub data Question : Type 0 where
   -- HIR: declared, count, bounds, the direction, the start; with room for 64
   Hir : ℕ → ℕ → List Bound → Bool → ℕ → Question
-  -- AST: bounds, the direction, the start
-  Ast : List Bound → Bool → ℕ → Question
+  -- the same in the AST's order
+  Ast : ℕ → ℕ → List Bound → Bool → ℕ → Question
 
 abbrev pub answer : Question → Outcome (List ℕ)
-answer (Hir declared count bs d start) = listReach d (envOf declared count bs) start 64
-answer (Ast bs d start) = Gives (traversal FirstFirst d bs start)
+answer (Hir declared count bs d start) = listReach LastFirst d (envOf declared count bs) start 64
+answer (Ast declared count bs d start) = listReach FirstFirst d (envOf declared count bs) start 64
 
 pub record Example : Type 0 where
   pub question : Question
@@ -31,7 +31,7 @@ abbrev pub examples : List Example
 examples =
     -- bounds 1 above 0, 2 above 0: HIR longer of 0 is 0 2 1; AST 0 1 2
     asked (Hir 3 3 (above 1 0 ∷ above 2 0 ∷ []) true 0) (Gives (0 ∷ 2 ∷ 1 ∷ []))
-    ∷ asked (Ast (above 1 0 ∷ above 2 0 ∷ []) true 0) (Gives (0 ∷ 1 ∷ 2 ∷ []))
+    ∷ asked (Ast 3 3 (above 1 0 ∷ above 2 0 ∷ []) true 0) (Gives (0 ∷ 1 ∷ 2 ∷ []))
     -- 0 above 1, 1 above 0: longer of 1 is 1 0
     ∷ asked (Hir 2 2 (above 0 1 ∷ above 1 0 ∷ []) true 1) (Gives (1 ∷ 0 ∷ []))
     -- count 3, two declared: longer of 2 is 2; of 3 is 8

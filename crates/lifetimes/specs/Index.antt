@@ -2,10 +2,10 @@
 -- The index: for each bound its far side and the bound before it with the same near side, for each lifetime the last bound whose near side it is: chains.
 -- A bound's number is its place counted from 1, and 0 stands for none. A list is pushed in order and its last entry is taken first, so what a traversal pushes of a
 -- lifetime is the chain of its last bound.
-use Prim.Native.Nat.{ℕ, zero, suc, _+_, _≤_, _<_}
+use Prim.Native.Nat.{ℕ, zero, suc, _≤_, _<_}
 use mathlib.Core.Bool.{Bool, cond}
 use mathlib.Core.Path.{_≡_}
-use mathlib.Core.List.{List, [], _∷_, _++_, map, flatten, List·Memᴰ}
+use mathlib.Core.List.{List, [], _∷_, _++_, map, flatten, reverse, List·Memᴰ}
 use lib.Dec.{eqb, leb}
 use lib.ListN.{length, getD, take}
 use lib.Seq.{sets}
@@ -18,16 +18,24 @@ use Rattle.lifetimes.specs.declared.walk.Walked.{Walked}
 use Rattle.lifetimes.specs.Ranges.{ascending}
 use Rattle.lifetimes.specs.Sets.{member}
 use Rattle.lifetimes.specs.Env.{above, boundsOf}
-use Rattle.lifetimes.specs.Walk.{near, far, LastFirst, traversal, reachSet}
+use Rattle.lifetimes.specs.Walk.{near, far, Order, LastFirst, FirstFirst, traversal, reachSet}
 use Rattle.lifetimes.specs.Reach.{endsFrom}
 
--- a direction, and the bounds in push order
+-- a direction, and the bounds in the order in which they are linked
 pub record Graph : Type 0 where
   pub longer : Bool
   pub bounds : List Bound
 
 abbrev pub graphOf : Bool → LifetimeEnv → Graph
 graphOf d e = record { longer = d; bounds = boundsOf e }
+
+-- The bounds in the order in which they are linked: a chain tries them backwards, so for the AST's order they are linked from the last to the first
+abbrev pub linkedIn : Order → List Bound → List Bound
+linkedIn LastFirst bs = bs
+linkedIn FirstFirst bs = reverse bs
+
+abbrev pub graphIn : Order → Bool → LifetimeEnv → Graph
+graphIn o d e = record { longer = d; bounds = linkedIn o (boundsOf e) }
 
 abbrev pub nearAt : Graph → ℕ → ℕ
 nearAt g j = near (g .longer) (getD (g .bounds) j (above 0 0))

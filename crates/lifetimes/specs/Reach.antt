@@ -2,7 +2,7 @@
 use Prim.Native.Nat.{ℕ, _+_, _-_}
 use mathlib.Core.Bool.{Bool}
 use mathlib.Core.List.{List, [], _∷_, _++_, map, flatten}
-use lib.Dec.{leb, ltb}
+use lib.Dec.{leb}
 use lib.ListN.{length, replicate}
 use Rattle.lifetimes.specs.declared.answer.Refusal.the-variants.{OutOfRange}
 use Rattle.lifetimes.specs.declared.env.LifetimeEnv.{LifetimeEnv}
@@ -12,18 +12,18 @@ use Rattle.lifetimes.specs.Ranges.{ascending}
 use Rattle.lifetimes.specs.Refusals.{Check, check, Outcome, unless}
 use Rattle.lifetimes.specs.Lent.{counted, verdictOf, resultOr, roomCheck}
 use Rattle.lifetimes.specs.Env.{boundsOf, envChecks}
-use Rattle.lifetimes.specs.Walk.{LastFirst, traversal, reachSet}
+use Rattle.lifetimes.specs.Walk.{Order, LastFirst, traversal, reachSet}
 
--- `all_longer_lifetimes`, `all_shorter_lifetimes`: those of the environment (4, 8), a start past the count (8), a slice too short (9)
-abbrev pub listChecks : Bool → LifetimeEnv → ℕ → ℕ → List Check
-listChecks d e start room =
+-- `all_longer_lifetimes`, `all_shorter_lifetimes` (and the same in the AST's order): those of the environment (4, 8), a start past the count (8), a slice too short (9)
+abbrev pub listChecks : Order → Bool → LifetimeEnv → ℕ → ℕ → List Check
+listChecks o d e start room =
     envChecks e
     ++ (check (leb (e .count) start) OutOfRange
-    ∷ roomCheck room (traversal LastFirst d (boundsOf e) start)
+    ∷ roomCheck room (traversal o d (boundsOf e) start)
     ∷ [])
 
-unfoldable pub listReach : Bool → LifetimeEnv → ℕ → ℕ → Outcome (List ℕ)
-listReach d e start room = unless (listChecks d e start room) (traversal LastFirst d (boundsOf e) start)
+unfoldable pub listReach : Order → Bool → LifetimeEnv → ℕ → ℕ → Outcome (List ℕ)
+listReach o d e start room = unless (listChecks o d e start room) (traversal o d (boundsOf e) start)
 
 -- All sets: that of the lifetime x at place x, and 0 at the places past the count
 unfoldable pub allSets : Bool → LifetimeEnv → List ℕ

@@ -1,5 +1,5 @@
 -- The main theorems of this crate, stated. Each has its proof, a term of exactly this type and of the same name in small letters, in proofs/Theorems.antt.
-use Prim.Native.Nat.{ℕ, suc, _+_, _≤_, _<_}
+use Prim.Native.Nat.{ℕ, _+_, _≤_, _<_}
 use mathlib.Core.Bool.{Bool, true, false}
 use mathlib.Core.Path.{_≡_}
 use mathlib.Core.Logic.{_↔_}
@@ -8,7 +8,7 @@ use lib.ListN.{length}
 use Rattle.lifetimes.specs.declared.answer.Refusal.{Refusal}
 use Rattle.lifetimes.specs.declared.env.Bound.{Bound}
 use Rattle.lifetimes.specs.declared.env.LifetimeEnv.{LifetimeEnv}
-use Rattle.lifetimes.specs.Refusals.{Check, Outcome, Gives, Refuses, unless, FirstDue, NoneDue}
+use Rattle.lifetimes.specs.Refusals.{Check, Gives, Refuses, unless, FirstDue, NoneDue}
 use Rattle.lifetimes.specs.Sets.{empty, member, insert}
 use Rattle.lifetimes.specs.Env.{boundsOf, envChecks}
 use Rattle.lifetimes.specs.Walk.{neighbours, Order, push, walk, traversal, reachSet, Pending}

@@ -28,6 +28,10 @@ neighbours d (b ∷ bs) x = cond (eqb (near d b) x) (far d b ∷ neighbours d bs
 pub data Order : Type 0 where
   LastFirst FirstFirst : Order
 
+abbrev pub orderOf : Bool → Order
+orderOf true = FirstFirst
+orderOf false = LastFirst
+
 -- what is pending, the entry that is taken next first, after a list was pushed
 abbrev pub push : Order → List ℕ → List ℕ → List ℕ
 push LastFirst l pending = reverseAux l pending

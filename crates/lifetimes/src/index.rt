@@ -3,15 +3,20 @@
 // A list is pushed in order and its last entry is taken first, so each list is needed backwards: a chain that is linked at its head.
 // Made once for all traversals in a direction, in one pass over the bounds.
 ghost use mathlib.Core.Path.{_≡_};
+ghost use mathlib.Core.Bool.{cond};
+ghost use Prim.Native.Nat.{_-_, _<_};
 ghost use lib.ListN.{length};
 ghost use Rattle.lifetimes.specs.Env.{boundsOf};
-ghost use Rattle.lifetimes.specs.Index.{graphOf, Fine, Zeros, Indexed};
+ghost use Rattle.lifetimes.specs.Walk.{orderOf};
+ghost use Rattle.lifetimes.specs.Index.{graphIn, Fine, Zeros, Indexed};
 use super::env::LifetimeEnv;
 
 // For each bound its far side, and the bound before it with the same near side; for each lifetime the last bound whose near side it is.
 // A bound's number is its place counted from 1, and 0 stands for none.
+// The bounds are linked in push order, or, for the AST's order, from the last to the first.
 pub(crate) fn link(
     env: LifetimeEnv,
+    ast: bool,
     longer: bool,
     far: &mut [usize; 256],
     before: &mut [usize; 256],
@@ -20,12 +25,13 @@ pub(crate) fn link(
     requires { ⌜ Fine (boundsOf env) × (length (boundsOf env) ≡ env .pushed) ⌝ }
     requires { ⌜ Zeros (now last) ⌝ }
     requires { ⌜ (length (now far) ≡ 256) × (length (now before) ≡ 256) × (length (now last) ≡ 64) ⌝ }
-    ensures { λ _. ⌜ Indexed (graphOf longer env) (now (far .exit)) (now (before .exit)) (now (last .exit)) ⌝ }
+    ensures { λ _. ⌜ Indexed (graphIn (orderOf ast) longer env) (now (far .exit)) (now (before .exit)) (now (last .exit)) ⌝ }
 {
     let n = env.pushed;
     let mut i = 0;
     while i < n {
-        let b = env.bounds[i];
+        let at = place(ast, n, i);
+        let b = env.bounds[at];
         let x = b.near(longer);
         let y = b.far(longer);
         let older = last[x];
@@ -34,4 +40,15 @@ pub(crate) fn link(
         i += 1;
         last[x] = i;
     }
+}
+
+// Which of n bounds is linked i-th: in push order, or from the last to the first.
+fn place(ast: bool, n: usize, i: usize) -> usize
+    requires { ⌜ i < n ⌝ }
+    ensures { λ r. ⌜ r ≡ cond ast (n - 1 - i) i ⌝ }
+{
+    if ast {
+        return n - 1 - i;
+    }
+    i
 }

@@ -9,7 +9,7 @@ ghost use lib.Seq.{sets};
 ghost use Rattle.lifetimes.specs.Refusals.{NoneDue};
 ghost use Rattle.lifetimes.specs.Lent.{counted, written};
 ghost use Rattle.lifetimes.specs.Env.{boundsOf, envChecks};
-ghost use Rattle.lifetimes.specs.Walk.{LastFirst, traversal};
+ghost use Rattle.lifetimes.specs.Walk.{LastFirst, FirstFirst, orderOf, traversal};
 ghost use Rattle.lifetimes.specs.Reach.{listReach, reachSets, listWords, listEnds, listsAnswer};
 ghost use Rattle.lifetimes.specs.Index.{Graph, Indexed, Within, Measurable, Measures, Fits, Layable, Lays};
 use super::answer::Listed;
@@ -36,18 +36,31 @@ impl LifetimeEnv {
     // Write the lifetimes that outlive a lifetime to a slice, itself first, in the order of the Rust. Refused by 4 and 8 as the environment is,
     // by 8 for a lifetime past the count, by 9 where the slice is too short.
     pub fn all_longer_lifetimes(self, lifetime: Lifetime, out: &mut [usize]) -> Listed
-        ensures { λ r. ⌜ r ≡ counted (listReach true self (lifetime .0) (length (now (out .entry)))) ⌝ }
-        ensures { λ _. ⌜ now (out .exit) ≡ written (listReach true self (lifetime .0) (length (now (out .entry)))) (now (out .entry)) ⌝ }
+        ensures { λ r. ⌜ r ≡ counted (listReach LastFirst true self (lifetime .0) (length (now (out .entry)))) ⌝ }
+        ensures { λ _. ⌜ now (out .exit) ≡ written (listReach LastFirst true self (lifetime .0) (length (now (out .entry)))) (now (out .entry)) ⌝ }
     {
-        traverse(self, lifetime, true, out)
+        traverse(self, false, lifetime, true, out)
     }
 
     // Write the lifetimes that a lifetime outlives, in the same way.
     pub fn all_shorter_lifetimes(self, lifetime: Lifetime, out: &mut [usize]) -> Listed
-        ensures { λ r. ⌜ r ≡ counted (listReach false self (lifetime .0) (length (now (out .entry)))) ⌝ }
-        ensures { λ _. ⌜ now (out .exit) ≡ written (listReach false self (lifetime .0) (length (now (out .entry)))) (now (out .entry)) ⌝ }
+        ensures { λ r. ⌜ r ≡ counted (listReach LastFirst false self (lifetime .0) (length (now (out .entry)))) ⌝ }
+        ensures { λ _. ⌜ now (out .exit) ≡ written (listReach LastFirst false self (lifetime .0) (length (now (out .entry)))) (now (out .entry)) ⌝ }
     {
-        traverse(self, lifetime, false, out)
+        traverse(self, false, lifetime, false, out)
+    }
+
+    // Write a lifetime's list in the AST's order: depth first in list order. Longer or shorter; refused as the calls above.
+    pub fn depth_first_lifetimes(
+        self,
+        lifetime: Lifetime,
+        longer: bool,
+        out: &mut [usize],
+    ) -> Listed
+        ensures { λ r. ⌜ r ≡ counted (listReach FirstFirst longer self (lifetime .0) (length (now (out .entry)))) ⌝ }
+        ensures { λ _. ⌜ now (out .exit) ≡ written (listReach FirstFirst longer self (lifetime .0) (length (now (out .entry)))) (now (out .entry)) ⌝ }
+    {
+        traverse(self, true, lifetime, longer, out)
     }
 
     // The reach of all lifetimes as sets, in the direction longer or shorter. Refused by 4 and 8 as the environment is.
@@ -64,7 +77,7 @@ impl LifetimeEnv {
         let mut far = [0usize; 256];
         let mut before = [0usize; 256];
         let mut last = [0usize; 64];
-        link(self, longer, &mut far, &mut before, &mut last);
+        link(self, false, longer, &mut far, &mut before, &mut last);
         measure(&far, &before, &last, declared, count, &mut sets);
         ReachSets {
             verdict: Verdict::Accepted,
@@ -98,7 +111,7 @@ impl LifetimeEnv {
         let mut far = [0usize; 256];
         let mut before = [0usize; 256];
         let mut last = [0usize; 64];
-        link(self, longer, &mut far, &mut before, &mut last);
+        link(self, false, longer, &mut far, &mut before, &mut last);
         if !all_fit(&far, &before, &last, declared, count, words.len()) {
             return Lists {
                 listed: Listed::Refused(Refusal::NoRoom),
@@ -123,9 +136,15 @@ impl LifetimeEnv {
 }
 
 // The list of one lifetime in one direction, with all refusals.
-fn traverse(env: LifetimeEnv, lifetime: Lifetime, longer: bool, out: &mut [usize]) -> Listed
-    ensures { λ r. ⌜ r ≡ counted (listReach longer env (lifetime .0) (length (now (out .entry)))) ⌝ }
-    ensures { λ _. ⌜ now (out .exit) ≡ written (listReach longer env (lifetime .0) (length (now (out .entry)))) (now (out .entry)) ⌝ }
+fn traverse(
+    env: LifetimeEnv,
+    ast: bool,
+    lifetime: Lifetime,
+    longer: bool,
+    out: &mut [usize],
+) -> Listed
+    ensures { λ r. ⌜ r ≡ counted (listReach (orderOf ast) longer env (lifetime .0) (length (now (out .entry)))) ⌝ }
+    ensures { λ _. ⌜ now (out .exit) ≡ written (listReach (orderOf ast) longer env (lifetime .0) (length (now (out .entry)))) (now (out .entry)) ⌝ }
 {
     let verdict = env.check();
     if let Verdict::Refused(refusal) = verdict {
@@ -136,7 +155,7 @@ fn traverse(env: LifetimeEnv, lifetime: Lifetime, longer: bool, out: &mut [usize
         return Listed::Refused(Refusal::OutOfRange);
     }
     let mut items = [0usize; 64];
-    let n = list(env, longer, start, &mut items);
+    let n = list(env, ast, longer, start, &mut items);
     if out.len() < n {
         return Listed::Refused(Refusal::NoRoom);
     }
@@ -145,17 +164,17 @@ fn traverse(env: LifetimeEnv, lifetime: Lifetime, longer: bool, out: &mut [usize
 }
 
 // The list of one lifetime of an environment, to the first places of `items`. Answers how many it lists.
-fn list(env: LifetimeEnv, longer: bool, start: usize, items: &mut [usize; 64]) -> usize
+fn list(env: LifetimeEnv, ast: bool, longer: bool, start: usize, items: &mut [usize; 64]) -> usize
     requires { ⌜ NoneDue (envChecks env) × (start < env .count) ⌝ }
     requires { ⌜ length (now items) ≡ 64 ⌝ }
-    ensures { λ r. ⌜ (r ≤ 64) × (length (now (items .exit)) ≡ 64) × (take r (now (items .exit)) ≡ traversal LastFirst longer (boundsOf env) start) ⌝ }
+    ensures { λ r. ⌜ (r ≤ 64) × (length (now (items .exit)) ≡ 64) × (take r (now (items .exit)) ≡ traversal (orderOf ast) longer (boundsOf env) start) ⌝ }
 {
     let declared = env.declared;
     let count = env.count;
     let mut far = [0usize; 256];
     let mut before = [0usize; 256];
     let mut last = [0usize; 64];
-    link(env, longer, &mut far, &mut before, &mut last);
+    link(env, ast, longer, &mut far, &mut before, &mut last);
     let limit = limit_of(declared, count, start);
     walk(&far, &before, &last, limit, start, items).count
 }

@@ -1,33 +1,61 @@
 -- `link` meets its contract: its loop makes the index of one bound more with each turn.
-use Prim.Native.Nat.{_-_, _<_}
-use mathlib.Core.Path.{_≡_, refl, sym, _∙_}
+use Prim.Native.Nat.{_-_, _≤_, _<_}
+use mathlib.Core.Path.{_≡_, refl, _∙_}
 use native.Mathlib.Omega.{arith}
 use borrow.Author.Needs.{needs}
-use lib.ListN.{length, length-map}
+use lib.ListN.{length, getD}
+use Rattle.lifetimes.specs.Env.{above, boundsOf}
+use Rattle.lifetimes.specs.Walk.{orderOf}
+use Rattle.lifetimes.specs.Index.{Fine, linkedIn, graphIn}
+use Rattle.lifetimes.proofs.ReverseLaws.{linked-length, linked-fine, linked-at, place-below}
 use Rattle.lifetimes.proofs.Linking.{Linking, linking-start, linking-end, linking-near, linking-more}
 use Rattle.lifetimes.proofs.index.link.Statement.{statement}
 use Rattle.lifetimes.proofs.index.link.Tie as tie
 
 abbrev Inv-loop : tie.InvT-loop
-Inv-loop longer far₀ before₀ last₀ env n i₀ far before last i = Linking longer env i far before last
+Inv-loop ast longer far₀ before₀ last₀ env n i₀ far before last i = Linking (graphIn (orderOf ast) longer env) i far before last
 
 abbrev μ-loop : tie.MeasureT-loop
-μ-loop longer far₀ before₀ last₀ env n i₀ far before last i = n - i
+μ-loop ast longer far₀ before₀ last₀ env n i₀ far before last i = n - i
+
+-- the bounds in the order in which they are linked
+fine : (c : tie.Start Inv-loop μ-loop) → Fine (linkedIn (orderOf (c .args .ast)) (boundsOf (c .args .t1)))
+fine c = linked-fine (orderOf (c .args .ast)) (c .pre .0 .0)
+
+all : (c : tie.Start Inv-loop μ-loop) → length (linkedIn (orderOf (c .args .ast)) (boundsOf (c .args .t1))) ≡ c .args .t1 .pushed
+all c = linked-length (orderOf (c .args .ast)) (boundsOf (c .args .t1)) ∙ c .pre .0 .1
+
+few : (c : tie.Start Inv-loop μ-loop) → c .args .t1 .pushed ≤ 256
+few c = omega (arith, c .pre .0 .0 .few, c .pre .0 .1)
+
+-- the place that is read is that of a bound, the i-th that is linked
+inside : (c : tie.After-place Inv-loop μ-loop) → c .place .result < 256
+inside c =
+    let s = c .before .before .before in
+    omega (arith, few s, place-below (s .args .ast) (s .args .t1 .pushed) (c .before .before .loop .i) (c .place .result) (search needs) (c .place .ensures))
+
+reads : (c : tie.After-place Inv-loop μ-loop) → let s = c .before .before .before in getD (linkedIn (orderOf (s .args .ast)) (boundsOf (s .args .t1))) (c .before .before .loop .i) (above 0 0) ≡ getD (s .args .t1 .bounds) (c .place .result) (above 0 0)
+reads c =
+    let s = c .before .before .before in
+    linked-at (s .args .ast) (s .args .t1) (c .before .before .loop .i) (c .place .result) (s .pre .0 .1) (search needs) (c .place .ensures)
 
 small : (c : tie.After-far Inv-loop μ-loop) → c .before .near .result < 64
 small c =
-    let s = c .before .before .before .before .before in
-    let l = c .before .before .before .before .loop in
-    rw (c .before .near .ensures) (linking-near (l .inv) (s .pre .0 .0) (s .pre .0 .1) (search needs))
+    let s = c .before .before .before .before .before .before in
+    let l = c .before .before .before .before .before .loop in
+    rw (c .before .near .ensures) (linking-near (l .inv) (fine s) (all s) (search needs) (reads (c .before .before .before)))
 
 loop-holds : tie.Need-loop-holds Inv-loop μ-loop
-loop-holds c = linking-start (c .args .longer) (c .args .t1) (c .args .far .now) (c .args .before .now) (c .args .last .now) (c .pre .1 .0) (c .pre .1 .1 .0) (c .pre .1 .1 .1) (c .pre .1 .1 .2)
+loop-holds c = linking-start (graphIn (orderOf (c .args .ast)) (c .args .longer) (c .args .t1)) (c .args .far .now) (c .args .before .now) (c .args .last .now) (c .pre .1 .0) (c .pre .1 .1 .0) (c .pre .1 .1 .1) (c .pre .1 .1 .2)
+
+place-requires : tie.Need-place-requires Inv-loop μ-loop
+place-requires c κs = search needs
 
 mul-b : tie.Need-mul-b Inv-loop μ-loop
-mul-b c = search needs
+mul-b c = omega (arith, inside c)
 
 element-copy-out-b : tie.Need-element-copy-out-b Inv-loop μ-loop
-element-copy-out-b c = search needs
+element-copy-out-b c = inside c
 
 near-requires : tie.Need-near-requires Inv-loop μ-loop
 near-requires c κs = search needs
@@ -42,16 +70,16 @@ element-copy-out-older : tie.Need-element-copy-out-older Inv-loop μ-loop
 element-copy-out-older c = small c
 
 mul-far : tie.Need-mul-far Inv-loop μ-loop
-mul-far c = omega (arith, c .before .before .before .before .before .before .pre .0 .0 .few, c .before .before .before .before .before .before .pre .0 .1)
+mul-far c = omega (arith, few (c .before .before .before .before .before .before .before))
 
 element-write-far : tie.Need-element-write-far Inv-loop μ-loop
-element-write-far c = omega (arith, c .before .before .before .before .before .before .pre .0 .0 .few, c .before .before .before .before .before .before .pre .0 .1)
+element-write-far c = omega (arith, few (c .before .before .before .before .before .before .before))
 
 mul-before : tie.Need-mul-before Inv-loop μ-loop
-mul-before c = omega (arith, c .before .before .before .before .before .before .pre .0 .0 .few, c .before .before .before .before .before .before .pre .0 .1)
+mul-before c = omega (arith, few (c .before .before .before .before .before .before .before))
 
 element-write-before : tie.Need-element-write-before Inv-loop μ-loop
-element-write-before c = omega (arith, c .before .before .before .before .before .before .pre .0 .0 .few, c .before .before .before .before .before .before .pre .0 .1)
+element-write-before c = omega (arith, few (c .before .before .before .before .before .before .before))
 
 add-i : tie.Need-add-i Inv-loop μ-loop
 add-i c = search needs
@@ -67,12 +95,12 @@ loop-less c = search needs
 
 loop-again : tie.Need-loop-again Inv-loop μ-loop
 loop-again c =
-    let s = c .before .before .before .before .before .before in
-    let l = c .before .before .before .before .before .loop in
-    linking-more (l .inv) (s .pre .0 .0) (s .pre .0 .1) (search needs) (c .before .before .near .result) (c .before .far .result) _ (c .before .before .near .ensures) (c .before .far .ensures) refl
+    let s = c .before .before .before .before .before .before .before in
+    let l = c .before .before .before .before .before .before .loop in
+    linking-more (l .inv) (fine s) (all s) (search needs) (reads (c .before .before .before .before)) (c .before .before .near .result) (c .before .far .result) _ (c .before .before .near .ensures) (c .before .far .ensures) refl
 
 returns : tie.Need-returns Inv-loop μ-loop
-returns c = linking-end (c .before .loop .inv) (c .before .before .pre .0 .0) (c .before .before .pre .0 .1) (search needs)
+returns c = linking-end (c .before .loop .inv) (fine (c .before .before)) (all (c .before .before)) (search needs)
 
 pub link-spec : {M : Type 1} → statement M
 link-spec =
@@ -81,6 +109,7 @@ link-spec =
     Inv-loop
     μ-loop
     loop-holds
+    place-requires
     mul-b
     element-copy-out-b
     near-requires

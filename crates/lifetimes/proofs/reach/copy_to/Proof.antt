@@ -1,6 +1,5 @@
 -- `copy_to` meets its contract: each turn stores one item more.
 use Prim.Native.Nat.{_-_}
-use mathlib.Core.Path.{_≡_}
 use native.Mathlib.Omega.{arith}
 use borrow.Author.Needs.{needs}
 use Rattle.lifetimes.proofs.Copying.{Copying, copying-start, copying-more, copying-end}

@@ -1,11 +1,13 @@
--- `list` meets its contract: the index is that of the environment, and the walk over it lists the traversal.
-use mathlib.Core.Path.{_≡_, refl}
+-- `list` meets its contract: the index is that of the environment, linked in the order that is asked for, and the walk over it lists the traversal in that order.
+use mathlib.Core.Path.{_≡_, refl, _∙_}
 use native.Mathlib.Omega.{arith}
-use borrow.Author.Needs.{needs}
 use lib.ListN.{length, length-map}
-use Rattle.lifetimes.specs.Index.{graphOf}
+use Rattle.lifetimes.specs.Env.{boundsOf}
+use Rattle.lifetimes.specs.Walk.{orderOf}
+use Rattle.lifetimes.specs.Index.{graphIn}
 use Rattle.lifetimes.proofs.EnvLaws.{Valid, valid}
 use Rattle.lifetimes.proofs.IndexLaws.{bounds-length, bounds-fine, bounds-within, zeros}
+use Rattle.lifetimes.proofs.ReachLaws.{traversal-linked}
 use Rattle.lifetimes.proofs.reach.list.Statement.{statement}
 use Rattle.lifetimes.proofs.reach.list.Tie as tie
 
@@ -28,7 +30,7 @@ walk-requires : tie.Need-walk-requires
 walk-requires c κs =
     let s = c .before .before .before .before .before .before .before .before .before in
     let m = c .before .before .before .before .limit-of .ensures in
-    (((graphOf (s .args .longer) (s .args .env), c .before .before .before .before .before .link .ensures, bounds-within (holds s) (s .args .longer) _ (m .2)), omega (arith, (holds s) .counted, m), m .0), s .pre .1)
+    (((graphIn (orderOf (s .args .ast)) (s .args .longer) (s .args .env), c .before .before .before .before .before .link .ensures, bounds-within (holds s) (orderOf (s .args .ast)) (s .args .longer) _ (m .2)), omega (arith, (holds s) .counted, m), m .0), s .pre .1)
 
 returns : tie.Need-returns
 returns c =
@@ -36,7 +38,7 @@ returns c =
     let w = c .walk in (
       w .ensures .0 .0,
       w .ensures .0 .1,
-      (w .ensures .1 (graphOf (s .args .longer) (s .args .env)) (c .before .before .before .before .before .before .link .ensures) (bounds-within (holds s) (s .args .longer) _ (c .before .before .before .before .before .limit-of .ensures .2))) .items,
+      (w .ensures .1 (graphIn (orderOf (s .args .ast)) (s .args .longer) (s .args .env)) (c .before .before .before .before .before .before .link .ensures) (bounds-within (holds s) (orderOf (s .args .ast)) (s .args .longer) _ (c .before .before .before .before .before .limit-of .ensures .2))) .items ∙ traversal-linked (orderOf (s .args .ast)) (s .args .longer) (boundsOf (s .args .env)) (s .args .start),
     )
 
 pub list-spec : {M : Type 1} → statement M

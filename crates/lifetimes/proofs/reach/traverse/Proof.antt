@@ -1,10 +1,10 @@
 -- `traverse` meets its contract: each of its answers is that of the first check that is due, or the list.
-use Prim.Native.Nat.{_<_}
-use mathlib.Core.Path.{_≡_, refl, sym, ap, _∙_}
+use mathlib.Core.Path.{refl, sym, _∙_}
 use native.Mathlib.Omega.{arith}
 use borrow.Author.Needs.{needs}
 use Rattle.lifetimes.specs.Refusals.{NoneDue}
 use Rattle.lifetimes.specs.Env.{envChecks}
+use Rattle.lifetimes.specs.Walk.{orderOf}
 use Rattle.lifetimes.proofs.RefusalLaws.{refused-first, accepted-none}
 use Rattle.lifetimes.proofs.Traversing.{list-refused, list-past, list-short, list-given}
 use Rattle.lifetimes.proofs.reach.traverse.Statement.{statement}
@@ -23,7 +23,7 @@ enum-known-verdict c = search needs
 returns : tie.Need-returns
 returns c =
     let s = c .before .before .before .before .before in
-    list-refused (s .args .longer) (s .args .env) (s .args .lifetime .0) (s .args .out .now) (refused-first (s .args .env) _ (envChecks (s .args .env)) (sym (c .before .before .before .check .ensures) ∙ c .before .verdict .given .1))
+    list-refused (orderOf (s .args .ast)) (s .args .longer) (s .args .env) (s .args .lifetime .0) (s .args .out .now) (refused-first (s .args .env) _ (envChecks (s .args .env)) (sym (c .before .before .before .check .ensures) ∙ c .before .verdict .given .1))
 
 enum-told : tie.Need-enum-told
 enum-told c = search needs
@@ -34,7 +34,7 @@ index-requires c κs = search needs
 returns-2 : tie.Need-returns-2
 returns-2 c =
     let s = c .before .before .before .before .before .before .before in
-    list-past (s .args .longer) (s .args .env) (s .args .lifetime .0) (s .args .out .now) (none (c .before .before .before)) (omega (arith, c .before .before .index .ensures))
+    list-past (orderOf (s .args .ast)) (s .args .longer) (s .args .env) (s .args .lifetime .0) (s .args .out .now) (none (c .before .before .before)) (omega (arith, c .before .before .index .ensures))
 
 list-requires : tie.Need-list-requires
 list-requires c κs =
@@ -45,7 +45,7 @@ returns-3 c =
     let s = c .before .before .before .before .before .before .before .before .before .before in
     let l = c .before .list in
     let i = c .before .before .before .before .before .index .ensures in
-    list-short (s .args .longer) (s .args .env) (s .args .lifetime .0) (s .args .out .now) (none (c .before .before .before .before .before .before)) (omega (arith, i, c .before .before .before .if1 .left)) _ (l .result)
+    list-short (orderOf (s .args .ast)) (s .args .longer) (s .args .env) (s .args .lifetime .0) (s .args .out .now) (none (c .before .before .before .before .before .before)) (omega (arith, i, c .before .before .before .if1 .left)) _ (l .result)
     (omega (arith, l .ensures)) (rw i at (l .ensures .2)) (c .if2 .taken)
 
 copy-to-requires : tie.Need-copy-to-requires
@@ -59,7 +59,7 @@ returns-4 c =
     let s = c .before .before .before .before .before .before .before .before .before .before .before .before .before .before .before in
     let l = c .before .before .before .before .before .before .list in
     let i = c .before .before .before .before .before .before .before .before .before .before .index .ensures in
-    let a = list-given (s .args .longer) (s .args .env) (s .args .lifetime .0) (s .args .out .now) (none (c .before .before .before .before .before .before .before .before .before .before .before)) (omega (arith, i, c .before .before .before .before .before .before .before .before .if1 .left)) _ (l .result)
+    let a = list-given (orderOf (s .args .ast)) (s .args .longer) (s .args .env) (s .args .lifetime .0) (s .args .out .now) (none (c .before .before .before .before .before .before .before .before .before .before .before)) (omega (arith, i, c .before .before .before .before .before .before .before .before .if1 .left)) _ (l .result)
     (omega (arith, l .ensures)) (rw i at (l .ensures .2)) (c .before .before .before .before .before .if2 .left) in
     (a .0, c .before .before .copy-to .ensures ∙ a .1)
 

@@ -6,7 +6,8 @@ use borrow.Author.Tests.{leb-true, leb-false, not-true, not-false}
 use lib.ListN.{length, length-map}
 use Rattle.lifetimes.specs.Refusals.{NoneDue}
 use Rattle.lifetimes.specs.Env.{envChecks}
-use Rattle.lifetimes.specs.Index.{graphOf, Within, Fits}
+use Rattle.lifetimes.specs.Walk.{LastFirst}
+use Rattle.lifetimes.specs.Index.{graphOf, Fits}
 use Rattle.lifetimes.proofs.RefusalLaws.{refused-first, accepted-none}
 use Rattle.lifetimes.proofs.EnvLaws.{Valid, valid}
 use Rattle.lifetimes.proofs.IndexLaws.{bounds-length, bounds-fine, bounds-within, zeros}
@@ -32,7 +33,7 @@ holds c = valid (c .before .before .before .before .before .args .self) (none c)
 fit : (c : tie.After-all-fit) → let s = c .before .before .before .before .before .before .before .before .before .before .before .before .before .before in Fits (graphOf (s .args .longer) (s .args .self)) (s .args .self .count) (length (s .args .words .now)) (c .all-fit .result)
 fit c =
     let s = c .before .before .before .before .before .before .before .before .before .before .before .before .before .before in
-    c .all-fit .ensures (graphOf (s .args .longer) (s .args .self)) (c .before .before .before .before .link .ensures) (bounds-within (holds (c .before .before .before .before .before .before .before .before .before)) (s .args .longer) _ (omega arith))
+    c .all-fit .ensures (graphOf (s .args .longer) (s .args .self)) (c .before .before .before .before .link .ensures) (bounds-within (holds (c .before .before .before .before .before .before .before .before .before)) LastFirst (s .args .longer) _ (omega arith))
 
 check-requires : tie.Need-check-requires
 check-requires c κs = search needs
@@ -63,7 +64,7 @@ all-fit-requires : tie.Need-all-fit-requires
 all-fit-requires c κs =
     let s = c .before .before .before .before .before .before .before .before .before .before .before .before .before in
     let v = holds (c .before .before .before .before .before .before .before .before) in
-    ((graphOf (s .args .longer) (s .args .self), c .before .before .before .link .ensures, bounds-within v (s .args .longer) _ (omega arith)), v .declares, v .counted)
+    ((graphOf (s .args .longer) (s .args .self), c .before .before .before .link .ensures, bounds-within v LastFirst (s .args .longer) _ (omega arith)), v .declares, v .counted)
 
 returns-3 : tie.Need-returns-3
 returns-3 c =
@@ -76,7 +77,7 @@ lay-requires c κs =
     let s = c .before .before .before .before .before .before .before .before .before .before .before .before .before .before .before .before .before .before .before .before .before in
     let v = holds (c .before .before .before .before .before .before .before .before .before .before .before .before .before .before .before .before) in (
       (
-        (graphOf (s .args .longer) (s .args .self), c .before .before .before .before .before .before .before .before .before .before .before .link .ensures, bounds-within v (s .args .longer) _ (omega arith), leb-true _ _ (sym ((fit (c .before .before .before .before .before .before .before)) .fits) ∙ not-false _ (c .before .before .before .before .before .before .if2 .left))),
+        (graphOf (s .args .longer) (s .args .self), c .before .before .before .before .before .before .before .before .before .before .before .link .ensures, bounds-within v LastFirst (s .args .longer) _ (omega arith), leb-true _ _ (sym ((fit (c .before .before .before .before .before .before .before)) .fits) ∙ not-false _ (c .before .before .before .before .before .before .if2 .left))),
         v .declares,
         v .counted,
       ),
@@ -94,7 +95,7 @@ returns-4 c =
     let s = c .before .before .before .before .before .before .before .before .before .before .before .before .before .before .before .before .before .before .before .before .before .before .before .before .before .before in
     parts (lists-given (s .args .longer) (s .args .self) (s .args .words .now) (s .args .ends .now) (none (c .before .before .before .before .before .before .before .before .before .before .before .before .before .before .before .before .before .before .before .before .before)) (c .before .before .before .before .before .before .before .before .before .before .before .before .before .before .before .before .before .before .before .before .if1 .left)
     (leb-true _ _ (sym ((fit (c .before .before .before .before .before .before .before .before .before .before .before .before)) .fits) ∙ not-false _ (c .before .before .before .before .before .before .before .before .before .before .before .if2 .left)))
-    (c .before .before .before .before .lay .ensures (graphOf (s .args .longer) (s .args .self)) (c .before .before .before .before .before .before .before .before .before .before .before .before .before .before .before .before .link .ensures) (bounds-within (holds (c .before .before .before .before .before .before .before .before .before .before .before .before .before .before .before .before .before .before .before .before .before)) (s .args .longer) _ (omega arith))))
+    (c .before .before .before .before .lay .ensures (graphOf (s .args .longer) (s .args .self)) (c .before .before .before .before .before .before .before .before .before .before .before .before .before .before .before .before .link .ensures) (bounds-within (holds (c .before .before .before .before .before .before .before .before .before .before .before .before .before .before .before .before .before .before .before .before .before)) LastFirst (s .args .longer) _ (omega arith))))
 
 pub all-lists-spec : {M : Type 1} → statement M
 all-lists-spec =

@@ -5,6 +5,7 @@ use borrow.Author.Needs.{needs}
 use lib.ListN.{length, length-map}
 use Rattle.lifetimes.specs.Refusals.{NoneDue}
 use Rattle.lifetimes.specs.Env.{envChecks}
+use Rattle.lifetimes.specs.Walk.{LastFirst}
 use Rattle.lifetimes.specs.Index.{graphOf}
 use Rattle.lifetimes.proofs.RefusalLaws.{refused-first, accepted-none}
 use Rattle.lifetimes.proofs.EnvLaws.{Valid, valid}
@@ -48,12 +49,12 @@ measure-requires : tie.Need-measure-requires
 measure-requires c κs =
     let s = c .before .before .before .before .before .before .before .before .before .before .before in
     let v = holds (c .before .before .before .before .before .before .before .before) in
-    (((graphOf (s .args .longer) (s .args .self), c .before .before .before .before .link .ensures, bounds-within v (s .args .longer) _ (omega arith)), v .declares, v .counted), refl)
+    (((graphOf (s .args .longer) (s .args .self), c .before .before .before .before .link .ensures, bounds-within v LastFirst (s .args .longer) _ (omega arith)), v .declares, v .counted), refl)
 
 returns-2 : tie.Need-returns-2
 returns-2 c =
     let s = c .before .before .before .before .before .before .before .before .before .before .before .before in
-    sets-given (s .args .longer) (s .args .self) (none (c .before .before .before .before .before .before .before .before .before)) (c .measure .ensures (graphOf (s .args .longer) (s .args .self)) (c .before .before .before .before .before .link .ensures) (bounds-within (holds (c .before .before .before .before .before .before .before .before .before)) (s .args .longer) _ (omega arith)))
+    sets-given (s .args .longer) (s .args .self) (none (c .before .before .before .before .before .before .before .before .before)) (c .measure .ensures (graphOf (s .args .longer) (s .args .self)) (c .before .before .before .before .before .link .ensures) (bounds-within (holds (c .before .before .before .before .before .before .before .before .before)) LastFirst (s .args .longer) _ (omega arith)))
 
 pub reach-sets-spec : {M : Type 1} → statement M
 reach-sets-spec =
