@@ -1,0 +1,77 @@
+-- An environment from arrays: the loop of `copy_names`, the loop of `assembled` over the sides of bounds, and the environment that they make.
+use Prim.Native.Nat.{ℕ, zero, suc, _+_, _-_, _≤_, _<_}
+use mathlib.Core.Path.{_≡_, _∙_}
+use mathlib.Core.List.{List, _++_, map}
+use native.Mathlib.Nat.{zero-add, sub-zero, zero-sub, suc-sub-suc}
+use native.Mathlib.Numerals.{add-one}
+use native.Mathlib.Omega.{arith}
+use lib.ListN.{length, getD, take, drop, set, replicate, length-map, length-replicate}
+use lib.Seq.{sets, sets-eq, length-take-le}
+use Rattle.lifetimes.specs.declared.lifetime.Lifetime.{Lifetime}
+use Rattle.lifetimes.specs.declared.env.Bound.{Bound}
+use Rattle.lifetimes.specs.Numbers.{lifetime}
+use Rattle.lifetimes.specs.Ranges.{ascending}
+use Rattle.lifetimes.specs.Env.{above}
+use Rattle.lifetimes.proofs.SetLaws.{length-ascending}
+use Rattle.lifetimes.proofs.Copying.{Copying, copying-more}
+use Rattle.ast_lifetimes.specs.Env.{envOf}
+use Rattle.ast_lifetimes.specs.Inner.{sidesOf}
+
+-- ---- `copy_names`
+
+pub names-more : {names : List ℕ} {n : ℕ} {out₀ out : List ℕ} {i : ℕ} → Copying names n 0 out₀ out i → n ≤ length names → i < n
+    → Copying names n 0 out₀ (set out i (getD names i 0)) (i + 1)
+names-more inv full h = rw zero-add at (copying-more inv full h)
+
+-- ---- a list in the first places of an array that was filled with one value
+
+drop-replicate : {A : Type 0} (n m : ℕ) (x : A) → drop n (replicate m x) ≡ replicate (m - n) x
+drop-replicate zero m x = rw sub-zero
+drop-replicate (suc n) zero x = rw zero-sub
+drop-replicate (suc n) (suc m) x = rw suc-sub-suc (drop-replicate n m x)
+
+in-front : {A : Type 0} (m : ℕ) (x : A) (l : List A) → length l ≤ m → sets (replicate m x) 0 l ≡ l ++ replicate (m - length l) x
+in-front m x l h = sets-eq l (replicate m x) 0 (rw (length-replicate, zero-add) h) ∙ rw (zero-add, drop-replicate (length l) m x)
+
+-- ---- the loop of `assembled`
+
+abbrev side : List ℕ → List ℕ → ℕ → Bound
+side longs shorts i = above (getD longs i 0) (getD shorts i 0)
+
+length-sides : (n : ℕ) (longs shorts : List ℕ) → length (sidesOf n longs shorts) ≡ n
+length-sides n longs shorts = rw (length-map, length-ascending 0 n)
+
+-- what is left to store, stored from here, gives what all sides give from the array's start
+pub record Storing (longs shorts : List ℕ) (pushed : ℕ) (bounds : List Bound) (i : ℕ) : Type 0 where
+  pub here : i ≤ pushed
+  pub stored : sets bounds i (map (side longs shorts) (ascending i (pushed - i))) ≡ sets (replicate 256 (above 0 0)) 0 (sidesOf pushed longs shorts)
+
+pub storing-start : (longs shorts : List ℕ) (pushed : ℕ) {a b : Lifetime} → a ≡ lifetime 0 → b ≡ lifetime 0
+    → Storing longs shorts pushed (replicate 256 (record { longer = a; shorter = b })) 0
+storing-start longs shorts pushed ea eb = record { here = omega arith; stored = rw (ea, eb, sub-zero) }
+
+module _ {longs shorts : List ℕ} {pushed : ℕ} {bounds : List Bound} {i : ℕ} (inv : Storing longs shorts pushed bounds i) where
+  pub storing-more : i < pushed → {a b : Lifetime} → a ≡ lifetime (getD longs i 0) → b ≡ lifetime (getD shorts i 0)
+      → Storing longs shorts pushed (set bounds i (record { longer = a; shorter = b })) (i + 1)
+  unfolding ascending
+  storing-more h ea eb =
+      let one : pushed - i ≡ suc (pushed - suc i) = omega arith in
+      record { here = omega arith; stored = rw (add-one i, ea, eb) (rw one at (inv .stored)) }
+
+  all-stored : pushed ≤ 256 → pushed ≤ i → bounds ≡ sidesOf pushed longs shorts ++ replicate (256 - length (sidesOf pushed longs shorts)) (above 0 0)
+  unfolding ascending
+  all-stored few h =
+      let none : pushed - i ≡ 0 = omega arith in
+      rw none at (inv .stored)
+      ∙ in-front 256 (above 0 0) (sidesOf pushed longs shorts) (rw (length-sides pushed longs shorts) few)
+
+  -- the environment of the names and the bounds in the arrays
+  pub assembled-env : pushed ≤ 256 → pushed ≤ i → (declared : List ℕ) {named : ℕ} → named ≤ 32 → length declared ≡ 32
+      → {names : List ℕ} → names ≡ sets (replicate 32 0) 0 (take named declared)
+      → record { names = names; named = named; pushed = pushed; bounds = bounds } ≡ envOf (take named declared) (sidesOf pushed longs shorts)
+  unfolding envOf
+  assembled-env few h declared {named} room size copied =
+      let n : length (take named declared) ≡ named = length-take-le named declared (omega arith) in
+      let front : sets (replicate 32 0) 0 (take named declared) ≡ take named declared ++ replicate (32 - length (take named declared)) 0 =
+      in-front 32 0 (take named declared) (omega arith) in
+      rw (copied ∙ front, all-stored few h, n, length-sides pushed longs shorts)

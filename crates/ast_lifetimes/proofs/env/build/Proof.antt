@@ -1,0 +1,165 @@
+-- `build` meets its contract. Each stage, accepted or refused, is a law of proofs/Building.antt; `one` to `four` say what stands after the accepted stages.
+use mathlib.Core.Path.{refl}
+use native.Mathlib.Omega.{arith}
+use borrow.Author.Needs.{needs}
+use Rattle.ast_lifetimes.specs.Types.{typesOf}
+use Rattle.ast_lifetimes.proofs.Building.{Shaped, shaped, ImplNamed, ImplBound, AllNamed, AllBound, impl-names-refused, impl-named, impl-pairs-refused, impl-bound, method-names-refused, all-named, method-pairs-refused, all-bound, all-below, all-built}
+use Rattle.ast_lifetimes.proofs.env.build.Statement.{statement}
+use Rattle.ast_lifetimes.proofs.env.build.Tie as tie
+
+shape : (s : tie.Start) → Shaped (s .args .names .now) (s .args .bounds .now) (s .args .types .now)
+shape s = shaped _ _ _ (s .pre .0)
+
+one : (c : tie.After-enum-told) → let s = c .before .before .before .before .before .before .before .before .before in ImplNamed (s .args .names .now) (s .args .bounds .now) (s .args .types .now) (c .before .before .declare-all .last .1 .1 .1 .0)
+one c = impl-named (shape (c .before .before .before .before .before .before .before .before .before)) (c .before .before .declare-all .ensures) (c .enum-told .given .1)
+
+two : (c : tie.After-enum-told3) → let s = c .before .before .before .before .before .before .before .before .before .before .before .before .before .before .before in ImplBound (s .args .names .now) (s .args .bounds .now) (s .args .types .now) (c .before .before .before .before .before .before .before .before .declare-all .last .1 .1 .1 .0) (c .before .before .push-pairs .last .1 .1 .1 .1 .1 .0) (c .before .before .push-pairs .last .1 .1 .1 .1 .1 .1 .0)
+two c = impl-bound (shape (c .before .before .before .before .before .before .before .before .before .before .before .before .before .before .before)) (one (c .before .before .before .before .before .before)) (c .before .before .push-pairs .ensures) (c .enum-told3 .given .1)
+
+three : (c : tie.After-enum-told5) → let s = c .before .before .before .before .before .before .before .before .before .before .before .before .before .before .before .before .before .before .before in AllNamed (s .args .names .now) (s .args .bounds .now) (s .args .types .now) (c .before .before .declare-all2 .last .1 .1 .1 .0) (c .before .before .before .before .before .before .push-pairs .last .1 .1 .1 .1 .1 .0) (c .before .before .before .before .before .before .push-pairs .last .1 .1 .1 .1 .1 .1 .0)
+three c = all-named (shape (c .before .before .before .before .before .before .before .before .before .before .before .before .before .before .before .before .before .before .before)) (two (c .before .before .before .before)) (c .before .before .declare-all2 .ensures) (c .enum-told5 .given .1)
+
+four : (c : tie.After-enum-told7) → let s = c .before .before .before .before .before .before .before .before .before .before .before .before .before .before .before .before .before .before .before .before .before .before .before .before .before in AllBound (s .args .names .now) (s .args .bounds .now) (s .args .types .now) (c .before .before .before .before .before .before .before .before .declare-all2 .last .1 .1 .1 .0) (c .before .before .push-pairs2 .last .1 .1 .1 .1 .1 .0) (c .before .before .push-pairs2 .last .1 .1 .1 .1 .1 .1 .0)
+four c = all-bound (shape (c .before .before .before .before .before .before .before .before .before .before .before .before .before .before .before .before .before .before .before .before .before .before .before .before .before)) (three (c .before .before .before .before .before .before)) (c .before .before .push-pairs2 .ensures) (c .enum-told7 .given .1)
+
+shared-slice-read-impls : tie.Need-shared-slice-read-impls
+shared-slice-read-impls c = (shape (c .before .before .before .before)) .in-names .some
+
+sub-all : tie.Need-sub-all
+sub-all c = omega (arith, (shape (c .before .before .before .before)) .in-names .some)
+
+shared-slice-read-first : tie.Need-shared-slice-read-first
+shared-slice-read-first c = (shape (c .before .before .before .before .before)) .in-bounds .some
+
+sub-pairs : tie.Need-sub-pairs
+sub-pairs c = omega (arith, (shape (c .before .before .before .before .before)) .in-bounds .some)
+
+add-declare-all : tie.Need-add-declare-all
+add-declare-all c = let h = (shape (c .before .before .before .before .before)) .in-names in omega (arith, h .few, h .fits)
+
+declare-all-requires : tie.Need-declare-all-requires
+declare-all-requires c κs =
+    let s = c .before .before .before .before .before .before in
+    ((omega arith, (shape s) .in-names .fits), (omega arith, s .pre .1 .0))
+
+enum-told : tie.Need-enum-told
+enum-told c = search needs
+
+enum-told-2 : tie.Need-enum-told-2
+enum-told-2 c = search needs
+
+returns : tie.Need-returns
+returns c =
+    let s = c .before .before .before .before .before .before .before .before .before in
+    impl-names-refused (shape s) (c .before .before .declare-all .ensures) (s .pre .1 .1) (s .pre .1 .2) (c .enum-told2 .given .1)
+
+push-pairs-requires : tie.Need-push-pairs-requires
+push-pairs-requires c κs =
+    let s = c .before .before .before .before .before .before .before .before .before .before .before .before in
+    let h = (shape s) .in-bounds in
+    let o = one (c .before .before .before) in
+    (omega (arith, h .fits, h .even), ((o .named .few, o .named .size), (omega arith, s .pre .1 .1, s .pre .1 .2)))
+
+enum-told-3 : tie.Need-enum-told-3
+enum-told-3 c = search needs
+
+enum-told-4 : tie.Need-enum-told-4
+enum-told-4 c = search needs
+
+returns-2 : tie.Need-returns-2
+returns-2 c = impl-pairs-refused (shape (c .before .before .before .before .before .before .before .before .before .before .before .before .before .before .before)) (one (c .before .before .before .before .before .before)) (c .before .before .push-pairs .ensures) (c .enum-told4 .given .1)
+
+add-declare-all-2 : tie.Need-add-declare-all-2
+add-declare-all-2 c = let h = (shape (c .before .before .before .before .before .before .before .before .before .before .before .before .before .before .before)) .in-names in omega (arith, h .few, h .fits)
+
+add-declare-all-3 : tie.Need-add-declare-all-3
+add-declare-all-3 c = search needs
+
+declare-all-requires-2 : tie.Need-declare-all-requires-2
+declare-all-requires-2 c κs =
+    let h = (shape (c .before .before .before .before .before .before .before .before .before .before .before .before .before .before .before .before)) .in-names in
+    let t = two (c .before) in
+    ((omega (arith, h .fits), omega (arith, h .some)), (t .named .few, t .named .size))
+
+enum-told-5 : tie.Need-enum-told-5
+enum-told-5 c = search needs
+
+enum-told-6 : tie.Need-enum-told-6
+enum-told-6 c = search needs
+
+returns-3 : tie.Need-returns-3
+returns-3 c = method-names-refused (shape (c .before .before .before .before .before .before .before .before .before .before .before .before .before .before .before .before .before .before .before)) (two (c .before .before .before .before)) (c .before .before .declare-all2 .ensures) (c .enum-told6 .given .1)
+
+mul-push-pairs : tie.Need-mul-push-pairs
+mul-push-pairs c = let h = (shape (c .before .before .before .before .before .before .before .before .before .before .before .before .before .before .before .before .before .before .before)) .in-bounds in omega (arith, h .few, h .fits, h .even)
+
+add-push-pairs : tie.Need-add-push-pairs
+add-push-pairs c = let h = (shape (c .before .before .before .before .before .before .before .before .before .before .before .before .before .before .before .before .before .before .before)) .in-bounds in omega (arith, h .few, h .fits, h .even)
+
+sub-push-pairs : tie.Need-sub-push-pairs
+sub-push-pairs c = (shape (c .before .before .before .before .before .before .before .before .before .before .before .before .before .before .before .before .before .before .before)) .in-bounds .fits
+
+push-pairs-requires-2 : tie.Need-push-pairs-requires-2
+push-pairs-requires-2 c κs =
+    let h = (shape (c .before .before .before .before .before .before .before .before .before .before .before .before .before .before .before .before .before .before .before .before .before .before)) .in-bounds in
+    let t = three (c .before .before .before) in
+    (omega (arith, h .fits, h .even), ((t .named .few, t .named .size), (t .sides .few, t .sides .size-longs, t .sides .size-shorts)))
+
+enum-told-7 : tie.Need-enum-told-7
+enum-told-7 c = search needs
+
+enum-told-8 : tie.Need-enum-told-8
+enum-told-8 c = search needs
+
+returns-4 : tie.Need-returns-4
+returns-4 c = method-pairs-refused (shape (c .before .before .before .before .before .before .before .before .before .before .before .before .before .before .before .before .before .before .before .before .before .before .before .before .before)) (three (c .before .before .before .before .before .before)) (c .before .before .push-pairs2 .ensures) (c .enum-told8 .given .1)
+
+close-requires : tie.Need-close-requires
+close-requires c κs =
+    let f = four (c .before .before .before) in
+    ((f .named .few, f .sides .few, all-below (shape (c .before .before .before .before .before .before .before .before .before .before .before .before .before .before .before .before .before .before .before .before .before .before .before .before .before .before .before .before)) f), (f .sides .size-longs, f .sides .size-shorts, refl))
+
+push-types-requires : tie.Need-push-types-requires
+push-types-requires c κs =
+    let s = c .before .before .before .before .before .before .before .before .before .before .before .before .before .before .before .before .before .before .before .before .before .before .before .before .before .before .before .before .before .before .before .before .before in
+    let f = four (c .before .before .before .before .before .before .before .before) in (
+      (typesOf (s .args .types .now), (shape s) .in-types),
+      ((f .named .few, f .named .size), ((f .sides .few, f .sides .size-longs, f .sides .size-shorts), c .before .before .before .before .close .ensures)),
+    )
+
+returns-5 : tie.Need-returns-5
+returns-5 c = all-built (shape (c .before .before .before .before .before .before .before .before .before .before .before .before .before .before .before .before .before .before .before .before .before .before .before .before .before .before .before .before .before .before .before .before .before .before)) (four (c .before .before .before .before .before .before .before .before .before)) (c .push-types .ensures)
+
+pub build-spec : {M : Type 1} → statement M
+build-spec =
+    tie.close
+    (tie.spec
+    shared-slice-read-impls
+    sub-all
+    shared-slice-read-first
+    sub-pairs
+    add-declare-all
+    declare-all-requires
+    enum-told
+    enum-told-2
+    returns
+    push-pairs-requires
+    enum-told-3
+    enum-told-4
+    returns-2
+    add-declare-all-2
+    add-declare-all-3
+    declare-all-requires-2
+    enum-told-5
+    enum-told-6
+    returns-3
+    mul-push-pairs
+    add-push-pairs
+    sub-push-pairs
+    push-pairs-requires-2
+    enum-told-7
+    enum-told-8
+    returns-4
+    close-requires
+    push-types-requires
+    returns-5)

@@ -1,0 +1,57 @@
+-- `copy_names` meets its contract: each turn stores one name more. The loop's invariant is `Copying` of the crate lifetimes.
+use Prim.Native.Nat.{_-_}
+use native.Mathlib.Omega.{arith}
+use borrow.Author.Needs.{needs}
+use Rattle.lifetimes.proofs.Copying.{Copying, copying-start, copying-end}
+use Rattle.ast_lifetimes.proofs.Assembling.{names-more}
+use Rattle.ast_lifetimes.proofs.env.copy_names.Statement.{statement}
+use Rattle.ast_lifetimes.proofs.env.copy_names.Tie as tie
+
+abbrev Inv-loop : tie.InvT-loop
+Inv-loop declared named names₀ i₀ names i = Copying declared named 0 names₀ names i
+
+abbrev μ-loop : tie.MeasureT-loop
+μ-loop declared named names₀ i₀ names i = named - i
+
+loop-holds : tie.Need-loop-holds Inv-loop μ-loop
+loop-holds c = copying-start _ _ _ _
+
+mul-names : tie.Need-mul-names Inv-loop μ-loop
+mul-names c = search needs
+
+element-copy-out-names : tie.Need-element-copy-out-names Inv-loop μ-loop
+element-copy-out-names c = search needs
+
+mul-names-2 : tie.Need-mul-names-2 Inv-loop μ-loop
+mul-names-2 c = search needs
+
+element-write-names : tie.Need-element-write-names Inv-loop μ-loop
+element-write-names c = search needs
+
+add-i : tie.Need-add-i Inv-loop μ-loop
+add-i c = search needs
+
+loop-less : tie.Need-loop-less Inv-loop μ-loop
+loop-less c = search needs
+
+loop-again : tie.Need-loop-again Inv-loop μ-loop
+loop-again c = names-more (c .before .before .loop .inv) (omega (arith, c .before .before .before .pre)) (c .before .loop-test .taken)
+
+returns : tie.Need-returns Inv-loop μ-loop
+returns c = copying-end (c .before .loop .inv) (omega (arith, c .before .before .pre)) (c .loop-test .left)
+
+pub copy-names-spec : {M : Type 1} → statement M
+copy-names-spec =
+    tie.close
+    (tie.spec
+    Inv-loop
+    μ-loop
+    loop-holds
+    mul-names
+    element-copy-out-names
+    mul-names-2
+    element-write-names
+    add-i
+    loop-less
+    loop-again
+    returns)

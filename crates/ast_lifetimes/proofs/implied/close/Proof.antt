@@ -1,0 +1,75 @@
+-- `close` meets its contract: each turn joins one bound more.
+use Prim.Native.Nat.{_-_, _≤_}
+use mathlib.Core.Path.{_≡_}
+use native.Mathlib.Omega.{arith}
+use borrow.Author.Needs.{needs}
+use lib.ListN.{length}
+use Rattle.ast_lifetimes.specs.Inner.{sidesOf, Reaches}
+use Rattle.ast_lifetimes.proofs.OutlivedLaws.{closing-start, closing-more}
+use Rattle.ast_lifetimes.proofs.implied.close.Statement.{statement}
+use Rattle.ast_lifetimes.proofs.implied.close.Tie as tie
+
+abbrev Inv-loop : tie.InvT-loop
+Inv-loop longs shorts pushed named reach₀ i₀ reach i = (i ≤ pushed) × (length reach ≡ 32) × Reaches (sidesOf i longs shorts) named reach
+
+abbrev μ-loop : tie.MeasureT-loop
+μ-loop longs shorts pushed named reach₀ i₀ reach i = pushed - i
+
+each-itself-requires : tie.Need-each-itself-requires Inv-loop μ-loop
+each-itself-requires c κs = search needs
+
+loop-holds : tie.Need-loop-holds Inv-loop μ-loop
+loop-holds c = (omega arith, c .each-itself .ensures .0, closing-start (c .before .before .args .named) (c .before .before .args .longs .now) (c .before .before .args .shorts .now) (c .each-itself .last .1 .0) (c .each-itself .ensures .1))
+
+mul-long : tie.Need-mul-long Inv-loop μ-loop
+mul-long c = search needs
+
+element-copy-out-long : tie.Need-element-copy-out-long Inv-loop μ-loop
+element-copy-out-long c = search needs
+
+mul-short : tie.Need-mul-short Inv-loop μ-loop
+mul-short c = search needs
+
+element-copy-out-short : tie.Need-element-copy-out-short Inv-loop μ-loop
+element-copy-out-short c = search needs
+
+join-requires : tie.Need-join-requires Inv-loop μ-loop
+join-requires c κs =
+    let s = c .before .before .before .before .before .before .before in
+    let h = s .pre .0 .2 (c .before .before .before .before .loop .i) (c .before .before .before .loop-test .taken) in
+    (s .pre .0 .0, h .0, h .1, c .before .before .before .before .loop .inv .1)
+
+add-i : tie.Need-add-i Inv-loop μ-loop
+add-i c = search needs
+
+loop-less : tie.Need-loop-less Inv-loop μ-loop
+loop-less c = search needs
+
+loop-again : tie.Need-loop-again Inv-loop μ-loop
+loop-again c =
+    let l = c .before .before .before .before .before .loop in
+    (omega arith, c .join .ensures .size, closing-more (l .i) (c .before .before .before .before .before .before .before .before .args .longs .now) (c .before .before .before .before .before .before .before .before .args .shorts .now) (c .join .ensures) (l .inv .2))
+
+returns : tie.Need-returns Inv-loop μ-loop
+returns c =
+    let l = c .before .loop in
+    let e : l .i ≡ c .before .before .before .before .args .pushed = omega arith in
+    (l .inv .1, rw e at (l .inv .2))
+
+pub close-spec : {M : Type 1} → statement M
+close-spec =
+    tie.close
+    (tie.spec
+    Inv-loop
+    μ-loop
+    each-itself-requires
+    loop-holds
+    mul-long
+    element-copy-out-long
+    mul-short
+    element-copy-out-short
+    join-requires
+    add-i
+    loop-less
+    loop-again
+    returns)

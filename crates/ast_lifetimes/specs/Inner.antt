@@ -1,0 +1,99 @@
+-- For private functions only: what the arrays hold in which an environment is built. No public contract cites this file.
+use Prim.Native.Nat.{ℕ, _+_, _≤_, _<_}
+use mathlib.Core.Bool.{Bool, true, cond, _&&_, not}
+use mathlib.Core.Path.{_≡_}
+use mathlib.Core.Logic.{_↔_}
+use mathlib.Core.List.{List, [], _∷_, _++_, map}
+use lib.ListN.{length, getD, take, drop}
+use Rattle.lifetimes.specs.declared.answer.Verdict.{Verdict}
+use Rattle.lifetimes.specs.declared.answer.Verdict.the-variants.{Accepted}
+use Rattle.lifetimes.specs.declared.env.Bound.{Bound}
+use Rattle.lifetimes.specs.Ranges.{ascending}
+use Rattle.lifetimes.specs.Refusals.{Check, unless}
+use Rattle.lifetimes.specs.Lent.{verdictOf}
+use Rattle.lifetimes.specs.Env.{above}
+use Rattle.ast_lifetimes.specs.declared.types.TypeEnd.{TypeEnd}
+use Rattle.ast_lifetimes.specs.declared.types.TypeEnd.the-variants as end
+use Rattle.lifetimes.specs.Sets.{empty, member}
+use Rattle.lifetimes.specs.Outlives.{Outlives}
+use Rattle.ast_lifetimes.specs.declared.env.Counts.{Counts}
+use Rattle.ast_lifetimes.specs.declared.implied.Implied.{Implied}
+use Rattle.ast_lifetimes.specs.Shapes.{isName, Pair}
+use Rattle.ast_lifetimes.specs.Types as types
+use Rattle.ast_lifetimes.specs.Env.{place, isDeclared, nameChecks, allPairChecks, boundsFor, allNamesOf, placeChecks, methodBounds}
+
+-- the verdict of some checks
+abbrev pub judged : List Check → Verdict
+judged checks = verdictOf (unless checks (tt {0}))
+
+-- the first n bounds, from their longer and their shorter sides
+abbrev pub sidesOf : ℕ → List ℕ → List ℕ → List Bound
+sidesOf n longs shorts = map (λ i. above (getD longs i 0) (getD shorts i 0)) (ascending 0 n)
+
+-- names declared behind the first `named` of an array: the verdict is that of their checks; accepted, they stand there
+pub record Declares (new before after : List ℕ) (named : ℕ) (r : Verdict) : Type 0 where
+  pub verdict : r ≡ judged (nameChecks (take named before) new)
+  pub size : length after ≡ 32
+  pub names : r ≡ Accepted → take (named + length new) after ≡ take named before ++ new
+  pub few : r ≡ Accepted → named + length new ≤ 32
+
+-- pairs pushed behind the first `pushed` bounds of two arrays of sides: the verdict is that of their checks; accepted, they stand there
+pub record Pushes (names : List ℕ) (new : List Pair) (longs shorts longs₁ shorts₁ : List ℕ) (pushed : ℕ) (r : Verdict) : Type 0 where
+  pub verdict : r ≡ judged (allPairChecks names pushed new)
+  pub size-longs : length longs₁ ≡ 256
+  pub size-shorts : length shorts₁ ≡ 256
+  pub bounds : r ≡ Accepted → sidesOf (pushed + length new) longs₁ shorts₁ ≡ sidesOf pushed longs shorts ++ boundsFor names new
+  pub few : r ≡ Accepted → pushed + length new ≤ 256
+
+-- where a reading that starts at a place of some words ends: past that place, and what is left there is what the reading leaves
+pub data EndsAt {A : Type 0} (words : List ℕ) (at : ℕ) : types.Reading A → TypeEnd → Type 0 where
+  ends : {a : A} {rest : List ℕ} {next : ℕ} → drop next words ≡ rest → at < next → next ≤ length words → EndsAt words at (types.Read a rest) (end.At next)
+  torn : EndsAt words at types.Torn end.Torn
+
+-- the words of a type, and of types one after another
+unfoldable pub encode : types.TypeName → List ℕ
+encode types.Other = 0 ∷ []
+encode (types.Named lifetimes) = 1 ∷ length lifetimes ∷ lifetimes
+encode (types.Reference word t) = 2 ∷ word ∷ encode t
+encode (types.Option t) = 3 ∷ encode t
+encode (types.Result t u) = 4 ∷ encode t ++ encode u
+
+unfoldable pub encodeAll : List types.TypeName → List ℕ
+encodeAll [] = []
+encodeAll (t ∷ ts) = encode t ++ encodeAll ts
+
+-- the sides of the first bounds are numbers of names
+abbrev pub Below : ℕ → ℕ → List ℕ → List ℕ → Type 0
+Below named pushed longs shorts = (i : ℕ) → i < pushed → (getD longs i 0 < named) × (getD shorts i 0 < named)
+
+-- for each name the set of those that outlive it
+abbrev pub Reaches : List Bound → ℕ → List ℕ → Type 0
+Reaches bs named reach = (a : ℕ) → a < named → (b : ℕ) → (member (getD reach a 0) b ≡ true) ↔ Outlives bs b a
+
+-- the sets with one bound more
+pub record Joins (named long short : ℕ) (before after : List ℕ) : Type 0 where
+  pub size : length after ≡ 32
+  pub joins : (bs : List Bound) → Reaches bs named before → Reaches (bs ++ (above long short ∷ [])) named after
+
+-- the set of those that outlive a name, by the sets of all; none for one that is not declared
+abbrev pub outlivedBy : List ℕ → List ℕ → ℕ → ℕ
+outlivedBy names reach word = cond (isDeclared names word) (getD reach (place names word) 0) empty
+
+-- whether a lifetime of a path is to be pushed, by the set of those that outlive the reference
+abbrev pub isImplied : List ℕ → ℕ → ℕ → Bool
+isImplied names taken word = isName word && not (isDeclared names word && member taken (place names word))
+
+-- pairs pushed on bounds whose sets of outliving are kept: as `Pushes`, and the sets are those of all bounds
+pub record Extends (names : List ℕ) (new : List Pair) (longs shorts longs₁ shorts₁ reach₁ : List ℕ) (before : ℕ) (r : Implied) : Type 0 where
+  pub pushes : Pushes names new longs shorts longs₁ shorts₁ before (r .verdict)
+  pub size : length reach₁ ≡ 32
+  pub pushed : r .verdict ≡ Accepted → r .pushed ≡ before + length new
+  pub reach : r .verdict ≡ Accepted → Reaches (sidesOf before longs shorts ++ boundsFor names new) (length names) reach₁
+
+-- what `build` gives of records in shape: the verdict of all their checks but the shape's; accepted, the method's names and bounds
+pub record Built (names bounds types declared longs shorts : List ℕ) (r : Counts) : Type 0 where
+  pub verdict : r .verdict ≡ judged (placeChecks names bounds types)
+  pub sizes : (length declared ≡ 32) × (length longs ≡ 256) × (length shorts ≡ 256)
+  pub few : r .verdict ≡ Accepted → (r .named ≤ 32) × (r .pushed ≤ 256)
+  pub named : r .verdict ≡ Accepted → take (r .named) declared ≡ allNamesOf names
+  pub bounded : r .verdict ≡ Accepted → sidesOf (r .pushed) longs shorts ≡ methodBounds names bounds types

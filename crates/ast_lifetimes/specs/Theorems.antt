@@ -1,0 +1,32 @@
+-- The main theorems of this crate, stated. Each has its proof, a term of exactly this type and of the same name in small letters, in proofs/Theorems.antt.
+use Prim.Native.Nat.{ℕ}
+use mathlib.Core.Bool.{Bool, true, false}
+use mathlib.Core.Path.{_≡_}
+use mathlib.Core.Logic.{_↔_}
+use mathlib.Core.List.{List, [], _++_, List·Memᴰ, List·Nodup}
+use Rattle.lifetimes.specs.declared.env.Bound.{Bound}
+use Rattle.lifetimes.specs.Refusals.{Gives}
+use Rattle.lifetimes.specs.Walk.{LastFirst, traversal}
+use Rattle.lifetimes.specs.Outlives.{Toward}
+use Rattle.ast_lifetimes.specs.declared.env.LifetimeEnv.{LifetimeEnv}
+use Rattle.ast_lifetimes.specs.Env.{place, isDeclared, boundsFor, reachOf, namesOf, boundsOf, allNamesOf, explicitBounds, impliedPairs, fromMethodItem}
+use Rattle.ast_lifetimes.specs.Examples.{examples, Right}
+
+-- A method's environment has all names in order, the impl's first, and its bounds are the explicit pairs in order, the impl's first, followed by the implied ones in the record's order.
+abbrev pub BoundsInOrder : Type 0
+BoundsInOrder = (names bounds types : List ℕ) (e : LifetimeEnv) → fromMethodItem names bounds types ≡ Gives e
+    → (namesOf e ≡ allNamesOf names) × (boundsOf e ≡ explicitBounds names bounds ++ boundsFor (allNamesOf names) (impliedPairs names bounds types))
+
+-- `longer_than` and `shorter_than`: nothing for an unknown name; of a declared one exactly what outlives it (what it outlives), each once: the members of the HIR's list. One statement over the direction.
+pub record ListsTheReach (longer : Bool) (names : List ℕ) (bs : List Bound) (word : ℕ) : Type 0 where
+  pub unknown : isDeclared names word ≡ false → reachOf longer names bs word ≡ []
+  pub members : isDeclared names word ≡ true → (b : ℕ) → List·Memᴰ b (reachOf longer names bs word) ↔ Toward longer bs (place names word) b
+  pub hir : isDeclared names word ≡ true → (b : ℕ) → List·Memᴰ b (reachOf longer names bs word) ↔ List·Memᴰ b (traversal LastFirst longer bs (place names word))
+  pub once : List·Nodup (reachOf longer names bs word)
+
+abbrev pub AstReachIsOutlives : Type 0
+AstReachIsOutlives = (longer : Bool) (names : List ℕ) (bs : List Bound) (word : ℕ) → ListsTheReach longer names bs word
+
+-- The starred examples
+abbrev pub ExamplesHold : Type 0
+ExamplesHold = Right examples

@@ -1,0 +1,99 @@
+// The record `bounds`: its shape, and pushing its pairs one after another.
+ghost use mathlib.Core.Path.{_≡_};
+ghost use mathlib.Core.List.{[], _∷_};
+ghost use Prim.Native.Nat.{_+_, _*_, _≤_};
+ghost use lib.ListN.{length, take};
+ghost use lib.Seq.{slice};
+ghost use Rattle.ast_lifetimes.specs.Shapes.{shapeVerdict, boundsInShape, pair, pairsOf};
+ghost use Rattle.ast_lifetimes.specs.Inner.{Pushes};
+use super::env::LifetimeEnv;
+use super::names::position;
+use lifetimes::Refusal;
+use lifetimes::Verdict;
+
+// Whether the record `bounds` is in shape: how many pairs are the impl's, then pairs. Refused by 1.
+pub fn bounds_shape(bounds: &[usize]) -> Verdict
+    ensures { λ r. ⌜ r ≡ shapeVerdict (boundsInShape (now (bounds .entry))) ⌝ }
+{
+    let n = bounds.len();
+    if n == 0 {
+        return Verdict::Refused(Refusal::Malformed);
+    }
+    if LifetimeEnv::MAX_WORDS < n {
+        return Verdict::Refused(Refusal::Malformed);
+    }
+    if (n - 1) % 2 == 1 {
+        return Verdict::Refused(Refusal::Malformed);
+    }
+    if (n - 1) / 2 < bounds[0] {
+        return Verdict::Refused(Refusal::Malformed);
+    }
+    Verdict::Accepted
+}
+
+// Push one pair of names behind the first `pushed` bounds. Refused by 3 for a side that is not declared, longer before shorter, then by 4 for a 257th.
+pub(crate) fn push_pair(
+    names: &[usize; 32],
+    named: usize,
+    longer: usize,
+    shorter: usize,
+    longs: &mut [usize; 256],
+    shorts: &mut [usize; 256],
+    pushed: usize,
+) -> Verdict
+    requires { ⌜ (named ≤ 32) × (length (now names) ≡ 32) ⌝ }
+    requires { ⌜ (pushed ≤ 256) × (length (now longs) ≡ 256) × (length (now shorts) ≡ 256) ⌝ }
+    ensures { λ r. ⌜ Pushes (take named (now (names .entry))) (pair longer shorter ∷ []) (now (longs .entry)) (now (shorts .entry)) (now (longs .exit)) (now (shorts .exit)) pushed r ⌝ }
+{
+    let long = position(names, named, longer);
+    if named <= long {
+        return Verdict::Refused(Refusal::Undeclared);
+    }
+    let short = position(names, named, shorter);
+    if named <= short {
+        return Verdict::Refused(Refusal::Undeclared);
+    }
+    if LifetimeEnv::MAX_BOUNDS <= pushed {
+        return Verdict::Refused(Refusal::Full);
+    }
+    longs[pushed] = long;
+    shorts[pushed] = short;
+    Verdict::Accepted
+}
+
+// Push some words, pair after pair: `count` pairs from the place `from` on. Refused at the first bad place.
+pub(crate) fn push_pairs(
+    words: &[usize],
+    from: usize,
+    count: usize,
+    names: &[usize; 32],
+    named: usize,
+    longs: &mut [usize; 256],
+    shorts: &mut [usize; 256],
+    pushed: usize,
+) -> Verdict
+    requires { ⌜ from + 2 * count ≤ length (now words) ⌝ }
+    requires { ⌜ (named ≤ 32) × (length (now names) ≡ 32) ⌝ }
+    requires { ⌜ (pushed ≤ 256) × (length (now longs) ≡ 256) × (length (now shorts) ≡ 256) ⌝ }
+    ensures { λ r. ⌜ Pushes (take named (now (names .entry))) (pairsOf (slice from (from + 2 * count) (now (words .entry)))) (now (longs .entry)) (now (shorts .entry)) (now (longs .exit)) (now (shorts .exit)) pushed r ⌝ }
+{
+    let mut at = from;
+    let mut done = 0;
+    while done < count {
+        let verdict = push_pair(
+            names,
+            named,
+            words[at],
+            words[at + 1],
+            longs,
+            shorts,
+            pushed + done,
+        );
+        let Verdict::Accepted = verdict else {
+            return verdict;
+        };
+        at += 2;
+        done += 1;
+    }
+    Verdict::Accepted
+}

@@ -1,0 +1,309 @@
+// The AST's environment: names in order of declaration, and bounds between them by number.
+ghost use mathlib.Core.Path.{_≡_};
+ghost use mathlib.Core.Bool.{true, false};
+ghost use mathlib.Core.List.{[]};
+ghost use Prim.Native.Nat.{_≤_};
+ghost use lib.ListN.{length, take};
+ghost use lib.Seq.{sets};
+ghost use Rattle.lifetimes.specs.Refusals.{unless};
+ghost use Rattle.lifetimes.specs.Lent.{counted, written, verdictOf};
+ghost use mathlib.Core.Bool.{_&&_};
+ghost use Rattle.ast_lifetimes.specs.Shapes.{shapeVerdict, namesInShape, boundsInShape};
+ghost use Rattle.ast_lifetimes.specs.Types.{typesInShape};
+ghost use Rattle.ast_lifetimes.specs.Env.{envOf, envChecks, fromMethodItem, listThan, made};
+ghost use Rattle.ast_lifetimes.specs.Inner.{sidesOf, Built};
+use super::bounds::bounds_shape;
+use super::bounds::push_pairs;
+use super::implied::close;
+use super::implied::push_types;
+use super::names::declare_all;
+use super::names::names_shape;
+use super::names::position;
+use super::types::types_shape;
+use lifetimes::Bound;
+use lifetimes::Lifetime;
+use lifetimes::Listed;
+use lifetimes::Refusal;
+use lifetimes::Verdict;
+
+// The names of a method in order of declaration, the first `named` of the array: a name's number is its place. The bounds in push order, the first `pushed`.
+pub struct LifetimeEnv {
+    pub names: [usize; LifetimeEnv::MAX_NAMES],
+    pub named: usize,
+    pub pushed: usize,
+    pub bounds: [Bound; LifetimeEnv::MAX_BOUNDS],
+}
+
+// An environment; beside a refusal, the one that the call says.
+pub struct Made {
+    pub verdict: Verdict,
+    pub env: LifetimeEnv,
+}
+
+// How far building came: the verdict, and how many names and bounds there are.
+struct Counts {
+    verdict: Verdict,
+    named: usize,
+    pushed: usize,
+}
+
+impl LifetimeEnv {
+    pub const MAX_NAMES: usize = 32;
+
+    pub const MAX_BOUNDS: usize = 256;
+
+    // How many words a record may have.
+    pub const MAX_WORDS: usize = 1024;
+
+    // How deep a type may be nested, the outermost counting 1.
+    pub const MAX_NESTING: usize = 8;
+
+    // How many lifetimes a path may have.
+    pub const MAX_LIFETIMES: usize = 16;
+
+    // The environment of a method, from its records: impl names, impl bounds, method names, method bounds, then what the types imply. Refused by 1 over
+    // all three records, then by 2, 3, 4 at the first bad place, with an environment without names beside the refusal.
+    pub fn from_method_item(names: &[usize], bounds: &[usize], types: &[usize]) -> Made
+        ensures { λ r. ⌜ r ≡ made (envOf [] []) (fromMethodItem (now (names .entry)) (now (bounds .entry)) (now (types .entry))) ⌝ }
+    {
+        let shape = shape_of(names, bounds, types);
+        let Verdict::Accepted = shape else {
+            return refused(shape);
+        };
+        let mut declared = [0usize; 32];
+        let mut longs = [0usize; 256];
+        let mut shorts = [0usize; 256];
+        let built = build(names, bounds, types, &mut declared, &mut longs, &mut shorts);
+        let verdict = built.verdict;
+        let Verdict::Accepted = verdict else {
+            return refused(verdict);
+        };
+        let named = built.named;
+        let pushed = built.pushed;
+        Made {
+            verdict: Verdict::Accepted,
+            env: assembled(&declared, named, &longs, &shorts, pushed),
+        }
+    }
+
+    // Whether this can be an environment: refused by 4 (33rd name, 257th bound) or 8 (a bound past the names). A caller can build any value.
+    pub fn check(self) -> Verdict
+        ensures { λ r. ⌜ r ≡ verdictOf (unless (envChecks self) self) ⌝ }
+    {
+        let named = self.named;
+        let pushed = self.pushed;
+        if LifetimeEnv::MAX_NAMES < named {
+            return Verdict::Refused(Refusal::Full);
+        }
+        if LifetimeEnv::MAX_BOUNDS < pushed {
+            return Verdict::Refused(Refusal::Full);
+        }
+        let mut i = 0;
+        while i < pushed {
+            let b = self.bounds[i];
+            if named <= b.longer.index() {
+                return Verdict::Refused(Refusal::OutOfRange);
+            }
+            if named <= b.shorter.index() {
+                return Verdict::Refused(Refusal::OutOfRange);
+            }
+            i += 1;
+        }
+        Verdict::Accepted
+    }
+
+    // Write the numbers of the names that outlive a name to a slice, itself first, depth first in list order; nothing for an unknown name. Refused by 4 and 8 as the
+    // environment is, by 9 where the slice is too short.
+    pub fn longer_than(self, name: usize, out: &mut [usize]) -> Listed
+        ensures { λ r. ⌜ r ≡ counted (listThan true self name (length (now (out .entry)))) ⌝ }
+        ensures { λ _. ⌜ now (out .exit) ≡ written (listThan true self name (length (now (out .entry)))) (now (out .entry)) ⌝ }
+    {
+        list_than(self, name, true, out)
+    }
+
+    // Write the numbers of the names that a name outlives, in the same way.
+    pub fn shorter_than(self, name: usize, out: &mut [usize]) -> Listed
+        ensures { λ r. ⌜ r ≡ counted (listThan false self name (length (now (out .entry)))) ⌝ }
+        ensures { λ _. ⌜ now (out .exit) ≡ written (listThan false self name (length (now (out .entry)))) (now (out .entry)) ⌝ }
+    {
+        list_than(self, name, false, out)
+    }
+}
+
+// The list of one name in one direction.
+fn list_than(env: LifetimeEnv, name: usize, longer: bool, out: &mut [usize]) -> Listed
+    ensures { λ r. ⌜ r ≡ counted (listThan longer env name (length (now (out .entry)))) ⌝ }
+    ensures { λ _. ⌜ now (out .exit) ≡ written (listThan longer env name (length (now (out .entry)))) (now (out .entry)) ⌝ }
+{
+    let verdict = env.check();
+    if let Verdict::Refused(refusal) = verdict {
+        return Listed::Refused(refusal);
+    }
+    let names = env.names;
+    let named = env.named;
+    let pushed = env.pushed;
+    let at = position(&names, named, name);
+    if named <= at {
+        return Listed::Count(0);
+    }
+    let bounds = env.bounds;
+    let hir = lifetimes::LifetimeEnv {
+        declared: named,
+        count: named,
+        pushed,
+        bounds,
+    };
+    hir.depth_first_lifetimes(Lifetime::new(at), longer, out)
+}
+
+// The shape of the three records.
+fn shape_of(names: &[usize], bounds: &[usize], types: &[usize]) -> Verdict
+    ensures { λ r. ⌜ r ≡ shapeVerdict (namesInShape (now (names .entry)) && (boundsInShape (now (bounds .entry)) && typesInShape (now (types .entry)))) ⌝ }
+{
+    let first = names_shape(names);
+    let Verdict::Accepted = first else {
+        return first;
+    };
+    let second = bounds_shape(bounds);
+    let Verdict::Accepted = second else {
+        return second;
+    };
+    types_shape(types)
+}
+
+// The names, and the sides of the bounds, of records in shape, in arrays.
+fn build(
+    names: &[usize],
+    bounds: &[usize],
+    types: &[usize],
+    declared: &mut [usize; 32],
+    longs: &mut [usize; 256],
+    shorts: &mut [usize; 256],
+) -> Counts
+    requires { ⌜ (namesInShape (now names) ≡ true) × (boundsInShape (now bounds) ≡ true) × (typesInShape (now types) ≡ true) ⌝ }
+    requires { ⌜ (length (now declared) ≡ 32) × (length (now longs) ≡ 256) × (length (now shorts) ≡ 256) ⌝ }
+    ensures { λ r. ⌜ Built (now (names .entry)) (now (bounds .entry)) (now (types .entry)) (now (declared .exit)) (now (longs .exit)) (now (shorts .exit)) r ⌝ }
+{
+    let impls = names[0];
+    let all = names.len() - 1;
+    let first = bounds[0];
+    let pairs = (bounds.len() - 1) / 2;
+    let named = declare_all(names, 1, 1 + impls, declared, 0);
+    let Verdict::Accepted = named else {
+        return Counts {
+            verdict: named,
+            named: 0,
+            pushed: 0,
+        };
+    };
+    let bounded = push_pairs(bounds, 1, first, declared, impls, longs, shorts, 0);
+    let Verdict::Accepted = bounded else {
+        return Counts {
+            verdict: bounded,
+            named: 0,
+            pushed: 0,
+        };
+    };
+    let renamed = declare_all(names, 1 + impls, 1 + all, declared, impls);
+    let Verdict::Accepted = renamed else {
+        return Counts {
+            verdict: renamed,
+            named: 0,
+            pushed: 0,
+        };
+    };
+    let rebounded = push_pairs(
+        bounds,
+        1 + 2 * first,
+        pairs - first,
+        declared,
+        all,
+        longs,
+        shorts,
+        first,
+    );
+    let Verdict::Accepted = rebounded else {
+        return Counts {
+            verdict: rebounded,
+            named: 0,
+            pushed: 0,
+        };
+    };
+    let mut reach = [0u64; 32];
+    close(longs, shorts, pairs, all, &mut reach);
+    let implied = push_types(types, declared, all, longs, shorts, pairs, &mut reach);
+    let verdict = implied.verdict;
+    let pushed = implied.pushed;
+    Counts {
+        verdict,
+        named: all,
+        pushed,
+    }
+}
+
+// A refusal, beside an environment without names.
+fn refused(verdict: Verdict) -> Made
+    ensures { λ r. ⌜ r ≡ record { verdict = verdict; env = envOf [] [] } ⌝ }
+{
+    let names = [0usize; LifetimeEnv::MAX_NAMES];
+    let none = Bound {
+        longer: Lifetime::new(0),
+        shorter: Lifetime::new(0),
+    };
+    let bounds = [none; LifetimeEnv::MAX_BOUNDS];
+    Made {
+        verdict,
+        env: LifetimeEnv {
+            names,
+            named: 0,
+            pushed: 0,
+            bounds,
+        },
+    }
+}
+
+// The environment of the first names of an array and the first bounds of two arrays of sides.
+fn assembled(
+    declared: &[usize; 32],
+    named: usize,
+    longs: &[usize; 256],
+    shorts: &[usize; 256],
+    pushed: usize,
+) -> LifetimeEnv
+    requires { ⌜ (named ≤ 32) × (pushed ≤ 256) ⌝ }
+    requires { ⌜ (length (now declared) ≡ 32) × (length (now longs) ≡ 256) × (length (now shorts) ≡ 256) ⌝ }
+    ensures { λ r. ⌜ r ≡ envOf (take named (now (declared .entry))) (sidesOf pushed (now (longs .entry)) (now (shorts .entry))) ⌝ }
+{
+    let none = Bound {
+        longer: Lifetime::new(0),
+        shorter: Lifetime::new(0),
+    };
+    let mut bounds = [none; LifetimeEnv::MAX_BOUNDS];
+    let mut i = 0;
+    while i < pushed {
+        let longer = Lifetime::new(longs[i]);
+        let shorter = Lifetime::new(shorts[i]);
+        bounds[i] = Bound { longer, shorter };
+        i += 1;
+    }
+    let mut names = [0usize; LifetimeEnv::MAX_NAMES];
+    copy_names(declared, named, &mut names);
+    LifetimeEnv {
+        names,
+        named,
+        pushed,
+        bounds,
+    }
+}
+
+// Copy the first names of an array to the first places of another.
+fn copy_names(declared: &[usize; 32], named: usize, names: &mut [usize; 32])
+    requires { ⌜ (named ≤ 32) × (length (now declared) ≡ 32) × (length (now names) ≡ 32) ⌝ }
+    ensures { λ _. ⌜ now (names .exit) ≡ sets (now (names .entry)) 0 (take named (now (declared .entry))) ⌝ }
+{
+    let mut i = 0;
+    while i < named {
+        names[i] = declared[i];
+        i += 1;
+    }
+}

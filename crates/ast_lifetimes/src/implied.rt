@@ -1,0 +1,209 @@
+// Implied bounds: what a path behind a named reference says of its lifetimes.
+//
+// For each lifetime the set of those that outlive it is kept while bounds are pushed, so that a path asks one set and no traversal:
+// with one bound more, long above short, whatever short outlives is outlived by all that outlives long.
+ghost use mathlib.Core.Path.{_≡_};
+ghost use Prim.Native.Nat.{_+_, _≤_, _<_};
+ghost use lib.ListN.{length, take};
+ghost use lib.Seq.{slice};
+ghost use mathlib.Core.List.{List, []};
+ghost use Rattle.ast_lifetimes.specs.Types.{TypeName};
+ghost use Rattle.ast_lifetimes.specs.Env.{Nothing, pathPairs, allImplied};
+ghost use Rattle.ast_lifetimes.specs.Inner.{encodeAll, sidesOf, Joins, Below, Reaches, outlivedBy, isImplied, Extends};
+use super::bounds::push_pair;
+use super::names::position;
+use lifetimes::Lifetime;
+use lifetimes::Verdict;
+use lifetimes::set;
+
+// How far pushing came: the verdict, and how many bounds there are.
+pub(crate) struct Implied {
+    pub(crate) verdict: Verdict,
+    pub(crate) pushed: usize,
+}
+
+// One bound more in the sets of those that outlive each lifetime.
+fn join(reach: &mut [u64; 32], named: usize, long: usize, short: usize)
+    requires { ⌜ (named ≤ 32) × (long < named) × (short < named) × (length (now reach) ≡ 32) ⌝ }
+    ensures { λ _. ⌜ Joins named long short (now (reach .entry)) (now (reach .exit)) ⌝ }
+{
+    let joined = reach[long];
+    let mut x = 0;
+    while x < named {
+        let before = reach[x];
+        if set::contains(before, Lifetime::new(short)) {
+            reach[x] = set::union(before, joined);
+        }
+        x += 1;
+    }
+}
+
+// The sets of those that outlive each lifetime, by the first `pushed` bounds.
+pub(crate) fn close(
+    longs: &[usize; 256],
+    shorts: &[usize; 256],
+    pushed: usize,
+    named: usize,
+    reach: &mut [u64; 32],
+)
+    requires { ⌜ (named ≤ 32) × (pushed ≤ 256) × Below named pushed (now longs) (now shorts) ⌝ }
+    requires { ⌜ (length (now longs) ≡ 256) × (length (now shorts) ≡ 256) × (length (now reach) ≡ 32) ⌝ }
+    ensures { λ _. ⌜ (length (now (reach .exit)) ≡ 32) × Reaches (sidesOf pushed (now (longs .entry)) (now (shorts .entry))) named (now (reach .exit)) ⌝ }
+{
+    each_itself(named, reach);
+    let mut i = 0;
+    while i < pushed {
+        let long = longs[i];
+        let short = shorts[i];
+        join(reach, named, long, short);
+        i += 1;
+    }
+}
+
+// Without bounds each lifetime outlives itself only.
+fn each_itself(named: usize, reach: &mut [u64; 32])
+    requires { ⌜ (named ≤ 32) × (length (now reach) ≡ 32) ⌝ }
+    ensures { λ _. ⌜ (length (now (reach .exit)) ≡ 32) × Reaches [] named (now (reach .exit)) ⌝ }
+{
+    let mut x = 0;
+    while x < named {
+        reach[x] = set::insert(set::EMPTY, Lifetime::new(x));
+        x += 1;
+    }
+}
+
+// The set of those that outlive a name; none for one that is not declared.
+fn outlived(names: &[usize; 32], named: usize, name: usize, reach: &[u64; 32]) -> u64
+    requires { ⌜ (named ≤ 32) × (length (now names) ≡ 32) × (length (now reach) ≡ 32) ⌝ }
+    ensures { λ r. ⌜ r ≡ outlivedBy (take named (now (names .entry))) (now (reach .entry)) name ⌝ }
+{
+    let at = position(names, named, name);
+    if at < named {
+        return reach[at];
+    }
+    set::EMPTY
+}
+
+// Whether a lifetime of a path is to be pushed: a name that is not in the set of those that outlive the reference.
+fn is_implied(names: &[usize; 32], named: usize, taken: u64, word: usize) -> bool
+    requires { ⌜ (named ≤ 32) × (length (now names) ≡ 32) ⌝ }
+    ensures { λ r. ⌜ r ≡ isImplied (take named (now (names .entry))) taken word ⌝ }
+{
+    if word < 2 {
+        return false;
+    }
+    let at = position(names, named, word);
+    if named <= at {
+        return true;
+    }
+    !set::contains(taken, Lifetime::new(at))
+}
+
+// Push what a path behind a named reference implies: its lifetimes are the words from one place to another. The list of those longer than the
+// reference is taken before the first push.
+fn push_path(
+    words: &[usize],
+    from: usize,
+    to: usize,
+    behind: usize,
+    names: &[usize; 32],
+    named: usize,
+    longs: &mut [usize; 256],
+    shorts: &mut [usize; 256],
+    pushed: usize,
+    reach: &mut [u64; 32],
+) -> Implied
+    requires { ⌜ (from ≤ to) × (to ≤ length (now words)) ⌝ }
+    requires { ⌜ (named ≤ 32) × (length (now names) ≡ 32) ⌝ }
+    requires { ⌜ (pushed ≤ 256) × (length (now longs) ≡ 256) × (length (now shorts) ≡ 256) ⌝ }
+    requires { ⌜ (length (now reach) ≡ 32) × Reaches (sidesOf pushed (now longs) (now shorts)) named (now reach) ⌝ }
+    ensures { λ r. ⌜ Extends (take named (now (names .entry))) (pathPairs (take named (now (names .entry))) (sidesOf pushed (now (longs .entry)) (now (shorts .entry))) behind (slice from to (now (words .entry)))) (now (longs .entry)) (now (shorts .entry)) (now (longs .exit)) (now (shorts .exit)) (now (reach .exit)) pushed r ⌝ }
+{
+    let taken = outlived(names, named, behind, reach);
+    let short = position(names, named, behind);
+    let mut count = pushed;
+    let mut at = from;
+    'lifetimes: while at < to {
+        let word = words[at];
+        at += 1;
+        if !is_implied(names, named, taken, word) {
+            continue 'lifetimes;
+        }
+        let verdict = push_pair(names, named, word, behind, longs, shorts, count);
+        let Verdict::Accepted = verdict else {
+            return Implied {
+                verdict,
+                pushed: count,
+            };
+        };
+        let long = position(names, named, word);
+        join(reach, named, long, short);
+        count += 1;
+    }
+    Implied {
+        verdict: Verdict::Accepted,
+        pushed: count,
+    }
+}
+
+// Push what types imply, one after another: a path directly behind a named reference R pushes; an inner reference replaces R, whatever else stands there clears it.
+pub(crate) fn push_types(
+    types: &[usize],
+    names: &[usize; 32],
+    named: usize,
+    longs: &mut [usize; 256],
+    shorts: &mut [usize; 256],
+    pushed: usize,
+    reach: &mut [u64; 32],
+) -> Implied
+    requires { ⌜ ((ts : List TypeName) × (encodeAll ts ≡ now types)) ⌝ }
+    requires { ⌜ (named ≤ 32) × (length (now names) ≡ 32) ⌝ }
+    requires { ⌜ (pushed ≤ 256) × (length (now longs) ≡ 256) × (length (now shorts) ≡ 256) ⌝ }
+    requires { ⌜ (length (now reach) ≡ 32) × Reaches (sidesOf pushed (now longs) (now shorts)) named (now reach) ⌝ }
+    ensures { λ r. ⌜ ((ts : List TypeName) → encodeAll ts ≡ now (types .entry) → Extends (take named (now (names .entry))) (allImplied (take named (now (names .entry))) (sidesOf pushed (now (longs .entry)) (now (shorts .entry))) ts) (now (longs .entry)) (now (shorts .entry)) (now (longs .exit)) (now (shorts .exit)) (now (reach .exit)) pushed r) ⌝ }
+{
+    let mut count = pushed;
+    let mut behind = 0;
+    let mut at = 0;
+    'words: while at < types.len() {
+        let code = types[at];
+        if code == 2 {
+            behind = types[at + 1];
+            at += 2;
+            continue 'words;
+        }
+        if code != 1 {
+            behind = 0;
+            at += 1;
+            continue 'words;
+        }
+        let from = at + 2;
+        at = from + types[at + 1];
+        if behind < 2 {
+            behind = 0;
+            continue 'words;
+        }
+        let done = push_path(
+            types,
+            from,
+            at,
+            behind,
+            names,
+            named,
+            longs,
+            shorts,
+            count,
+            reach,
+        );
+        let verdict = done.verdict;
+        let Verdict::Accepted = verdict else {
+            return done;
+        };
+        count = done.pushed;
+        behind = 0;
+    }
+    Implied {
+        verdict: Verdict::Accepted,
+        pushed: count,
+    }
+}

@@ -1,0 +1,101 @@
+// The record `names`: its shape, and declaring its names one after another.
+ghost use mathlib.Core.Path.{_≡_};
+ghost use mathlib.Core.List.{[], _∷_};
+ghost use Prim.Native.Nat.{_≤_};
+ghost use lib.ListN.{length, take, drop};
+ghost use lib.Seq.{slice};
+ghost use Rattle.ast_lifetimes.specs.Shapes.{shapeVerdict, namesInShape, allNames};
+ghost use Rattle.ast_lifetimes.specs.Env.{place};
+ghost use Rattle.ast_lifetimes.specs.Inner.{Declares};
+use super::env::LifetimeEnv;
+use lifetimes::Refusal;
+use lifetimes::Verdict;
+
+// Whether the record `names` is in shape: how many names are the impl's, then all names, each 2 or more. Refused by 1. Reads each word once.
+pub fn names_shape(names: &[usize]) -> Verdict
+    ensures { λ r. ⌜ r ≡ shapeVerdict (namesInShape (now (names .entry))) ⌝ }
+{
+    let n = names.len();
+    if n == 0 {
+        return Verdict::Refused(Refusal::Malformed);
+    }
+    if LifetimeEnv::MAX_WORDS < n {
+        return Verdict::Refused(Refusal::Malformed);
+    }
+    if n - 1 < names[0] {
+        return Verdict::Refused(Refusal::Malformed);
+    }
+    if all_names(names) {
+        return Verdict::Accepted;
+    }
+    Verdict::Refused(Refusal::Malformed)
+}
+
+// Whether all words but the first are names.
+fn all_names(words: &[usize]) -> bool
+    ensures { λ r. ⌜ r ≡ allNames (drop 1 (now (words .entry))) ⌝ }
+{
+    let mut i = 1;
+    while i < words.len() {
+        if words[i] < 2 {
+            return false;
+        }
+        i += 1;
+    }
+    true
+}
+
+// The number of a name among the first `named` of an array: its place, or `named` where it is not declared.
+pub(crate) fn position(names: &[usize; 32], named: usize, name: usize) -> usize
+    requires { ⌜ (named ≤ 32) × (length (now names) ≡ 32) ⌝ }
+    ensures { λ r. ⌜ r ≡ place (take named (now (names .entry))) name ⌝ }
+{
+    let mut i = 0;
+    while i < named {
+        if names[i] == name {
+            return i;
+        }
+        i += 1;
+    }
+    named
+}
+
+// Declare one name behind the first `named`. Refused by 4 for a 33rd, by 2 for one that is declared.
+pub(crate) fn declare(names: &mut [usize; 32], named: usize, name: usize) -> Verdict
+    requires { ⌜ (named ≤ 32) × (length (now names) ≡ 32) ⌝ }
+    ensures { λ r. ⌜ Declares (name ∷ []) (now (names .entry)) (now (names .exit)) named r ⌝ }
+{
+    if LifetimeEnv::MAX_NAMES <= named {
+        return Verdict::Refused(Refusal::Full);
+    }
+    if position(names, named, name) < named {
+        return Verdict::Refused(Refusal::Duplicate);
+    }
+    names[named] = name;
+    Verdict::Accepted
+}
+
+// Declare some words one after another. Refused at the first bad place.
+pub(crate) fn declare_all(
+    words: &[usize],
+    from: usize,
+    to: usize,
+    names: &mut [usize; 32],
+    named: usize,
+) -> Verdict
+    requires { ⌜ (from ≤ to) × (to ≤ length (now words)) ⌝ }
+    requires { ⌜ (named ≤ 32) × (length (now names) ≡ 32) ⌝ }
+    ensures { λ r. ⌜ Declares (slice from to (now (words .entry))) (now (names .entry)) (now (names .exit)) named r ⌝ }
+{
+    let mut at = from;
+    let mut count = named;
+    while at < to {
+        let verdict = declare(names, count, words[at]);
+        let Verdict::Accepted = verdict else {
+            return verdict;
+        };
+        count += 1;
+        at += 1;
+    }
+    Verdict::Accepted
+}
