@@ -17,10 +17,11 @@ use Rattle.lifetimes.specs.Refusals.{check, unless}
 use Rattle.lifetimes.specs.Lent.{verdictOf}
 use Rattle.lifetimes.specs.Env.{above, bothBelow, allBelow}
 use Rattle.ast_lifetimes.specs.declared.env.LifetimeEnv.{LifetimeEnv}
-use Rattle.ast_lifetimes.specs.Shapes.{shapeVerdict, namesInShape, boundsInShape}
+use Rattle.records.specs.Reading.{shapeVerdict}
+use Rattle.ast_lifetimes.specs.Shapes.{namesInShape, boundsInShape}
 use Rattle.ast_lifetimes.specs.Types.{typesInShape}
 use Rattle.ast_lifetimes.specs.Env.{boundsOf, envChecks}
-use Rattle.ast_lifetimes.proofs.VerdictLaws.{refused-accepted}
+use Rattle.records.proofs.VerdictLaws.{refused-accepted}
 
 -- ---- `shape_of`
 

@@ -22,11 +22,13 @@ use Rattle.lifetimes.proofs.RefusalLaws.{due-given, due-refused, refused-first,
 use Rattle.ast_lifetimes.specs.declared.implied.Implied.{Implied}
 use Rattle.ast_lifetimes.specs.declared.env.Counts.{Counts}
 use Rattle.ast_lifetimes.specs.declared.env.LifetimeEnv.{LifetimeEnv}
-use Rattle.ast_lifetimes.specs.Shapes.{shapeVerdict, fewWords, allNames, namesInShape, implNames, methodNames, Pair, pairsOf, boundsInShape, implPairs, methodPairs}
+use Rattle.records.specs.Reading.{shapeVerdict, fewWords}
+use Rattle.ast_lifetimes.specs.Shapes.{allNames, namesInShape, implNames, methodNames, Pair, pairsOf, boundsInShape, implPairs, methodPairs}
 use Rattle.ast_lifetimes.specs.Types.{TypeName, typesInShape, typesOf}
 use Rattle.ast_lifetimes.specs.Env.{nameChecks, allPairChecks, boundsFor, allImplied, envOf, allNamesOf, explicitBounds, impliedPairs, placeChecks, methodBounds, fromMethodItem, made}
-use Rattle.ast_lifetimes.specs.Inner.{judged, sidesOf, Declares, Pushes, encodeAll, Below, Extends, Built}
-use Rattle.ast_lifetimes.proofs.VerdictLaws.{refused-accepted, judged-after, judged-stays}
+use Rattle.records.specs.Ends.{judged}
+use Rattle.ast_lifetimes.specs.Inner.{sidesOf, Declares, Pushes, encodeAll, Below, Extends, Built}
+use Rattle.records.proofs.VerdictLaws.{refused-accepted, judged-after, judged-stays}
 use Rattle.ast_lifetimes.proofs.ReadingLaws.{types-encoded}
 
 -- ---- what records in shape say
@@ -151,7 +153,7 @@ pairs-under names pushed [] d = none
 pairs-under names pushed (p ∷ ps) (next a (next b (next c d))) =
     more (ltb-true _ _ (not-false _ a)) (ltb-true _ _ (not-false _ b)) (pairs-under names (suc pushed) ps d)
 
-under-sides : (m x n : ℕ) (longs shorts : List ℕ) → Under m (map (λ i. above (getD longs i 0) (getD shorts i 0)) (ascending x n)) → (i : ℕ) → x ≤ i → i < x + n
+pub under-sides : (m x n : ℕ) (longs shorts : List ℕ) → Under m (map (λ i. above (getD longs i 0) (getD shorts i 0)) (ascending x n)) → (i : ℕ) → x ≤ i → i < x + n
     → (getD longs i 0 < m) × (getD shorts i 0 < m)
 unfolding ascending
 under-sides m x zero longs shorts u i h k = absurd (omega arith)

@@ -16,8 +16,9 @@ use Rattle.lifetimes.proofs.RefusalLaws.{accepted-none, none-first, none-rest}
 use Rattle.ast_lifetimes.specs.declared.implied.Implied.{Implied}
 use Rattle.ast_lifetimes.specs.Shapes.{Pair}
 use Rattle.ast_lifetimes.specs.Env.{place, allPairChecks, boundOf, boundsFor}
-use Rattle.ast_lifetimes.specs.Inner.{judged, sidesOf, Pushes, Reaches, Joins, Extends}
-use Rattle.ast_lifetimes.proofs.VerdictLaws.{refused-accepted, judged-after, judged-stays}
+use Rattle.records.specs.Ends.{judged}
+use Rattle.ast_lifetimes.specs.Inner.{sidesOf, Pushes, Reaches, Joins, Extends}
+use Rattle.records.proofs.VerdictLaws.{refused-accepted, judged-after, judged-stays}
 use Rattle.ast_lifetimes.proofs.PairLaws.{allPairChecks-append}
 
 map-append : {A B : Type 0} (f : A → B) (l m : List A) → map f (l ++ m) ≡ map f l ++ map f m

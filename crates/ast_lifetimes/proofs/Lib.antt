@@ -1,6 +1,5 @@
 -- Laws of the definitions, and of the loops over plain values.
 -- Verdicts, and the shape of the records:
-pub mod VerdictLaws
 pub mod ShapeLaws
 pub mod ReadingLaws
 pub mod TypeLaws
@@ -16,5 +15,8 @@ pub mod AstEnvLaws
 pub mod Assembling
 pub mod Listing
 pub mod Building
+pub mod ExtendLaws
+pub mod EntryLaws
+pub mod DepthFirstLaws
 -- The main theorems:
 pub mod Theorems

@@ -24,7 +24,7 @@ use Rattle.lifetimes.proofs.EnvLaws.{none-due}
 use Rattle.lifetimes.proofs.Answering.{answers-refusal, answers-list, has-room}
 use Rattle.ast_lifetimes.specs.declared.env.LifetimeEnv.{LifetimeEnv}
 use Rattle.ast_lifetimes.specs.Env.{place, namesOf, boundsOf, reachOf, envChecks, listThan}
-use Rattle.ast_lifetimes.proofs.VerdictLaws.{unless-after}
+use Rattle.records.proofs.VerdictLaws.{unless-after}
 
 -- an environment whose names are all its lifetimes, with the same bounds
 abbrev pub hirOf : LifetimeEnv → hir.LifetimeEnv

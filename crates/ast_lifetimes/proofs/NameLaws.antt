@@ -14,8 +14,9 @@ use Rattle.lifetimes.specs.declared.answer.Verdict.{Verdict}
 use Rattle.lifetimes.specs.declared.answer.Verdict.the-variants.{Accepted, Refused}
 use Rattle.lifetimes.specs.Refusals.{unless}
 use Rattle.ast_lifetimes.specs.Env.{place, nameChecks}
-use Rattle.ast_lifetimes.specs.Inner.{judged, Declares}
-use Rattle.ast_lifetimes.proofs.VerdictLaws.{refused-accepted, judged-after, judged-stays}
+use Rattle.records.specs.Ends.{judged}
+use Rattle.ast_lifetimes.specs.Inner.{Declares}
+use Rattle.records.proofs.VerdictLaws.{refused-accepted, judged-after, judged-stays}
 
 -- ---- `position`: the names that were read are others, so the name's place among those that are left, counted from here, is its number
 

@@ -19,8 +19,9 @@ use Rattle.lifetimes.specs.Env.{above}
 use Rattle.lifetimes.proofs.SetLaws.{ascending-snoc}
 use Rattle.ast_lifetimes.specs.Shapes.{Pair, pair, pairsOf}
 use Rattle.ast_lifetimes.specs.Env.{place, allPairChecks, boundsFor}
-use Rattle.ast_lifetimes.specs.Inner.{judged, sidesOf, Pushes}
-use Rattle.ast_lifetimes.proofs.VerdictLaws.{refused-accepted, judged-after, judged-stays}
+use Rattle.records.specs.Ends.{judged}
+use Rattle.ast_lifetimes.specs.Inner.{sidesOf, Pushes}
+use Rattle.records.proofs.VerdictLaws.{refused-accepted, judged-after, judged-stays}
 
 -- ---- the checks of some pairs, and of more after them
 

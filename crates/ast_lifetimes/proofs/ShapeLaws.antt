@@ -11,7 +11,8 @@ use lib.ListN.{length, getD, drop, drop-of-length-le}
 use lib.Seq.{drop-cons}
 use Rattle.lifetimes.specs.declared.answer.Refusal.the-variants.{Malformed}
 use Rattle.lifetimes.specs.declared.answer.Verdict.the-variants.{Accepted, Refused}
-use Rattle.ast_lifetimes.specs.Shapes.{shapeVerdict, allNames, namesInShape, boundsInShape}
+use Rattle.records.specs.Reading.{shapeVerdict}
+use Rattle.ast_lifetimes.specs.Shapes.{allNames, namesInShape, boundsInShape}
 
 -- ---- `all_names`
 

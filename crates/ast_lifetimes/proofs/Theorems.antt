@@ -1,6 +1,6 @@
 -- The main theorems, proved: for each statement of specs/Theorems.antt a term of exactly its type.
 use mathlib.Core.Bool.{Bool, true, false, cond}
-use mathlib.Core.Path.{refl, sym, ap, _∙_}
+use mathlib.Core.Path.{_≡_, refl, sym, ap, _∙_}
 use mathlib.Core.List.{[], List·Nodup, nodup-nil}
 use lib.Seq.{take-append-seam}
 use Rattle.lifetimes.specs.Ranges as ranges
@@ -10,19 +10,25 @@ use Rattle.lifetimes.specs.Env as hir
 use Rattle.lifetimes.specs.Walk as walk
 use Rattle.lifetimes.proofs.RefusalLaws.{given-due}
 use Rattle.lifetimes.proofs.ReachLaws.{listed-toward, traversal-once}
+use Rattle.records.specs.Reading as reading
 use Rattle.ast_lifetimes.specs.declared.env.LifetimeEnv.{LifetimeEnv}
 use Rattle.ast_lifetimes.specs.Shapes as shapes
 use Rattle.ast_lifetimes.specs.Types as types
 use Rattle.ast_lifetimes.specs.Env as env
-use Rattle.ast_lifetimes.specs.Theorems.{BoundsInOrder, AstReachIsOutlives, ExamplesHold}
+use Rattle.ast_lifetimes.specs.Theorems.{BuiltInOrder, AstReachIsOutlives, ListedDepthFirst, ExamplesHold}
+use Rattle.ast_lifetimes.proofs.EntryLaws as entry-laws
+use Rattle.ast_lifetimes.proofs.DepthFirstLaws.{found, found-only}
 
-pub bounds-in-order : BoundsInOrder
+pub built-in-order : BuiltInOrder
 unfolding env.fromMethodItem env.envOf
-bounds-in-order names bounds types e h =
-    let given = (given-due (env.envOf (env.allNamesOf names) (env.methodBounds names bounds types)) e (env.methodChecks names bounds types) h) .1 in (
-      sym (ap (λ (d : LifetimeEnv). env.namesOf d) given) ∙ take-append-seam (env.allNamesOf names) _,
-      sym (ap (λ (d : LifetimeEnv). env.boundsOf d) given) ∙ take-append-seam (env.methodBounds names bounds types) _,
-    )
+built-in-order names bounds types = record {
+  folded = entry-laws.built-in-order names bounds types;
+  names-first = λ e h. sym (ap (λ (d : LifetimeEnv). env.namesOf d) (given e h)) ∙ take-append-seam (env.allNamesOf names) _;
+  bounds-then = λ e h. sym (ap (λ (d : LifetimeEnv). env.boundsOf d) (given e h)) ∙ take-append-seam (env.methodBounds names bounds types) _;
+}
+  where
+    given : (e : LifetimeEnv) → env.fromMethodItem names bounds types ≡ refusals.Gives e → env.envOf (env.allNamesOf names) (env.methodBounds names bounds types) ≡ e
+    given e h = (given-due (env.envOf (env.allNamesOf names) (env.methodBounds names bounds types)) e (env.methodChecks names bounds types) h) .1
 
 pub ast-reach-is-outlives : AstReachIsOutlives
 ast-reach-is-outlives longer names bs word = record {
@@ -39,6 +45,12 @@ ast-reach-is-outlives longer names bs word = record {
     once true = traversal-once walk.FirstFirst longer bs (env.place names word)
     once false = nodup-nil
 
+pub listed-depth-first : ListedDepthFirst
+listed-depth-first longer names bs word h = record {
+  listed = rw h (found longer bs (env.place names word));
+  only = λ l seen f. rw h (found-only longer bs f);
+}
+
 pub examples-hold : ExamplesHold
-unfolding env.fromMethodItem env.envOf env.listThan env.place env.nameChecks env.allPairChecks env.has env.implied env.allImplied shapes.namesInShape shapes.allNames shapes.boundsInShape shapes.pairsOf types.readType types.readTypes types.typesInShape types.typesOf refusals.unless hir.allBelow ranges.select walk.traversal walk.walk walk.walkFor walk.unpushed walk.neighbours sets.member sets.insert
+unfolding env.fromMethodItem env.envOf env.listThan env.place env.nameChecks env.allPairChecks env.has env.implied env.allImplied shapes.namesInShape shapes.allNames shapes.boundsInShape shapes.pairsOf types.readType reading.readAll reading.inShape reading.itemsOf refusals.unless hir.allBelow ranges.select walk.traversal walk.walk walk.walkFor walk.unpushed walk.neighbours sets.member sets.insert
 examples-hold = (refl, (refl, (refl, (refl, tt))))

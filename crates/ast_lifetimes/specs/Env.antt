@@ -156,16 +156,21 @@ fromMethodItem names bounds types =
     (envOf (allNamesOf names) (methodBounds names bounds types))
 
 -- `extend_implicit_lifetime_bounds` of an environment made in any way: the types' shape (1), the environment (4, 8), then what the types imply (3, 4)
+
+abbrev pub impliedOn : LifetimeEnv → List ℕ → List Pair
+impliedOn e types = allImplied (namesOf e) (boundsOf e) (typesOf types)
+
+abbrev pub extendedWith : LifetimeEnv → List ℕ → LifetimeEnv
+extendedWith e types = envOf (namesOf e) (boundsOf e ++ boundsFor (namesOf e) (impliedOn e types))
+
 abbrev pub extendChecks : LifetimeEnv → List ℕ → List Check
 extendChecks e types =
     check (not (typesInShape types)) Malformed
     ∷ envChecks e
-    ++ allPairChecks (namesOf e) (e .pushed) (allImplied (namesOf e) (boundsOf e) (typesOf types))
+    ++ allPairChecks (namesOf e) (e .pushed) (impliedOn e types)
 
 unfoldable pub extendImplied : LifetimeEnv → List ℕ → Outcome LifetimeEnv
-extendImplied e types =
-    unless (extendChecks e types)
-    (envOf (namesOf e) (boundsOf e ++ boundsFor (namesOf e) (allImplied (namesOf e) (boundsOf e) (typesOf types))))
+extendImplied e types = unless (extendChecks e types) (extendedWith e types)
 
 -- `longer_than` and `shorter_than`: the environment (4, 8), a slice too short (9)
 unfoldable pub listThan : Bool → LifetimeEnv → ℕ → ℕ → Outcome (List ℕ)

@@ -9,22 +9,16 @@ use Rattle.lifetimes.specs.declared.answer.Verdict.{Verdict}
 use Rattle.lifetimes.specs.declared.answer.Verdict.the-variants.{Accepted}
 use Rattle.lifetimes.specs.declared.env.Bound.{Bound}
 use Rattle.lifetimes.specs.Ranges.{ascending}
-use Rattle.lifetimes.specs.Refusals.{Check, unless}
-use Rattle.lifetimes.specs.Lent.{verdictOf}
+use Rattle.records.specs.Ends.{judged}
 use Rattle.lifetimes.specs.Env.{above}
-use Rattle.ast_lifetimes.specs.declared.types.TypeEnd.{TypeEnd}
-use Rattle.ast_lifetimes.specs.declared.types.TypeEnd.the-variants as end
 use Rattle.lifetimes.specs.Sets.{empty, member}
 use Rattle.lifetimes.specs.Outlives.{Outlives}
 use Rattle.ast_lifetimes.specs.declared.env.Counts.{Counts}
+use Rattle.ast_lifetimes.specs.declared.env.LifetimeEnv.{LifetimeEnv}
 use Rattle.ast_lifetimes.specs.declared.implied.Implied.{Implied}
 use Rattle.ast_lifetimes.specs.Shapes.{isName, Pair}
 use Rattle.ast_lifetimes.specs.Types as types
-use Rattle.ast_lifetimes.specs.Env.{place, isDeclared, nameChecks, allPairChecks, boundsFor, allNamesOf, placeChecks, methodBounds}
-
--- the verdict of some checks
-abbrev pub judged : List Check → Verdict
-judged checks = verdictOf (unless checks (tt {0}))
+use Rattle.ast_lifetimes.specs.Env.{place, isDeclared, nameChecks, allPairChecks, boundsFor, boundsOf, allNamesOf, placeChecks, methodBounds}
 
 -- the first n bounds, from their longer and their shorter sides
 abbrev pub sidesOf : ℕ → List ℕ → List ℕ → List Bound
@@ -44,11 +38,6 @@ pub record Pushes (names : List ℕ) (new : List Pair) (longs shorts longs₁ sh
   pub size-shorts : length shorts₁ ≡ 256
   pub bounds : r ≡ Accepted → sidesOf (pushed + length new) longs₁ shorts₁ ≡ sidesOf pushed longs shorts ++ boundsFor names new
   pub few : r ≡ Accepted → pushed + length new ≤ 256
-
--- where a reading that starts at a place of some words ends: past that place, and what is left there is what the reading leaves
-pub data EndsAt {A : Type 0} (words : List ℕ) (at : ℕ) : types.Reading A → TypeEnd → Type 0 where
-  ends : {a : A} {rest : List ℕ} {next : ℕ} → drop next words ≡ rest → at < next → next ≤ length words → EndsAt words at (types.Read a rest) (end.At next)
-  torn : EndsAt words at types.Torn end.Torn
 
 -- the words of a type, and of types one after another
 unfoldable pub encode : types.TypeName → List ℕ
@@ -97,3 +86,9 @@ pub record Built (names bounds types declared longs shorts : List ℕ) (r : Coun
   pub few : r .verdict ≡ Accepted → (r .named ≤ 32) × (r .pushed ≤ 256)
   pub named : r .verdict ≡ Accepted → take (r .named) declared ≡ allNamesOf names
   pub bounded : r .verdict ≡ Accepted → sidesOf (r .pushed) longs shorts ≡ methodBounds names bounds types
+
+-- the sides of an environment's bounds, in two arrays
+pub record Splits (e : LifetimeEnv) (longs shorts : List ℕ) : Type 0 where
+  pub size-longs : length longs ≡ 256
+  pub size-shorts : length shorts ≡ 256
+  pub sides : sidesOf (e .pushed) longs shorts ≡ boundsOf e

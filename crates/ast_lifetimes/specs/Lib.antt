@@ -2,6 +2,8 @@
 pub mod Shapes
 pub mod Types
 pub mod Env
+pub mod Entries
+pub mod DepthFirst
 pub mod Examples
 pub mod Theorems
 -- For private functions only

@@ -5,18 +5,7 @@ use mathlib.Core.Bool.{Bool, true, false, _&&_}
 use mathlib.Core.List.{List, [], _∷_}
 use lib.Dec.{eqb, leb}
 use lib.ListN.{length, take, drop}
-use Rattle.lifetimes.specs.declared.answer.Refusal.the-variants.{Malformed}
-use Rattle.lifetimes.specs.declared.answer.Verdict.{Verdict}
-use Rattle.lifetimes.specs.declared.answer.Verdict.the-variants.{Accepted, Refused}
-
--- a record in shape is accepted; one that is not is refused by 1
-abbrev pub shapeVerdict : Bool → Verdict
-shapeVerdict true = Accepted
-shapeVerdict false = Refused Malformed
-
--- "A record has at most 1,024 words"
-abbrev pub fewWords : List ℕ → Bool
-fewWords words = leb (length words) 1024
+use Rattle.records.specs.Reading.{fewWords}
 
 -- A declared lifetime word: 0 'static, 1 anonymous, 2 or more a name
 abbrev pub isName : ℕ → Bool

@@ -4,12 +4,14 @@ ghost use mathlib.Core.List.{[], _∷_};
 ghost use Prim.Native.Nat.{_+_, _*_, _≤_};
 ghost use lib.ListN.{length, take};
 ghost use lib.Seq.{slice};
-ghost use Rattle.ast_lifetimes.specs.Shapes.{shapeVerdict, boundsInShape, pair, pairsOf};
+ghost use Rattle.records.specs.Reading.{shapeVerdict};
+ghost use Rattle.ast_lifetimes.specs.Shapes.{boundsInShape, pair, pairsOf};
 ghost use Rattle.ast_lifetimes.specs.Inner.{Pushes};
 use super::env::LifetimeEnv;
 use super::names::position;
 use lifetimes::Refusal;
 use lifetimes::Verdict;
+use records::End;
 
 // Whether the record `bounds` is in shape: how many pairs are the impl's, then pairs. Refused by 1.
 pub fn bounds_shape(bounds: &[usize]) -> Verdict
@@ -19,7 +21,7 @@ pub fn bounds_shape(bounds: &[usize]) -> Verdict
     if n == 0 {
         return Verdict::Refused(Refusal::Malformed);
     }
-    if LifetimeEnv::MAX_WORDS < n {
+    if End::MAX_WORDS < n {
         return Verdict::Refused(Refusal::Malformed);
     }
     if (n - 1) % 2 == 1 {

@@ -5,13 +5,14 @@ ghost use mathlib.Core.List.{[]};
 ghost use Prim.Native.Nat.{_≤_};
 ghost use lib.ListN.{length, take};
 ghost use lib.Seq.{sets};
-ghost use Rattle.lifetimes.specs.Refusals.{unless};
+ghost use Rattle.lifetimes.specs.Refusals.{NoneDue, unless};
 ghost use Rattle.lifetimes.specs.Lent.{counted, written, verdictOf};
 ghost use mathlib.Core.Bool.{_&&_};
-ghost use Rattle.ast_lifetimes.specs.Shapes.{shapeVerdict, namesInShape, boundsInShape};
+ghost use Rattle.records.specs.Reading.{shapeVerdict};
+ghost use Rattle.ast_lifetimes.specs.Shapes.{namesInShape, boundsInShape};
 ghost use Rattle.ast_lifetimes.specs.Types.{typesInShape};
-ghost use Rattle.ast_lifetimes.specs.Env.{envOf, envChecks, fromMethodItem, listThan, made};
-ghost use Rattle.ast_lifetimes.specs.Inner.{sidesOf, Built};
+ghost use Rattle.ast_lifetimes.specs.Env.{allPairChecks, envOf, envChecks, namesOf, fromMethodItem, impliedOn, extendedWith, extendImplied, listThan, made};
+ghost use Rattle.ast_lifetimes.specs.Inner.{sidesOf, Splits, Built};
 use super::bounds::bounds_shape;
 use super::bounds::push_pairs;
 use super::implied::close;
@@ -52,14 +53,8 @@ impl LifetimeEnv {
 
     pub const MAX_BOUNDS: usize = 256;
 
-    // How many words a record may have.
-    pub const MAX_WORDS: usize = 1024;
-
     // How deep a type may be nested, the outermost counting 1.
     pub const MAX_NESTING: usize = 8;
-
-    // How many lifetimes a path may have.
-    pub const MAX_LIFETIMES: usize = 16;
 
     // The environment of a method, from its records: impl names, impl bounds, method names, method bounds, then what the types imply. Refused by 1 over
     // all three records, then by 2, 3, 4 at the first bad place, with an environment without names beside the refusal.
@@ -84,6 +79,28 @@ impl LifetimeEnv {
             verdict: Verdict::Accepted,
             env: assembled(&declared, named, &longs, &shorts, pushed),
         }
+    }
+
+    // The environment with what some types imply pushed behind its bounds. Refused by 1 (the types' shape), by 4 and 8 as the environment is, then by 3 and 4 at the first
+    // bad place, with the environment as it was beside the refusal.
+    pub fn extend_implicit_lifetime_bounds(self, types: &[usize]) -> Made
+        ensures { λ r. ⌜ r ≡ made self (extendImplied self (now (types .entry))) ⌝ }
+    {
+        let shape = types_shape(types);
+        let Verdict::Accepted = shape else {
+            return Made {
+                verdict: shape,
+                env: self,
+            };
+        };
+        let valid = self.check();
+        let Verdict::Accepted = valid else {
+            return Made {
+                verdict: valid,
+                env: self,
+            };
+        };
+        extended(self, types)
     }
 
     // Whether this can be an environment: refused by 4 (33rd name, 257th bound) or 8 (a bound past the names). A caller can build any value.
@@ -154,6 +171,54 @@ fn list_than(env: LifetimeEnv, name: usize, longer: bool, out: &mut [usize]) -> 
         bounds,
     };
     hir.depth_first_lifetimes(Lifetime::new(at), longer, out)
+}
+
+// The environment with what types in shape imply. Refused by 3 and 4 at the first bad place.
+fn extended(env: LifetimeEnv, types: &[usize]) -> Made
+    requires { ⌜ NoneDue (envChecks env) × (typesInShape (now types) ≡ true) ⌝ }
+    ensures { λ r. ⌜ r ≡ made env (unless (allPairChecks (namesOf env) (env .pushed) (impliedOn env (now (types .entry)))) (extendedWith env (now (types .entry)))) ⌝ }
+{
+    let names = env.names;
+    let named = env.named;
+    let pushed = env.pushed;
+    let mut longs = [0usize; 256];
+    let mut shorts = [0usize; 256];
+    let mut reach = [0u64; 32];
+    split(env, &mut longs, &mut shorts);
+    close(&longs, &shorts, pushed, named, &mut reach);
+    let implied = push_types(
+        types,
+        &names,
+        named,
+        &mut longs,
+        &mut shorts,
+        pushed,
+        &mut reach,
+    );
+    let verdict = implied.verdict;
+    let Verdict::Accepted = verdict else {
+        return Made { verdict, env };
+    };
+    let all = implied.pushed;
+    Made {
+        verdict: Verdict::Accepted,
+        env: assembled(&names, named, &longs, &shorts, all),
+    }
+}
+
+// The sides of an environment's bounds, in two arrays.
+fn split(env: LifetimeEnv, longs: &mut [usize; 256], shorts: &mut [usize; 256])
+    requires { ⌜ (env .pushed ≤ 256) × (length (now longs) ≡ 256) × (length (now shorts) ≡ 256) ⌝ }
+    ensures { λ _. ⌜ Splits env (now (longs .exit)) (now (shorts .exit)) ⌝ }
+{
+    let pushed = env.pushed;
+    let mut i = 0;
+    while i < pushed {
+        let b = env.bounds[i];
+        longs[i] = b.longer.index();
+        shorts[i] = b.shorter.index();
+        i += 1;
+    }
 }
 
 // The shape of the three records.

@@ -4,12 +4,14 @@ ghost use mathlib.Core.List.{[], _∷_};
 ghost use Prim.Native.Nat.{_≤_};
 ghost use lib.ListN.{length, take, drop};
 ghost use lib.Seq.{slice};
-ghost use Rattle.ast_lifetimes.specs.Shapes.{shapeVerdict, namesInShape, allNames};
+ghost use Rattle.records.specs.Reading.{shapeVerdict};
+ghost use Rattle.ast_lifetimes.specs.Shapes.{namesInShape, allNames};
 ghost use Rattle.ast_lifetimes.specs.Env.{place};
 ghost use Rattle.ast_lifetimes.specs.Inner.{Declares};
 use super::env::LifetimeEnv;
 use lifetimes::Refusal;
 use lifetimes::Verdict;
+use records::End;
 
 // Whether the record `names` is in shape: how many names are the impl's, then all names, each 2 or more. Refused by 1. Reads each word once.
 pub fn names_shape(names: &[usize]) -> Verdict
@@ -19,7 +21,7 @@ pub fn names_shape(names: &[usize]) -> Verdict
     if n == 0 {
         return Verdict::Refused(Refusal::Malformed);
     }
-    if LifetimeEnv::MAX_WORDS < n {
+    if End::MAX_WORDS < n {
         return Verdict::Refused(Refusal::Malformed);
     }
     if n - 1 < names[0] {

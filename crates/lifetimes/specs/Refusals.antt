@@ -36,6 +36,11 @@ unfoldable pub unless : {A : Type 0} → List Check → A → Outcome A
 unless [] a = Gives a
 unless (c ∷ cs) a = cond (c .due) (Refuses (c .refusal)) (unless cs a)
 
+-- one thing after another, to the first refusal
+abbrev pub after : {A B : Type 0} → Outcome A → (A → Outcome B) → Outcome B
+after (Gives a) next = next a
+after (Refuses r) next = Refuses r
+
 -- r is the refusal of the first check that is due
 pub data FirstDue (r : Refusal) : List Check → Type 0 where
   here : {c : Check} {cs : List Check} → c .due ≡ true → c .refusal ≡ r → FirstDue r (c ∷ cs)

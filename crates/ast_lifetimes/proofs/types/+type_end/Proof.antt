@@ -3,11 +3,12 @@ use Prim.Native.Nat.{ℕ, _<_}
 use borrow.Author.Needs.{needs}
 use borrow.Fn.Kinds.{In}
 use borrow.Fn.PlainCycle.{Measures, is, falls, and}
-use Rattle.ast_lifetimes.proofs.TypeLaws.{Stands, type-deep, type-none, type-other, type-path, type-reference-short, type-reference, type-option, type-result-torn, type-result, type-no-code, ends-told, ends-within}
+use Rattle.ast_lifetimes.proofs.TypeLaws.{Stands, type-deep, type-none, type-other, type-path, type-reference-short, type-reference, type-option, type-result-missing, type-result, type-no-code}
+use Rattle.records.proofs.EndLaws.{ends-told, ends-within, lifetimes-end}
 use Rattle.ast_lifetimes.proofs.types.type_end.Reads as type-end
 use Rattle.ast_lifetimes.proofs.types.type_end.Kinds as type-end-kinds
 use Rattle.ast_lifetimes.proofs.types.+type_end.Lts-type_end as type-end-lts
-use Rattle.ast_lifetimes.proofs.types.path_end.Reads as path-end-reads
+use Rattle.records.proofs.lifetimes_end.Reads as lifetimes-end-reads
 use Rattle.ast_lifetimes.proofs.types.+type_end.{statement}
 use Rattle.ast_lifetimes.proofs.types.+type_end.Tie.{close}
 
@@ -22,7 +23,7 @@ type-end-below t =
     and 1 type-end-kinds.ps (falls 1 type-end-kinds.ps _<_ μ-type-end t) type-end.Pre
 
 abbrev calls : ℕ → type-end-lts.Claims
-calls t = (path-end-reads.Asked, path-end-reads.Learnt, type-end-below t, type-end.Post)
+calls t = (lifetimes-end-reads.Asked, lifetimes-end-reads.Learnt, type-end-below t, type-end.Post)
 
 -- past the first two tests a word is read
 stands : (t : ℕ) (c : type-end-lts.Else2 (calls t) (type-end-at t) type-end.Post)
@@ -50,11 +51,11 @@ type-end-add-next t c = search needs
 type-end-returns-3 : (t : ℕ) → type-end-lts.Need-returns-3 (calls t) (type-end-at t) type-end.Post
 type-end-returns-3 t c = type-other (stands t (c .before .before)) (c .if3 .taken)
 
-type-end-path-end-requires : (t : ℕ) → type-end-lts.Need-path-end-requires (calls t) (type-end-at t) type-end.Post
-type-end-path-end-requires t c κs = search needs
+type-end-lifetimes-end-requires : (t : ℕ) → type-end-lts.Need-lifetimes-end-requires (calls t) (type-end-at t) type-end.Post
+type-end-lifetimes-end-requires t c κs = search needs
 
 type-end-returns-4 : (t : ℕ) → type-end-lts.Need-returns-4 (calls t) (type-end-at t) type-end.Post
-type-end-returns-4 t c = type-path (stands t (c .before .before .before .before)) (c .before .if4 .taken) (c .path-end .ensures)
+type-end-returns-4 t c = type-path (stands t (c .before .before .before .before)) (c .before .if4 .taken) (lifetimes-end _ _ (c .lifetimes-end .ensures))
 
 type-end-returns-5 : (t : ℕ) → type-end-lts.Need-returns-5 (calls t) (type-end-at t) type-end.Post
 type-end-returns-5 t c = type-reference-short (stands t (c .before .before .before .before .before)) (c .before .if5 .taken) (c .if6 .taken)
@@ -84,7 +85,7 @@ type-end-enum-told : (t : ℕ) → type-end-lts.Need-enum-told (calls t) (type-e
 type-end-enum-told t c = search needs
 
 type-end-returns-8 : (t : ℕ) → type-end-lts.Need-returns-8 (calls t) (type-end-at t) type-end.Post
-type-end-returns-8 t c = type-result-torn (stands t (c .before .before .before .before .before .before .before .before .before)) (c .before .before .before .if8 .taken) (ends-told (c .before .before .type-end3 .ensures) (c .enum-told .given .1))
+type-end-returns-8 t c = type-result-missing (stands t (c .before .before .before .before .before .before .before .before .before)) (c .before .before .before .if8 .taken) (ends-told (c .before .before .type-end3 .ensures) (c .enum-told .given .1))
 
 type-end-type-end-requires-4 : (t : ℕ) → type-end-lts.Need-type-end-requires-4 (calls t) (type-end-at t) type-end.Post
 type-end-type-end-requires-4 t c κs = (search needs, ends-within (ends-told (c .before .before .before .type-end3 .ensures) (c .before .first .given .1)))
@@ -105,7 +106,7 @@ pub +type-end-spec : {M : Type 1} → statement M
     (type-end-sub-inside t)
     (type-end-add-next t)
     (type-end-returns-3 t)
-    (type-end-path-end-requires t)
+    (type-end-lifetimes-end-requires t)
     (type-end-returns-4 t)
     (type-end-returns-5 t)
     (type-end-add-type-end t)

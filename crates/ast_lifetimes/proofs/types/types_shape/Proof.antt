@@ -1,23 +1,25 @@
--- `types_shape` meets its contract. The loop's invariant is `Shaping` of proofs/TypeLaws.antt; the measure is how many words are to be read.
-use Prim.Native.Nat.{_-_}
+-- `types_shape` meets its contract. The loop's invariant is `Shaping` of the crate `records`; the measure is how many words are to be read.
+use Prim.Native.Nat.{ℕ, _-_}
 use native.Mathlib.Omega.{arith}
 use lib.ListN.{length}
 use borrow.Author.Needs.{needs}
-use Rattle.ast_lifetimes.proofs.TypeLaws.{Shaping, shaping-long, shaping-start, shaping-torn, shaping-more, shaping-end, ends-told, ends-past}
+use Rattle.records.proofs.EndLaws.{ends-told, ends-past}
+use Rattle.records.proofs.Shaping.{Shaping, shaping-long, shaping-start, shaping-missing, shaping-more, shaping-end}
+use Rattle.ast_lifetimes.specs.Types.{TypeName, readType}
 use Rattle.ast_lifetimes.proofs.types.types_shape.Statement.{statement}
 use Rattle.ast_lifetimes.proofs.types.types_shape.Tie as tie
 
 abbrev Inv-loop : tie.InvT-loop
-Inv-loop types at₀ at = Shaping types at
+Inv-loop types at₀ at = (number : ℕ) × Shaping (λ n. readType 8) types number at
 
 abbrev μ-loop : tie.MeasureT-loop
 μ-loop types at₀ at = length types - at
 
 returns : tie.Need-returns Inv-loop μ-loop
-returns c = shaping-long _ (c .if1 .taken)
+returns c = shaping-long (λ n. readType 8) _ (c .if1 .taken)
 
 loop-holds : tie.Need-loop-holds Inv-loop μ-loop
-loop-holds c = shaping-start _ (c .if1 .left)
+loop-holds c = (0, shaping-start (λ n. readType 8) _ (c .if1 .left))
 
 type-end-requires : tie.Need-type-end-requires Inv-loop μ-loop
 type-end-requires c κs = search needs
@@ -31,7 +33,7 @@ enum-told c = search needs
 returns-2 : tie.Need-returns-2 Inv-loop μ-loop
 returns-2 c =
     let call = c .before .before .type-end in
-    shaping-torn (c .before .before .before .before .loop .inv) (c .before .before .before .loop-test .taken) (ends-told (call .ensures) (c .enum-told .given .1))
+    shaping-missing (c .before .before .before .before .loop .inv .1) (c .before .before .before .loop-test .taken) (ends-told (call .ensures) (c .enum-told .given .1))
 
 loop-less : tie.Need-loop-less Inv-loop μ-loop
 loop-less c =
@@ -41,10 +43,10 @@ loop-less c =
 loop-again : tie.Need-loop-again Inv-loop μ-loop
 loop-again c =
     let call = c .before .before .before .type-end in
-    shaping-more (c .before .before .before .before .before .loop .inv) (c .before .before .before .before .loop-test .taken) (ends-told (call .ensures) (c .before .end .given .1))
+    (_, shaping-more (c .before .before .before .before .before .loop .inv .1) (c .before .before .before .before .loop-test .taken) (ends-told (call .ensures) (c .before .end .given .1)))
 
 returns-3 : tie.Need-returns-3 Inv-loop μ-loop
-returns-3 c = shaping-end (c .before .loop .inv) (c .loop-test .left)
+returns-3 c = shaping-end (c .before .loop .inv .1) (c .loop-test .left)
 
 pub types-shape-spec : {M : Type 1} → statement M
 types-shape-spec =

@@ -7,7 +7,7 @@ use Rattle.lifetimes.specs.declared.answer.Refusal.{Refusal}
 use Rattle.lifetimes.specs.declared.answer.Verdict.the-variants.{Accepted, Refused}
 use Rattle.lifetimes.specs.Refusals.{Check, unless, FirstDue, NoneDue, end, next}
 use Rattle.lifetimes.proofs.RefusalLaws.{due-refused, refused-first, accepted-none, first-more}
-use Rattle.ast_lifetimes.specs.Inner.{judged}
+use Rattle.records.specs.Ends.{judged}
 
 -- no verdict is both
 pub refused-accepted : {A : Type 0} {r : Refusal} → Refused r ≡ Accepted → A

@@ -1,0 +1,134 @@
+-- `extend_implicit_lifetime_bounds`: the loop of `split`, what an environment that was checked says of its sides, and the answers.
+use Prim.Native.Nat.{ℕ, suc, _+_, _≤_, _<_}
+use mathlib.Core.Bool.{Bool, true, false, not, and-eq-true-iff}
+use mathlib.Core.Path.{_≡_, refl, sym, ap, _∙_}
+use mathlib.Core.List.{List, [], _∷_, _++_}
+use native.Mathlib.Omega.{arith}
+use native.Mathlib.Numerals.{add-one}
+use borrow.Author.Tests.{ltb-true, ltb-false, not-false}
+use lib.Dec.{ltb}
+use lib.ListN.{length, getD, take, set, length-set}
+use lib.Seq.{take-suc, length-take-le}
+use Rattle.lifetimes.specs.declared.answer.Refusal.{Refusal}
+use Rattle.lifetimes.specs.declared.answer.Refusal.the-variants.{Malformed}
+use Rattle.lifetimes.specs.declared.answer.Verdict.{Verdict}
+use Rattle.lifetimes.specs.declared.answer.Verdict.the-variants.{Accepted, Refused}
+use Rattle.lifetimes.specs.declared.env.Bound.{Bound}
+use Rattle.lifetimes.specs.Ranges as ranges
+use Rattle.lifetimes.specs.Refusals as refusals
+use Rattle.lifetimes.specs.Refusals.{unless, FirstDue, here, later, NoneDue, next}
+use Rattle.lifetimes.specs.Lent.{verdictOf}
+use Rattle.lifetimes.specs.Env.{above, bothBelow}
+use Rattle.lifetimes.specs.Env as hir
+use Rattle.lifetimes.proofs.RefusalLaws.{due-given, due-refused, refused-first, accepted-none, none-first, none-rest, first-more}
+use Rattle.ast_lifetimes.specs.declared.env.LifetimeEnv.{LifetimeEnv}
+use Rattle.ast_lifetimes.specs.declared.implied.Implied.{Implied}
+use Rattle.records.specs.Reading.{shapeVerdict}
+use Rattle.ast_lifetimes.specs.Types.{typesInShape, typesOf}
+use Rattle.ast_lifetimes.specs.Env.{allPairChecks, allImplied, boundsFor, namesOf, boundsOf, envOf, envChecks, impliedOn, extendedWith, extendChecks, extendImplied, made}
+use Rattle.records.specs.Ends.{judged}
+use Rattle.ast_lifetimes.specs.Inner.{sidesOf, Below, Splits, Extends}
+use Rattle.records.proofs.VerdictLaws.{refused-accepted, unless-after}
+use Rattle.ast_lifetimes.proofs.PairLaws.{sides-more}
+use Rattle.ast_lifetimes.proofs.Building.{Under, none, more, under-sides}
+
+-- the loop of `split`
+pub record Splitting (e : LifetimeEnv) (longs shorts : List ℕ) (i : ℕ) : Type 0 where
+  pub here : i ≤ e .pushed
+  pub size-longs : length longs ≡ 256
+  pub size-shorts : length shorts ≡ 256
+  pub sides : sidesOf i longs shorts ≡ take i (e .bounds)
+
+pub splitting-start : (e : LifetimeEnv) (longs shorts : List ℕ) → length longs ≡ 256 → length shorts ≡ 256 → Splitting e longs shorts 0
+unfolding ranges.ascending
+splitting-start e longs shorts a b = record { here = omega arith; size-longs = a; size-shorts = b; sides = refl }
+
+module _ {e : LifetimeEnv} {longs shorts : List ℕ} {i : ℕ} (inv : Splitting e longs shorts i) where
+  pub splitting-more : length (e .bounds) ≡ 256 → e .pushed ≤ 256 → i < e .pushed → {l s : ℕ} → l ≡ getD (e .bounds) i (above 0 0) .longer .0 → s ≡ getD (e .bounds) i (above 0 0) .shorter .0
+      → Splitting e (set longs i l) (set shorts i s) (i + 1)
+  splitting-more full few h {l} {s} a b = record {
+    here = omega arith;
+    size-longs = length-set longs i l ∙ inv .size-longs;
+    size-shorts = length-set shorts i s ∙ inv .size-shorts;
+    sides = rw (add-one i, sides-more i longs shorts l s (omega (arith, inv .size-longs)) (omega (arith, inv .size-shorts)), inv .sides, take-suc (e .bounds) i (above 0 0) (omega arith), a, b);
+  }
+
+  pub splitting-end : e .pushed ≤ i → Splits e longs shorts
+  splitting-end h =
+      let e : i ≡ e .pushed = omega (arith, inv .here) in
+      record { size-longs = inv .size-longs; size-shorts = inv .size-shorts; sides = rw e at (inv .sides) }
+
+-- the sides of an environment that was checked are names' numbers
+under-all : (n : ℕ) (bs : List Bound) → hir.allBelow n bs ≡ true → Under n bs
+unfolding hir.allBelow
+under-all n [] h = none
+under-all n (b ∷ bs) h =
+    let both = (and-eq-true-iff (bothBelow n b) (hir.allBelow n bs)) .0 h in
+    let sides = (and-eq-true-iff (ltb (b .longer .0) n) (ltb (b .shorter .0) n)) .0 (both .0) in
+    more (ltb-true _ _ (sides .0)) (ltb-true _ _ (sides .1)) (under-all n bs (both .1))
+
+module _ (e : LifetimeEnv) (valid : NoneDue (envChecks e)) where
+  pub valid-named : e .named ≤ 32
+  valid-named = ltb-false 32 (e .named) (none-first valid)
+
+  pub valid-pushed : e .pushed ≤ 256
+  valid-pushed = ltb-false 256 (e .pushed) (none-first (none-rest valid))
+
+  pub split-below : {longs shorts : List ℕ} → Splits e longs shorts → Below (e .named) (e .pushed) longs shorts
+  split-below {longs} {shorts} splits i h =
+      let u : Under (e .named) (sidesOf (e .pushed) longs shorts) = rw (splits .sides) (under-all (e .named) (boundsOf e) (not-false _ (none-first (none-rest (none-rest valid))))) in
+      under-sides (e .named) 0 (e .pushed) longs shorts u i (omega arith) (omega arith)
+
+-- an environment that was checked
+pub valid : (e : LifetimeEnv) {v : Verdict} → v ≡ verdictOf (unless (envChecks e) e) → v ≡ Accepted → NoneDue (envChecks e)
+valid e p q = accepted-none e (envChecks e) (sym p ∙ q)
+
+-- the answers of `extended`
+module _ (e : LifetimeEnv) (types : List ℕ) {longs shorts longs₁ shorts₁ reach₁ : List ℕ} (splits : Splits e longs shorts) {r : Implied}
+    (given : Extends (namesOf e) (allImplied (namesOf e) (sidesOf (e .pushed) longs shorts) (typesOf types)) longs shorts longs₁ shorts₁ reach₁ (e .pushed) r) where
+  -- what was pushed is what the types imply on the environment's bounds
+  ext : Extends (namesOf e) (impliedOn e types) longs shorts longs₁ shorts₁ reach₁ (e .pushed) r
+  ext = rw (splits .sides) at given
+
+  pub extended-refused : {x : Refusal} → r .verdict ≡ Refused x → record { verdict = r .verdict; env = e } ≡ made e (unless (allPairChecks (namesOf e) (e .pushed) (impliedOn e types)) (extendedWith e types))
+  extended-refused {x} q =
+      let due : FirstDue x (allPairChecks (namesOf e) (e .pushed) (impliedOn e types)) = refused-first (tt {0}) x _ (sym (ext .pushes .verdict) ∙ q) in
+      rw (due-refused (extendedWith e types) due, q)
+
+  pub extended-few : r .verdict ≡ Accepted → (r .pushed ≤ 256) × (length longs₁ ≡ 256) × (length shorts₁ ≡ 256)
+  extended-few a = (rw (ext .pushed a) (ext .pushes .few a), ext .pushes .size-longs, ext .pushes .size-shorts)
+
+  pub extended-given : r .verdict ≡ Accepted → {env : LifetimeEnv} → env ≡ envOf (namesOf e) (sidesOf (r .pushed) longs₁ shorts₁)
+      → record { verdict = Accepted; env = env } ≡ made e (unless (allPairChecks (namesOf e) (e .pushed) (impliedOn e types)) (extendedWith e types))
+  extended-given a {env} is =
+      let free : NoneDue (allPairChecks (namesOf e) (e .pushed) (impliedOn e types)) = accepted-none (tt {0}) _ (sym (ext .pushes .verdict) ∙ a) in
+      let bounds : sidesOf (r .pushed) longs₁ shorts₁ ≡ boundsOf e ++ boundsFor (namesOf e) (impliedOn e types) = rw (ext .pushed a, ext .pushes .bounds a, splits .sides) in
+      rw (due-given (extendedWith e types) free, is, bounds)
+
+-- the answers of `extend_implicit_lifetime_bounds`
+module _ (e : LifetimeEnv) (types : List ℕ) {v : Verdict} (shape : v ≡ shapeVerdict (typesInShape types)) where
+  pub extend-malformed : {x : Refusal} → v ≡ Refused x → record { verdict = v; env = e } ≡ made e (extendImplied e types)
+  unfolding extendImplied unless
+  extend-malformed {x} q = go (typesInShape types) refl
+    where
+      go : (t : Bool) → typesInShape types ≡ t → record { verdict = v; env = e } ≡ made e (unless (extendChecks e types) (extendedWith e types))
+      go true h = refused-accepted (sym q ∙ shape ∙ rw h)
+      go false h = rw (shape, h)
+
+  module _ (good : v ≡ Accepted) where
+    pub extend-shaped : typesInShape types ≡ true
+    extend-shaped = go (typesInShape types) refl
+      where
+        go : (t : Bool) → typesInShape types ≡ t → typesInShape types ≡ true
+        go true h = h
+        go false h = refused-accepted {r = Malformed} (sym (rw h at shape) ∙ good)
+
+    pub extend-invalid : {w : Verdict} {x : Refusal} → w ≡ verdictOf (unless (envChecks e) e) → w ≡ Refused x → record { verdict = w; env = e } ≡ made e (extendImplied e types)
+    unfolding extendImplied
+    extend-invalid {w} {x} p q =
+        let due : FirstDue x (extendChecks e types) = later {c = refusals.check (not (typesInShape types)) Malformed} (rw extend-shaped) (first-more _ (refused-first e x (envChecks e) (sym p ∙ q))) in
+        rw (due-refused (extendedWith e types) due, q)
+
+    pub extend-given : NoneDue (envChecks e) → made e (unless (allPairChecks (namesOf e) (e .pushed) (impliedOn e types)) (extendedWith e types)) ≡ made e (extendImplied e types)
+    unfolding extendImplied
+    extend-given free = ap (made e) (sym (unless-after (extendedWith e types) {checks = refusals.check _ Malformed ∷ envChecks e} (allPairChecks (namesOf e) (e .pushed) (impliedOn e types)) (next (rw extend-shaped) free)))

@@ -1,0 +1,76 @@
+-- A method's environment built entry by entry, each in view of what the entries before it left, to the first refusal.
+-- Theorems.BuiltInOrder: this is what `from_method_item` gives.
+use Prim.Native.Nat.{ℕ}
+use mathlib.Core.List.{List, [], _∷_, _++_, map}
+use lib.Dec.{leb}
+use lib.ListN.{length}
+use Rattle.lifetimes.specs.declared.answer.Refusal.the-variants.{Duplicate, Full}
+use Rattle.lifetimes.specs.declared.env.Bound.{Bound}
+use Rattle.lifetimes.specs.Refusals.{check, Outcome, Gives, after, unless}
+use Rattle.ast_lifetimes.specs.declared.env.LifetimeEnv.{LifetimeEnv}
+use Rattle.ast_lifetimes.specs.Shapes.{implNames, methodNames, Pair, implPairs, methodPairs}
+use Rattle.ast_lifetimes.specs.Types.{TypeName, Other, Named, Reference, Option, Result, typesOf}
+use Rattle.ast_lifetimes.specs.Env.{isDeclared, pairChecks, boundOf, Behind, Ref, Nothing, behind, pathPairs, envOf}
+
+-- what the records say, in order: a name; a bound between two names; a path behind a named reference, with its lifetimes
+pub data Entry : Type 0 where
+  Name : ℕ → Entry
+  Bounded : Pair → Entry
+  Path : ℕ → List ℕ → Entry
+
+-- the paths of a type that stand directly behind a named reference
+abbrev pub path : Behind → List ℕ → List Entry
+path Nothing lifetimes = []
+path (Ref r) lifetimes = Path r lifetimes ∷ []
+
+unfoldable pub paths : Behind → TypeName → List Entry
+paths b Other = []
+paths b (Named lifetimes) = path b lifetimes
+paths b (Reference word t) = paths (behind word) t
+paths b (Option t) = paths Nothing t
+paths b (Result t u) = paths Nothing t ++ paths Nothing u
+
+unfoldable pub allPaths : List TypeName → List Entry
+allPaths [] = []
+allPaths (t ∷ ts) = paths Nothing t ++ allPaths ts
+
+-- 01: "impl names, impl bounds, method names, method bounds", then the types
+abbrev pub entries : List ℕ → List ℕ → List ℕ → List Entry
+entries names bounds types =
+    map Name (implNames names)
+    ++ (map Bounded (implPairs bounds)
+    ++ (map Name (methodNames names)
+    ++ (map Bounded (methodPairs bounds)
+    ++ allPaths (typesOf types))))
+
+-- the names and bounds so far
+pub record State : Type 0 where
+  pub names : List ℕ
+  pub bounds : List Bound
+
+abbrev pub state : List ℕ → List Bound → State
+state names bs = record { names = names; bounds = bs }
+
+-- one thing after another, to the first refusal
+unfoldable pub fold : {A B : Type 0} → (A → B → Outcome A) → A → List B → Outcome A
+fold step a [] = Gives a
+fold step a (b ∷ bs) = after (step a b) (λ next. fold step next bs)
+
+-- one name more: refused as a 33rd (4) or declared again (2)
+abbrev pub declare : State → ℕ → Outcome State
+declare s name =
+    unless (check (leb 32 (length (s .names))) Full ∷ check (isDeclared (s .names) name) Duplicate ∷ [])
+    (state (s .names ++ (name ∷ [])) (s .bounds))
+
+-- one bound more: refused where a side is not declared yet (3) or as a 257th (4)
+abbrev pub push : State → Pair → Outcome State
+push s p = unless (pairChecks (s .names) (length (s .bounds)) p) (state (s .names) (s .bounds ++ (boundOf (s .names) p ∷ [])))
+
+-- one entry more; what a path pushes is settled before its first push
+abbrev pub step : State → Entry → Outcome State
+step s (Name name) = declare s name
+step s (Bounded p) = push s p
+step s (Path r lifetimes) = fold push s (pathPairs (s .names) (s .bounds) r lifetimes)
+
+abbrev pub built : List ℕ → List ℕ → List ℕ → Outcome LifetimeEnv
+built names bounds types = after (fold step (state [] []) (entries names bounds types)) (λ s. Gives (envOf (s .names) (s .bounds)))

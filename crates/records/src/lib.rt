@@ -1,0 +1,40 @@
+// Records of words, read in place: what the records of a method have in common.
+//
+// A record is a lent slice of words. What is read from it are items, one after another to its end; most of them hold lifetimes, as many as a word in front says. The
+// scope paper ("01") decides what is right. Nothing is refused here: a call answers where an item ends, or that there is none.
+ghost use mathlib.Core.Path.{_≡_};
+ghost use lib.ListN.{length, drop};
+ghost use Rattle.records.specs.Reading.{readLifetimes, endOf};
+
+// Where an item of a record ends: the place behind its last word. Missing where the words do not make one.
+pub enum End {
+    At(usize),
+    Missing,
+}
+
+impl End {
+    // How many words a record may have.
+    pub const MAX_WORDS: usize = 1024;
+
+    // How many lifetimes may stand in one list.
+    pub const MAX_LIFETIMES: usize = 16;
+}
+
+// Where a list of lifetimes ends: how many they are, at most 16, then they.
+pub fn lifetimes_end(words: &[usize], at: usize) -> End
+    ensures { λ r. ⌜ r ≡ endOf (length (now (words .entry))) (readLifetimes (drop at (now (words .entry)))) ⌝ }
+{
+    let n = words.len();
+    if n <= at {
+        return End::Missing;
+    }
+    let count = words[at];
+    if End::MAX_LIFETIMES < count {
+        return End::Missing;
+    }
+    let from = at + 1;
+    if n - from < count {
+        return End::Missing;
+    }
+    End::At(from + count)
+}
