@@ -1,0 +1,21 @@
+-- Laws of lists, names and steps in a record.
+pub mod ListLaws
+pub mod NameLaws
+pub mod StepLaws
+pub mod ShapeLaws
+-- The lowerer's steps give what RFC 141 says, and what that says.
+pub mod RfcLaws
+pub mod ReadingLaws
+-- The steps by value: lists of lifetimes, the words of a step, the answers.
+pub mod Filling
+pub mod Running
+pub mod Stepping
+-- The whole records: storing words, taking a step, one record, three records, every lifetime has a word, the answers.
+pub mod Storing
+pub mod Taking
+pub mod Recording
+pub mod MethodLaws
+pub mod SmallLaws
+pub mod EntryLaws
+-- The main theorems
+pub mod Theorems

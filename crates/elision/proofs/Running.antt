@@ -1,0 +1,146 @@
+-- The loop of `lower_words`: what is left, lowered from here behind what is done, is what all gives from the start.
+use Prim.Native.Nat.{ℕ, zero, suc, _+_, _-_, _≤_, _<_}
+use mathlib.Core.Bool.{Bool, true, false, cond}
+use mathlib.Core.Path.{_≡_, refl, sym, ap, _∙_}
+use mathlib.Core.List.{List, [], _∷_, _++_, append-nil, append-assoc}
+use native.Mathlib.Numerals.{add-one}
+use native.Mathlib.Omega.{arith}
+use lib.Dec.{eqb, leb}
+use lib.ListN.{length, getD, drop, set, replicate, length-append, length-replicate, getD-replicate, drop-of-length-le}
+use lib.Seq.{drop-cons}
+use Rattle.lifetimes.specs.declared.answer.Refusal.{Refusal}
+use Rattle.lifetimes.specs.declared.answer.Refusal.the-variants.{Undeclared, Full}
+use Rattle.lifetimes.specs.declared.answer.Verdict.the-variants as verdict
+use Rattle.lifetimes.specs.declared.maybe_static.MaybeStatic.{MaybeStatic}
+use Rattle.lifetimes.specs.declared.maybe_static.MaybeStatic.the-variants.{Static, NonStatic}
+use Rattle.lifetimes.specs.Numbers.{lifetime}
+use Rattle.lifetimes.specs.Refusals.{Outcome, Gives, Refuses, after}
+use Rattle.ast_lifetimes.specs.Env.{place, isDeclared}
+use Rattle.elision.specs.declared.source.ElisionSource.{ElisionSource}
+use Rattle.elision.specs.declared.source.ElisionSource.the-variants.{NoBorrows, SelfParam, OneParam, MultipleBorrows}
+use Rattle.elision.specs.declared.lowerer.Standing.{Standing}
+use Rattle.elision.specs.declared.lowerer.Standing.the-variants.{Input, Aside, Output}
+use Rattle.elision.specs.declared.lowerer.Lowered.{Lowered}
+use Rattle.elision.specs.declared.lowerer.Seen.{Seen}
+use Rattle.elision.specs.declared.lowerer.Worded.{Worded}
+use Rattle.elision.specs.Rfc.{padded}
+use Rattle.elision.specs.Machine.{Answer, answer, inTurn, lowers, fromSource, lowerAnonymous, lowerWord, lowerWords, lowered, laid, firstOr}
+use Rattle.elision.specs.Inner.{worded, ran}
+use Rattle.records.proofs.VerdictLaws.{refused-accepted}
+use Rattle.elision.proofs.Filling.{Filled, filled-none, filled-more, filled-laid}
+
+-- ---- one word gives one lifetime
+
+abbrev Single : Outcome (Answer Seen) → Type 0
+Single (Gives a) = a .given ≡ firstOr (a .given) ∷ []
+Single (Refuses r) = Unit {0}
+
+single-cond : (t : Bool) (a b : Outcome (Answer Seen)) → Single a → Single b → Single (cond t a b)
+single-cond true a b x y = x
+single-cond false a b x y = y
+
+single-source : (e : ElisionSource) (s : Seen) → Single (fromSource e s)
+single-source NoBorrows s = tt
+single-source (SelfParam l) s = refl
+single-source (OneParam l) s = refl
+single-source MultipleBorrows s = tt
+
+single-anonymous : (st : Standing) (s : Seen) → Single (lowerAnonymous st s)
+single-anonymous Input s = single-cond (leb 64 (s .count)) (Refuses Full) (lowers Input (NonStatic (lifetime (s .count))) (s .source) (s .count + 1)) tt refl
+single-anonymous Aside s = single-cond (leb 64 (s .count)) (Refuses Full) (lowers Aside (NonStatic (lifetime (s .count))) (s .source) (s .count + 1)) tt refl
+single-anonymous Output s = single-source (s .source) s
+
+pub single-word : (names : List ℕ) (st : Standing) (word : ℕ) (s : Seen) → Single (lowerWord names st word s)
+unfolding lowerWord
+single-word names st word s =
+    let static = lowers st Static (s .source) (s .count) in
+    let named = lowers st (NonStatic (lifetime (place names word))) (s .source) (s .count) in
+    let name = cond (isDeclared names word) named (Refuses Undeclared) in
+    single-cond (eqb word 1) (lowerAnonymous st s) (cond (eqb word 0) static name) (single-anonymous st s)
+    (single-cond (eqb word 0) static name refl (single-cond (isDeclared names word) named (Refuses Undeclared) refl tt))
+
+module _ {r : Worded} (s : Seen) where
+  pub accepted-word : (o : Outcome (Answer Seen)) → r ≡ worded s o → Single o → r .verdict ≡ verdict.Accepted → o ≡ Gives (answer (r .lifetime ∷ []) (r .seen))
+  accepted-word (Gives a) e one v = rw e (ap (λ (l : List MaybeStatic). Gives (answer l (a .left))) one)
+  accepted-word (Refuses k) e one v = refused-accepted (sym (ap (λ (w : Worded). w .verdict) e) ∙ v)
+
+  pub refused-word : {k : Refusal} (o : Outcome (Answer Seen)) → r ≡ worded s o → r .verdict ≡ verdict.Refused k → o ≡ Refuses k
+  refused-word (Gives a) e v = refused-accepted (sym v ∙ ap (λ (w : Worded). w .verdict) e)
+  refused-word (Refuses j) e v = let h : verdict.Refused j ≡ verdict.Refused _ = sym (ap (λ (w : Worded). w .verdict) e) ∙ v in cc
+
+-- ---- the words, with those that are appended
+
+pub padded-length : (g : ℕ) (words : List ℕ) → length (padded g words) ≡ length words + (g - length words)
+padded-length g words = length-append words (replicate (g - length words) 1) ∙ rw (length-replicate {A = ℕ} (g - length words) 1)
+
+padded-at : (words : List ℕ) (k i : ℕ) → i < length words + k → getD (words ++ replicate k 1) i 0 ≡ getD words i 1
+padded-at [] k i h = getD-replicate k i 1 0 (omega arith)
+padded-at (w ∷ words) k zero h = refl
+padded-at (w ∷ words) k (suc i) h = padded-at words k i (omega arith)
+
+-- ---- the loop
+
+abbrev behind : List MaybeStatic → Answer Seen → Outcome (Answer Seen)
+behind done a = Gives (answer (done ++ a .given) (a .left))
+
+pub record Running (names : List ℕ) (st : Standing) (g : ℕ) (words : List ℕ) (seen : Seen) (total : ℕ) (list : List Lowered) (here : Seen) (i : ℕ) : Type 0 where
+  pub count : total ≡ length words + (g - length words)
+  pub few : total ≤ 16
+  pub within : i ≤ total
+  pub done : List MaybeStatic
+  pub filled : Filled done list i
+  pub left : lowerWords names st (padded g words) seen ≡ after (lowerWords names st (drop i (padded g words)) here) (behind done)
+
+after-itself : (o : Outcome (Answer Seen)) → o ≡ after o (behind [])
+after-itself (Gives a) = refl
+after-itself (Refuses r) = refl
+
+pub running-start : (names : List ℕ) (st : Standing) (g : ℕ) (words : List ℕ) (seen : Seen) {total : ℕ} → total ≡ length words + (g - length words) → length words ≤ 16 → g ≤ 16
+    → Running names st g words seen total (replicate 16 (lowered Static)) seen 0
+running-start names st g words seen e h k = record {
+  count = e;
+  few = omega arith;
+  within = omega arith;
+  done = [];
+  filled = filled-none;
+  left = after-itself (lowerWords names st (padded g words) seen);
+}
+
+module _ {names : List ℕ} {st : Standing} {g : ℕ} {words : List ℕ} {seen : Seen} {total : ℕ} {list : List Lowered} {here : Seen} {i : ℕ}
+    (inv : Running names st g words seen total list here i) where
+  pub running-few : i < total → i < 16
+  running-few h = omega (arith, inv .few)
+
+  pub running-end : total ≤ i → record { verdict = verdict.Accepted; seen = here; lifetimes = record { n = total; list = list } } ≡ ran seen (lowerWords names st (padded g words) seen)
+  unfolding inTurn
+  running-end h =
+      let e : total ≡ i = omega (arith, inv .within) in
+      let past : length (padded g words) ≤ i = omega (arith, padded-length g words, inv .count) in
+      rw (inv .left, drop-of-length-le (padded g words) {i = i} past, append-nil (inv .done), ← filled-laid (inv .filled), e)
+
+  module _ (h : i < total) {word : ℕ} (w : word ≡ getD words i 1) {r : Worded} (said : r ≡ worded here (lowerWord names st word here)) where
+    next : lowerWords names st (drop i (padded g words)) here
+        ≡ after (lowerWord names st word here) (λ first. after (lowerWords names st (drop (i + 1) (padded g words)) (first .left)) (λ rest. Gives (answer (first .given ++ rest .given) (rest .left))))
+    unfolding inTurn
+    next =
+        let inside : i < length (padded g words) = omega (arith, padded-length g words, inv .count) in
+        rw (drop-cons (padded g words) i 0 inside, padded-at words (g - length words) i (omega (arith, inv .count)), ← w, add-one i)
+
+    pub running-refused : {k : Refusal} → r .verdict ≡ verdict.Refused k
+        → record { verdict = verdict.Refused k; seen = seen; lifetimes = laid [] } ≡ ran seen (lowerWords names st (padded g words) seen)
+    running-refused v = rw (inv .left, next, refused-word here (lowerWord names st word here) said v)
+
+    pub running-more : r .verdict ≡ verdict.Accepted → Running names st g words seen total (set list i (lowered (r .lifetime))) (r .seen) (i + 1)
+    running-more v = record {
+      count = inv .count;
+      few = inv .few;
+      within = omega arith;
+      done = inv .done ++ (r .lifetime ∷ []);
+      filled = filled-more (inv .filled) (running-few h) (r .lifetime);
+      left = rw (inv .left, next, accepted-word here (lowerWord names st word here) said (single-word names st word here) v)
+          (join (lowerWords names st (drop (i + 1) (padded g words)) (r .seen)));
+    }
+      where
+        join : (o : Outcome (Answer Seen)) → after (after o (λ rest. Gives (answer ((r .lifetime ∷ []) ++ rest .given) (rest .left)))) (behind (inv .done)) ≡ after o (behind (inv .done ++ (r .lifetime ∷ [])))
+        join (Gives a) = rw append-assoc
+        join (Refuses k) = refl

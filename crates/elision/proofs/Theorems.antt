@@ -1,0 +1,41 @@
+-- The main theorems: for each statement of specs/Theorems.antt a term of exactly its type, and nothing else.
+use mathlib.Core.Path.{refl, sym, ap, _∙_}
+use native.Mathlib.Omega.{arith}
+use Rattle.lifetimes.specs.Refusals as refusals
+use Rattle.lifetimes.specs.Env as hir
+use Rattle.lifetimes.proofs.RefusalLaws.{due-given, due-refused, refused-due, given-due}
+use Rattle.records.specs.Reading as reading
+use Rattle.ast_lifetimes.specs.Env as env
+use Rattle.elision.specs.Steps as steps
+use Rattle.elision.specs.Rfc as rfc
+use Rattle.elision.specs.Lowering as lowering
+use Rattle.elision.specs.Theorems.{ElisionIsRfc141, Rfc141Says, StepsOneByOne, ExamplesHold}
+use Rattle.elision.proofs.RfcLaws.{method-said}
+use Rattle.elision.proofs.ReadingLaws as laws
+
+pub elision-is-rfc141 : ElisionIsRfc141
+elision-is-rfc141 = method-said
+
+pub rfc141-says : Rfc141Says
+unfolding rfc.rfc141
+rfc141-says names self steps returns = record {
+  elided = laws.elided-is names self;
+  undeclared = λ before. omega arith;
+  another = laws.another-is names;
+  static = laws.static-is names self;
+  named = laws.named-is names self;
+  returned = λ before l e. rw e;
+  source = laws.source-is names self;
+  again = laws.again-is names self;
+  count = λ m e. sym (ap (λ (x : rfc.Method). x .count) ((given-due (rfc.methodOf names self steps returns) m (rfc.methodChecks names self steps returns) e) .1));
+  few = laws.method-few names self steps returns;
+  given = λ m. (given-due (rfc.methodOf names self steps returns) m (rfc.methodChecks names self steps returns), λ h. due-given (rfc.methodOf names self steps returns) (h .0) ∙ rw (h .1));
+  refused = λ r. (refused-due (rfc.methodOf names self steps returns) r (rfc.methodChecks names self steps returns), due-refused (rfc.methodOf names self steps returns));
+}
+
+pub steps-one-by-one : StepsOneByOne
+steps-one-by-one = laws.steps-one-by-one
+
+pub examples-hold : ExamplesHold
+unfolding lowering.lowerRecords env.envOf env.place hir.allBelow refusals.unless rfc.throughout rfc.anonymous rfc.hasSelfType rfc.ownFrom steps.readStep reading.readAll reading.inShape reading.itemsOf
+examples-hold = (refl, (refl, (refl, (refl, (refl, tt)))))

@@ -1,0 +1,64 @@
+-- `lower_generics` meets its contract: each way out is one law of proofs/Stepping.antt.
+use Rattle.elision.proofs.Stepping.{generics-large, generics-long, generics-refused, generics-given}
+use borrow.Author.Needs.{needs}
+use Rattle.elision.proofs.lowerer.Lowerer.lower_generics.Statement.{statement}
+use Rattle.elision.proofs.lowerer.Lowerer.lower_generics.Tie as tie
+
+-- src/lowerer.rt:132:13
+refused-requires : tie.Need-refused-requires
+refused-requires c κs = search needs
+
+-- src/lowerer.rt:132:13
+returns : tie.Need-returns
+returns c = rw (c .refused .ensures) (generics-large _ _ _ _ _ (c .before .if1 .taken))
+
+-- src/lowerer.rt:135:13
+refused-requires-2 : tie.Need-refused-requires-2
+refused-requires-2 c κs = search needs
+
+-- src/lowerer.rt:135:13
+returns-2 : tie.Need-returns-2
+returns-2 c = rw (c .refused2 .ensures) (generics-long _ _ _ _ _ (c .before .before .if1 .left) (c .before .if2 .taken))
+
+-- src/lowerer.rt:138:39
+standing-in-requires : tie.Need-standing-in-requires
+standing-in-requires c κs = search needs
+
+-- src/lowerer.rt:138:13
+lower-words-requires : tie.Need-lower-words-requires
+lower-words-requires c κs = search needs
+
+-- src/lowerer.rt:140:33
+enum-known-verdict : tie.Need-enum-known-verdict
+enum-known-verdict c = search needs
+
+-- src/lowerer.rt:141:13
+refused-requires-3 : tie.Need-refused-requires-3
+refused-requires-3 c κs = search needs
+
+-- src/lowerer.rt:141:13
+returns-3 : tie.Need-returns-3
+returns-3 c = rw (c .refused3 .ensures) (generics-refused _ _ _ _ _ (c .before .before .before .before .before .before .before .before .if1 .left) (c .before .before .before .before .before .before .before .if2 .left) (c .before .before .before .before .before .standing-in .ensures) (c .before .before .before .before .lower-words .ensures) (c .before .before .verdict .given .1))
+
+enum-told : tie.Need-enum-told
+enum-told c = search needs
+
+-- src/lowerer.rt:128:5
+returns-4 : tie.Need-returns-4
+returns-4 c = generics-given _ _ _ _ _ (c .before .before .before .before .before .before .before .before .before .if1 .left) (c .before .before .before .before .before .before .before .before .if2 .left) (c .before .before .before .before .before .before .standing-in .ensures) (c .before .before .before .before .before .lower-words .ensures) (c .before .before .before .enum-told .given .1)
+
+pub lower-generics-spec : {M : Type 1} → statement M
+lower-generics-spec =
+    tie.close
+    (tie.spec
+    refused-requires
+    returns
+    refused-requires-2
+    returns-2
+    standing-in-requires
+    lower-words-requires
+    enum-known-verdict
+    refused-requires-3
+    returns-3
+    enum-told
+    returns-4)

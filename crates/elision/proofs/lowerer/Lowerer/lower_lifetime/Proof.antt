@@ -1,0 +1,22 @@
+-- `lower_lifetime` meets its contract: one lifetime is that of a type given just this one.
+use Rattle.elision.specs.Machine.{lowerStep, oneStep}
+use borrow.Author.Needs.{needs}
+use Rattle.elision.proofs.lowerer.Lowerer.lower_lifetime.Statement.{statement}
+use Rattle.elision.proofs.lowerer.Lowerer.lower_lifetime.Tie as tie
+
+-- src/lowerer.rt:123:39
+slice-aggregate-lower-generics : tie.Need-slice-aggregate-lower-generics
+slice-aggregate-lower-generics c = search needs
+
+-- src/lowerer.rt:123:9
+lower-generics-requires : tie.Need-lower-generics-requires
+lower-generics-requires c κs = search needs
+
+-- src/lowerer.rt:119:5
+returns : tie.Need-returns
+unfolding oneStep lowerStep
+returns c = c .lower-generics .ensures
+
+pub lower-lifetime-spec : {M : Type 1} → statement M
+lower-lifetime-spec =
+    tie.close (tie.spec slice-aggregate-lower-generics lower-generics-requires returns)

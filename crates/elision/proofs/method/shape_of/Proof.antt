@@ -1,0 +1,60 @@
+-- `shape_of` meets its contract: the first record that is not in shape decides.
+use mathlib.Core.Bool.{_&&_}
+use Rattle.elision.specs.Steps.{selfInShape, stepsInShape}
+use Rattle.elision.proofs.ShapeLaws.{shape-first, shape-next}
+use borrow.Author.Needs.{needs}
+use Rattle.elision.proofs.method.shape_of.Statement.{statement}
+use Rattle.elision.proofs.method.shape_of.Tie as tie
+
+-- src/method.rt:210:9
+self-shape-requires : tie.Need-self-shape-requires
+self-shape-requires c κs = search needs
+
+enum-told : tie.Need-enum-told
+enum-told c = search needs
+
+-- src/method.rt:212:9
+enum-told-2 : tie.Need-enum-told-2
+enum-told-2 c = search needs
+
+-- src/method.rt:212:9
+returns : tie.Need-returns
+returns c = shape-first (selfInShape (c .before .before .before .before .before .before .args .receiver .now)) ((stepsInShape (c .before .before .before .before .before .before .args .steps .now)) && (stepsInShape (c .before .before .before .before .before .before .args .returns .now))) (c .before .before .self-shape .ensures) (c .enum-told2 .given .1)
+
+-- src/method.rt:214:9
+steps-shape-requires : tie.Need-steps-shape-requires
+steps-shape-requires c κs = search needs
+
+enum-told-3 : tie.Need-enum-told-3
+enum-told-3 c = search needs
+
+-- src/method.rt:216:9
+enum-told-4 : tie.Need-enum-told-4
+enum-told-4 c = search needs
+
+-- src/method.rt:216:9
+returns-2 : tie.Need-returns-2
+returns-2 c = shape-next (selfInShape (c .before .before .before .before .before .before .before .before .before .args .receiver .now)) ((stepsInShape (c .before .before .before .before .before .before .before .before .before .args .steps .now)) && (stepsInShape (c .before .before .before .before .before .before .before .before .before .args .returns .now))) (c .before .before .before .before .before .self-shape .ensures) (c .before .before .before .enum-told .given .1) (shape-first (stepsInShape (c .before .before .before .before .before .before .before .before .before .args .steps .now)) (stepsInShape (c .before .before .before .before .before .before .before .before .before .args .returns .now)) (c .before .before .steps-shape .ensures) (c .enum-told4 .given .1))
+
+-- src/method.rt:218:5
+steps-shape-requires-2 : tie.Need-steps-shape-requires-2
+steps-shape-requires-2 c κs = search needs
+
+-- src/method.rt:207:1
+returns-3 : tie.Need-returns-3
+returns-3 c = shape-next (selfInShape (c .before .before .before .before .before .before .before .before .before .before .args .receiver .now)) ((stepsInShape (c .before .before .before .before .before .before .before .before .before .before .args .steps .now)) && (stepsInShape (c .before .before .before .before .before .before .before .before .before .before .args .returns .now))) (c .before .before .before .before .before .before .self-shape .ensures) (c .before .before .before .before .enum-told .given .1) (shape-next (stepsInShape (c .before .before .before .before .before .before .before .before .before .before .args .steps .now)) (stepsInShape (c .before .before .before .before .before .before .before .before .before .before .args .returns .now)) (c .before .before .before .steps-shape .ensures) (c .before .enum-told3 .given .1) (c .steps-shape2 .ensures))
+
+pub shape-of-spec : {M : Type 1} → statement M
+shape-of-spec =
+    tie.close
+    (tie.spec
+    self-shape-requires
+    enum-told
+    enum-told-2
+    returns
+    steps-shape-requires
+    enum-told-3
+    enum-told-4
+    returns-2
+    steps-shape-requires-2
+    returns-3)

@@ -1,0 +1,157 @@
+-- The lowerer's steps: how each leaves it for the next. Total on every lowerer: the lifetimes kept are the first n of 16 places, and a new lifetime at a count of 64 or more is 4.
+-- specs/Theorems.antt says that they give what specs/Rfc.antt says.
+use Prim.Native.Nat.{ℕ, _+_, _-_}
+use mathlib.Core.Bool.{Bool, true, false, cond, _&&_}
+use mathlib.Core.List.{List, [], _∷_, _++_, map}
+use lib.Dec.{eqb, leb}
+use lib.ListN.{length, take, replicate}
+use Rattle.lifetimes.specs.declared.answer.Refusal.the-variants.{Malformed, Undeclared, Full, NoSource, Ambiguous}
+use Rattle.lifetimes.specs.declared.answer.Verdict.the-variants as verdict
+use Rattle.lifetimes.specs.declared.maybe_static.MaybeStatic.{MaybeStatic}
+use Rattle.lifetimes.specs.declared.maybe_static.MaybeStatic.the-variants.{Static, NonStatic}
+use Rattle.lifetimes.specs.Numbers.{lifetime}
+use Rattle.lifetimes.specs.Refusals.{Outcome, Gives, Refuses, after}
+use Rattle.ast_lifetimes.specs.Env.{place, isDeclared}
+use Rattle.elision.specs.declared.source.ElisionSource.{ElisionSource}
+use Rattle.elision.specs.declared.source.ElisionSource.the-variants.{NoBorrows, SelfParam, OneParam, MultipleBorrows}
+use Rattle.elision.specs.declared.lowerer.Standing.{Standing}
+use Rattle.elision.specs.declared.lowerer.Standing.the-variants.{Input, Aside, Output}
+use Rattle.elision.specs.declared.lowerer.Lowered.{Lowered}
+use Rattle.elision.specs.declared.lowerer.Lifetimes.{Lifetimes}
+use Rattle.elision.specs.declared.lowerer.Seen.{Seen}
+use Rattle.elision.specs.declared.lowerer.Lowerer.{Lowerer}
+use Rattle.elision.specs.declared.lowerer.Stepped.{Stepped}
+use Rattle.elision.specs.Steps.{Step, Lifetime, Generics, SelfType, Receiver, NoSelf, SelfRef}
+use Rattle.elision.specs.Rfc.{padded, standingIn, Method}
+
+-- the source after one more input position
+abbrev pub visit : ElisionSource → MaybeStatic → ElisionSource
+visit NoBorrows l = OneParam l
+visit (SelfParam own) l = SelfParam own
+visit (OneParam one) l = MultipleBorrows
+visit MultipleBorrows l = MultipleBorrows
+
+-- what a step gives, and the state that it leaves for the next
+pub record Answer (S : Type 0) : Type 0 where
+  pub given : List MaybeStatic
+  pub left : S
+
+abbrev pub answer : {S : Type 0} → List MaybeStatic → S → Answer S
+answer ls s = record { given = ls; left = s }
+
+-- one step after another, each from the state that the one before left
+unfoldable pub inTurn : {A S : Type 0} → (A → S → Outcome (Answer S)) → List A → S → Outcome (Answer S)
+inTurn step [] s = Gives (answer [] s)
+inTurn step (a ∷ l) s = after (step a s) (λ first. after (inTurn step l (first .left)) (λ rest. Gives (answer (first .given ++ rest .given) (rest .left))))
+
+-- One lifetime
+
+-- only an input position changes the source
+abbrev pub visited : Standing → MaybeStatic → ElisionSource → ℕ → Seen
+visited Input l source count = record { source = visit source l; count = count }
+visited Aside l source count = record { source = source; count = count }
+visited Output l source count = record { source = source; count = count }
+
+abbrev pub lowers : Standing → MaybeStatic → ElisionSource → ℕ → Outcome (Answer Seen)
+lowers st l source count = Gives (answer (l ∷ []) (visited st l source count))
+
+-- a new lifetime, the next number
+abbrev pub newLifetime : Standing → Seen → Outcome (Answer Seen)
+newLifetime st s = cond (leb 64 (s .count)) (Refuses Full) (lowers st (NonStatic (lifetime (s .count))) (s .source) (s .count + 1))
+
+-- in the output, that of the source
+abbrev pub fromSource : ElisionSource → Seen → Outcome (Answer Seen)
+fromSource NoBorrows s = Refuses NoSource
+fromSource (SelfParam l) s = Gives (answer (l ∷ []) s)
+fromSource (OneParam l) s = Gives (answer (l ∷ []) s)
+fromSource MultipleBorrows s = Refuses Ambiguous
+
+abbrev pub lowerAnonymous : Standing → Seen → Outcome (Answer Seen)
+lowerAnonymous Input s = newLifetime Input s
+lowerAnonymous Aside s = newLifetime Aside s
+lowerAnonymous Output s = fromSource (s .source) s
+
+unfoldable pub lowerWord : List ℕ → Standing → ℕ → Seen → Outcome (Answer Seen)
+lowerWord names st word s =
+    cond (eqb word 1) (lowerAnonymous st s)
+    (cond (eqb word 0) (lowers st Static (s .source) (s .count))
+    (cond (isDeclared names word) (lowers st (NonStatic (lifetime (place names word))) (s .source) (s .count)) (Refuses Undeclared)))
+
+abbrev pub lowerWords : List ℕ → Standing → List ℕ → Seen → Outcome (Answer Seen)
+lowerWords names st words s = inTurn (lowerWord names st) words s
+
+-- Lists of lifetimes in 16 places
+
+abbrev pub lowered : MaybeStatic → Lowered
+lowered l = record { lifetime = l }
+
+abbrev pub valuesIn : Lifetimes → List MaybeStatic
+valuesIn ls = map (λ (x : Lowered). x .lifetime) (take (ls .n) (ls .list))
+
+unfoldable pub laid : List MaybeStatic → Lifetimes
+laid ls = record { n = length ls; list = map lowered ls ++ replicate (16 - length ls) (lowered Static) }
+
+-- Steps
+
+abbrev pub wordsStep : List ℕ → Standing → List ℕ → Lowerer → Outcome (Answer Lowerer)
+wordsStep names st words s =
+    after (lowerWords names st words (s .seen))
+    (λ a. Gives (answer (a .given) (record { seen = a .left; kept = s .kept; own = s .own })))
+
+-- the `Self` type: its lifetimes are made once, and kept
+abbrev pub selfStep : List ℕ → List ℕ → Lowerer → Outcome (Answer Lowerer)
+selfStep names words s =
+    cond (s .kept) (Gives (answer (valuesIn (s .own)) s))
+    (after (lowerWords names Aside words (s .seen))
+    (λ a. Gives (answer (a .given) (record { seen = a .left; kept = true; own = laid (a .given) }))))
+
+unfoldable pub lowerStep : List ℕ → Bool → Step → Lowerer → Outcome (Answer Lowerer)
+lowerStep names out (Lifetime word) s = wordsStep names (standingIn out) (word ∷ []) s
+lowerStep names out (Generics g words) s = wordsStep names (standingIn out) (padded g words) s
+lowerStep names out (SelfType words) s = selfStep names words s
+
+-- one step of any words: more than 16 are 1
+abbrev pub fits : Step → Bool
+fits (Lifetime word) = true
+fits (Generics g words) = leb g 16 && leb (length words) 16
+fits (SelfType words) = leb (length words) 16
+
+unfoldable pub oneStep : List ℕ → Bool → Step → Lowerer → Outcome (Answer Lowerer)
+oneStep names out step s = cond (fits step) (lowerStep names out step s) (Refuses Malformed)
+
+-- The first step: `no_self_ref` and `lower_self_ref`
+
+unfoldable pub unused : List ℕ → Lowerer
+unused names = record { seen = record { source = NoBorrows; count = length names }; kept = false; own = laid [] }
+
+abbrev pub firstOr : List MaybeStatic → MaybeStatic
+firstOr [] = Static
+firstOr (l ∷ ls) = l
+
+unfoldable pub selfRef : List ℕ → ℕ → Outcome (Answer Lowerer)
+selfRef names word =
+    after (lowerWord names Aside word (unused names .seen))
+    (λ a. Gives (answer (a .given) (record { seen = record { source = SelfParam (firstOr (a .given)); count = a .left .count }; kept = false; own = laid [] })))
+
+abbrev pub lowerSelf : List ℕ → Receiver → Outcome (Answer Lowerer)
+lowerSelf names NoSelf = Gives (answer [] (unused names))
+lowerSelf names (SelfRef word) = selfRef names word
+
+-- What a step answers: refused, no lifetimes and the lowerer as it was
+abbrev pub stepped : Lowerer → Outcome (Answer Lowerer) → Stepped
+stepped s (Gives a) = record { verdict = verdict.Accepted; lowerer = a .left; lifetimes = laid (a .given) }
+stepped s (Refuses r) = record { verdict = verdict.Refused r; lowerer = s; lifetimes = laid [] }
+
+-- Whole records
+
+-- the steps of a record, one after another
+abbrev pub runSteps : List ℕ → Bool → List Step → Lowerer → Outcome (Answer Lowerer)
+runSteps names out steps s = inTurn (lowerStep names out) steps s
+
+-- from the new lowerer, self, then the steps, then the returns
+unfoldable pub runMethod : List ℕ → Receiver → List Step → List Step → Outcome Method
+runMethod names self steps returns =
+    after (lowerSelf names self) (λ a.
+    after (runSteps names false steps (a .left)) (λ b.
+    after (runSteps names true returns (b .left)) (λ c.
+    Gives (record { self = a .given; steps = b .given; returns = c .given; count = c .left .seen .count }))))

@@ -1,0 +1,428 @@
+// The whole records `self`, `steps` and `returns`: their lowered words to lent slices, and the method's environment.
+ghost use mathlib.Core.Path.{_≡_};
+ghost use mathlib.Core.Bool.{true};
+ghost use mathlib.Core.List.{[], map};
+ghost use Prim.Native.Nat.{_+_, _≤_};
+ghost use lib.ListN.{length, drop, set};
+ghost use lib.Seq.{sets};
+ghost use Rattle.lifetimes.specs.Lent.{written};
+ghost use Rattle.lifetimes.specs.Env.{envOf, made};
+ghost use Rattle.records.specs.Reading.{shapeVerdict};
+ghost use Rattle.elision.specs.Steps.{readStep, receiverOf, selfInShape, stepsInShape, stepsOf};
+ghost use Rattle.elision.specs.Machine.{unused, lowerSelf, runSteps, runMethod, valuesIn};
+ghost use Rattle.elision.specs.Lowering.{inShapeAll, finishEnv, lowerRecords, answered, ownWords, stepWords, returnWords};
+ghost use Rattle.elision.specs.Inner.{shown, takes, totals, Runs, RunsAll};
+use super::lowerer::Lifetimes;
+use super::lowerer::Lowerer;
+use super::lowerer::Stepped;
+use super::lowerer::at_most_16;
+use super::lowerer::refused;
+use super::steps::StepAt;
+use super::steps::read_step;
+use super::steps::self_shape;
+use super::steps::step_end;
+use super::steps::steps_shape;
+use lifetimes::Bound;
+use lifetimes::Lifetime;
+use lifetimes::LoweredWord;
+use lifetimes::MaybeStatic;
+use lifetimes::Refusal;
+use lifetimes::Verdict;
+use records::End;
+
+// What `lower` answers: how many words each slice was written, and the method's environment. Refused, none, and an environment without lifetimes.
+pub struct Lowering {
+    pub verdict: Verdict,
+    pub selves: usize,
+    pub steps: usize,
+    pub returns: usize,
+    pub env: lifetimes::LifetimeEnv,
+}
+
+// A record lowered: the next lowerer, and how many words it gave; refused, none and the lowerer as it was.
+struct Ran {
+    verdict: Verdict,
+    lowerer: Lowerer,
+    n: usize,
+}
+
+// Three records lowered: how many words each gave, and how many lifetimes there are; refused, none.
+struct Totals {
+    verdict: Verdict,
+    selves: usize,
+    steps: usize,
+    returns: usize,
+    count: usize,
+}
+
+// Lower the records `self`, `steps` and `returns` over the names of an AST environment, and write their words to three slices: 0 static, k the lifetime numbered k - 1. The
+// environment has the bounds of the AST's, and all lifetimes, declared and new. Refused by 1 over the three records, by 4 and 8 as the AST environment is, then by
+// 3, 4, 5, 6 at the first bad place, then by 9 where a slice is too short. Reads the records twice: the first time only to judge and to count.
+pub fn lower(
+    env: ast_lifetimes::LifetimeEnv,
+    receiver: &[usize],
+    steps: &[usize],
+    returns: &[usize],
+    own: &mut [usize],
+    given: &mut [usize],
+    taken: &mut [usize],
+) -> Lowering
+    ensures { λ r. ⌜ r ≡ answered env (lowerRecords env (now (receiver .entry)) (now (steps .entry)) (now (returns .entry)) (length (now (own .entry))) (length (now (given .entry))) (length (now (taken .entry)))) ⌝ }
+    ensures { λ _. ⌜ now (own .exit) ≡ written (ownWords (lowerRecords env (now (receiver .entry)) (now (steps .entry)) (now (returns .entry)) (length (now (own .entry))) (length (now (given .entry))) (length (now (taken .entry))))) (now (own .entry)) ⌝ }
+    ensures { λ _. ⌜ now (given .exit) ≡ written (stepWords (lowerRecords env (now (receiver .entry)) (now (steps .entry)) (now (returns .entry)) (length (now (own .entry))) (length (now (given .entry))) (length (now (taken .entry))))) (now (given .entry)) ⌝ }
+    ensures { λ _. ⌜ now (taken .exit) ≡ written (returnWords (lowerRecords env (now (receiver .entry)) (now (steps .entry)) (now (returns .entry)) (length (now (own .entry))) (length (now (given .entry))) (length (now (taken .entry))))) (now (taken .entry)) ⌝ }
+{
+    let shape = shape_of(receiver, steps, returns);
+    if let Verdict::Refused(refusal) = shape {
+        return refused_lowering(refusal);
+    }
+    let valid = env.check();
+    if let Verdict::Refused(refusal) = valid {
+        return refused_lowering(refusal);
+    }
+    let names = env.names;
+    let named = env.named;
+    let totals = judge(&names[0..named], receiver, steps, returns);
+    let verdict = totals.verdict;
+    if let Verdict::Refused(refusal) = verdict {
+        return refused_lowering(refusal);
+    }
+    let selves = totals.selves;
+    let stepped = totals.steps;
+    let returned = totals.returns;
+    if own.len() < selves {
+        return refused_lowering(Refusal::NoRoom);
+    }
+    if given.len() < stepped {
+        return refused_lowering(Refusal::NoRoom);
+    }
+    if taken.len() < returned {
+        return refused_lowering(Refusal::NoRoom);
+    }
+    run(
+        &names[0..named],
+        receiver,
+        steps,
+        returns,
+        own,
+        given,
+        taken,
+    );
+    let pushed = env.pushed;
+    let bounds = env.bounds;
+    Lowering {
+        verdict: Verdict::Accepted,
+        selves,
+        steps: stepped,
+        returns: returned,
+        env: lifetimes::LifetimeEnv {
+            declared: named,
+            count: totals.count,
+            pushed,
+            bounds,
+        },
+    }
+}
+
+// The method's environment once its lifetimes are lowered: all of them, declared and new, and the bounds of the AST environment. Refused by 4 and 8 as the AST environment
+// is, by 4 for a 65th lifetime, by 8 for more names than lifetimes, with an environment without lifetimes beside the refusal.
+pub fn finish(lowerer: Lowerer, env: ast_lifetimes::LifetimeEnv) -> lifetimes::Made
+    ensures { λ r. ⌜ r ≡ made (envOf 0 0 []) (finishEnv env (lowerer .seen .count)) ⌝ }
+{
+    let valid = env.check();
+    if let Verdict::Refused(refusal) = valid {
+        return refused_env(refusal);
+    }
+    let seen = lowerer.seen;
+    let count = seen.count;
+    let declared = env.named;
+    let pushed = env.pushed;
+    let bounds = env.bounds;
+    let hir = lifetimes::LifetimeEnv {
+        declared,
+        count,
+        pushed,
+        bounds,
+    };
+    let verdict = hir.check();
+    if let Verdict::Refused(refusal) = verdict {
+        return refused_env(refusal);
+    }
+    lifetimes::Made {
+        verdict: Verdict::Accepted,
+        env: hir,
+    }
+}
+
+// A refusal, beside an environment without lifetimes.
+fn refused_env(refusal: Refusal) -> lifetimes::Made
+    ensures { λ r. ⌜ r ≡ record { verdict = Verdict.Refused refusal; env = envOf 0 0 [] } ⌝ }
+{
+    let none = Bound {
+        longer: Lifetime::new(0),
+        shorter: Lifetime::new(0),
+    };
+    let bounds = [none; lifetimes::LifetimeEnv::MAX_BOUNDS];
+    lifetimes::Made {
+        verdict: Verdict::Refused(refusal),
+        env: lifetimes::LifetimeEnv {
+            declared: 0,
+            count: 0,
+            pushed: 0,
+            bounds,
+        },
+    }
+}
+
+// Lower the records only to judge and to count.
+fn judge(names: &[usize], receiver: &[usize], steps: &[usize], returns: &[usize]) -> Totals
+    requires { ⌜ (stepsInShape (now steps) ≡ true) × (stepsInShape (now returns) ≡ true) ⌝ }
+    ensures { λ r. ⌜ r ≡ totals (runMethod (now (names .entry)) (receiverOf (now (receiver .entry))) (stepsOf (now (steps .entry))) (stepsOf (now (returns .entry)))) ⌝ }
+{
+    let mut own = [0usize; 1];
+    let mut given = [0usize; 1];
+    let mut taken = [0usize; 1];
+    run(
+        names,
+        receiver,
+        steps,
+        returns,
+        &mut own,
+        &mut given,
+        &mut taken,
+    )
+}
+
+// Lower the records, and store of their words what the slices take.
+fn run(
+    names: &[usize],
+    receiver: &[usize],
+    steps: &[usize],
+    returns: &[usize],
+    own: &mut [usize],
+    given: &mut [usize],
+    taken: &mut [usize],
+) -> Totals
+    requires { ⌜ (stepsInShape (now steps) ≡ true) × (stepsInShape (now returns) ≡ true) ⌝ }
+    ensures { λ r. ⌜ RunsAll (runMethod (now (names .entry)) (receiverOf (now (receiver .entry))) (stepsOf (now (steps .entry))) (stepsOf (now (returns .entry)))) (now (own .entry)) (now (given .entry)) (now (taken .entry)) (now (own .exit)) (now (given .exit)) (now (taken .exit)) r ⌝ }
+{
+    let first = lower_receiver(names, receiver, own);
+    let one = first.verdict;
+    if let Verdict::Refused(refusal) = one {
+        return refused_totals(refusal);
+    }
+    let fresh = first.lowerer;
+    let second = lower_record(fresh, names, steps, false, given);
+    let two = second.verdict;
+    if let Verdict::Refused(refusal) = two {
+        return refused_totals(refusal);
+    }
+    let middle = second.lowerer;
+    let third = lower_record(middle, names, returns, true, taken);
+    let three = third.verdict;
+    if let Verdict::Refused(refusal) = three {
+        return refused_totals(refusal);
+    }
+    let last = third.lowerer;
+    let seen = last.seen;
+    let count = seen.count;
+    Totals {
+        verdict: Verdict::Accepted,
+        selves: first.n,
+        steps: second.n,
+        returns: third.n,
+        count,
+    }
+}
+
+// A refusal, beside no words.
+fn refused_totals(refusal: Refusal) -> Totals
+    ensures { λ r. ⌜ r ≡ record { verdict = Verdict.Refused refusal; selves = 0; steps = 0; returns = 0; count = 0 } ⌝ }
+{
+    Totals {
+        verdict: Verdict::Refused(refusal),
+        selves: 0,
+        steps: 0,
+        returns: 0,
+        count: 0,
+    }
+}
+
+// A refusal, beside no words and an environment without lifetimes.
+fn refused_lowering(refusal: Refusal) -> Lowering
+    ensures { λ r. ⌜ r ≡ record { verdict = Verdict.Refused refusal; selves = 0; steps = 0; returns = 0; env = envOf 0 0 [] } ⌝ }
+{
+    let none = Bound {
+        longer: Lifetime::new(0),
+        shorter: Lifetime::new(0),
+    };
+    let bounds = [none; lifetimes::LifetimeEnv::MAX_BOUNDS];
+    Lowering {
+        verdict: Verdict::Refused(refusal),
+        selves: 0,
+        steps: 0,
+        returns: 0,
+        env: lifetimes::LifetimeEnv {
+            declared: 0,
+            count: 0,
+            pushed: 0,
+            bounds,
+        },
+    }
+}
+
+// The shape of the three records.
+fn shape_of(receiver: &[usize], steps: &[usize], returns: &[usize]) -> Verdict
+    ensures { λ r. ⌜ r ≡ shapeVerdict (inShapeAll (now (receiver .entry)) (now (steps .entry)) (now (returns .entry))) ⌝ }
+{
+    let first = self_shape(receiver);
+    let Verdict::Accepted = first else {
+        return first;
+    };
+    let second = steps_shape(steps);
+    let Verdict::Accepted = second else {
+        return second;
+    };
+    steps_shape(returns)
+}
+
+// Lower the record `self`.
+fn lower_receiver(names: &[usize], receiver: &[usize], out: &mut [usize]) -> Ran
+    ensures { λ r. ⌜ Runs (unused (now (names .entry))) (lowerSelf (now (names .entry)) (receiverOf (now (receiver .entry)))) (now (out .entry)) (now (out .exit)) r ⌝ }
+{
+    if receiver.len() == 0 {
+        return Ran {
+            verdict: Verdict::Accepted,
+            lowerer: Lowerer::no_self_ref(names),
+            n: 0,
+        };
+    }
+    let done = Lowerer::lower_self_ref(names, receiver[0]);
+    finish_step(done, 0, out)
+}
+
+// Store what a step answers.
+fn finish_step(done: Stepped, at: usize, out: &mut [usize]) -> Ran
+    requires { ⌜ at ≤ 65536 ⌝ }
+    ensures { λ r. ⌜ r ≡ record { verdict = done .verdict; lowerer = done .lowerer; n = at + length (valuesIn (done .lifetimes)) } ⌝ }
+    ensures { λ r. ⌜ r .n ≤ at + 16 ⌝ }
+    ensures { λ _. ⌜ now (out .exit) ≡ sets (now (out .entry)) at (map shown (valuesIn (done .lifetimes))) ⌝ }
+{
+    let verdict = done.verdict;
+    let lowerer = done.lowerer;
+    let lifetimes = done.lifetimes;
+    let n = store_all(lifetimes, at, out);
+    Ran {
+        verdict,
+        lowerer,
+        n,
+    }
+}
+
+// Lower a record `steps` or `returns` in shape.
+fn lower_record(
+    lowerer: Lowerer,
+    names: &[usize],
+    words: &[usize],
+    output: bool,
+    out: &mut [usize],
+) -> Ran
+    requires { ⌜ stepsInShape (now words) ≡ true ⌝ }
+    ensures { λ r. ⌜ Runs lowerer (runSteps (now (names .entry)) output (stepsOf (now (words .entry))) lowerer) (now (out .entry)) (now (out .exit)) r ⌝ }
+{
+    let mut here = lowerer;
+    let mut n = 0;
+    let mut at = 0;
+    while at < words.len() {
+        let end = step_end(words, at);
+        let End::At(next) = end else {
+            return Ran {
+                verdict: Verdict::Refused(Refusal::Malformed),
+                lowerer,
+                n: 0,
+            };
+        };
+        let done = lower_step(here, names, words, at, output);
+        let ran = finish_step(done, n, out);
+        let verdict = ran.verdict;
+        if let Verdict::Refused(refusal) = verdict {
+            return Ran {
+                verdict: Verdict::Refused(refusal),
+                lowerer,
+                n: 0,
+            };
+        }
+        here = ran.lowerer;
+        n = ran.n;
+        at = next;
+    }
+    Ran {
+        verdict: Verdict::Accepted,
+        lowerer: here,
+        n,
+    }
+}
+
+// Lower the step that stands at a place.
+fn lower_step(
+    lowerer: Lowerer,
+    names: &[usize],
+    words: &[usize],
+    at: usize,
+    output: bool,
+) -> Stepped
+    ensures { λ r. ⌜ r ≡ takes (now (names .entry)) output lowerer (readStep (drop at (now (words .entry)))) ⌝ }
+{
+    let step = read_step(words, at);
+    match step {
+        StepAt::Lifetime { word, to: _ } => lowerer.lower_lifetime(names, word, output),
+        StepAt::Generics { generics, from, to } => lowerer.lower_generics(
+            names,
+            generics,
+            &words[from..to],
+            output,
+        ),
+        StepAt::SelfType { from, to } => lowerer.is_self(names, &words[from..to], output),
+        StepAt::Missing => refused(lowerer, Refusal::Malformed),
+    }
+}
+
+// Store the words of some lifetimes from a place on, as far as the slice takes them; the answer is the place behind them.
+fn store_all(lifetimes: Lifetimes, at: usize, out: &mut [usize]) -> usize
+    requires { ⌜ at ≤ 65536 ⌝ }
+    ensures { λ r. ⌜ r ≡ at + length (valuesIn lifetimes) ⌝ }
+    ensures { λ r. ⌜ r ≤ at + 16 ⌝ }
+    ensures { λ _. ⌜ now (out .exit) ≡ sets (now (out .entry)) at (map shown (valuesIn lifetimes)) ⌝ }
+{
+    let n = at_most_16(lifetimes.n);
+    let mut i = 0;
+    let mut place = at;
+    while i < n {
+        let lowered = lifetimes.list[i];
+        let lifetime = lowered.lifetime;
+        store(out, place, word_of(lifetime));
+        place += 1;
+        i += 1;
+    }
+    place
+}
+
+// Store a word, if the slice takes it.
+fn store(out: &mut [usize], at: usize, word: usize)
+    ensures { λ _. ⌜ now (out .exit) ≡ set (now (out .entry)) at word ⌝ }
+{
+    if at < out.len() {
+        out[at] = word;
+    }
+}
+
+// The word of a lifetime.
+fn word_of(lifetime: MaybeStatic) -> usize
+    ensures { λ r. ⌜ r ≡ shown lifetime ⌝ }
+{
+    let word = lifetime.word();
+    let LoweredWord::Word(w) = word else {
+        return 0;
+    };
+    w
+}
