@@ -1,0 +1,340 @@
+-- `compute_for_struct_field`: skipping types and rows, the field asked for, its pairs, and the ways out.
+use Prim.Native.Nat.{ℕ, zero, suc, _+_, _-_, _≤_, _<_}
+use mathlib.Core.Bool.{Bool, true, false, cond, not, _&&_}
+use mathlib.Core.Path.{_≡_, refl, sym, ap, subst, _∙_}
+use mathlib.Core.List.{List, [], _∷_, _++_}
+use native.Mathlib.Nat.{zero-add, sub-zero, zero-sub, suc-sub-suc}
+use native.Mathlib.Numerals.{add-one}
+use native.Mathlib.Omega.{arith}
+use lib.Dec.{ltb}
+use lib.ListN.{length, getD, take, drop, set, replicate, length-take, length-drop, length-append, length-set, length-replicate, drop-of-length-le, List·getD-eq-default}
+use lib.Seq.{sets, sets-eq, drop-cons, getD-take, getD-drop}
+use borrow.Author.Tests.{lt-ltb, le-ltb, ltb-true, ltb-false}
+use Rattle.records.proofs.ReadingLaws.{passed}
+use Rattle.lifetimes.specs.declared.answer.Refusal.{Refusal}
+use Rattle.lifetimes.specs.declared.answer.Refusal.the-variants.{Malformed}
+use Rattle.lifetimes.specs.declared.answer.Listed.{Listed}
+use Rattle.lifetimes.specs.declared.answer.Listed.the-variants as listed
+use Rattle.lifetimes.specs.declared.answer.Verdict.{Verdict}
+use Rattle.lifetimes.specs.declared.answer.Verdict.the-variants.{Accepted, Refused}
+use Rattle.lifetimes.specs.declared.def_lifetime.DefLifetime.{DefLifetime}
+use Rattle.lifetimes.specs.declared.maybe_static.MaybeStaticDef.{MaybeStaticDef}
+use Rattle.lifetimes.specs.declared.maybe_static.MaybeStaticDef.the-variants.{Static, NonStatic}
+use Rattle.lifetimes.specs.Numbers.{defLifetime}
+use Rattle.lifetimes.specs.LoweredWords.{defFromWord}
+use Rattle.lifetimes.specs.Refusals.{unless, FirstDue, NoneDue, later, next}
+use Rattle.lifetimes.proofs.RefusalLaws.{due-given, due-refused, refused-first, accepted-none}
+use Rattle.records.specs.Reading.{Read, Fails}
+use Rattle.lowered_types.specs.declared.types.Parts.{Parts}
+use Rattle.lowered_types.specs.declared.types.Located.{Located}
+use Rattle.lowered_types.specs.declared.types.Located.the-variants.{At, Missing}
+use Rattle.lowered_types.specs.LoweredTypes.{LoweredType, readLowered}
+use Rattle.lowered_types.specs.Rows.{rowWith, readKnown, readTypes, readRow, rowsOf, structsInShape, howMany}
+use Rattle.lowered_types.proofs.FoundLaws.{Found}
+use Rattle.lowered_types.proofs.ShapeLaws.{counted-shape, refused-shape}
+use Rattle.hir_types.specs.declared.fields.FieldPair.{FieldPair}
+use Rattle.hir_types.specs.declared.fields.FieldLifetimes.{FieldLifetimes}
+use Rattle.hir_types.specs.declared.fields.FieldAnswer.the-variants as answer
+use Rattle.hir_types.specs.Method.{rowAt, rowChecks}
+use Rattle.hir_types.specs.Fields.{fieldIn, fieldAt, isStruct, fieldPair, filledBy, pairsFrom, fieldChecks, fieldPairs, placed, givenPairs, fieldAnswer}
+use Rattle.hir_types.specs.Inner.{RowStands, Indexes, TypesSkip, FieldIs, struct, other, PathThere}
+use Rattle.hir_types.proofs.PassLaws.{known-read, same-found, fails-read, types-next, types-none, types-length, Items, items-start, NextItem, items-next, RowParts, row-parts}
+
+-- ---- `skip_types`
+
+pub record Skips (words : List ℕ) (from count at i : ℕ) : Type 0 where
+  pub onto : (n : ℕ) (types : List LoweredType) (rest : List ℕ) → readTypes n count (drop from words) ≡ Read types rest
+      → (left : List LoweredType) × (readTypes n (count - i) (drop at words) ≡ Read left rest)
+
+pub skips-start : (words : List ℕ) (from count : ℕ) → Skips words from count from 0
+skips-start words from count = record { onto = λ n types rest e. let z : count - 0 ≡ count = omega arith in (types, rw z e) }
+
+module _ {words : List ℕ} {from count at i : ℕ} (inv : Skips words from count at i) where
+  module _ (h : i < count) where
+    one-more : count - i ≡ suc (count - (i + 1))
+    one-more = omega arith
+
+    pub skips-lost : readLowered (drop at words) ≡ Fails → TypesSkip words from count at
+    skips-lost f n types rest e =
+        let l = inv .onto n types rest e in
+        let x = types-next n (count - (i + 1)) (drop at words) (rw one-more at (l .1)) in
+        fails-read (sym f ∙ (known-read n (drop at words) (x .first)) .reads)
+
+    pub skips-more : {p : Parts} → Found words at (readLowered (drop at words)) p → Skips words from count (p .next) (i + 1)
+    skips-more f = record {
+      onto = λ n types rest e.
+          let l = inv .onto n types rest e in
+          let x = types-next n (count - (i + 1)) (drop at words) (rw one-more at (l .1)) in
+          (x .more, rw ((same-found f n (x .first)) .stands .left) (x .others));
+    }
+
+  pub skips-end : count ≤ i → TypesSkip words from count at
+  skips-end h n types rest e =
+      let l = inv .onto n types rest e in
+      let z : count - i ≡ 0 = omega arith in
+      sym ((types-none n (drop at words) (rw z at (l .1))) .1)
+
+-- ---- `row_place`
+
+pub record Placing (structs : List ℕ) (row at number : ℕ) : Type 0 where
+  pub steps : ℕ
+  pub items : Items readRow number steps (drop at structs) (drop number (rowsOf structs))
+  pub below : number ≤ row
+
+pub placing-start : (structs : List ℕ) (row : ℕ) → structsInShape structs ≡ true → Placing structs row 0 0
+placing-start structs row e = record { steps = length structs; items = items-start readRow structs e; below = omega arith }
+
+module _ {structs : List ℕ} {row at number : ℕ} (inv : Placing structs row at number) (h : row < length (rowsOf structs)) where
+  pub row-next : NextItem readRow number (inv .steps) (drop at structs) (rowAt (rowsOf structs) number) (drop (number + 1) (rowsOf structs))
+  row-next =
+      let here : drop number (rowsOf structs) ≡ rowAt (rowsOf structs) number ∷ drop (number + 1) (rowsOf structs) = rw add-one (drop-cons (rowsOf structs) number (rowWith 0 []) (omega (arith, inv .below))) in
+      items-next readRow number (inv .steps) (drop at structs) (rw here at (inv .items))
+
+  pub placing-parts : RowParts number structs at (rowAt (rowsOf structs) number) (row-next .behind)
+  placing-parts = row-parts number structs at (row-next .first)
+
+  pub placing-here : at + 1 < length structs
+  placing-here = placing-parts .here
+
+  pub placing-more : number < row → {place : ℕ} → TypesSkip structs (at + 2) (getD structs (at + 1) 0) place → Placing structs row place (number + 1)
+  placing-more l {place} f =
+      let left = f number (rowAt (rowsOf structs) number .fields) (row-next .behind) (placing-parts .fields) in
+      record { steps = inv .steps - 1; items = rw (add-one number, left) (rw (add-one number) at (row-next .others)); below = omega arith }
+
+  pub placing-end : row ≤ number → RowStands structs row at
+  placing-end l =
+      let e : number ≡ row = omega (arith, inv .below) in
+      subst (λ (k : ℕ). RowStands structs k at) e (record { rest = row-next .behind; reads = row-next .first; here = placing-here })
+
+-- ---- `field_at`
+
+-- one of so many types
+types-pick : (n i m : ℕ) (words : List ℕ) (types : List LoweredType) {rest : List ℕ} → readTypes n (i + suc m) words ≡ Read types rest
+    → (behind : List ℕ) × (after : List ℕ) × (readTypes n i words ≡ Read (take i types) behind) × (readKnown n behind ≡ Read (fieldIn types i) after)
+unfolding readTypes
+types-pick n zero m words types e =
+    let z : 0 + suc m ≡ suc m = omega arith in
+    let x = types-next n m words (rw z at e) in
+    let q : fieldIn types 0 ≡ x .type = ap (λ (l : List LoweredType). fieldIn l 0) (x .all) in
+    (words, x .behind, refl, rw q (x .first))
+types-pick n (suc i) m words types e =
+    let z : suc i + suc m ≡ suc (i + suc m) = omega arith in
+    let x = types-next n (i + suc m) words (rw z at e) in
+    let r = types-pick n i m (x .behind) (x .more) (x .others) in
+    let q : take (suc i) types ≡ x .type ∷ take i (x .more) = ap (take (suc i)) (x .all) in
+    let p : fieldIn types (suc i) ≡ fieldIn (x .more) i = ap (λ (l : List LoweredType). fieldIn l (suc i)) (x .all) in
+    (r .0, r .1, rw (x .first, r .2, q), rw p (r .3))
+
+module _ (structs : List ℕ) (row field : ℕ) where
+  pub field-no-row : length (rowsOf structs) ≤ row → FieldIs structs row field Missing
+  field-no-row h =
+      let d : rowAt (rowsOf structs) row ≡ rowWith 0 [] = List·getD-eq-default (rowsOf structs) (rowWith 0 []) h in
+      other (rw d)
+
+  module _ {place : ℕ} (s : RowStands structs row place) where
+    pub field-parts : RowParts row structs place (rowAt (rowsOf structs) row) (s .rest)
+    field-parts = row-parts row structs place (s .reads)
+
+    pub field-past : getD structs (place + 1) 0 ≤ field → FieldIs structs row field Missing
+    field-past h =
+        let n = types-length row (getD structs (place + 1) 0) (drop (place + 2) structs) (field-parts .fields) in
+        let d : fieldAt (rowsOf structs) row field ≡ fieldIn [] 0 = List·getD-eq-default (rowAt (rowsOf structs) row .fields) (fieldIn [] 0) (omega arith) in
+        other (rw d)
+
+    module _ (h : field < getD structs (place + 1) 0) (at : ℕ) (f : TypesSkip structs (place + 2) field at) where
+      there : (after : List ℕ) × (readKnown row (drop at structs) ≡ Read (fieldAt (rowsOf structs) row field) after)
+      there =
+          let z : getD structs (place + 1) 0 ≡ field + suc (getD structs (place + 1) 0 - suc field) = omega arith in
+          let e : readTypes row (field + suc (getD structs (place + 1) 0 - suc field)) (drop (place + 2) structs) ≡ Read (rowAt (rowsOf structs) row .fields) (s .rest) = rw (← z) (field-parts .fields) in
+          let p = types-pick row field (getD structs (place + 1) 0 - suc field) (drop (place + 2) structs) (rowAt (rowsOf structs) row .fields) e in
+          let left = f row (take field (rowAt (rowsOf structs) row .fields)) (p .0) (p .2) in
+          (p .1, rw left (p .3))
+
+      pub field-lost : readLowered (drop at structs) ≡ Fails → FieldIs structs row field Missing
+      field-lost e = fails-read (sym e ∙ (known-read row (drop at structs) (there .1)) .reads)
+
+      module _ {p : Parts} (g : Found structs at (readLowered (drop at structs)) p) where
+        pub field-other : isStruct (p .kind) ≡ false → FieldIs structs row field Missing
+        field-other e = let t = (same-found g row (there .1)) .stands in other (rw (← t .kind) e)
+
+        pub field-struct : isStruct (p .kind) ≡ true → FieldIs structs row field (At p)
+        field-struct e = let t = (same-found g row (there .1)) .stands in struct (rw (← t .kind) e) (t .count) (t .few) (t .path)
+
+-- ---- `pairs_of`
+
+pairs-few : (declared j : ℕ) (path : List ℕ) → length (pairsFrom declared j path) ≤ length path
+unfolding pairsFrom
+pairs-few declared j [] = omega arith
+pairs-few declared j (word ∷ path) = go (filledBy declared j (defFromWord word)) (one (defFromWord word)) (pairs-few declared (suc j) path)
+  where
+    go : (l : List FieldPair) → length l ≤ 1 → length (pairsFrom declared (suc j) path) ≤ length path → length (l ++ pairsFrom declared (suc j) path) ≤ suc (length path)
+    go l h k = simp length-append (omega arith)
+
+    two : (b : Bool) (p : FieldPair) → length (cond b (p ∷ []) []) ≤ 1
+    two true p = omega arith
+    two false p = omega arith
+
+    one : (m : MaybeStaticDef) → length (filledBy declared j m) ≤ 1
+    one Static = omega arith
+    one (NonStatic l) = two (ltb (l .0) declared) (fieldPair j (l .0))
+
+drop-replicate : {A : Type 0} (n m : ℕ) (x : A) → drop n (replicate m x) ≡ replicate (m - n) x
+drop-replicate zero m x = rw sub-zero
+drop-replicate (suc n) zero x = rw zero-sub
+drop-replicate (suc n) (suc m) x = rw suc-sub-suc (drop-replicate n m x)
+
+abbrev blank : List FieldPair
+blank = replicate 16 (fieldPair 0 0)
+
+pub record Pairing (path : List ℕ) (declared : ℕ) (pairs : List FieldPair) (n i : ℕ) : Type 0 where
+  pub before : n ≤ i
+  pub size : length pairs ≡ 16
+  pub counts : n + length (pairsFrom declared i (drop i path)) ≡ length (pairsFrom declared 0 path)
+  pub stored : sets pairs n (pairsFrom declared i (drop i path)) ≡ sets (replicate 16 (fieldPair 0 0)) 0 (pairsFrom declared 0 path)
+
+pub pairing-start : (path : List ℕ) (declared : ℕ) {a b : DefLifetime} → a ≡ defLifetime 0 → b ≡ defLifetime 0 → Pairing path declared (replicate 16 (record { def = a; outer = b })) 0 0
+pairing-start path declared e f = record { before = omega arith; size = rw length-replicate; counts = zero-add _; stored = rw (e, f) }
+
+module _ {path : List ℕ} {declared : ℕ} {pairs : List FieldPair} {n i : ℕ} (inv : Pairing path declared pairs n i) where
+  module _ (h : i < length path) {m : MaybeStaticDef} (q : m ≡ defFromWord (getD path i 0)) where
+    here : pairsFrom declared i (drop i path) ≡ filledBy declared i m ++ pairsFrom declared (i + 1) (drop (i + 1) path)
+    unfolding pairsFrom
+    here = rw (q, add-one i, drop-cons path i 0 h)
+
+    skipped : filledBy declared i m ≡ [] → Pairing path declared pairs n (i + 1)
+    skipped e =
+        let s : pairsFrom declared i (drop i path) ≡ pairsFrom declared (i + 1) (drop (i + 1) path) = here ∙ rw e in
+        record { before = omega (arith, inv .before); size = inv .size; counts = rw (← s) (inv .counts); stored = rw (← s) (inv .stored) }
+
+    pub pairing-static : m ≡ Static → Pairing path declared pairs n (i + 1)
+    pairing-static e = skipped (rw e)
+
+    module _ {outer : DefLifetime} (e : m ≡ NonStatic outer) where
+      pub pairing-past : declared ≤ outer .0 → Pairing path declared pairs n (i + 1)
+      pairing-past l = skipped (rw (e, le-ltb (outer .0) declared l))
+
+      pub pairing-more : outer .0 < declared → {def : DefLifetime} → def ≡ defLifetime i → Pairing path declared (set pairs n (record { def = def; outer = outer })) (n + 1) (i + 1)
+      pairing-more l {def} d =
+          let s : pairsFrom declared i (drop i path) ≡ fieldPair i (outer .0) ∷ pairsFrom declared (i + 1) (drop (i + 1) path) = here ∙ rw (e, lt-ltb (outer .0) declared l) in
+          let c : n + suc (length (pairsFrom declared (i + 1) (drop (i + 1) path))) ≡ length (pairsFrom declared 0 path) = rw s at (inv .counts) in
+          record {
+            before = omega (arith, inv .before);
+            size = length-set pairs n (record { def = def; outer = outer }) ∙ inv .size;
+            counts = omega arith;
+            stored = rw (d, add-one n) (rw s at (inv .stored));
+          }
+
+  all-stored : length path ≤ 16 → length path ≤ i → (n ≡ length (pairsFrom declared 0 path)) × (pairs ≡ placed (pairsFrom declared 0 path))
+  unfolding pairsFrom
+  all-stored few h =
+      let z : drop i path ≡ [] = drop-of-length-le path {i = i} h in
+      let c : n + 0 ≡ length (pairsFrom declared 0 path) = rw z at (inv .counts) in
+      let s : pairs ≡ sets (replicate 16 (fieldPair 0 0)) 0 (pairsFrom declared 0 path) = rw z at (inv .stored) in
+      let l : length (pairsFrom declared 0 path) ≤ 16 = omega (arith, pairs-few declared 0 path) in
+      (omega arith, s ∙ sets-eq (pairsFrom declared 0 path) (replicate 16 (fieldPair 0 0)) 0 (rw (length-replicate, zero-add) l) ∙ rw (zero-add, drop-replicate (length (pairsFrom declared 0 path)) 16 (fieldPair 0 0)))
+
+  module _ (few : length path ≤ 16) (h : length path ≤ i) where
+    pub pairing-none : n ≡ 0 → record { answer = answer.Absent; pairs = pairs } ≡ givenPairs (pairsFrom declared 0 path)
+    pairing-none e = let s = all-stored few h in go (pairsFrom declared 0 path) (sym (s .0) ∙ e) (s .1)
+      where
+        go : (l : List FieldPair) → length l ≡ 0 → pairs ≡ placed l → record { answer = answer.Absent; pairs = pairs } ≡ givenPairs l
+        go [] e q = rw q
+        go (p ∷ l) e q = absurd (omega arith)
+
+    pub pairing-some : (n ≡ 0 → ⊥) → record { answer = answer.Pairs n; pairs = pairs } ≡ givenPairs (pairsFrom declared 0 path)
+    pairing-some e = let s = all-stored few h in go (pairsFrom declared 0 path) (s .0) (s .1)
+      where
+        go : (l : List FieldPair) → n ≡ length l → pairs ≡ placed l → record { answer = answer.Pairs n; pairs = pairs } ≡ givenPairs l
+        go [] k q = absurd (e k)
+        go (p ∷ l) k q = rw (k, q)
+
+-- the same where the path words are read in place
+path-size : (words : List ℕ) (from count : ℕ) → PathThere (length words) from count → length (take count (drop from words)) ≡ count
+path-size words from zero there = refl
+path-size words from (suc n) there = let last = there n (omega arith) in simp (length-take, length-drop) (omega arith)
+
+module _ (words : List ℕ) (from count : ℕ) (there : PathThere (length words) from count) {declared : ℕ} {pairs : List FieldPair} {n i : ℕ}
+    (inv : Pairing (take count (drop from words)) declared pairs n i) where
+  module _ (h : i < count) {m : MaybeStaticDef} (q : m ≡ defFromWord (getD words (from + i) 0)) where
+    inside : i < length (take count (drop from words))
+    inside = rw (path-size words from count there) h
+
+    word : m ≡ defFromWord (getD (take count (drop from words)) i 0)
+    word = q ∙ rw (getD-take count (drop from words) i 0 h, getD-drop from words i 0)
+
+    pub taking-static : m ≡ Static → Pairing (take count (drop from words)) declared pairs n (i + 1)
+    taking-static e = pairing-static inv inside word e
+
+    pub taking-past : {outer : DefLifetime} → m ≡ NonStatic outer → declared ≤ outer .0 → Pairing (take count (drop from words)) declared pairs n (i + 1)
+    taking-past e l = pairing-past inv inside word e l
+
+    pub taking-more : {outer : DefLifetime} → m ≡ NonStatic outer → outer .0 < declared → {def : DefLifetime} → def ≡ defLifetime i
+        → Pairing (take count (drop from words)) declared (set pairs n (record { def = def; outer = outer })) (n + 1) (i + 1)
+    taking-more e l d = pairing-more inv inside word e l d
+
+  module _ (few : count ≤ 16) (h : count ≤ i) where
+    pub taking-none : n ≡ 0 → record { answer = answer.Absent; pairs = pairs } ≡ givenPairs (pairsFrom declared 0 (take count (drop from words)))
+    taking-none e = let s = path-size words from count there in pairing-none inv (omega arith) (omega arith) e
+
+    pub taking-some : (n ≡ 0 → ⊥) → record { answer = answer.Pairs n; pairs = pairs } ≡ givenPairs (pairsFrom declared 0 (take count (drop from words)))
+    taking-some e = let s = path-size words from count there in pairing-some inv (omega arith) (omega arith) e
+
+-- ---- the ways out
+
+module _ (structs : List ℕ) (row field : ℕ) {sh : Listed} (q : sh ≡ howMany (structsInShape structs) (rowsOf structs)) where
+  pub compute-torn : {r : Refusal} → sh ≡ listed.Refused r → record { answer = answer.Refused Malformed; pairs = placed [] } ≡ fieldAnswer (fieldPairs structs row field)
+  unfolding fieldPairs unless
+  compute-torn e = rw (refused-shape (structsInShape structs) (rowsOf structs) q e)
+
+  module _ {rows : ℕ} (e : sh ≡ listed.Count rows) where
+    pub in-order : (structsInShape structs ≡ true) × (length (rowsOf structs) ≡ rows)
+    in-order = counted-shape (structsInShape structs) (rowsOf structs) q e
+
+    module _ {r : Located} (f : FieldIs structs row field r) where
+      pub compute-other : r ≡ Missing → record { answer = answer.Refused Malformed; pairs = placed [] } ≡ fieldAnswer (fieldPairs structs row field)
+      unfolding fieldPairs unless
+      compute-other k = rw (in-order .0, go (subst (FieldIs structs row field) k f))
+        where
+          go : FieldIs structs row field Missing → isStruct (fieldAt (rowsOf structs) row field .kind) ≡ false
+          go (other h) = h
+
+      module _ {p : Parts} (k : r ≡ At p) where
+        pub asked : (isStruct (fieldAt (rowsOf structs) row field .kind) ≡ true) × (p .count ≡ length (fieldAt (rowsOf structs) row field .path)) × (p .count ≤ 16)
+            × (take (p .count) (drop (p .from) structs) ≡ fieldAt (rowsOf structs) row field .path)
+        asked = go (subst (FieldIs structs row field) k f)
+          where
+            go : FieldIs structs row field (At p) → (isStruct (fieldAt (rowsOf structs) row field .kind) ≡ true) × (p .count ≡ length (fieldAt (rowsOf structs) row field .path)) × (p .count ≤ 16)
+                × (take (p .count) (drop (p .from) structs) ≡ fieldAt (rowsOf structs) row field .path)
+            go (struct a b c d) = (a, b, c, d)
+
+        -- the words stand there, and there are rows as far as the one asked for
+        pub asked-there : PathThere (length structs) (p .from) (p .count)
+        asked-there i h = let n = simp (length-take, length-drop) at (ap length (asked .3)) in omega (arith, asked .1)
+
+        pub asked-row : row < length (rowsOf structs)
+        asked-row = go (ltb row (length (rowsOf structs))) refl
+          where
+            go : (b : Bool) → ltb row (length (rowsOf structs)) ≡ b → row < length (rowsOf structs)
+            go true b = ltb-true row (length (rowsOf structs)) b
+            go false b =
+                let d : rowAt (rowsOf structs) row ≡ rowWith 0 [] = List·getD-eq-default (rowsOf structs) (rowWith 0 []) (ltb-false row (length (rowsOf structs)) b) in
+                passed (rw d at (asked .0))
+
+        module _ {lifetimes places : List ℕ} {v : Verdict} (x : Indexes structs lifetimes places v) where
+          pub compute-refused : {s : Refusal} → v ≡ Refused s → record { answer = answer.Refused s; pairs = placed [] } ≡ fieldAnswer (fieldPairs structs row field)
+          unfolding fieldPairs
+          compute-refused {s} z =
+              let fine : not (structsInShape structs && isStruct (fieldAt (rowsOf structs) row field .kind)) ≡ false = rw (in-order .0, asked .0) in
+              let due : FirstDue s (fieldChecks structs row field) = later fine (refused-first (tt {0}) s (rowChecks (rowsOf structs) 0 (rowsOf structs)) (sym (x .verdict) ∙ z)) in
+              rw (due-refused (pairsFrom (rowAt (rowsOf structs) row .lifetimes) 0 (fieldAt (rowsOf structs) row field .path)) due)
+
+          module _ (z : v ≡ Accepted) where
+            pub few-rows : row < 32
+            few-rows = omega (arith, asked-row, x .few z)
+
+            pub compute-given : {l : FieldLifetimes} → l ≡ givenPairs (pairsFrom (getD lifetimes row 0) 0 (take (p .count) (drop (p .from) structs))) → l ≡ fieldAnswer (fieldPairs structs row field)
+            unfolding fieldPairs
+            compute-given g =
+                let fine : not (structsInShape structs && isStruct (fieldAt (rowsOf structs) row field .kind)) ≡ false = rw (in-order .0, asked .0) in
+                let none : NoneDue (fieldChecks structs row field) = next fine (accepted-none (tt {0}) (rowChecks (rowsOf structs) 0 (rowsOf structs)) (sym (x .verdict) ∙ z)) in
+                g ∙ rw (due-given (pairsFrom (rowAt (rowsOf structs) row .lifetimes) 0 (fieldAt (rowsOf structs) row field .path)) none, ← x .holding z row asked-row, asked .3)

@@ -1,0 +1,246 @@
+-- The refusal of a method, one stage after another: each stage answers the verdict of its own checks.
+use Prim.Native.Nat.{ℕ, _≤_, _<_}
+use mathlib.Core.Bool.{Bool, true, false, cond, _&&_}
+use mathlib.Core.Path.{_≡_, refl, sym, ap, subst, _∙_}
+use mathlib.Core.List.{List, [], _∷_, _++_}
+use native.Mathlib.Omega.{arith}
+use lib.ListN.{length, drop}
+use borrow.Author.Tests.{lt-ltb, le-ltb}
+use Rattle.lifetimes.specs.declared.answer.Refusal.{Refusal}
+use Rattle.lifetimes.specs.declared.answer.Refusal.the-variants.{Malformed, Full, Mismatch, OutOfRange}
+use Rattle.lifetimes.specs.declared.answer.Verdict.{Verdict}
+use Rattle.lifetimes.specs.declared.answer.Verdict.the-variants.{Accepted, Refused}
+use Rattle.lifetimes.specs.declared.env.LifetimeEnv.{LifetimeEnv}
+use Rattle.lifetimes.specs.Refusals.{Check, check, Refuses, unless}
+use Rattle.lifetimes.specs.Lent.{verdictOf}
+use Rattle.lifetimes.specs.Env.{envChecks}
+use Rattle.lifetimes.specs.Sets.{setOf}
+use Rattle.lifetimes.proofs.RefusalLaws.{accepted-none}
+use Rattle.lifetimes.proofs.EnvLaws.{valid}
+use Rattle.records.specs.Reading.{Read}
+use Rattle.records.specs.Ends.{judged}
+use Rattle.records.proofs.ReadingLaws.{passed}
+use Rattle.records.proofs.VerdictLaws.{judged-after, judged-stays, refused-accepted}
+use Rattle.lowered_types.specs.declared.shapes.Shape.{Shape}
+use Rattle.lowered_types.specs.Rows.{readKnown, readTypes, rowsOf, structsInShape, paramsInShape, typesOf, outputInShape, methodInShape, methodShape}
+use Rattle.hir_types.specs.declared.fits.Fit.{Fit}
+use Rattle.hir_types.specs.declared.fits.Fit.the-variants.{To, Misfit}
+use Rattle.hir_types.specs.declared.output.Collected.{Collected}
+use Rattle.hir_types.specs.declared.output.Collected.the-variants.{Set, Past}
+use Rattle.hir_types.specs.Method.{typeChecks, rowChecks, paramChecks, placeChecks, typesIn, outputLifetimes, anyPast, methodChecks}
+use Rattle.hir_types.specs.Used.{outputNumbers}
+use Rattle.hir_types.specs.Inner.{TypesFit, ParamsFit, Indexes, CollectIs, within, past, TypesCollect, InShape, Places, Judges}
+use Rattle.hir_types.proofs.PassLaws.{items-start, items-types}
+use Rattle.hir_types.proofs.FitLaws.{fit-goes, fit-stops}
+
+-- ---- by place
+
+-- the types of a record in shape, by their number
+pub types-read : (n : ℕ) (words : List ℕ) {count : ℕ} → paramsInShape n words ≡ true → count ≡ length (typesOf n words) → (rest : List ℕ) × (readTypes n count words ≡ Read (typesOf n words) rest)
+types-read n words e q =
+    let r = items-types n 0 (length words) words (typesOf n words) (items-start (λ number. readKnown n) words e) in
+    (r .0, rw q (r .1))
+
+refused-places : (structs params output places : List ℕ) {v : Verdict} {r : Refusal} → length places ≡ 32 → v ≡ judged (placeChecks structs params output) → v ≡ Refused r
+    → Places structs params output places v
+refused-places structs params output places s e k =
+    record { verdict = e; size = s; few = λ a. refused-accepted (sym k ∙ a); placed = λ a. refused-accepted (sym k ∙ a) }
+
+module _ {structs params output lifetimes places : List ℕ} {rows inputs outputs : ℕ} (s : InShape structs params output rows inputs outputs) {v : Verdict} (x : Indexes structs lifetimes places v) where
+  pub places-rows : {r : Refusal} → v ≡ Refused r → Places structs params output places v
+  places-rows k =
+      refused-places structs params output places (x .sizes .1)
+      (k ∙ sym (judged-stays (rowChecks (rowsOf structs) 0 (rowsOf structs)) (paramChecks (rowsOf structs) 0 (typesIn structs params) ++ typeChecks (rowsOf structs) (typesIn structs output)) (sym (x .verdict) ∙ k)))
+      k
+
+  module _ (a : v ≡ Accepted) {w : Verdict} (f : ParamsFit params inputs lifetimes w) where
+    past-rows : judged (placeChecks structs params output) ≡ judged (paramChecks (rowsOf structs) 0 (typesIn structs params) ++ typeChecks (rowsOf structs) (typesIn structs output))
+    past-rows = judged-after (rowChecks (rowsOf structs) 0 (rowsOf structs)) (paramChecks (rowsOf structs) 0 (typesIn structs params) ++ typeChecks (rowsOf structs) (typesIn structs output)) (sym (x .verdict) ∙ a)
+
+    params-judged : w ≡ judged (paramChecks (rowsOf structs) 0 (typesIn structs params))
+    params-judged =
+        let t = types-read (length (rowsOf structs)) params (s .params-shape) (s .input-count) in
+        f (rowsOf structs) (length (rowsOf structs)) (typesIn structs params) (t .0) (x .few a) (x .holding a) (t .1)
+
+    pub places-params : {r : Refusal} → w ≡ Refused r → Places structs params output places w
+    places-params k =
+        refused-places structs params output places (x .sizes .1)
+        (k ∙ sym (past-rows ∙ judged-stays (paramChecks (rowsOf structs) 0 (typesIn structs params)) (typeChecks (rowsOf structs) (typesIn structs output)) (sym params-judged ∙ k)))
+        k
+
+    module _ (b : w ≡ Accepted) {t : Fit} (g : TypesFit output 0 outputs lifetimes t) where
+      past-params : judged (placeChecks structs params output) ≡ judged (typeChecks (rowsOf structs) (typesIn structs output))
+      past-params = past-rows ∙ judged-after (paramChecks (rowsOf structs) 0 (typesIn structs params)) (typeChecks (rowsOf structs) (typesIn structs output)) (sym params-judged ∙ b)
+
+      pub places-output : t ≡ Misfit → Places structs params output places (Refused Mismatch)
+      places-output k =
+          let o = types-read (length (rowsOf structs)) output (s .output-shape) (s .output-count) in
+          refused-places structs params output places (x .sizes .1)
+          (sym (past-params ∙ fit-stops (g (rowsOf structs) (length (rowsOf structs)) (typesIn structs output) (o .0) (x .few a) (x .holding a) (o .1)) k))
+          refl
+
+      pub places-all : {next : ℕ} → t ≡ To next → Places structs params output places Accepted
+      places-all k =
+          let o = types-read (length (rowsOf structs)) output (s .output-shape) (s .output-count) in
+          record {
+            verdict = sym (past-params ∙ (fit-goes (g (rowsOf structs) (length (rowsOf structs)) (typesIn structs output) (o .0) (x .few a) (x .holding a) (o .1)) k) .accepted);
+            size = x .sizes .1;
+            few = λ e. x .few a;
+            placed = λ e. x .placed a;
+          }
+
+-- ---- the whole
+
+-- a verdict does not depend on what would be given
+same-verdict : {A B : Type 0} (checks : List Check) (a : A) (b : B) → verdictOf (unless checks a) ≡ verdictOf (unless checks b)
+unfolding unless
+same-verdict [] a b = refl
+same-verdict (c ∷ checks) a b = go (c .due) (same-verdict checks a b)
+  where
+    go : (t : Bool) → verdictOf (unless checks a) ≡ verdictOf (unless checks b)
+        → verdictOf (cond t (Refuses (c .refusal)) (unless checks a)) ≡ verdictOf (cond t (Refuses (c .refusal)) (unless checks b))
+    go true e = refl
+    go false e = e
+
+both-true : (a b : Bool) → (a && b) ≡ true → (a ≡ true) × (b ≡ true)
+both-true true b e = (refl, e)
+both-true false b e = passed e
+
+-- what a shape says
+module _ (structs params output force : List ℕ) {sh : Shape} (q : sh ≡ methodShape structs params output force) where
+  torn : {r : Refusal} → sh .verdict ≡ Refused r → (methodInShape structs params output force ≡ false) × (sh .verdict ≡ Refused Malformed)
+  unfolding methodShape
+  torn {r} k = go (methodInShape structs params output force) refl
+    where
+      go : (b : Bool) → methodInShape structs params output force ≡ b → (methodInShape structs params output force ≡ false) × (sh .verdict ≡ Refused Malformed)
+      go true e =
+          let z : sh .verdict ≡ Accepted = ap (λ (s : Shape). s .verdict) q ∙ rw e in
+          refused-accepted (sym k ∙ z)
+      go false e = (e, ap (λ (s : Shape). s .verdict) q ∙ rw e)
+
+  pub shaped : sh .verdict ≡ Accepted → methodInShape structs params output force ≡ true
+  unfolding methodShape
+  shaped k = go (methodInShape structs params output force) refl
+    where
+      go : (b : Bool) → methodInShape structs params output force ≡ b → methodInShape structs params output force ≡ true
+      go true e = e
+      go false e =
+          let z : sh .verdict ≡ Refused Malformed = ap (λ (s : Shape). s .verdict) q ∙ rw e in
+          refused-accepted (sym z ∙ k)
+
+  pub in-shape : sh .verdict ≡ Accepted → InShape structs params output (sh .rows) (sh .params) (sh .outputs)
+  unfolding methodShape methodInShape
+  in-shape k =
+      let whole = shaped k in
+      let first = both-true (structsInShape structs) _ whole in
+      let second = both-true (paramsInShape (length (rowsOf structs)) params) _ (first .1) in
+      let third = both-true (outputInShape (length (rowsOf structs)) output) _ (second .1) in
+      let fourth = both-true (paramsInShape (length (rowsOf structs)) output) _ (third .0) in
+      record {
+        structs-shape = first .0;
+        params-shape = second .0;
+        output-shape = fourth .0;
+        row-count = ap (λ (s : Shape). s .rows) q ∙ rw whole;
+        input-count = ap (λ (s : Shape). s .params) q ∙ rw whole;
+        output-count = ap (λ (s : Shape). s .outputs) q ∙ rw whole;
+      }
+
+refused-judges : (env : LifetimeEnv) (structs params output force places : List ℕ) {v : Verdict} {r : Refusal} → length places ≡ 32
+    → v ≡ judged (methodChecks env structs params output force) → v ≡ Refused r → Judges env structs params output force places (record { verdict = v; rows = 0; params = 0; used = 0 })
+refused-judges env structs params output force places s e k =
+    record {
+      verdict = e;
+      size = s;
+      few = λ a. refused-accepted (sym k ∙ a);
+      placed = λ a. refused-accepted (sym k ∙ a);
+      shape = λ a. refused-accepted (sym k ∙ a);
+      counts = λ a. refused-accepted (sym k ∙ a);
+      used = λ a. refused-accepted (sym k ∙ a);
+      small = λ a. refused-accepted (sym k ∙ a);
+    }
+
+module _ (env : LifetimeEnv) (structs params output force : List ℕ) {sh : Shape} (q : sh ≡ methodShape structs params output force) where
+  pub judge-torn : {places : List ℕ} → length places ≡ 32 → {r : Refusal} → sh .verdict ≡ Refused r
+      → Judges env structs params output force places (record { verdict = sh .verdict; rows = 0; params = 0; used = 0 })
+  unfolding unless
+  judge-torn {places} s k =
+      let t = torn structs params output force q k in
+      refused-judges env structs params output force places s (t .1 ∙ rw (t .0)) k
+
+  module _ (a : sh .verdict ≡ Accepted) where
+    pub judge-lifetimes : {places : List ℕ} → length places ≡ 32 → 64 < env .count → Judges env structs params output force places (record { verdict = Refused Full; rows = 0; params = 0; used = 0 })
+    unfolding unless
+    judge-lifetimes {places} s h = refused-judges env structs params output force places s (rw (shaped structs params output force q a, lt-ltb 64 (env .count) h)) refl
+
+    module _ (lifetimes : env .count ≤ 64) where
+      pub judge-bounds : {places : List ℕ} → length places ≡ 32 → 256 < env .pushed → Judges env structs params output force places (record { verdict = Refused Full; rows = 0; params = 0; used = 0 })
+      unfolding unless
+      judge-bounds {places} s h =
+          refused-judges env structs params output force places s (rw (shaped structs params output force q a, le-ltb 64 (env .count) lifetimes, lt-ltb 256 (env .pushed) h)) refl
+
+      module _ (bounds : env .pushed ≤ 256) {places : List ℕ} {v : Verdict} (x : Places structs params output places v) where
+        abbrev outside : List Check
+        outside = check (anyPast (env .count) (outputLifetimes structs output)) OutOfRange ∷ []
+
+        past-limits : judged (methodChecks env structs params output force) ≡ judged (placeChecks structs params output ++ (drop 2 (envChecks env) ++ outside))
+        unfolding unless
+        past-limits = rw (shaped structs params output force q a, le-ltb 64 (env .count) lifetimes, le-ltb 256 (env .pushed) bounds)
+
+        pub judge-place : {r : Refusal} → v ≡ Refused r → Judges env structs params output force places (record { verdict = v; rows = 0; params = 0; used = 0 })
+        judge-place k =
+            refused-judges env structs params output force places (x .size)
+            (k ∙ sym (past-limits ∙ judged-stays (placeChecks structs params output) (drop 2 (envChecks env) ++ outside) (sym (x .verdict) ∙ k)))
+            k
+
+        module _ (b : v ≡ Accepted) {w : Verdict} (y : w ≡ verdictOf (unless (envChecks env) env)) where
+          past-places : judged (methodChecks env structs params output force) ≡ judged (drop 2 (envChecks env) ++ outside)
+          past-places = past-limits ∙ judged-after (placeChecks structs params output) (drop 2 (envChecks env) ++ outside) (sym (x .verdict) ∙ b)
+
+          env-judged : w ≡ judged (drop 2 (envChecks env))
+          unfolding unless
+          env-judged = y ∙ rw (le-ltb 64 (env .count) lifetimes, le-ltb 256 (env .pushed) bounds) (same-verdict (drop 2 (envChecks env)) env (tt {0}))
+
+          pub judge-env : {r : Refusal} → w ≡ Refused r → Judges env structs params output force places (record { verdict = w; rows = 0; params = 0; used = 0 })
+          judge-env k =
+              refused-judges env structs params output force places (x .size)
+              (k ∙ sym (past-places ∙ judged-stays (drop 2 (envChecks env)) outside (sym env-judged ∙ k)))
+              k
+
+          module _ (d : w ≡ Accepted) {t : Collected} (z : TypesCollect output 0 (sh .outputs) (env .count) 0 t) where
+            past-env : judged (methodChecks env structs params output force) ≡ judged outside
+            past-env = past-places ∙ judged-after (drop 2 (envChecks env)) outside (sym env-judged ∙ d)
+
+            collected : CollectIs (env .count) 0 (outputLifetimes structs output) t
+            collected =
+                let i = in-shape structs params output force q a in
+                let o = types-read (length (rowsOf structs)) output (i .output-shape) (i .output-count) in
+                z (length (rowsOf structs)) (typesIn structs output) (o .0) (o .1)
+
+            pub judge-outside : t ≡ Past → Judges env structs params output force places (record { verdict = Refused OutOfRange; rows = 0; params = 0; used = 0 })
+            unfolding unless
+            judge-outside k =
+                refused-judges env structs params output force places (x .size) (sym (past-env ∙ rw (go (subst (CollectIs (env .count) 0 (outputLifetimes structs output)) k collected)))) refl
+              where
+                go : CollectIs (env .count) 0 (outputLifetimes structs output) Past → anyPast (env .count) (outputLifetimes structs output) ≡ true
+                go (past h) = h
+
+            pub judge-all : {used : ℕ} → t ≡ Set used
+                → Judges env structs params output force places (record { verdict = Accepted; rows = sh .rows; params = sh .params; used = used })
+            unfolding unless
+            judge-all {used} k =
+                let i = in-shape structs params output force q a in
+                let g = go (subst (CollectIs (env .count) 0 (outputLifetimes structs output)) k collected) in
+                record {
+                  verdict = sym (past-env ∙ rw (g .0));
+                  size = x .size;
+                  few = λ e. x .few b;
+                  placed = λ e. x .placed b;
+                  shape = λ e. shaped structs params output force q a;
+                  counts = λ e. (i .row-count, i .input-count);
+                  used = λ e. g .1;
+                  small = λ e. omega (arith, (valid env (accepted-none env (envChecks env) (sym y ∙ d))) .declares);
+                }
+              where
+                go : CollectIs (env .count) 0 (outputLifetimes structs output) (Set used)
+                    → (anyPast (env .count) (outputLifetimes structs output) ≡ false) × (used ≡ setOf (outputNumbers structs output))
+                go (within h e) = (h, e)

@@ -1,0 +1,74 @@
+-- `field_at` meets its contract: each way out is one law of proofs/FieldLaws.antt.
+use mathlib.Core.Path.{sym, _∙_}
+use borrow.Author.Tests.{not-true, not-false}
+use native.Mathlib.Omega.{arith}
+use Rattle.lowered_types.proofs.FoundLaws.{found-told, missing-told}
+use Rattle.hir_types.proofs.FieldLaws.{field-no-row, field-past, field-lost, field-other, field-struct}
+use borrow.Author.Needs.{needs}
+use Rattle.hir_types.proofs.fields.field_at.Statement.{statement}
+use Rattle.hir_types.proofs.fields.field_at.Tie as tie
+
+returns : tie.Need-returns
+returns c = field-no-row (c .before .before .args .structs .now) (c .before .before .args .row) (c .before .before .args .field) (omega (arith, c .before .before .pre .1))
+
+row-place-requires : tie.Need-row-place-requires
+row-place-requires c κs = search needs
+
+add-count : tie.Need-add-count
+add-count c = search needs
+
+mul-count : tie.Need-mul-count
+mul-count c = search needs
+
+shared-slice-read-count : tie.Need-shared-slice-read-count
+shared-slice-read-count c = search needs
+
+returns-2 : tie.Need-returns-2
+returns-2 c = field-past (c .before .before .before .before .before .args .structs .now) (c .before .before .before .before .before .args .row) (c .before .before .before .before .before .args .field) (c .before .before .row-place .ensures) (c .if2 .taken)
+
+add-skip-types : tie.Need-add-skip-types
+add-skip-types c = search needs
+
+skip-types-requires : tie.Need-skip-types-requires
+skip-types-requires c κs = search needs
+
+type-at-requires : tie.Need-type-at-requires
+type-at-requires c κs = search needs
+
+enum-known-found : tie.Need-enum-known-found
+enum-known-found c = search needs
+
+enum-told : tie.Need-enum-told
+enum-told c = search needs
+
+returns-3 : tie.Need-returns-3
+returns-3 c = field-lost (c .before .before .before .before .before .before .before .before .before .args .structs .now) (c .before .before .before .before .before .before .before .before .before .args .row) (c .before .before .before .before .before .before .before .before .before .args .field) (c .before .before .before .before .before .before .row-place .ensures) (c .before .before .before .before .if2 .left) (c .before .before .before .skip-types .result) (c .before .before .before .skip-types .ensures) (missing-told (c .before .before .type-at .ensures .1) (c .enum-told .given .1))
+
+is-struct-requires : tie.Need-is-struct-requires
+is-struct-requires c κs = search needs
+
+returns-4 : tie.Need-returns-4
+returns-4 c = field-other (c .before .before .before .before .before .before .before .before .before .before .before .before .args .structs .now) (c .before .before .before .before .before .before .before .before .before .before .before .before .args .row) (c .before .before .before .before .before .before .before .before .before .before .before .before .args .field) (c .before .before .before .before .before .before .before .before .before .row-place .ensures) (c .before .before .before .before .before .before .before .if2 .left) (c .before .before .before .before .before .before .skip-types .result) (c .before .before .before .before .before .before .skip-types .ensures) (found-told (c .before .before .before .before .before .type-at .ensures .1) (c .before .before .before .found .given .1)) (sym (c .before .is-struct .ensures) ∙ not-true _ (c .if3 .taken))
+
+returns-5 : tie.Need-returns-5
+returns-5 c = field-struct (c .before .before .before .before .before .before .before .before .before .before .before .before .args .structs .now) (c .before .before .before .before .before .before .before .before .before .before .before .before .args .row) (c .before .before .before .before .before .before .before .before .before .before .before .before .args .field) (c .before .before .before .before .before .before .before .before .before .row-place .ensures) (c .before .before .before .before .before .before .before .if2 .left) (c .before .before .before .before .before .before .skip-types .result) (c .before .before .before .before .before .before .skip-types .ensures) (found-told (c .before .before .before .before .before .type-at .ensures .1) (c .before .before .before .found .given .1)) (sym (c .before .is-struct .ensures) ∙ not-false _ (c .if3 .left))
+
+pub field-at-spec : {M : Type 1} → statement M
+field-at-spec =
+    tie.close
+    (tie.spec
+    returns
+    row-place-requires
+    add-count
+    mul-count
+    shared-slice-read-count
+    returns-2
+    add-skip-types
+    skip-types-requires
+    type-at-requires
+    enum-known-found
+    enum-told
+    returns-3
+    is-struct-requires
+    returns-4
+    returns-5)

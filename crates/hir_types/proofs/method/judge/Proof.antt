@@ -1,0 +1,110 @@
+-- `judge` meets its contract: each stage is one law of proofs/MethodLaws.antt.
+use Rattle.hir_types.proofs.MethodLaws.{in-shape, judge-torn, judge-lifetimes, judge-bounds, judge-place, judge-env, judge-outside, judge-all}
+use borrow.Author.Needs.{needs}
+use Rattle.hir_types.proofs.method.judge.Statement.{statement}
+use Rattle.hir_types.proofs.method.judge.Tie as tie
+
+method-shape-requires : tie.Need-method-shape-requires
+method-shape-requires c κs = search needs
+
+enum-told : tie.Need-enum-told
+enum-told c = search needs
+
+enum-told-2 : tie.Need-enum-told-2
+enum-told-2 c = search needs
+
+refused-requires : tie.Need-refused-requires
+refused-requires c κs = search needs
+
+returns : tie.Need-returns
+returns c = rw (c .refused .ensures) (judge-torn (c .before .before .before .before .before .before .before .before .args .env) (c .before .before .before .before .before .before .before .before .args .structs .now) (c .before .before .before .before .before .before .before .before .args .params .now) (c .before .before .before .before .before .before .before .before .args .output .now) (c .before .before .before .before .before .before .before .before .args .force .now) (c .before .before .before .method-shape .ensures) (c .before .before .before .before .before .before .before .before .pre) (c .before .enum-told2 .given .1))
+
+refused-requires-2 : tie.Need-refused-requires-2
+refused-requires-2 c κs = search needs
+
+returns-2 : tie.Need-returns-2
+returns-2 c = rw (c .refused2 .ensures) (judge-lifetimes (c .before .before .before .before .before .before .before .before .before .args .env) (c .before .before .before .before .before .before .before .before .before .args .structs .now) (c .before .before .before .before .before .before .before .before .before .args .params .now) (c .before .before .before .before .before .before .before .before .before .args .output .now) (c .before .before .before .before .before .before .before .before .before .args .force .now) (c .before .before .before .before .method-shape .ensures) (c .before .before .enum-told .given .1) (c .before .before .before .before .before .before .before .before .before .pre) (c .before .if1 .taken))
+
+refused-requires-3 : tie.Need-refused-requires-3
+refused-requires-3 c κs = search needs
+
+returns-3 : tie.Need-returns-3
+returns-3 c = rw (c .refused3 .ensures) (judge-bounds (c .before .before .before .before .before .before .before .before .before .before .args .env) (c .before .before .before .before .before .before .before .before .before .before .args .structs .now) (c .before .before .before .before .before .before .before .before .before .before .args .params .now) (c .before .before .before .before .before .before .before .before .before .before .args .output .now) (c .before .before .before .before .before .before .before .before .before .before .args .force .now) (c .before .before .before .before .before .method-shape .ensures) (c .before .before .before .enum-told .given .1) (c .before .before .if1 .left) (c .before .before .before .before .before .before .before .before .before .before .pre) (c .before .if2 .taken))
+
+judge-places-requires : tie.Need-judge-places-requires
+judge-places-requires c κs = (in-shape (c .before .before .before .before .before .before .before .before .before .before .args .structs .now) (c .before .before .before .before .before .before .before .before .before .before .args .params .now) (c .before .before .before .before .before .before .before .before .before .before .args .output .now) (c .before .before .before .before .before .before .before .before .before .before .args .force .now) (c .before .before .before .before .before .method-shape .ensures) (c .before .before .before .enum-told .given .1), c .before .before .before .before .before .before .before .before .before .before .pre)
+
+enum-told-3 : tie.Need-enum-told-3
+enum-told-3 c = search needs
+
+enum-told-4 : tie.Need-enum-told-4
+enum-told-4 c = search needs
+
+refused-requires-4 : tie.Need-refused-requires-4
+refused-requires-4 c κs = search needs
+
+returns-4 : tie.Need-returns-4
+returns-4 c = rw (c .refused4 .ensures) (judge-place (c .before .before .before .before .before .before .before .before .before .before .before .before .before .before .args .env) (c .before .before .before .before .before .before .before .before .before .before .before .before .before .before .args .structs .now) (c .before .before .before .before .before .before .before .before .before .before .before .before .before .before .args .params .now) (c .before .before .before .before .before .before .before .before .before .before .before .before .before .before .args .output .now) (c .before .before .before .before .before .before .before .before .before .before .before .before .before .before .args .force .now) (c .before .before .before .before .before .before .before .before .before .method-shape .ensures) (c .before .before .before .before .before .before .before .enum-told .given .1) (c .before .before .before .before .before .before .if1 .left) (c .before .before .before .before .before .if2 .left) (c .before .before .before .judge-places .ensures) (c .before .enum-told4 .given .1))
+
+check-requires : tie.Need-check-requires
+check-requires c κs = search needs
+
+enum-told-5 : tie.Need-enum-told-5
+enum-told-5 c = search needs
+
+enum-told-6 : tie.Need-enum-told-6
+enum-told-6 c = search needs
+
+refused-requires-5 : tie.Need-refused-requires-5
+refused-requires-5 c κs = search needs
+
+returns-5 : tie.Need-returns-5
+returns-5 c = rw (c .refused5 .ensures) (judge-env (c .before .before .before .before .before .before .before .before .before .before .before .before .before .before .before .before .before .args .env) (c .before .before .before .before .before .before .before .before .before .before .before .before .before .before .before .before .before .args .structs .now) (c .before .before .before .before .before .before .before .before .before .before .before .before .before .before .before .before .before .args .params .now) (c .before .before .before .before .before .before .before .before .before .before .before .before .before .before .before .before .before .args .output .now) (c .before .before .before .before .before .before .before .before .before .before .before .before .before .before .before .before .before .args .force .now) (c .before .before .before .before .before .before .before .before .before .before .before .before .method-shape .ensures) (c .before .before .before .before .before .before .before .before .before .before .enum-told .given .1) (c .before .before .before .before .before .before .before .before .before .if1 .left) (c .before .before .before .before .before .before .before .before .if2 .left) (c .before .before .before .before .before .before .judge-places .ensures) (c .before .before .before .before .enum-told3 .given .1) (c .before .before .before .check .ensures) (c .before .enum-told6 .given .1))
+
+collect-types-requires : tie.Need-collect-types-requires
+collect-types-requires c κs = search needs
+
+enum-known-collected : tie.Need-enum-known-collected
+enum-known-collected c = search needs
+
+enum-told-7 : tie.Need-enum-told-7
+enum-told-7 c = search needs
+
+refused-requires-6 : tie.Need-refused-requires-6
+refused-requires-6 c κs = search needs
+
+returns-6 : tie.Need-returns-6
+returns-6 c = rw (c .refused6 .ensures) (judge-outside (c .before .before .before .before .before .before .before .before .before .before .before .before .before .before .before .before .before .before .before .before .args .env) (c .before .before .before .before .before .before .before .before .before .before .before .before .before .before .before .before .before .before .before .before .args .structs .now) (c .before .before .before .before .before .before .before .before .before .before .before .before .before .before .before .before .before .before .before .before .args .params .now) (c .before .before .before .before .before .before .before .before .before .before .before .before .before .before .before .before .before .before .before .before .args .output .now) (c .before .before .before .before .before .before .before .before .before .before .before .before .before .before .before .before .before .before .before .before .args .force .now) (c .before .before .before .before .before .before .before .before .before .before .before .before .before .before .before .method-shape .ensures) (c .before .before .before .before .before .before .before .before .before .before .before .before .before .enum-told .given .1) (c .before .before .before .before .before .before .before .before .before .before .before .before .if1 .left) (c .before .before .before .before .before .before .before .before .before .before .before .if2 .left) (c .before .before .before .before .before .before .before .before .before .judge-places .ensures) (c .before .before .before .before .before .before .before .enum-told3 .given .1) (c .before .before .before .before .before .before .check .ensures) (c .before .before .before .before .enum-told5 .given .1) (c .before .before .before .collect-types .ensures) (c .before .enum-told7 .given .1))
+
+returns-7 : tie.Need-returns-7
+returns-7 c = judge-all (c .before .before .before .before .before .before .before .before .before .before .before .before .before .before .before .before .before .before .before .before .args .env) (c .before .before .before .before .before .before .before .before .before .before .before .before .before .before .before .before .before .before .before .before .args .structs .now) (c .before .before .before .before .before .before .before .before .before .before .before .before .before .before .before .before .before .before .before .before .args .params .now) (c .before .before .before .before .before .before .before .before .before .before .before .before .before .before .before .before .before .before .before .before .args .output .now) (c .before .before .before .before .before .before .before .before .before .before .before .before .before .before .before .before .before .before .before .before .args .force .now) (c .before .before .before .before .before .before .before .before .before .before .before .before .before .before .before .method-shape .ensures) (c .before .before .before .before .before .before .before .before .before .before .before .before .before .enum-told .given .1) (c .before .before .before .before .before .before .before .before .before .before .before .before .if1 .left) (c .before .before .before .before .before .before .before .before .before .before .before .if2 .left) (c .before .before .before .before .before .before .before .before .before .judge-places .ensures) (c .before .before .before .before .before .before .before .enum-told3 .given .1) (c .before .before .before .before .before .before .check .ensures) (c .before .before .before .before .enum-told5 .given .1) (c .before .before .before .collect-types .ensures) (c .before .collected .given .1)
+
+pub judge-spec : {M : Type 1} → statement M
+judge-spec =
+    tie.close
+    (tie.spec
+    method-shape-requires
+    enum-told
+    enum-told-2
+    refused-requires
+    returns
+    refused-requires-2
+    returns-2
+    refused-requires-3
+    returns-3
+    judge-places-requires
+    enum-told-3
+    enum-told-4
+    refused-requires-4
+    returns-4
+    check-requires
+    enum-told-5
+    enum-told-6
+    refused-requires-5
+    returns-5
+    collect-types-requires
+    enum-known-collected
+    enum-told-7
+    refused-requires-6
+    returns-6
+    returns-7)

@@ -1,0 +1,103 @@
+-- The shape of `force` and of `output`, and of a method's four records from that of each.
+use Prim.Native.Nat.{ℕ, _≤_, _<_}
+use mathlib.Core.Bool.{Bool, true, false}
+use mathlib.Core.Path.{_≡_, refl, sym, _∙_}
+use mathlib.Core.List.{List, [], _∷_}
+use native.Mathlib.Omega.{arith}
+use lib.ListN.{length, getD}
+use borrow.Author.Tests.{le-leb, lt-leb}
+use Rattle.lifetimes.specs.declared.answer.Refusal.{Refusal}
+use Rattle.lifetimes.specs.declared.answer.Refusal.the-variants.{Malformed}
+use Rattle.lifetimes.specs.declared.answer.Verdict.{Verdict}
+use Rattle.lifetimes.specs.declared.answer.Verdict.the-variants as verdict
+use Rattle.lifetimes.specs.declared.answer.Listed.{Listed}
+use Rattle.lifetimes.specs.declared.answer.Listed.the-variants.{Count, Refused}
+use Rattle.records.specs.Reading.{shapeVerdict}
+use Rattle.lowered_types.specs.Rows.{forceInShape, outputInShape, paramsInShape, structsInShape, rowsOf, typesOf, methodInShape, methodShape, noShape, howMany}
+
+-- ---- `force`
+
+pub force-size : (force : List ℕ) → (length force ≡ 1 → ⊥) → verdict.Refused Malformed ≡ shapeVerdict (forceInShape force)
+force-size [] h = refl
+force-size (word ∷ []) h = absurd (h refl)
+force-size (word ∷ other ∷ words) h = refl
+
+pub force-large : (force : List ℕ) → length force ≡ 1 → 1 < getD force 0 0 → verdict.Refused Malformed ≡ shapeVerdict (forceInShape force)
+force-large [] e h = absurd (omega arith)
+force-large (word ∷ []) e h = rw (lt-leb word 1 h)
+force-large (word ∷ other ∷ words) e h = absurd (omega arith)
+
+pub force-flag : (force : List ℕ) → length force ≡ 1 → getD force 0 0 ≤ 1 → verdict.Accepted ≡ shapeVerdict (forceInShape force)
+force-flag [] e h = absurd (omega arith)
+force-flag (word ∷ []) e h = rw (le-leb word 1 h)
+force-flag (word ∷ other ∷ words) e h = absurd (omega arith)
+
+-- ---- what a count says
+
+pub counted-shape : {A : Type 0} (b : Bool) (items : List A) {r : Listed} {n : ℕ} → r ≡ howMany b items → r ≡ Count n → (b ≡ true) × (length items ≡ n)
+counted-shape true items e k = let q : Count (length items) ≡ Count _ = sym e ∙ k in (refl, cc)
+counted-shape false items e k = let z : _≡_ {A = ℕ} 0 1 = cc in absurd (omega arith)
+
+pub refused-shape : {A : Type 0} (b : Bool) (items : List A) {r : Listed} {s : Refusal} → r ≡ howMany b items → r ≡ Refused s → b ≡ false
+refused-shape true items e k = let z : _≡_ {A = ℕ} 0 1 = cc in absurd (omega arith)
+refused-shape false items e k = refl
+
+flag-accepted : (b : Bool) {v : Verdict} → v ≡ shapeVerdict b → v ≡ verdict.Accepted → b ≡ true
+flag-accepted true e k = refl
+flag-accepted false e k = let z : _≡_ {A = ℕ} 0 1 = cc in absurd (omega arith)
+
+flag-refused : (b : Bool) {v : Verdict} {s : Refusal} → v ≡ shapeVerdict b → v ≡ verdict.Refused s → b ≡ false
+flag-refused true e k = let z : _≡_ {A = ℕ} 0 1 = cc in absurd (omega arith)
+flag-refused false e k = refl
+
+-- ---- `output`
+
+module _ (rows : ℕ) (output : List ℕ) {r : Listed} (e : r ≡ howMany (paramsInShape rows output) (typesOf rows output)) where
+  pub output-torn : {s : Refusal} → r ≡ Refused s → Refused Malformed ≡ howMany (outputInShape rows output) (typesOf rows output)
+  output-torn k = rw (refused-shape (paramsInShape rows output) (typesOf rows output) e k)
+
+  module _ {n : ℕ} (k : r ≡ Count n) where
+    pub output-third : 2 < n → Refused Malformed ≡ howMany (outputInShape rows output) (typesOf rows output)
+    output-third h =
+        let c = counted-shape (paramsInShape rows output) (typesOf rows output) e k in
+        rw (c .0, lt-leb (length (typesOf rows output)) 2 (omega (arith, c .1)))
+
+    pub output-few : n ≤ 2 → Count n ≡ howMany (outputInShape rows output) (typesOf rows output)
+    output-few h =
+        let c = counted-shape (paramsInShape rows output) (typesOf rows output) e k in
+        rw (c .0, le-leb (length (typesOf rows output)) 2 (omega (arith, c .1)), c .1)
+
+-- ---- the four records
+
+module _ (structs params output force : List ℕ) {a : Listed} (e : a ≡ howMany (structsInShape structs) (rowsOf structs)) where
+  pub method-structs : {s : Refusal} → a ≡ Refused s → noShape ≡ methodShape structs params output force
+  unfolding methodInShape methodShape
+  method-structs k = rw (refused-shape (structsInShape structs) (rowsOf structs) e k)
+
+  module _ {rows : ℕ} (k : a ≡ Count rows) {b : Listed} (f : b ≡ howMany (paramsInShape rows params) (typesOf rows params)) where
+    rows-right : (structsInShape structs ≡ true) × (length (rowsOf structs) ≡ rows)
+    rows-right = counted-shape (structsInShape structs) (rowsOf structs) e k
+
+    pub method-params : {s : Refusal} → b ≡ Refused s → noShape ≡ methodShape structs params output force
+    unfolding methodInShape methodShape
+    method-params l = rw (rows-right .0, rows-right .1, refused-shape (paramsInShape rows params) (typesOf rows params) f l)
+
+    module _ {n : ℕ} (l : b ≡ Count n) {c : Listed} (g : c ≡ howMany (outputInShape rows output) (typesOf rows output)) where
+      params-right : (paramsInShape rows params ≡ true) × (length (typesOf rows params) ≡ n)
+      params-right = counted-shape (paramsInShape rows params) (typesOf rows params) f l
+
+      pub method-output : {s : Refusal} → c ≡ Refused s → noShape ≡ methodShape structs params output force
+      unfolding methodInShape methodShape
+      method-output m = rw (rows-right .0, rows-right .1, params-right .0, refused-shape (outputInShape rows output) (typesOf rows output) g m)
+
+      module _ {m : ℕ} (q : c ≡ Count m) {v : Verdict} (w : v ≡ shapeVerdict (forceInShape force)) where
+        output-right : (outputInShape rows output ≡ true) × (length (typesOf rows output) ≡ m)
+        output-right = counted-shape (outputInShape rows output) (typesOf rows output) g q
+
+        pub method-force : {s : Refusal} → v ≡ verdict.Refused s → noShape ≡ methodShape structs params output force
+        unfolding methodInShape methodShape
+        method-force t = rw (rows-right .0, rows-right .1, params-right .0, output-right .0, flag-refused (forceInShape force) w t)
+
+        pub method-whole : v ≡ verdict.Accepted → record { verdict = verdict.Accepted; rows = rows; params = n; outputs = m } ≡ methodShape structs params output force
+        unfolding methodInShape methodShape
+        method-whole t = rw (rows-right .0, rows-right .1, params-right .0, output-right .0, flag-accepted (forceInShape force) w t, params-right .1, output-right .1)

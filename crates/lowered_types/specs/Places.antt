@@ -1,0 +1,26 @@
+-- Where a type's words stand: what `type_at` says besides its answer. It follows from the answer, and spares whoever reads on to show it again.
+use Prim.Native.Nat.{ℕ, _≤_, _<_}
+use mathlib.Core.Path.{_≡_}
+use mathlib.Core.List.{List}
+use lib.ListN.{length, take, drop}
+use Rattle.records.specs.Reading.{Reading, Read, Fails}
+use Rattle.lowered_types.specs.declared.types.Parts.{Parts}
+use Rattle.lowered_types.specs.declared.types.Located.{Located}
+use Rattle.lowered_types.specs.declared.types.Located.the-variants.{At, Missing}
+use Rattle.lowered_types.specs.LoweredTypes.{LoweredType}
+
+-- the parts of a type that stands at a place and is followed by some words
+pub record Stands (words : List ℕ) (at : ℕ) (t : LoweredType) (rest : List ℕ) (p : Parts) : Type 0 where
+  pub option : p .option ≡ t .option
+  pub kind : p .kind ≡ t .kind
+  pub count : p .count ≡ length (t .path)
+  pub few : p .count ≤ 16
+  pub path : take (p .count) (drop (p .from) words) ≡ t .path
+  pub own : p .own ≡ t .own
+  pub left : drop (p .next) words ≡ rest
+  pub past : at < p .next
+  pub within : p .next ≤ length words
+
+pub data Locates (words : List ℕ) (at : ℕ) : Reading LoweredType → Located → Type 0 where
+  locates : {t : LoweredType} {rest : List ℕ} {p : Parts} → Stands words at t rest p → Locates words at (Read t rest) (At p)
+  nowhere : Locates words at Fails Missing

@@ -1,0 +1,91 @@
+-- The records `structs`, `params`, `output` and `force`: their shape (refusal 1, 01's "torn"), and what a record in shape says.
+use Prim.Native.Nat.{ℕ, zero, suc}
+use mathlib.Core.Bool.{Bool, true, false, cond, _&&_}
+use mathlib.Core.List.{List, [], _∷_}
+use lib.Dec.{eqb, leb}
+use lib.ListN.{length}
+use Rattle.lifetimes.specs.declared.answer.Refusal.the-variants.{Malformed}
+use Rattle.lifetimes.specs.declared.answer.Listed.{Listed}
+use Rattle.lifetimes.specs.declared.answer.Listed.the-variants.{Count, Refused}
+use Rattle.lifetimes.specs.declared.answer.Verdict.the-variants as verdict
+use Rattle.records.specs.Reading.{Reading, Read, Fails, onward, readWord, inShape, itemsOf}
+use Rattle.lowered_types.specs.declared.shapes.Shape.{Shape}
+use Rattle.lowered_types.specs.LoweredTypes.{LoweredType, readLowered, knows}
+
+-- a type whose row, if it is a struct, is among so many
+unfoldable pub readKnown : ℕ → List ℕ → Reading LoweredType
+readKnown rows words = onward (readLowered words) (λ t rest. cond (knows rows (t .kind)) (Read t rest) Fails)
+
+-- so many types
+unfoldable pub readTypes : ℕ → ℕ → List ℕ → Reading (List LoweredType)
+readTypes rows zero words = Read [] words
+readTypes rows (suc n) words = onward (readKnown rows words) (λ t rest. onward (readTypes rows n rest) (λ ts end. Read (t ∷ ts) end))
+
+-- `structs`: rows one after another, the first numbered 0. A row: lifetimes d, field count, fields; d and fields at most 16; a field names only earlier rows
+pub record Row : Type 0 where
+  pub lifetimes : ℕ
+  pub fields : List LoweredType
+
+abbrev pub rowWith : ℕ → List LoweredType → Row
+rowWith d fields = record { lifetimes = d; fields = fields }
+
+unfoldable pub readRow : ℕ → List ℕ → Reading Row
+readRow number words =
+    onward (readWord words) (λ d rest.
+    onward (readWord rest) (λ n behind.
+    cond (leb d 16 && leb n 16) (onward (readTypes number n behind) (λ fields end. Read (rowWith d fields) end)) Fails))
+
+abbrev pub structsInShape : List ℕ → Bool
+structsInShape structs = inShape readRow structs
+
+abbrev pub rowsOf : List ℕ → List Row
+rowsOf structs = itemsOf readRow structs
+
+-- `params`: types one after another; each row that is named is among so many. All rows of the record count, also those past the 32nd
+abbrev pub paramsInShape : ℕ → List ℕ → Bool
+paramsInShape rows params = inShape (λ number. readKnown rows) params
+
+abbrev pub typesOf : ℕ → List ℕ → List LoweredType
+typesOf rows words = itemsOf (λ number. readKnown rows) words
+
+-- `output`: none, one, or two types
+abbrev pub outputInShape : ℕ → List ℕ → Bool
+outputInShape rows output = paramsInShape rows output && leb (length (typesOf rows output)) 2
+
+-- `force`: one word, 0 or 1
+abbrev pub forceInShape : List ℕ → Bool
+forceInShape [] = false
+forceInShape (word ∷ []) = leb word 1
+forceInShape (word ∷ other ∷ words) = false
+
+abbrev pub forced : List ℕ → Bool
+forced [] = false
+forced (word ∷ words) = eqb word 1
+
+-- the four records of a method
+unfoldable pub methodInShape : List ℕ → List ℕ → List ℕ → List ℕ → Bool
+methodInShape structs params output force =
+    structsInShape structs
+    && (paramsInShape (length (rowsOf structs)) params
+    && (outputInShape (length (rowsOf structs)) output
+    && forceInShape force))
+
+-- what a call answers on the shape of a record of items: how many they are, or 1
+abbrev pub howMany : {A : Type 0} → Bool → List A → Listed
+howMany true items = Count (length items)
+howMany false items = Refused Malformed
+
+-- what it answers on the shape of a method: how much stands in the records, or 1
+abbrev pub noShape : Shape
+noShape = record { verdict = verdict.Refused Malformed; rows = 0; params = 0; outputs = 0 }
+
+unfoldable pub methodShape : List ℕ → List ℕ → List ℕ → List ℕ → Shape
+methodShape structs params output force =
+    cond (methodInShape structs params output force)
+    (record {
+      verdict = verdict.Accepted;
+      rows = length (rowsOf structs);
+      params = length (typesOf (length (rowsOf structs)) params);
+      outputs = length (typesOf (length (rowsOf structs)) output);
+    })
+    noShape

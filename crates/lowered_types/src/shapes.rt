@@ -1,0 +1,187 @@
+// The records `structs`, `params`, `output` and `force` of a method: their shape.
+ghost use mathlib.Core.Path.{_≡_};
+ghost use Prim.Native.Nat.{_≤_};
+ghost use lib.ListN.{length, drop};
+ghost use Rattle.records.specs.Reading.{shapeVerdict};
+ghost use Rattle.records.specs.Ends.{EndsAt};
+ghost use Rattle.lowered_types.specs.Rows.{readKnown, readTypes, readRow, structsInShape, rowsOf, paramsInShape, typesOf, outputInShape, forceInShape, methodShape, noShape, howMany};
+ghost use Rattle.lowered_types.specs.Inner.{EndsFrom};
+use super::types::Located;
+use super::types::type_at;
+use lifetimes::Listed;
+use lifetimes::Refusal;
+use lifetimes::Verdict;
+use records::End;
+
+// How many fields a struct may have, and how many lifetimes.
+const MAX_FIELDS: usize = 16;
+
+// Whether `structs` is in shape, and how many rows it has: all that stand there, also past the 32nd. Refused by 1. Reads each type once.
+pub fn structs_shape(structs: &[usize]) -> Listed
+    ensures { λ r. ⌜ r ≡ howMany (structsInShape (now (structs .entry))) (rowsOf (now (structs .entry))) ⌝ }
+{
+    if End::MAX_WORDS < structs.len() {
+        return Listed::Refused(Refusal::Malformed);
+    }
+    let mut at = 0;
+    let mut rows = 0;
+    while at < structs.len() {
+        let end = row_end(structs, at, rows);
+        let End::At(next) = end else {
+            return Listed::Refused(Refusal::Malformed);
+        };
+        at = next;
+        rows += 1;
+    }
+    Listed::Count(rows)
+}
+
+// Whether `params` is in shape beside so many rows, and how many parameters there are, also past the 16th. Refused by 1. Reads each type once.
+pub fn params_shape(params: &[usize], rows: usize) -> Listed
+    ensures { λ r. ⌜ r ≡ howMany (paramsInShape rows (now (params .entry))) (typesOf rows (now (params .entry))) ⌝ }
+{
+    if End::MAX_WORDS < params.len() {
+        return Listed::Refused(Refusal::Malformed);
+    }
+    let mut at = 0;
+    let mut count = 0;
+    while at < params.len() {
+        let end = type_end(params, at, rows);
+        let End::At(next) = end else {
+            return Listed::Refused(Refusal::Malformed);
+        };
+        at = next;
+        count += 1;
+    }
+    Listed::Count(count)
+}
+
+// Whether `output` is in shape beside so many rows, and how many types it has: at most two. Refused by 1.
+pub fn output_shape(output: &[usize], rows: usize) -> Listed
+    ensures { λ r. ⌜ r ≡ howMany (outputInShape rows (now (output .entry))) (typesOf rows (now (output .entry))) ⌝ }
+{
+    let types = params_shape(output, rows);
+    let Listed::Count(count) = types else {
+        return Listed::Refused(Refusal::Malformed);
+    };
+    if 2 < count {
+        return Listed::Refused(Refusal::Malformed);
+    }
+    Listed::Count(count)
+}
+
+// Whether `force` is in shape: one word, 0 or 1. Refused by 1.
+pub fn force_shape(force: &[usize]) -> Verdict
+    ensures { λ r. ⌜ r ≡ shapeVerdict (forceInShape (now (force .entry))) ⌝ }
+{
+    if force.len() != 1 {
+        return Verdict::Refused(Refusal::Malformed);
+    }
+    if 1 < force[0] {
+        return Verdict::Refused(Refusal::Malformed);
+    }
+    Verdict::Accepted
+}
+
+// The shape of a method's four records: accepted, and how many rows, parameters and output types there are; or refused, and 0 for each.
+pub struct Shape {
+    pub verdict: Verdict,
+    pub rows: usize,
+    pub params: usize,
+    pub outputs: usize,
+}
+
+// Whether the four records of a method are in shape, and how much stands in them. Refused by 1.
+pub fn method_shape(structs: &[usize], params: &[usize], output: &[usize], force: &[usize]) -> Shape
+    ensures { λ r. ⌜ r ≡ methodShape (now (structs .entry)) (now (params .entry)) (now (output .entry)) (now (force .entry)) ⌝ }
+{
+    let first = structs_shape(structs);
+    let Listed::Count(rows) = first else {
+        return malformed();
+    };
+    let second = params_shape(params, rows);
+    let Listed::Count(inputs) = second else {
+        return malformed();
+    };
+    let third = output_shape(output, rows);
+    let Listed::Count(outputs) = third else {
+        return malformed();
+    };
+    let last = force_shape(force);
+    let Verdict::Accepted = last else {
+        return malformed();
+    };
+    Shape {
+        verdict: Verdict::Accepted,
+        rows,
+        params: inputs,
+        outputs,
+    }
+}
+
+// What is answered where a record is not in shape.
+fn malformed() -> Shape
+    ensures { λ r. ⌜ r ≡ noShape ⌝ }
+{
+    Shape {
+        verdict: Verdict::Refused(Refusal::Malformed),
+        rows: 0,
+        params: 0,
+        outputs: 0,
+    }
+}
+
+// Where the row ends that stands at a place and has a number: its fields name earlier rows only.
+fn row_end(structs: &[usize], at: usize, number: usize) -> End
+    ensures { λ r. ⌜ EndsAt (now (structs .entry)) at (readRow number (drop at (now (structs .entry)))) r ⌝ }
+{
+    let n = structs.len();
+    if n <= at {
+        return End::Missing;
+    }
+    if n <= at + 1 {
+        return End::Missing;
+    }
+    if MAX_FIELDS < structs[at] {
+        return End::Missing;
+    }
+    let fields = structs[at + 1];
+    if MAX_FIELDS < fields {
+        return End::Missing;
+    }
+    types_end(structs, at + 2, fields, number)
+}
+
+// Where so many types end that stand one after another from a place on.
+fn types_end(words: &[usize], from: usize, count: usize, rows: usize) -> End
+    requires { ⌜ from ≤ length (now words) ⌝ }
+    ensures { λ r. ⌜ EndsFrom (now (words .entry)) from (readTypes rows count (drop from (now (words .entry)))) r ⌝ }
+{
+    let mut at = from;
+    let mut i = 0;
+    while i < count {
+        let end = type_end(words, at, rows);
+        let End::At(next) = end else {
+            return End::Missing;
+        };
+        at = next;
+        i += 1;
+    }
+    End::At(at)
+}
+
+// Where the type ends that stands at a place, its row among so many.
+fn type_end(words: &[usize], at: usize, rows: usize) -> End
+    ensures { λ r. ⌜ EndsAt (now (words .entry)) at (readKnown rows (drop at (now (words .entry)))) r ⌝ }
+{
+    let found = type_at(words, at);
+    let Located::At(parts) = found else {
+        return End::Missing;
+    };
+    let kind = parts.kind;
+    let next = parts.next;
+    if !kind.known(rows) {
+        return End::Missing;
+    }
+    End::At(next)
+}
