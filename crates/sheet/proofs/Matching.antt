@@ -1,0 +1,54 @@
+-- The loop of `headed`: a prefix compared byte by byte.
+use Prim.Native.Nat.{ℕ, _+_, _≤_, _<_}
+use mathlib.Core.Bool.{Bool, true, false, cond}
+use mathlib.Core.Path.{_≡_, refl, sym, _∙_}
+use mathlib.Core.List.{List, [], _∷_}
+use mathlib.Core.Option.{none, some}
+use native.Mathlib.Numerals.{add-one}
+use native.Mathlib.Omega.{arith}
+use borrow.Author.Tests.{eq-eqb, ne-eqb}
+use lib.Dec.{eqb}
+use lib.ListN.{length, getD, drop, drop-of-length-le}
+use lib.Seq.{drop-cons}
+use Rattle.sheet.specs.Reading.{behind}
+
+-- too few bytes
+pub behind-short : (prefix bytes : List ℕ) → length bytes < length prefix → behind prefix bytes ≡ none
+unfolding behind
+behind-short [] bytes h = absurd (omega arith)
+behind-short (p ∷ prefix) [] h = refl
+behind-short (p ∷ prefix) (b ∷ bytes) h = go (eqb p b) (behind-short prefix bytes (omega arith))
+  where
+    go : (t : Bool) → behind prefix bytes ≡ none → cond t (behind prefix bytes) none ≡ none
+    go true e = e
+    go false e = refl
+
+-- what is left to compare
+pub record Matching (prefix bytes : List ℕ) (i : ℕ) : Type 0 where
+  pub rest : behind prefix bytes ≡ behind (drop i prefix) (drop i bytes)
+  pub here : i ≤ length prefix
+  pub long : length prefix ≤ length bytes
+
+pub matching-start : (prefix bytes : List ℕ) → length prefix ≤ length bytes → Matching prefix bytes 0
+matching-start prefix bytes h = record { rest = refl; here = omega arith; long = h }
+
+module _ {prefix bytes : List ℕ} {i : ℕ} (inv : Matching prefix bytes i) where
+  pub matching-end : length prefix ≤ i → behind prefix bytes ≡ some (drop i bytes)
+  unfolding behind
+  matching-end h = inv .rest ∙ rw (drop-of-length-le prefix {i = i} h)
+
+  module _ (h : i < length prefix) where
+    pub matching-not : (getD bytes i 0 ≡ getD prefix i 0 → ⊥) → behind prefix bytes ≡ none
+    unfolding behind
+    matching-not n =
+        inv .rest
+        ∙ rw (drop-cons prefix i 0 h, drop-cons bytes i 0 (omega (arith, inv .long)), ne-eqb (getD prefix i 0) (getD bytes i 0) (λ e. n (sym e)))
+
+    pub matching-more : getD bytes i 0 ≡ getD prefix i 0 → Matching prefix bytes (i + 1)
+    unfolding behind
+    matching-more e = record {
+      rest = inv .rest
+          ∙ rw (drop-cons prefix i 0 h, drop-cons bytes i 0 (omega (arith, inv .long)), eq-eqb (getD prefix i 0) (getD bytes i 0) (sym e), add-one i);
+      here = omega arith;
+      long = inv .long;
+    }

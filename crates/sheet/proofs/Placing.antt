@@ -1,0 +1,156 @@
+-- Records one after another: each stands between two ends, and the whole is the sheet.
+use Prim.Native.Nat.{ℕ, zero, suc, _+_, _-_, _≤_, _<_}
+use mathlib.Core.Bool.{Bool, true, false, cond, _&&_}
+use mathlib.Core.Path.{_≡_, refl, ap, _∙_}
+use mathlib.Core.List.{List, [], _∷_, flatten}
+use native.Mathlib.Nat.{sub-zero}
+use native.Mathlib.Omega.{arith}
+use borrow.Author.Tests.{not-false}
+use lib.ListN.{length, getD, take, drop, length-append}
+use lib.Seq.{sets, slice}
+use Rattle.lifetimes.specs.declared.answer.Verdict.the-variants as verdict
+use Rattle.lifetimes.proofs.Copying.{sets-front}
+use Rattle.lifetimes.proofs.RefusalLaws.{none-first, none-rest}
+use Rattle.lifetimes.specs.declared.answer.Verdict.{Verdict}
+use Rattle.records.specs.Reading.{shapeVerdict}
+use Rattle.ast_lifetimes.specs.Shapes.{namesInShape, boundsInShape}
+use Rattle.ast_lifetimes.specs.Types.{typesInShape}
+use Rattle.elision.specs.Steps.{selfInShape, stepsInShape}
+use Rattle.lowered_types.specs.declared.shapes.Shape.{Shape}
+use Rattle.lowered_types.specs.Rows.{methodInShape, methodShape, noShape, rowsOf, typesOf}
+use Rattle.sheet.specs.Text.{Records, lists, wordsOf}
+use Rattle.sheet.specs.Reading.{sheetOf, textChecks, allShort}
+use Rattle.sheet.specs.Answer.{endsFrom}
+use Rattle.sheet.specs.Shape.{sheetInShape}
+use Rattle.sheet.specs.Inner.{recordAt, recordsAt, Laid, Counted, isAccepted}
+use Rattle.sheet.proofs.SheetLaws.{few-all, total-words}
+use Rattle.sheet.proofs.Answers.{last-end, list-between}
+
+-- a part, by its length
+pub part-is : (from to : ℕ) (l : List ℕ) → from ≤ to → take (to - from) (drop from l) ≡ slice from to l
+part-is zero to l h = rw sub-zero
+part-is (suc from) zero l h = absurd (omega arith)
+part-is (suc from) (suc to) [] h = go (suc to - suc from)
+  where
+    go : (n : ℕ) → take {A = ℕ} n [] ≡ []
+    go zero = refl
+    go (suc n) = refl
+part-is (suc from) (suc to) (x ∷ l) h = let e : suc to - suc from ≡ to - from = omega arith in rw e (part-is from to l (omega arith))
+
+-- ends ascend, and none is behind the last word
+end-after : (at : ℕ) (ls : List (List ℕ)) (i : ℕ) → i < length ls → getD (at ∷ endsFrom at ls) i 0 ≤ getD (endsFrom at ls) i 0
+unfolding endsFrom
+end-after at [] i h = absurd (omega arith)
+end-after at (l ∷ ls) zero h = omega arith
+end-after at (l ∷ ls) (suc i) h = end-after (at + length l) ls i (omega arith)
+
+end-inside : (at : ℕ) (ls : List (List ℕ)) (i : ℕ) → i < length ls → getD (endsFrom at ls) i 0 ≤ at + length (flatten ls)
+unfolding endsFrom flatten
+end-inside at [] i h = absurd (omega arith)
+end-inside at (l ∷ ls) zero h = rw length-append (omega arith)
+end-inside at (l ∷ ls) (suc i) h = rw length-append (omega (arith, end-inside (at + length l) ls i (omega arith)))
+
+module _ {words ends : List ℕ} (l : Laid words ends) where
+  pub laid-after : (i : ℕ) → i < 10 → getD (0 ∷ ends) i 0 ≤ getD ends i 0
+  laid-after i h = rw (l .placed) (end-after 0 (lists (l .sheet)) i h)
+
+  pub laid-inside : (i : ℕ) → i < 10 → getD ends i 0 ≤ length words
+  laid-inside i h = rw (l .placed, l .stored, length-append) (omega (arith, end-inside 0 (lists (l .sheet)) i h))
+
+  -- what stands there, as the code takes it
+  laid-before : (i : ℕ) → (i ≡ 0 → ⊥) → getD (0 ∷ ends) i 0 ≡ getD ends (i - 1) 0
+  laid-before zero h = absurd (h refl)
+  laid-before (suc i) h = let e : suc i - 1 ≡ i = omega arith in rw e
+
+  pub laid-part : (i : ℕ) → i < 10 → (i ≡ 0 → ⊥) → (getD ends (i - 1) 0 ≤ getD ends i 0) × (getD ends i 0 ≤ length words)
+  laid-part i h k = let e = laid-before i k in let f = laid-after i h in (omega arith, laid-inside i h)
+
+  pub laid-first : (i : ℕ) → i ≡ 0 → take (getD ends i 0 - 0) words ≡ recordAt words ends i
+  laid-first i e = rw (e, sub-zero)
+
+  pub laid-next : (i : ℕ) → i < 10 → (i ≡ 0 → ⊥) → take (getD ends i 0 - getD ends (i - 1) 0) (drop (getD ends (i - 1) 0) words) ≡ recordAt words ends i
+  laid-next i h k = part-is (getD ends (i - 1) 0) (getD ends i 0) words (laid-part i h k .0) ∙ rw (laid-before i k)
+
+  pub laid-record : (i : ℕ) → i < 10 → recordAt words ends i ≡ getD (lists (l .sheet)) i []
+  laid-record i h = rw (l .placed, l .stored) (list-between [] 0 (lists (l .sheet)) (l .rest) i refl h)
+
+  pub laid-records : recordsAt words ends ≡ l .sheet
+  laid-records =
+      rw (
+        laid-record 0 (omega arith),
+        laid-record 1 (omega arith),
+        laid-record 2 (omega arith),
+        laid-record 3 (omega arith),
+        laid-record 4 (omega arith),
+        laid-record 5 (omega arith),
+        laid-record 6 (omega arith),
+        laid-record 7 (omega arith),
+        laid-record 8 (omega arith),
+        laid-record 9 (omega arith),
+      )
+
+-- an accepted text in scratch
+module _ {bytes ends : List ℕ} (c : Counted bytes ends) where
+  pub counted-end : getD ends 9 0 ≡ length (wordsOf (sheetOf bytes))
+  counted-end = rw (c .placed) (last-end 0 (sheetOf bytes .names) _ ∙ omega arith)
+
+  -- 10,240 words are enough
+  pub counted-most : getD ends 9 0 ≤ 10240
+  unfolding textChecks
+  counted-most =
+      let f : allShort (lists (sheetOf bytes)) ≡ true = not-false _ (none-first (none-rest (c .due))) in
+      omega (arith, counted-end, total-words (lists (sheetOf bytes)) (few-all (lists (sheetOf bytes)) f))
+
+  module _ (words : List ℕ) {words′ : List ℕ} (h : getD ends 9 0 ≤ length words) (w : words′ ≡ sets words 0 (wordsOf (sheetOf bytes))) where
+    pub counted-laid : Laid words′ ends
+    counted-laid = record {
+      sheet = sheetOf bytes;
+      rest = drop (length (wordsOf (sheetOf bytes))) words;
+      stored = w ∙ sets-front words (wordsOf (sheetOf bytes)) (omega (arith, counted-end));
+      placed = c .placed;
+    }
+
+    pub counted-shape : {t : Bool} → t ≡ sheetInShape (recordsAt words′ ends) → t ≡ sheetInShape (sheetOf bytes)
+    unfolding counted-laid
+    counted-shape e = e ∙ ap sheetInShape (laid-records counted-laid)
+
+-- a verdict on a record's shape
+accepted-shape : (t : Bool) → isAccepted (shapeVerdict t) ≡ t
+accepted-shape true = refl
+accepted-shape false = refl
+
+pub shape-is : (shape : List ℕ → Bool) {l m : List ℕ} {v : Verdict} {t : Bool} → m ≡ l → v ≡ shapeVerdict (shape m) → t ≡ isAccepted v → t ≡ shape l
+shape-is shape {l} e f g = g ∙ ap isAccepted (f ∙ ap (λ (x : List ℕ). shapeVerdict (shape x)) e) ∙ accepted-shape (shape l)
+
+-- all of three
+pub all-three : {a b c t u w r s : Bool} → t ≡ a → u ≡ b → w ≡ c → s ≡ u && w → r ≡ t && s → r ≡ a && (b && c)
+all-three e f g h k = k ∙ rw (h, e, f, g)
+
+-- the shape of a method's four records, and of all ten
+method-verdict : (structs params output force : List ℕ) → isAccepted (methodShape structs params output force .verdict) ≡ methodInShape structs params output force
+unfolding methodShape
+method-verdict structs params output force = go (methodInShape structs params output force) (methodShape structs params output force) refl
+  where
+    go : (t : Bool) (s : Shape)
+        → s
+        ≡ cond t
+        (record {
+          verdict = verdict.Accepted;
+          rows = length (rowsOf structs);
+          params = length (typesOf (length (rowsOf structs)) params);
+          outputs = length (typesOf (length (rowsOf structs)) output);
+        })
+        noShape
+        → isAccepted (s .verdict) ≡ t
+    go true s e = rw e
+    go false s e = rw e
+
+pub method-is : {a b c d a′ b′ c′ d′ : List ℕ} {s : Shape} {t : Bool} → a′ ≡ a → b′ ≡ b → c′ ≡ c → d′ ≡ d → s ≡ methodShape a′ b′ c′ d′ → t ≡ isAccepted (s .verdict)
+    → t ≡ methodInShape a b c d
+method-is {a} {b} {c} {d} e f g h k l = l ∙ rw (k, e, f, g, h) (method-verdict a b c d)
+
+pub sheet-is : (r : Records) {t u w x y : Bool} → t ≡ namesInShape (r .names) && (boundsInShape (r .bounds) && typesInShape (r .types))
+    → u ≡ selfInShape (r .self) && (stepsInShape (r .steps) && stepsInShape (r .returns)) → w ≡ methodInShape (r .structs) (r .params) (r .output) (r .force) → y ≡ u && w → x ≡ t && y
+    → x ≡ sheetInShape r
+unfolding sheetInShape
+sheet-is r e f g h k = all-three e f g h k

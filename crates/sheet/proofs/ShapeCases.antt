@@ -1,0 +1,140 @@
+-- Reading with the shapes, by its cases: no sheet, records in shape, records that are not.
+use Prim.Native.Nat.{ℕ}
+use mathlib.Core.Bool.{Bool, true, false, not, _&&_, and-eq-true-iff}
+use mathlib.Core.Logic.{inl, inr}
+use mathlib.Core.Path.{_≡_, refl, ap, subst, _∙_}
+use mathlib.Core.List.{List, [], _∷_}
+use native.Mathlib.Omega.{arith}
+use borrow.Author.Tests.{leb-true, le-leb}
+use lib.Dec.{leb}
+use lib.ListN.{length}
+use Rattle.lifetimes.specs.declared.answer.Refusal.the-variants.{Malformed, Unreadable}
+use Rattle.lifetimes.specs.Refusals.{Gives, Refuses, FirstDue, here, NoneDue, end, next}
+use Rattle.lifetimes.proofs.RefusalLaws.{due-given, due-refused, given-due, refused-due, first-more, first-after, none-more}
+use Rattle.records.specs.Reading.{Reading, fewWords, inShape}
+use Rattle.ast_lifetimes.specs.Shapes.{namesInShape, boundsInShape}
+use Rattle.ast_lifetimes.specs.Types.{typesInShape, readType}
+use Rattle.elision.specs.Steps.{selfInShape, stepsInShape, readStep}
+use Rattle.lowered_types.specs.Rows.{structsInShape, paramsInShape, outputInShape, forceInShape, methodInShape, rowsOf, readRow, readKnown}
+use Rattle.sheet.specs.Text.{Records, lists, mostWords}
+use Rattle.sheet.specs.Reading.{allShort, sheetOf, textChecks, readText}
+use Rattle.sheet.specs.Shape.{sheetInShape, sheetChecks, readSheet}
+use Rattle.sheet.specs.Theorems.{IsSheet, ReadsInShape}
+use Rattle.sheet.proofs.SheetLaws.{Read, NoSheet, Few, Many, read-cases, one-sheet}
+
+-- both of two
+both : (a b : Bool) → a && b ≡ true → (a ≡ true) × (b ≡ true)
+both a b e = (and-eq-true-iff a b) .0 e
+
+-- no record in shape has more than 1,024 words
+names-short : (l : List ℕ) → namesInShape l ≡ true → leb (length l) mostWords ≡ true
+unfolding namesInShape
+names-short [] e = refl
+names-short (n ∷ l) e = both (fewWords (n ∷ l)) _ e .0
+
+bounds-short : (l : List ℕ) → boundsInShape l ≡ true → leb (length l) mostWords ≡ true
+unfolding boundsInShape
+bounds-short [] e = refl
+bounds-short (n ∷ l) e = both (fewWords (n ∷ l)) _ e .0
+
+items-short : {A : Type 0} (item : ℕ → List ℕ → Reading A) (l : List ℕ) → inShape item l ≡ true → leb (length l) mostWords ≡ true
+unfolding inShape
+items-short item l e = both (fewWords l) _ e .0
+
+self-short : (l : List ℕ) → selfInShape l ≡ true → leb (length l) mostWords ≡ true
+self-short l e = le-leb (length l) mostWords (omega (arith, leb-true (length l) 1 e))
+
+force-short : (l : List ℕ) → forceInShape l ≡ true → leb (length l) mostWords ≡ true
+force-short [] e = refl
+force-short (w ∷ []) e = refl
+force-short (w ∷ v ∷ l) e = let z : _≡_ {A = ℕ} 0 1 = cc in absurd (omega arith)
+
+pub shape-short : (r : Records) → sheetInShape r ≡ true → allShort (lists r) ≡ true
+unfolding sheetInShape methodInShape allShort
+shape-short r e =
+    let rows = length (rowsOf (r .structs)) in
+    let a = both (namesInShape (r .names) && (boundsInShape (r .bounds) && typesInShape (r .types))) _ e in
+    let b = both (selfInShape (r .self) && (stepsInShape (r .steps) && stepsInShape (r .returns))) _ (a .1) in
+    let n = both (namesInShape (r .names)) _ (a .0) in
+    let t = both (boundsInShape (r .bounds)) _ (n .1) in
+    let s = both (selfInShape (r .self)) _ (b .0) in
+    let q = both (stepsInShape (r .steps)) _ (s .1) in
+    let m = both (structsInShape (r .structs)) _ (b .1) in
+    let p = both (paramsInShape rows (r .params)) _ (m .1) in
+    let o = both (outputInShape rows (r .output)) _ (p .1) in
+    let w = both (paramsInShape rows (r .output)) _ (o .0) in
+    rw (
+      names-short (r .names) (n .0),
+      bounds-short (r .bounds) (t .0),
+      items-short (λ number. readType 8) (r .types) (t .1),
+      self-short (r .self) (s .0),
+      items-short (λ number. readStep) (r .steps) (q .0),
+      items-short (λ number. readStep) (r .returns) (q .1),
+      items-short readRow (r .structs) (m .0),
+      items-short (λ number. readKnown rows) (r .params) (p .0),
+      items-short (λ number. readKnown rows) (r .output) (w .0),
+      force-short (r .force) (o .1),
+    )
+
+long-not : (r : Records) → allShort (lists r) ≡ false → sheetInShape r ≡ false
+long-not r f = go (sheetInShape r) refl
+  where
+    go : (t : Bool) → sheetInShape r ≡ t → sheetInShape r ≡ false
+    go true e = let h = shape-short r e in let z : _≡_ {A = ℕ} 0 1 = cc in absurd (omega arith)
+    go false e = e
+
+data Shaped (bytes : List ℕ) : Type 0 where
+  None : readSheet bytes ≡ Refuses Unreadable → ((r : Records) → IsSheet bytes r → ⊥) → Shaped bytes
+  Good : (r : Records) → readSheet bytes ≡ Gives r → IsSheet bytes r → sheetInShape r ≡ true → Shaped bytes
+  Bad : (r : Records) → readSheet bytes ≡ Refuses Malformed → IsSheet bytes r → sheetInShape r ≡ false → Shaped bytes
+
+shaped : (bytes : List ℕ) → Read bytes → Shaped bytes
+unfolding readText readSheet sheetChecks
+shaped bytes (NoSheet e n) =
+    let f : FirstDue Unreadable (sheetChecks bytes) = first-more _ (refused-due (sheetOf bytes) Unreadable (textChecks bytes) e) in None (due-refused (sheetOf bytes) f) n
+shaped bytes (Many r e s f) =
+    let d : FirstDue Malformed (sheetChecks bytes) = first-more _ (refused-due (sheetOf bytes) Malformed (textChecks bytes) e) in
+    Bad r (due-refused (sheetOf bytes) d) s (long-not r f)
+shaped bytes (Few r e s f) = go (sheetInShape r) refl (given-due (sheetOf bytes) r (textChecks bytes) e)
+  where
+    go : (t : Bool) → sheetInShape r ≡ t → NoneDue (textChecks bytes) × (sheetOf bytes ≡ r) → Shaped bytes
+    go true q g =
+        let n : NoneDue (sheetChecks bytes) = none-more (g .0) (next (ap not (ap sheetInShape (g .1) ∙ q)) end) in Good r (due-given (sheetOf bytes) n ∙ ap Gives (g .1)) s q
+    go false q g =
+        let d : FirstDue Malformed (sheetChecks bytes) = first-after (g .0) (here (ap not (ap sheetInShape (g .1) ∙ q)) refl) in Bad r (due-refused (sheetOf bytes) d) s q
+
+by-cases : (bytes : List ℕ) → Shaped bytes → ReadsInShape bytes
+by-cases bytes (None e n) = record {
+  given = λ r. (λ g. let z : _≡_ {A = ℕ} 0 1 = cc in absurd (omega arith), λ s. absurd (n r (s .0)));
+  unreadable = (λ g. n, λ g. e);
+  malformed = (λ g. let z : _≡_ {A = ℕ} 0 1 = cc in absurd (omega arith), λ s. absurd (n (s .0) (s .1)));
+  refusals = λ k g. inl (cc);
+}
+by-cases bytes (Good r e s f) = record {
+  given = λ q. (
+    λ g. let h : r ≡ q = cc in subst (λ (x : Records). IsSheet bytes x × (sheetInShape x ≡ true)) h (s, f),
+    λ p. let h : r ≡ q = one-sheet s (p .0) in cc,
+  );
+  unreadable = (λ g. let z : _≡_ {A = ℕ} 0 1 = cc in absurd (omega arith), λ n. absurd (n r s));
+  malformed = (
+    λ g. let z : _≡_ {A = ℕ} 0 1 = cc in absurd (omega arith),
+    λ p. let h : p .0 ≡ r = one-sheet (p .1) s in
+        let k : sheetInShape r ≡ false = subst (λ (x : Records). sheetInShape x ≡ false) h (p .2) in
+        let z : _≡_ {A = ℕ} 0 1 = cc in absurd (omega arith),
+  );
+  refusals = λ k g. let z : _≡_ {A = ℕ} 0 1 = cc in absurd (omega arith);
+}
+by-cases bytes (Bad r e s f) = record {
+  given = λ q. (
+    λ g. let z : _≡_ {A = ℕ} 0 1 = cc in absurd (omega arith),
+    λ p. let h : q ≡ r = one-sheet (p .0) s in
+        let k : sheetInShape r ≡ true = subst (λ (x : Records). sheetInShape x ≡ true) h (p .1) in
+        let z : _≡_ {A = ℕ} 0 1 = cc in absurd (omega arith),
+  );
+  unreadable = (λ g. let z : _≡_ {A = ℕ} 0 1 = cc in absurd (omega arith), λ n. absurd (n r s));
+  malformed = (λ g. (r, s, f), λ g. e);
+  refusals = λ k g. inr (cc);
+}
+
+pub reads-in-shape : (bytes : List ℕ) → ReadsInShape bytes
+reads-in-shape bytes = by-cases bytes (shaped bytes (read-cases bytes))

@@ -1,0 +1,39 @@
+-- What `read_text` answers: the words of the ten records one after another in the lent slice, and where each record ends.
+use Prim.Native.Nat.{ℕ, _+_}
+use mathlib.Core.List.{List, [], _∷_, _++_}
+use lib.ListN.{length, replicate}
+use Rattle.lifetimes.specs.Refusals.{Check, Outcome, unless}
+use Rattle.lifetimes.specs.Lent.{verdictOf, resultOr, roomCheck}
+use Rattle.sheet.specs.declared.text.Text.{Text}
+use Rattle.sheet.specs.Text.{Records, lists, wordsOf}
+use Rattle.sheet.specs.Reading.{sheetOf, textChecks}
+
+-- where each of some lists ends, laid one after another from a place on
+unfoldable pub endsFrom : ℕ → List (List ℕ) → List ℕ
+endsFrom at [] = []
+endsFrom at (l ∷ ls) = (at + length l) ∷ endsFrom (at + length l) ls
+
+-- an answer from the ends of the records; beside a refusal all ends are 0
+abbrev pub answerOf : Outcome (List ℕ) → Text
+answerOf o = record { verdict = verdictOf o; ends = resultOr (replicate 10 0) o }
+
+-- the answer before the slice is looked at
+unfoldable pub measured : List ℕ → Text
+measured bytes = answerOf (unless (textChecks bytes) (endsFrom 0 (lists (sheetOf bytes))))
+
+-- some checks, then 9: the slice is too short for the words of all records
+abbrev pub withRoom : List Check → ℕ → Records → List Check
+withRoom checks room r = checks ++ (roomCheck room (wordsOf r) ∷ [])
+
+-- 10, 1, then 9
+abbrev pub readChecks : List ℕ → ℕ → List Check
+readChecks bytes room = withRoom (textChecks bytes) room (sheetOf bytes)
+
+unfoldable pub readWords : List ℕ → ℕ → Outcome (List ℕ)
+readWords bytes room = unless (readChecks bytes room) (wordsOf (sheetOf bytes))
+
+unfoldable pub readEnds : List ℕ → ℕ → Outcome (List ℕ)
+readEnds bytes room = unless (readChecks bytes room) (endsFrom 0 (lists (sheetOf bytes)))
+
+unfoldable pub readAnswer : List ℕ → ℕ → Text
+readAnswer bytes room = answerOf (readEnds bytes room)

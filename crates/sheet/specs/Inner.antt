@@ -1,0 +1,97 @@
+-- Predicates that only private contracts cite: what reading a word, a line and ten lines from a place on says of reading the rest; records one after another.
+use Prim.Native.Nat.{ℕ, _+_, _≤_, _<_}
+use mathlib.Core.Bool.{Bool, true, false}
+use mathlib.Core.Path.{_≡_}
+use mathlib.Core.List.{List, _∷_, _++_, flatten}
+use mathlib.Core.Option.{Option, none, some}
+use lib.ListN.{length, getD, drop}
+use lib.Seq.{sets, slice}
+use Rattle.lifetimes.specs.declared.answer.Verdict.{Verdict}
+use Rattle.lifetimes.specs.declared.answer.Verdict.the-variants as verdict
+use Rattle.lifetimes.specs.Refusals.{NoneDue}
+use Rattle.sheet.specs.declared.word.Found.{Found}
+use Rattle.sheet.specs.declared.word.Found.the-variants as found
+use Rattle.sheet.specs.declared.lines.Read.{Read}
+use Rattle.sheet.specs.declared.lines.Read.the-variants as read
+use Rattle.sheet.specs.declared.lines.Judged.{Judged}
+use Rattle.sheet.specs.declared.lines.Judged.the-variants as judged
+use Rattle.sheet.specs.Text.{Records, lists, wordsOf, mostWord}
+use Rattle.sheet.specs.Reading.{Place, LineStart, WordStart, Behind, continues, lineBefore, readLines, ten, allShort, sheetOf, textChecks}
+use Rattle.sheet.specs.Answer.{endsFrom}
+
+-- reading the bytes from an index on
+abbrev pub readFrom : Place → List ℕ → ℕ → Option (List (List ℕ))
+readFrom p bytes i = readLines mostWord p (drop i bytes)
+
+-- a number stands from one index to another, and the byte there does not continue it
+pub record NumberAt (bytes : List ℕ) (from value at : ℕ) : Type 0 where
+  pub reads : readFrom WordStart bytes from ≡ readFrom (Behind value) bytes at
+  pub after : from < at
+  pub inside : at ≤ length bytes
+  pub stops : at < length bytes → continues mostWord value (getD bytes at 0) ≡ false
+
+abbrev pub WordRead : List ℕ → ℕ → Found → Type 0
+WordRead bytes from (found.Word value at) = NumberAt bytes from value at
+WordRead bytes from found.Nothing = readFrom WordStart bytes from ≡ none
+
+-- a line of words stands from one index to another; its words are stored
+pub record LineAt (bytes : List ℕ) (from : ℕ) (words words′ : List ℕ) (to at count : ℕ) : Type 0 where
+  pub line : List ℕ
+  pub reads : readFrom LineStart bytes from ≡ lineBefore line (readFrom LineStart bytes at)
+  pub counts : count ≡ to + length line
+  pub stored : words′ ≡ sets words to line
+  pub after : from + length line < at
+  pub inside : at ≤ length bytes
+
+abbrev pub LineRead : List ℕ → ℕ → List ℕ → List ℕ → ℕ → Read → Type 0
+LineRead bytes from words words′ to (read.Words at count) = LineAt bytes from words words′ to at count
+LineRead bytes from words words′ to read.Nothing = readFrom LineStart bytes from ≡ none
+
+-- the bytes from an index on are ten lines; their words are stored, and where each line ends
+pub record TenAt (bytes : List ℕ) (from : ℕ) (words words′ ends : List ℕ) (few : Bool) : Type 0 where
+  pub lines : List (List ℕ)
+  pub reads : readFrom LineStart bytes from ≡ some lines
+  pub count : length lines ≡ 10
+  pub size : allShort lines ≡ few
+  pub stored : words′ ≡ sets words 0 (flatten lines)
+  pub placed : ends ≡ endsFrom 0 lines
+
+abbrev pub LinesRead : List ℕ → ℕ → List ℕ → List ℕ → List ℕ → Judged → Type 0
+LinesRead bytes from words words′ ends judged.Unreadable = ten (readFrom LineStart bytes from) ≡ none
+LinesRead bytes from words words′ ends judged.TooLong = TenAt bytes from words words′ ends false
+LinesRead bytes from words words′ ends judged.Good = TenAt bytes from words words′ ends true
+
+-- the words of one record and of all, by where they end
+abbrev pub recordAt : List ℕ → List ℕ → ℕ → List ℕ
+recordAt words ends i = slice (getD (0 ∷ ends) i 0) (getD ends i 0) words
+
+abbrev pub recordsAt : List ℕ → List ℕ → Records
+recordsAt words ends =
+    record {
+      names = recordAt words ends 0;
+      bounds = recordAt words ends 1;
+      types = recordAt words ends 2;
+      self = recordAt words ends 3;
+      steps = recordAt words ends 4;
+      returns = recordAt words ends 5;
+      structs = recordAt words ends 6;
+      params = recordAt words ends 7;
+      output = recordAt words ends 8;
+      force = recordAt words ends 9;
+    }
+
+-- the words of some records stand one record after another, and these are their ends
+pub record Laid (words ends : List ℕ) : Type 0 where
+  pub sheet : Records
+  pub rest : List ℕ
+  pub stored : words ≡ wordsOf sheet ++ rest
+  pub placed : ends ≡ endsFrom 0 (lists sheet)
+
+-- an accepted text, and where its records end
+pub record Counted (bytes ends : List ℕ) : Type 0 where
+  pub due : NoneDue (textChecks bytes)
+  pub placed : ends ≡ endsFrom 0 (lists (sheetOf bytes))
+
+abbrev pub isAccepted : Verdict → Bool
+isAccepted verdict.Accepted = true
+isAccepted (verdict.Refused k) = false

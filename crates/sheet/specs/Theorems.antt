@@ -1,0 +1,90 @@
+-- The main theorems of this crate, stated. Each has its proof, a term of exactly this type and of the same name in small letters, in proofs/Theorems.antt.
+use Prim.Native.Nat.{ℕ, _+_, _*_, _/_, _%_, _≤_, _<_}
+use mathlib.Core.Bool.{true, false}
+use mathlib.Core.Path.{_≡_}
+use mathlib.Core.Logic.{_↔_, _⊎_}
+use mathlib.Core.List.{List, [], _∷_, _++_, List·Memᴰ}
+use lib.ListN.{length, getD}
+use lib.Seq.{slice}
+use Rattle.lifetimes.specs.declared.answer.Refusal.{Refusal}
+use Rattle.lifetimes.specs.declared.answer.Refusal.the-variants.{Malformed, NoRoom, Unreadable}
+use Rattle.lifetimes.specs.Refusals.{Outcome, Gives, Refuses}
+use Rattle.sheet.specs.Text.{digits, Records, lists, wordsOf, text, mostWord, mostBytes, mostWords, WordsUpTo}
+use Rattle.sheet.specs.Reading.{readText}
+use Rattle.sheet.specs.Answer.{endsFrom, readWords, readEnds}
+use Rattle.sheet.specs.Shape.{sheetInShape, readSheet, sheetWords, sheetEnds}
+use Rattle.sheet.specs.Examples.{examples, sheetExamples, Right}
+
+-- The digits of a number, without fuel; a word has at most five
+pub record DecimalOf (n : ℕ) : Type 0 where
+  pub single : n < 10 → digits n ≡ (48 + n) ∷ []
+  pub more : 10 ≤ n → digits n ≡ digits (n / 10) ++ ((48 + n % 10) ∷ [])
+  pub few : n ≤ mostWord → length (digits n) ≤ 5
+
+abbrev pub DigitsOfNumbers : Type 0
+DigitsOfNumbers = (n : ℕ) → DecimalOf n
+
+-- Two sheets with the same text are the same, whatever their words
+abbrev pub TextIsOneToOne : Type 0
+TextIsOneToOne = (r s : Records) → text r ≡ text s → r ≡ s
+
+-- the bytes are this sheet: "decimal 0 to 65535", "a sheet at most 65,536 bytes"
+pub record IsSheet (bytes : List ℕ) (r : Records) : Type 0 where
+  pub spelt : bytes ≡ text r
+  pub words : WordsUpTo mostWord r
+  pub size : length bytes ≤ mostBytes
+
+-- Reading gives a sheet exactly if the bytes are that sheet and no record of it has more than 1,024 words; it refuses with 10 exactly if the bytes are no sheet; with 1 exactly if they are
+-- a sheet with a longer record; and with nothing else.
+pub record ReadsBack (bytes : List ℕ) : Type 0 where
+  pub given : (r : Records) → (readText bytes ≡ Gives r) ↔ (IsSheet bytes r × ((l : List ℕ) → List·Memᴰ l (lists r) → length l ≤ mostWords))
+  pub unreadable : (readText bytes ≡ Refuses Unreadable) ↔ ((r : Records) → IsSheet bytes r → ⊥)
+  pub malformed : (readText bytes ≡ Refuses Malformed) ↔ ((r : Records) × IsSheet bytes r × ((l : List ℕ) × List·Memᴰ l (lists r) × (mostWords < length l)))
+  pub refusals : (k : Refusal) → readText bytes ≡ Refuses k → (k ≡ Unreadable) ⊎ (k ≡ Malformed)
+
+abbrev pub ReadingIsInverse : Type 0
+ReadingIsInverse = (bytes : List ℕ) → ReadsBack bytes
+
+-- Reading with the shapes (T-1): gives a sheet exactly if the bytes are that sheet and its records are in shape; refuses with 10 exactly if the bytes are no sheet; with 1 exactly if
+-- they are a sheet whose records are not all in shape (a record above 1,024 words is not); and with nothing else.
+pub record ReadsInShape (bytes : List ℕ) : Type 0 where
+  pub given : (r : Records) → (readSheet bytes ≡ Gives r) ↔ (IsSheet bytes r × (sheetInShape r ≡ true))
+  pub unreadable : (readSheet bytes ≡ Refuses Unreadable) ↔ ((r : Records) → IsSheet bytes r → ⊥)
+  pub malformed : (readSheet bytes ≡ Refuses Malformed) ↔ ((r : Records) × IsSheet bytes r × (sheetInShape r ≡ false))
+  pub refusals : (k : Refusal) → readSheet bytes ≡ Refuses k → (k ≡ Unreadable) ⊎ (k ≡ Malformed)
+
+abbrev pub ReadingJudgesShapes : Type 0
+ReadingJudgesShapes = (bytes : List ℕ) → ReadsInShape bytes
+
+-- No record of a sheet in shape has more than 1,024 words
+abbrev pub ShapesAreShort : Type 0
+ShapesAreShort = (r : Records) → sheetInShape r ≡ true → (l : List ℕ) → List·Memᴰ l (lists r) → length l ≤ mostWords
+
+-- What a call answers and writes, from what reading gives: the words and ends of the sheet's records; 9 where the words are more than the slice takes; else the refusal of the reading.
+pub record CallGives (reading : Outcome Records) (words ends : Outcome (List ℕ)) (room : ℕ) : Type 0 where
+  pub given : (r : Records) → reading ≡ Gives r → length (wordsOf r) ≤ room → (words ≡ Gives (wordsOf r)) × (ends ≡ Gives (endsFrom 0 (lists r)))
+  pub short : (r : Records) → reading ≡ Gives r → room < length (wordsOf r) → (words ≡ Refuses NoRoom) × (ends ≡ Refuses NoRoom)
+  pub refused : (k : Refusal) → reading ≡ Refuses k → (words ≡ Refuses k) × (ends ≡ Refuses k)
+
+-- `read_text`, and `read_sheet`
+abbrev pub CallReadsText : Type 0
+CallReadsText = (bytes : List ℕ) (room : ℕ) → CallGives (readText bytes) (readWords bytes room) (readEnds bytes room) room
+
+abbrev pub CallReadsSheet : Type 0
+CallReadsSheet = (bytes : List ℕ) (room : ℕ) → CallGives (readSheet bytes) (sheetWords bytes room) (sheetEnds bytes room) room
+
+-- The words of each record stand from where the one before ends to where it ends, whatever is behind them
+abbrev pub RecordsInPlace : Type 0
+RecordsInPlace = (r : Records) (rest : List ℕ) (i : ℕ) → i < 10
+    → slice (getD (0 ∷ endsFrom 0 (lists r)) i 0) (getD (endsFrom 0 (lists r)) i 0) (wordsOf r ++ rest) ≡ getD (lists r) i []
+
+-- A slice of 10,240 words takes any sheet that reading gives
+abbrev pub RoomForAnySheet : Type 0
+RoomForAnySheet = (bytes : List ℕ) (r : Records) → readText bytes ≡ Gives r → length (wordsOf r) ≤ 10 * mostWords
+
+-- The examples
+abbrev pub ExamplesHold : Type 0
+ExamplesHold = Right readText examples
+
+abbrev pub SheetExamplesHold : Type 0
+SheetExamplesHold = Right readSheet sheetExamples

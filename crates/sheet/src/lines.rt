@@ -1,0 +1,119 @@
+// The words of a line, and of ten lines.
+//
+// Words are stored as far as the slice goes, so that the same reading counts (with a slice of one word) and writes.
+ghost use Prim.Native.Nat.{_≤_, _<_};
+ghost use mathlib.Core.Bool.{_&&_};
+ghost use mathlib.Core.Path.{_≡_};
+ghost use lib.Dec.{leb};
+ghost use lib.ListN.{length, set};
+ghost use Rattle.sheet.specs.Text.{mostWords};
+ghost use Rattle.sheet.specs.Inner.{LineRead, LinesRead};
+use super::text::Text;
+use super::word::Found;
+use super::word::word;
+
+// The place behind a line, and how many words are read so far; or none.
+pub(crate) enum Read {
+    Words { at: usize, count: usize },
+    Nothing,
+}
+
+// Store a word, where the slice has the place.
+fn put(words: &mut [usize], at: usize, word: usize)
+    ensures { λ _. ⌜ now (words .exit) ≡ set (now (words .entry)) at word ⌝ }
+{
+    if at < words.len() {
+        words[at] = word;
+    }
+}
+
+// The words of the line that starts at a place, stored from `to` on.
+fn line(bytes: &[u8], from: usize, words: &mut [usize], to: usize) -> Read
+    requires { ⌜ (from < length (now bytes)) × (to ≤ from) ⌝ }
+    ensures { λ r. ⌜ LineRead (now (bytes .entry)) from (now (words .entry)) (now (words .exit)) to r ⌝ }
+{
+    let n = bytes.len();
+    let mut i = from;
+    let mut count = to;
+    if bytes[i] == b'\n' {
+        i += 1;
+        return Read::Words { at: i, count };
+    }
+    loop {
+        let found = word(bytes, i);
+        let Found::Word { value, at } = found else {
+            return Read::Nothing;
+        };
+        if n <= at {
+            return Read::Nothing;
+        }
+        let b = bytes[at];
+        put(words, count, value);
+        count += 1;
+        i = at + 1;
+        if b == b'\n' {
+            return Read::Words { at: i, count };
+        }
+        if b != b' ' {
+            return Read::Nothing;
+        }
+    }
+}
+
+// What ten lines are: not readable; with a record above 1,024 words; or good.
+pub(crate) enum Judged {
+    Unreadable,
+    TooLong,
+    Good,
+}
+
+// Whether all records so far have few words, and one more.
+fn also_few(few: bool, count: usize) -> bool
+    ensures { λ r. ⌜ r ≡ leb count mostWords && few ⌝ }
+{
+    if Text::MAX_WORDS < count {
+        return false;
+    }
+    few
+}
+
+// The words of ten lines from a place on to the end of the bytes, stored from the front, and where each line's words end.
+pub(crate) fn lines(
+    bytes: &[u8],
+    from: usize,
+    words: &mut [usize],
+    ends: &mut [usize; 10],
+) -> Judged
+    requires { ⌜ length (now ends) ≡ 10 ⌝ }
+    ensures { λ r. ⌜ LinesRead (now (bytes .entry)) from (now (words .entry)) (now (words .exit)) (now (ends .exit)) r ⌝ }
+{
+    let mut at = from;
+    let mut count = 0;
+    let mut few = true;
+    let mut i = 0;
+    while i < 10 {
+        if bytes.len() <= at {
+            return Judged::Unreadable;
+        }
+        let read = line(bytes, at, words, count);
+        let Read::Words {
+            at: next,
+            count: more,
+        } = read
+        else {
+            return Judged::Unreadable;
+        };
+        few = also_few(few, more - count);
+        at = next;
+        count = more;
+        ends[i] = count;
+        i += 1;
+    }
+    if at < bytes.len() {
+        return Judged::Unreadable;
+    }
+    if few {
+        return Judged::Good;
+    }
+    Judged::TooLong
+}

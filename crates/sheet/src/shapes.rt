@@ -1,0 +1,136 @@
+// The shape of the ten records of a sheet.
+//
+// A refused call writes nothing, so the words are judged in scratch. It has two sizes, so that a small sheet does not pay for a large one.
+ghost use Prim.Native.Nat.{_≤_, _<_};
+ghost use mathlib.Core.Bool.{_&&_};
+ghost use mathlib.Core.Path.{_≡_};
+ghost use lib.ListN.{length, getD};
+ghost use Rattle.ast_lifetimes.specs.Shapes.{namesInShape, boundsInShape};
+ghost use Rattle.ast_lifetimes.specs.Types.{typesInShape};
+ghost use Rattle.elision.specs.Steps.{selfInShape, stepsInShape};
+ghost use Rattle.lowered_types.specs.Rows.{methodInShape};
+ghost use Rattle.sheet.specs.Reading.{sheetOf};
+ghost use Rattle.sheet.specs.Shape.{sheetInShape};
+ghost use Rattle.sheet.specs.Inner.{isAccepted, recordAt, recordsAt, Laid, Counted};
+use super::text::write;
+use ast_lifetimes::bounds_shape;
+use ast_lifetimes::names_shape;
+use ast_lifetimes::types_shape;
+use elision::self_shape;
+use elision::steps_shape;
+use lifetimes::Verdict;
+use lowered_types::method_shape;
+
+// Whether the records of an accepted text are in shape.
+pub(crate) fn in_shape(sheet: &[u8], ends: [usize; 10]) -> bool
+    requires { ⌜ Counted (now sheet) ends ⌝ }
+    ensures { λ r. ⌜ r ≡ sheetInShape (sheetOf (now (sheet .entry))) ⌝ }
+{
+    let count = ends[9];
+    if count <= 512 {
+        return small(sheet, ends);
+    }
+    large(sheet, ends)
+}
+
+// The same with scratch of one size.
+fn small(sheet: &[u8], ends: [usize; 10]) -> bool
+    requires { ⌜ Counted (now sheet) ends × (getD ends 9 0 ≤ 512) ⌝ }
+    ensures { λ r. ⌜ r ≡ sheetInShape (sheetOf (now (sheet .entry))) ⌝ }
+{
+    let mut scratch = [0usize; 512];
+    within(sheet, ends, &mut scratch)
+}
+
+fn large(sheet: &[u8], ends: [usize; 10]) -> bool
+    requires { ⌜ Counted (now sheet) ends ⌝ }
+    ensures { λ r. ⌜ r ≡ sheetInShape (sheetOf (now (sheet .entry))) ⌝ }
+{
+    let mut scratch = [0usize; 10240];
+    within(sheet, ends, &mut scratch)
+}
+
+// The same with scratch that takes all words.
+fn within(sheet: &[u8], ends: [usize; 10], scratch: &mut [usize]) -> bool
+    requires { ⌜ Counted (now sheet) ends × (getD ends 9 0 ≤ length (now scratch)) ⌝ }
+    ensures { λ r. ⌜ r ≡ sheetInShape (sheetOf (now (sheet .entry))) ⌝ }
+{
+    write(sheet, scratch);
+    laid_in_shape(scratch, ends)
+}
+
+// Whether records are in shape whose words stand one record after another.
+fn laid_in_shape(words: &[usize], ends: [usize; 10]) -> bool
+    requires { ⌜ Laid (now words) ends ⌝ }
+    ensures { λ r. ⌜ r ≡ sheetInShape (recordsAt (now (words .entry)) ends) ⌝ }
+{
+    let environment = environment_in_shape(words, ends);
+    let elision = elision_in_shape(words, ends);
+    let method = method_in_shape(words, ends);
+    both(environment, both(elision, method))
+}
+
+fn environment_in_shape(words: &[usize], ends: [usize; 10]) -> bool
+    requires { ⌜ Laid (now words) ends ⌝ }
+    ensures { λ r. ⌜ r ≡ namesInShape (recordAt (now (words .entry)) ends 0) && (boundsInShape (recordAt (now (words .entry)) ends 1) && typesInShape (recordAt (now (words .entry)) ends 2)) ⌝ }
+{
+    let names = accepted(names_shape(record_words(words, ends, 0)));
+    let bounds = accepted(bounds_shape(record_words(words, ends, 1)));
+    let types = accepted(types_shape(record_words(words, ends, 2)));
+    both(names, both(bounds, types))
+}
+
+fn elision_in_shape(words: &[usize], ends: [usize; 10]) -> bool
+    requires { ⌜ Laid (now words) ends ⌝ }
+    ensures { λ r. ⌜ r ≡ selfInShape (recordAt (now (words .entry)) ends 3) && (stepsInShape (recordAt (now (words .entry)) ends 4) && stepsInShape (recordAt (now (words .entry)) ends 5)) ⌝ }
+{
+    let own = accepted(self_shape(record_words(words, ends, 3)));
+    let steps = accepted(steps_shape(record_words(words, ends, 4)));
+    let returns = accepted(steps_shape(record_words(words, ends, 5)));
+    both(own, both(steps, returns))
+}
+
+fn method_in_shape(words: &[usize], ends: [usize; 10]) -> bool
+    requires { ⌜ Laid (now words) ends ⌝ }
+    ensures { λ r. ⌜ r ≡ methodInShape (recordAt (now (words .entry)) ends 6) (recordAt (now (words .entry)) ends 7) (recordAt (now (words .entry)) ends 8) (recordAt (now (words .entry)) ends 9) ⌝ }
+{
+    let shape = method_shape(
+        record_words(words, ends, 6),
+        record_words(words, ends, 7),
+        record_words(words, ends, 8),
+        record_words(words, ends, 9),
+    );
+    let verdict = shape.verdict;
+    accepted(verdict)
+}
+
+// The words of a record: they stand from where the one before ends.
+fn record_words(words: &[usize], ends: [usize; 10], i: usize) -> &[usize]
+    requires { ⌜ Laid (now words) ends × (i < 10) ⌝ }
+    ensures { λ r. ⌜ now r ≡ recordAt (now (words .entry)) ends i ⌝ }
+{
+    let to = ends[i];
+    if i == 0 {
+        return &words[0..to];
+    }
+    let from = ends[i - 1];
+    &words[from..to]
+}
+
+fn accepted(verdict: Verdict) -> bool
+    ensures { λ r. ⌜ r ≡ isAccepted verdict ⌝ }
+{
+    match verdict {
+        Verdict::Accepted => true,
+        Verdict::Refused(_) => false,
+    }
+}
+
+fn both(a: bool, b: bool) -> bool
+    ensures { λ r. ⌜ r ≡ a && b ⌝ }
+{
+    if a {
+        return b;
+    }
+    false
+}

@@ -1,0 +1,108 @@
+// The call that reads ten records of any words: judge and count first, then write.
+ghost use mathlib.Core.Bool.{cond};
+ghost use mathlib.Core.Path.{_≡_};
+ghost use mathlib.Core.Option.{none, some};
+ghost use lib.ListN.{length, drop};
+ghost use lib.Seq.{sets};
+ghost use Rattle.lifetimes.specs.Refusals.{Refuses, NoneDue};
+ghost use Rattle.lifetimes.specs.Lent.{written};
+ghost use Rattle.sheet.specs.Text.{heading, wordsOf};
+ghost use Rattle.sheet.specs.Reading.{behind, sheetOf, textChecks};
+ghost use Rattle.sheet.specs.Answer.{answerOf, measured, readAnswer, readWords};
+use super::lines::Judged;
+use super::lines::lines;
+use lifetimes::Refusal;
+use lifetimes::Verdict;
+
+// Whether a text is refused, and where the words of each of its ten records end, one record after another. Beside a refusal all ends are 0.
+pub struct Text {
+    pub verdict: Verdict,
+    pub ends: [usize; 10],
+}
+
+impl Text {
+    // The bytes of a sheet, the words of a record, the bytes of the heading line.
+    pub const MAX_BYTES: usize = 65536;
+
+    pub const MAX_WORDS: usize = 1024;
+
+    pub const HEADING: usize = 66;
+}
+
+// Read the text of a sheet, whatever the shape of its records. The words of its ten records are written to a slice, one record after another; the answer says where each ends.
+// Refused by 10 where the bytes are not the text of a sheet, then by 1 for a record above 1,024 words, then by 9 where the slice is too short. 10,240 words are always
+// enough. Reads each byte twice: once to judge and to count, once to write.
+pub fn read_text(sheet: &[u8], words: &mut [usize]) -> Text
+    ensures { λ r. ⌜ r ≡ readAnswer (now (sheet .entry)) (length (now (words .entry))) ⌝ }
+    ensures { λ _. ⌜ now (words .exit) ≡ written (readWords (now (sheet .entry)) (length (now (words .entry)))) (now (words .entry)) ⌝ }
+{
+    let judged = measure(sheet);
+    let verdict = judged.verdict;
+    let Verdict::Accepted = verdict else {
+        return judged;
+    };
+    let ends = judged.ends;
+    if words.len() < ends[9] {
+        return refused(Refusal::NoRoom);
+    }
+    write(sheet, words);
+    judged
+}
+
+pub(crate) fn refused(refusal: Refusal) -> Text
+    ensures { λ r. ⌜ r ≡ answerOf (Refuses refusal) ⌝ }
+{
+    Text {
+        verdict: Verdict::Refused(refusal),
+        ends: [0; 10],
+    }
+}
+
+// Judge a text and count its words, without writing any. Refused by 10, then by 1.
+pub(crate) fn measure(sheet: &[u8]) -> Text
+    ensures { λ r. ⌜ r ≡ measured (now (sheet .entry)) ⌝ }
+{
+    if Text::MAX_BYTES < sheet.len() {
+        return refused(Refusal::Unreadable);
+    }
+    if !headed(sheet) {
+        return refused(Refusal::Unreadable);
+    }
+    let mut unused = [0usize; 1];
+    let mut ends = [0usize; 10];
+    match lines(sheet, Text::HEADING, &mut unused, &mut ends) {
+        Judged::Unreadable => refused(Refusal::Unreadable),
+        Judged::TooLong => refused(Refusal::Malformed),
+        Judged::Good => Text {
+            verdict: Verdict::Accepted,
+            ends,
+        },
+    }
+}
+
+// Write the words of an accepted text, one record after another, as far as the slice goes.
+pub(crate) fn write(sheet: &[u8], words: &mut [usize])
+    requires { ⌜ NoneDue (textChecks (now sheet)) ⌝ }
+    ensures { λ _. ⌜ now (words .exit) ≡ sets (now (words .entry)) 0 (wordsOf (sheetOf (now (sheet .entry)))) ⌝ }
+{
+    let mut ends = [0usize; 10];
+    lines(sheet, Text::HEADING, words, &mut ends);
+}
+
+// Whether the first line is the heading.
+fn headed(bytes: &[u8]) -> bool
+    ensures { λ r. ⌜ behind heading (now (bytes .entry)) ≡ cond r (some (drop 66 (now (bytes .entry)))) none ⌝ }
+{
+    let line = b"names bounds types self steps returns structs params output force\n";
+    if bytes.len() < Text::HEADING {
+        return false;
+    }
+    let mut i = 0;
+    while i < Text::HEADING {
+        if bytes[i] != line[i] {
+            return false;
+        }
+        i += 1;
+    }
+    true
+}
