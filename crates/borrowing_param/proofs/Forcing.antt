@@ -1,0 +1,162 @@
+-- Condition 3: the test by which a new visitor's visits go is that of the numberings, and its visits are those of `visit_param`.
+use Prim.Native.Nat.{ℕ, zero, suc, _+_, _≤_, _<_}
+use mathlib.Core.Bool.{Bool, true, false, cond, _&&_, not, and-eq-true-iff}
+use mathlib.Core.Path.{_≡_, refl, sym, ap, subst, _∙_}
+use mathlib.Core.Logic.{_↔_, ⊎-elim}
+use mathlib.Core.List.{List, [], _∷_, _++_, map, flatMap, append-nil, List·Memᴰ, List·Nodup, nodup-cons}
+use native.Mathlib.Nat.{zero-add}
+use native.Mathlib.Omega.{arith}
+use borrow.Author.Tests.{lt-ltb, lt-leb, not-false}
+use lib.Dec.{ltb, leb}
+use lib.ListN.{length, getD, take, drop}
+use Rattle.lifetimes.specs.declared.env.Bound.{Bound}
+use Rattle.lifetimes.specs.declared.env.LifetimeEnv.{LifetimeEnv}
+use Rattle.lifetimes.specs.declared.answer.Refusal.the-variants.{Malformed}
+use Rattle.lifetimes.specs.declared.answer.Verdict.the-variants.{Accepted}
+use Rattle.lifetimes.specs.Refusals.{Check, check, Outcome, Gives, unless, NoneDue, end, next}
+use Rattle.lifetimes.specs.Ranges.{ascending, select}
+use Rattle.lifetimes.specs.Sets.{member, members, setOf}
+use Rattle.lifetimes.specs.Env.{boundsOf, envChecks, envOf, allBelow}
+use Rattle.lifetimes.specs.Walk.{LastFirst, reachSet}
+use Rattle.lifetimes.proofs.RefusalLaws.{due-given, none-first, none-more}
+use Rattle.lifetimes.proofs.SetLaws.{members-has, ascending-has, select-has}
+use Rattle.lifetimes.proofs.Theorems.{reach-is-outlives, outlives-is-forced}
+use Rattle.records.specs.Reading.{readAll, inShape, itemsOf}
+use Rattle.lowered_types.specs.declared.types.Kind.{Kind}
+use Rattle.lowered_types.specs.declared.types.Kind.the-variants.{Plain, Opaque, Struct, Slice}
+use Rattle.lowered_types.specs.LoweredTypes.{LoweredType}
+use Rattle.lowered_types.specs.Rows.{rowsOf, structsInShape, paramsInShape, outputInShape, forceInShape, methodInShape}
+use Rattle.hir_types.specs.Method.{typesIn, typeChecks, rowChecks, paramChecks, placeChecks, anyPast, outputLifetimes, methodChecks}
+use Rattle.hir_types.specs.Used.{usedSet, usedNumbers}
+use Rattle.borrowing_param.specs.declared.visitor.LifetimeEdge.{LifetimeEdge}
+use Rattle.borrowing_param.specs.declared.visitor.BorrowingParamVisitor.{BorrowingParamVisitor}
+use Rattle.borrowing_param.specs.Brings.{bring, answerOf}
+use Rattle.borrowing_param.specs.Visit.{usedOf, drawsIn, drawsOf, bringTo, bringAll, holding, state, visitWith, visit}
+use Rattle.borrowing_param.specs.VisitParam.{typeAt, visitChecks, visitParam}
+use Rattle.borrowing_param.specs.Visits.{allOf, Visits}
+use Rattle.borrowing_param.specs.New.{drawsTo, newVisitor, created}
+use Rattle.borrowing_param.specs.Condition3.{Above, Param}
+use Rattle.borrowing_param.specs.Theorems.{answerAt, AllVisits}
+use Rattle.borrowing_param.proofs.Joining.{Once, join-part}
+use Rattle.borrowing_param.proofs.Running.{visits-all}
+use Rattle.borrowing_param.proofs.Bringing.{brought-by, bring-ascends, bring-formed, Formed, kindNumber, defs, answers}
+use Rattle.borrowing_param.proofs.Visiting.{both, param-short}
+use Rattle.borrowing_param.proofs.Creating.{at-place, none-split, places-none, env-none, few-lifetimes, used-below}
+
+-- ---- by the numberings
+
+module _ (env : LifetimeEnv) (valid : NoneDue (envChecks env)) (few : env .count ≤ 64) (used : ℕ) (below : (k : ℕ) → member used k ≡ true → k < env .count) where
+  abbrev v : BorrowingParamVisitor
+  v = newVisitor used (boundsOf env)
+
+  draws-above : (l b : ℕ) → List·Memᴰ l (usedOf v) → (drawsOf v l b ≡ true) ↔ Above (boundsOf env) (env .count) l b
+  unfolding newVisitor
+  draws-above l b m =
+      let in-used = (members-has used l) .0 m in
+      let set : getD (v .draws) l 0 ≡ reachSet true (boundsOf env) l = at-place (drawsTo used (boundsOf env)) 0 64 l (in-used .0) ∙ ap (drawsTo used (boundsOf env)) (zero-add l) ∙ rw (in-used .1) in
+      let reach = (reach-is-outlives LastFirst true env valid l (below l (in-used .1))) .set b in
+      let forced = (outlives-is-forced (boundsOf env) l b) .0 in
+      let both = and-eq-true-iff (ltb b 64) (member (getD (v .draws) l 0) b) in (
+        λ h. let k = reach .0 (rw set at (both .0 h .1)) in (k .0, forced .0 (k .1)),
+        λ h. both .1 (lt-ltb b 64 (omega (arith, h .0)), rw set (reach .1 (h .0, forced .1 (h .1)))),
+      )
+
+  -- what one parameter brings and answers
+  param-is : (t : LoweredType) (p : ℕ) → length (t .path) ≤ 16 → Param (boundsOf env) (env .count) v t p (answerOf (t .kind) (bringAll v t p))
+  param-is t p short = record {
+    brought = λ l m e. brought-by (drawsOf v l) (Above (boundsOf env) (env .count) l) (λ b. draws-above l b m) l p t e;
+    ascending = λ l. bring-ascends (drawsOf v l) l p t;
+    answers = answers (t .kind) p 16 (bringAll v t p) (omega arith) form;
+  }
+    where
+      few-defs : (k : Kind) → defs k t ≤ 16
+      few-defs Plain = omega arith
+      few-defs Opaque = omega arith
+      few-defs Slice = omega arith
+      few-defs (Struct row) = short
+
+      form : (e : LifetimeEdge) → List·Memᴰ e (bringAll v t p) → (used : ℕ) × Formed used p (kindNumber (t .kind)) 16 e
+      form e m =
+          let r = join-part (bringTo v t p) (usedOf v) e m in
+          let f = bring-formed (drawsOf v (r .part)) (r .part) p t e (r .holds) in
+          let k = few-defs (t .kind) in
+          (r .part, record { own = f .own; visits = f .visits; what = f .what; below = omega (arith, f .below) })
+
+-- ---- each used lifetime stands once
+
+once-from : (f : ℕ → Bool) (x n : ℕ) → Once (select f (ascending x n))
+unfolding ascending select Once
+once-from f x zero = tt
+once-from f x (suc n) = go (f x) (once-from f (suc x) n)
+  where
+    go : (t : Bool) → Once (select f (ascending (suc x) n)) → Once (cond t (x ∷ select f (ascending (suc x) n)) (select f (ascending (suc x) n)))
+    go true r = (λ m. let k = (ascending-has (suc x) n x) .0 ((select-has f (ascending (suc x) n) x) .0 m .0) in omega (arith, k .0), r)
+    go false r = r
+
+once-used : (used : ℕ) → Once (members used)
+unfolding members
+once-used used = once-from (member used) 0 64
+
+-- ---- the visits of an accepted method
+
+module _ (env : LifetimeEnv) (structs params output force : List ℕ) (none : NoneDue (methodChecks env structs params output force)) where
+  in-shape : (structsInShape structs ≡ true) × (paramsInShape (length (rowsOf structs)) params ≡ true)
+  unfolding methodInShape
+  in-shape =
+      let all = both (structsInShape structs) (not-false _ (none-first none)) in
+      (all .0, both (paramsInShape (length (rowsOf structs)) params) (all .1) .0)
+
+  shape-none : methodInShape structs params [] (0 ∷ []) ≡ true
+  unfolding methodInShape inShape itemsOf readAll
+  shape-none = rw (in-shape .0, in-shape .1)
+
+  rows-params : NoneDue (rowChecks (rowsOf structs) 0 (rowsOf structs)) × NoneDue (paramChecks (rowsOf structs) 0 (typesIn structs params))
+  rows-params =
+      let a = none-split (rowChecks (rowsOf structs) 0 (rowsOf structs)) (paramChecks (rowsOf structs) 0 (typesIn structs params) ++ typeChecks (rowsOf structs) (typesIn structs output)) (places-none env structs params output force none) in
+      (a .0, none-split (paramChecks (rowsOf structs) 0 (typesIn structs params)) (typeChecks (rowsOf structs) (typesIn structs output)) (a .1) .0)
+
+  places-still : NoneDue (placeChecks structs params [])
+  unfolding typeChecks itemsOf readAll
+  places-still = none-more (rows-params .0) (none-more (rows-params .1) end)
+
+  visit-none : (p : ℕ) → p < length (typesIn structs params) → NoneDue (visitChecks structs params p)
+  unfolding envOf allBelow anyPast itemsOf readAll flatMap
+  visit-none p h = next (lt-leb (length (typesIn structs params)) p h) (next {c = check (not (methodInShape structs params [] (0 ∷ []))) Malformed} (rw shape-none) (next refl (next refl (none-more places-still (next refl (next refl (next refl end)))))))
+
+  abbrev used : ℕ
+  used = setOf (usedNumbers env structs params output force)
+
+  used-given : usedSet env structs params output force ≡ Gives used
+  unfolding usedSet
+  used-given = due-given used none
+
+  abbrev new : BorrowingParamVisitor
+  new = newVisitor used (boundsOf env)
+
+  created-is : created env structs params output force .visitor ≡ new
+  unfolding created
+  created-is = rw used-given
+
+  abbrev type : ℕ → LoweredType
+  type p = typeAt (typesIn structs params) p
+
+  agrees : (e : ℕ) (words : List ℕ) (p : ℕ) → p < length (typesIn structs params)
+      → visitParam structs params (state (holding new e) words) p ≡ visitWith (state (holding new e) words) (answerAt structs params new p) (allOf new (λ l q. bringTo new (type q) q l) p)
+  unfolding visitParam visit
+  agrees e words p h = rw (due-given (tt {0}) (visit-none p h))
+
+  new-empty : new .stored ≡ 0
+  unfolding newVisitor
+  new-empty = refl
+
+  once-new : Once (usedOf new)
+  unfolding newVisitor
+  once-new = once-used used
+
+  pub all-visits : (words ps : List ℕ) → ((p : ℕ) → List·Memᴰ p ps → p < length (typesIn structs params)) → AllVisits env structs params (created env structs params output force .visitor) words ps
+  all-visits words ps within = subst (λ (x : BorrowingParamVisitor). AllVisits env structs params x words ps) (sym created-is) (record {
+    parameters = λ p h. param-is env (env-none env structs params output force none) (few-lifetimes env structs params output force none) used (used-below env structs params output force none used used-given)
+        (type p) p (param-short structs params (in-shape .1) p h);
+    visits = visits-all (visitParam structs params) new (λ l q. bringTo new (type q) q l) (answerAt structs params new) (length (typesIn structs params)) agrees (λ p h. refl)
+        (λ l q e m. bring-formed (drawsOf new l) l q (type q) e m .own) once-new new-empty words ps within;
+  })

@@ -1,0 +1,11 @@
+-- Laws: joined lists and words of edges; a run of visits; what a parameter brings; which lifetimes draw; storing edges; a visit.
+pub mod Joining
+pub mod Running
+pub mod Bringing
+pub mod Drawing
+pub mod Storing
+pub mod Visiting
+pub mod Creating
+pub mod Forcing
+-- The main theorems:
+pub mod Theorems

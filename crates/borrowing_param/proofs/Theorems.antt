@@ -1,0 +1,26 @@
+-- The main theorems, proved: for each statement of specs/Theorems.antt a term of exactly its type.
+use mathlib.Core.Path.{refl}
+use mathlib.Core.List.{flatMap}
+use Rattle.lifetimes.specs.Ranges as ranges
+use Rattle.lifetimes.specs.Refusals as refusals
+use Rattle.lifetimes.specs.Sets as sets
+use Rattle.lifetimes.specs.Env as env
+use Rattle.lifetimes.specs.Walk as walk
+use Rattle.records.specs.Reading as reading
+use Rattle.lowered_types.specs.LoweredTypes as types
+use Rattle.lowered_types.specs.Rows as rows
+use Rattle.hir_types.specs.Method as method
+use Rattle.hir_types.specs.Used as used
+use Rattle.borrowing_param.specs.Brings as brings
+use Rattle.borrowing_param.specs.Visit as visit
+use Rattle.borrowing_param.specs.VisitParam as visit-param
+use Rattle.borrowing_param.specs.New as new
+use Rattle.borrowing_param.specs.Theorems.{Condition3, ExamplesHold}
+use Rattle.borrowing_param.proofs.Forcing.{all-visits}
+
+pub condition3 : Condition3
+condition3 env structs params output force none words ps within = all-visits env structs params output force none words ps within
+
+pub examples-hold : ExamplesHold
+unfolding new.created new.newVisitor visit-param.visitParam visit.visit visit.after brings.bring brings.anyDrawn brings.structEdges brings.notes used.usedSet used.numbersOf used.inTypes used.inRows method.typeChecks method.rowChecks method.paramChecks method.anyPast rows.readKnown rows.readTypes rows.readRow rows.methodInShape types.readOpaque types.readStruct types.readSlice types.readBare types.readLowered reading.readAll reading.inShape reading.itemsOf refusals.unless env.envOf env.allBelow ranges.ascending ranges.select walk.reachSet walk.traversal walk.walk walk.walkFor walk.unpushed walk.neighbours sets.member sets.insert sets.insertAll sets.members flatMap
+examples-hold = (refl, (refl, (refl, (refl, (refl, (refl, (refl, (refl, tt))))))))

@@ -1,0 +1,29 @@
+-- An edge, and its words in a lent slice. How many words an edge has is said here and nowhere else.
+use Prim.Native.Nat.{ℕ, zero, suc}
+use mathlib.Core.List.{List, [], _∷_, filter}
+use native.Mathlib.Decide.{ℕ-discrete}
+use lib.ListN.{getD, drop}
+use Rattle.borrowing_param.specs.declared.visitor.LifetimeEdge.{LifetimeEdge}
+
+-- 01: "An edge is the values of its listing line": used lifetime, parameter, kind (1 opaque, 2 slice, 3 struct), definition lifetime, option
+abbrev pub edge : ℕ → ℕ → ℕ → ℕ → ℕ → LifetimeEdge
+edge used param kind def option = record { used = used; param = param; kind = kind; def = def; option = option }
+
+abbrev pub width : ℕ
+width = 5
+
+abbrev pub edgeWords : LifetimeEdge → List ℕ
+edgeWords e = e .used ∷ e .param ∷ e .kind ∷ e .def ∷ e .option ∷ []
+
+-- the edge that the first words of a list say
+abbrev pub edgeAt : List ℕ → LifetimeEdge
+edgeAt words = edge (getD words 0 0) (getD words 1 0) (getD words 2 0) (getD words 3 0) (getD words 4 0)
+
+-- the first n edges of a slice
+unfoldable pub edgesIn : ℕ → List ℕ → List LifetimeEdge
+edgesIn zero words = []
+edgesIn (suc n) words = edgeAt words ∷ edgesIn n (drop width words)
+
+-- the edges of a used lifetime, in order
+abbrev pub edgesOf : ℕ → List LifetimeEdge → List LifetimeEdge
+edgesOf used es = filter (λ (e : LifetimeEdge). ℕ-discrete (e .used) used) es

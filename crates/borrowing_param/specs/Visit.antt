@@ -1,0 +1,79 @@
+-- One visit, and a list of visits.
+use Prim.Native.Nat.{ℕ, suc, _+_, _*_}
+use mathlib.Core.Bool.{Bool, true, false, cond, _&&_}
+use mathlib.Core.List.{List, [], _∷_, flatMap}
+use lib.Dec.{leb, ltb}
+use lib.ListN.{length, getD, take}
+use lib.Seq.{sets}
+use Rattle.lifetimes.specs.declared.answer.Refusal.the-variants.{NoRoom}
+use Rattle.lifetimes.specs.Sets.{member, members}
+use Rattle.lowered_types.specs.LoweredTypes.{LoweredType}
+use Rattle.borrowing_param.specs.declared.visitor.LifetimeEdge.{LifetimeEdge}
+use Rattle.borrowing_param.specs.declared.visitor.ParamBorrowInfo.{ParamBorrowInfo}
+use Rattle.borrowing_param.specs.declared.visitor.BorrowingParamVisitor.{BorrowingParamVisitor}
+use Rattle.borrowing_param.specs.Edges.{width, edgeWords}
+use Rattle.borrowing_param.specs.Brings.{bring, answerOf, refuse}
+
+-- the used lifetimes of a visitor, ascending
+abbrev pub usedOf : BorrowingParamVisitor → List ℕ
+usedOf v = members (v .used)
+
+-- whether a lifetime is in a set of those that draw
+abbrev pub drawsIn : ℕ → ℕ → Bool
+drawsIn set lifetime = ltb lifetime 64 && member set lifetime
+
+-- whether it draws an edge to the used lifetime
+abbrev pub drawsOf : BorrowingParamVisitor → ℕ → ℕ → Bool
+drawsOf v used lifetime = drawsIn (getD (v .draws) used 0) lifetime
+
+-- what a visit brings, by used lifetime
+abbrev pub bringTo : BorrowingParamVisitor → LoweredType → ℕ → ℕ → List LifetimeEdge
+bringTo v t param used = bring (drawsOf v used) used param t
+
+abbrev pub bringAll : BorrowingParamVisitor → LoweredType → ℕ → List LifetimeEdge
+bringAll v t param = flatMap (bringTo v t param) (usedOf v)
+
+-- the visitor with so many edges stored
+abbrev pub holding : BorrowingParamVisitor → ℕ → BorrowingParamVisitor
+holding v stored = record { used = v .used; draws = v .draws; stored = stored }
+
+-- the visitor and the lent edges between visits
+pub record State : Type 0 where
+  pub visitor : BorrowingParamVisitor
+  pub words : List ℕ
+
+abbrev pub state : BorrowingParamVisitor → List ℕ → State
+state v words = record { visitor = v; words = words }
+
+-- what a visit answers and leaves
+pub record Outcome : Type 0 where
+  pub info : ParamBorrowInfo
+  pub left : State
+
+abbrev pub outcome : ParamBorrowInfo → State → Outcome
+outcome info left = record { info = info; left = left }
+
+-- a visit with this answer that brings these edges: if there is room for them they are stored behind those that are stored; else it is refused by 9, and leaves all as it was. A visit that brings nothing needs no room
+abbrev pub roomFor : State → List LifetimeEdge → Bool
+roomFor s [] = true
+roomFor s (e ∷ es) = leb (width * (s .visitor .stored + length (e ∷ es))) (length (s .words))
+
+abbrev pub stored : State → List LifetimeEdge → State
+stored s es = state (holding (s .visitor) (s .visitor .stored + length es)) (sets (s .words) (width * s .visitor .stored) (flatMap edgeWords es))
+
+abbrev pub visitWith : State → ParamBorrowInfo → List LifetimeEdge → Outcome
+visitWith s info es = cond (roomFor s es) (outcome info (stored s es)) (outcome (refuse NoRoom) s)
+
+-- one visit of a parameter of this type
+unfoldable pub visit : State → LoweredType → ℕ → Outcome
+visit s t param = visitWith s (answerOf (t .kind) (bringAll (s .visitor) t param)) (bringAll (s .visitor) t param)
+
+-- Visits one after another, each with the visitor and the words as the one before left them
+
+unfoldable pub after : (State → ℕ → Outcome) → State → List ℕ → State
+after visits s [] = s
+after visits s (p ∷ ps) = after visits (visits s p .left) ps
+
+-- the visit with the number i, from 0, of a list
+abbrev pub visitAt : (State → ℕ → Outcome) → State → List ℕ → ℕ → Outcome
+visitAt visits s ps i = visits (after visits s (take i ps)) (getD ps i 0)

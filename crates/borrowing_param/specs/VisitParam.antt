@@ -1,0 +1,34 @@
+-- `visit_param`: a visit of one parameter of the records `structs` and `params`, total on all words.
+use Prim.Native.Nat.{ℕ, zero, suc}
+use mathlib.Core.Bool.{false}
+use mathlib.Core.List.{List, [], _∷_}
+use lib.Dec.{leb}
+use lib.ListN.{length, getD}
+use Rattle.lifetimes.specs.declared.answer.Refusal.the-variants.{Malformed}
+use Rattle.lifetimes.specs.Refusals as refusals
+use Rattle.lifetimes.specs.Refusals.{Check, check, unless}
+use Rattle.lifetimes.specs.Env.{envOf}
+use Rattle.lowered_types.specs.declared.types.Kind.the-variants.{Plain}
+use Rattle.lowered_types.specs.declared.types.Own.the-variants.{Absent}
+use Rattle.lowered_types.specs.LoweredTypes.{LoweredType, lowered}
+use Rattle.hir_types.specs.Method.{typesIn, methodChecks}
+use Rattle.borrowing_param.specs.Brings.{refuse}
+use Rattle.borrowing_param.specs.Visit.{State, Outcome, outcome, visit}
+
+-- the parameter's type
+abbrev pub typeAt : List LoweredType → ℕ → LoweredType
+typeAt types param = getD types param (lowered false Plain [] Absent)
+
+-- a parameter that is not there (1); else as a method with these records is refused, whatever its environment, output and force: 1, then 4 and 7 by place
+abbrev pub visitChecks : List ℕ → List ℕ → ℕ → List Check
+visitChecks structs params param =
+    check (leb (length (typesIn structs params)) param) Malformed
+    ∷ methodChecks (envOf 0 0 []) structs params [] (0 ∷ [])
+
+-- refused by these the visit leaves all as it was; else it goes on
+abbrev pub visitIf : refusals.Outcome (Unit {0}) → State → LoweredType → ℕ → Outcome
+visitIf (refusals.Gives u) s t param = visit s t param
+visitIf (refusals.Refuses r) s t param = outcome (refuse r) s
+
+unfoldable pub visitParam : List ℕ → List ℕ → State → ℕ → Outcome
+visitParam structs params s param = visitIf (unless (visitChecks structs params param) (tt {0})) s (typeAt (typesIn structs params) param) param

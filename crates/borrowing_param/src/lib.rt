@@ -1,0 +1,9 @@
+// Borrow edges: which buffers a view has to hold on to.
+mod edges;
+mod visitor;
+
+pub use visitor::BorrowingParamVisitor;
+pub use visitor::Created;
+pub use visitor::LifetimeEdge;
+pub use visitor::ParamBorrowInfo;
+pub use visitor::Visited;

@@ -1,0 +1,267 @@
+// The visitor: which parameters a method's used lifetimes borrow from.
+ghost use mathlib.Core.Path.{_≡_};
+ghost use mathlib.Core.Bool.{cond};
+ghost use lib.Dec.{eqb};
+ghost use mathlib.Core.List.{[], _∷_};
+ghost use Prim.Native.Nat.{_+_, _≤_};
+ghost use lib.ListN.{length};
+ghost use Rattle.hir_types.specs.Method.{methodVerdict};
+ghost use Rattle.lifetimes.specs.Env.{envOf};
+ghost use Rattle.borrowing_param.specs.Brings.{refuse};
+ghost use Rattle.borrowing_param.specs.Visit.{state, outcome, visit};
+ghost use Rattle.borrowing_param.specs.VisitParam.{visitParam};
+ghost use Rattle.borrowing_param.specs.New.{created};
+ghost use Rattle.borrowing_param.specs.Inner.{Inside, typeIn, FoundAt, numberBy, keptOf};
+use super::edges::count_all;
+use super::edges::store_all;
+use hir_types::UsedLifetimes;
+use hir_types::check_method;
+use hir_types::used_method_lifetimes;
+use lifetimes::Lifetime;
+use lifetimes::LifetimeEnv;
+use lifetimes::Refusal;
+use lifetimes::Verdict;
+use lifetimes::set;
+use lowered_types::Kind;
+use lowered_types::Located;
+use lowered_types::Parts;
+use lowered_types::type_at;
+
+// One edge: the values of its line in the listing.
+pub struct LifetimeEdge {
+    pub used: usize,
+    pub param: usize,
+    pub kind: usize,
+    pub def: usize,
+    pub option: usize,
+}
+
+// What a visit answers: whether it is refused; 01's number of the answer, 0 to 4; and for each lifetime of a struct's definition the set of the used lifetimes that it has an edge to.
+pub struct ParamBorrowInfo {
+    pub verdict: Verdict,
+    pub number: usize,
+    pub pairs: [u64; 16],
+}
+
+// The used lifetimes as a set, for each of them the set of the lifetimes that draw an edge to it, and how many edges are stored.
+pub struct BorrowingParamVisitor {
+    pub used: u64,
+    pub draws: [u64; 64],
+    pub stored: usize,
+}
+
+// A new visitor, or why there is none; beside a refusal a visitor that uses nothing.
+pub struct Created {
+    pub verdict: Verdict,
+    pub visitor: BorrowingParamVisitor,
+}
+
+// What a visit answers, and the visitor afterwards.
+pub struct Visited {
+    pub info: ParamBorrowInfo,
+    pub visitor: BorrowingParamVisitor,
+}
+
+impl BorrowingParamVisitor {
+    // How many words an edge has in a lent slice.
+    pub const EDGE_WORDS: usize = 5;
+
+    // A visitor of a method, from its environment and its records: its used lifetimes, what draws an edge to each of them, and no edges. Refused as the method is (1, 4, 7, 8).
+    pub fn new(
+        env: LifetimeEnv,
+        structs: &[usize],
+        params: &[usize],
+        output: &[usize],
+        force: &[usize],
+    ) -> Created
+        ensures { λ r. ⌜ r ≡ created env (now (structs .entry)) (now (params .entry)) (now (output .entry)) (now (force .entry)) ⌝ }
+    {
+        let lifetimes = used_method_lifetimes(env, structs, params, output, force);
+        let mut draws = [0u64; 64];
+        match lifetimes {
+            UsedLifetimes::Refused(refusal) => Created {
+                verdict: Verdict::Refused(refusal),
+                visitor: BorrowingParamVisitor {
+                    used: 0,
+                    draws,
+                    stored: 0,
+                },
+            },
+            UsedLifetimes::Set(used) => {
+                let reach = env.reach_sets(true);
+                let sets = reach.sets;
+                keep_used(used, &sets, &mut draws);
+                Created {
+                    verdict: Verdict::Accepted,
+                    visitor: BorrowingParamVisitor {
+                        used,
+                        draws,
+                        stored: 0,
+                    },
+                }
+            }
+        }
+    }
+
+    // Visit one parameter: store its edges to all used lifetimes behind those that are stored. Refused by 1 where there is no such parameter; by 1, 4 and 7 as the records of a method are; by 9
+    // where the slice takes no more. Refused, the visitor and the slice stay as they were.
+    pub fn visit_param(
+        self,
+        structs: &[usize],
+        params: &[usize],
+        param: usize,
+        edges: &mut [usize],
+    ) -> Visited
+        ensures { λ r. ⌜ outcome (r .info) (state (r .visitor) (now (edges .exit))) ≡ visitParam (now (structs .entry)) (now (params .entry)) (state self (now (edges .entry))) param ⌝ }
+    {
+        let found = param_at(params, param);
+        let Located::At(parts) = found else {
+            return refused(self, Refusal::Malformed);
+        };
+        let verdict = check_params(structs, params);
+        match verdict {
+            Verdict::Refused(refusal) => refused(self, refusal),
+            Verdict::Accepted => visit_parts(self, params, parts, param, edges),
+        }
+    }
+}
+
+// The sets of the used lifetimes, each at its place; at the others the set stays empty.
+fn keep_used(used: u64, sets: &[u64; 64], draws: &mut [u64; 64])
+    requires { ⌜ (length (now sets) ≡ 64) × (length (now draws) ≡ 64) ⌝ }
+    ensures { λ _. ⌜ now (draws .exit) ≡ keptOf used (now (sets .entry)) (now (draws .entry)) ⌝ }
+{
+    let mut i = 0;
+    'lifetimes: while i < 64 {
+        let l = i;
+        i += 1;
+        if !set::contains(used, Lifetime::new(l)) {
+            continue 'lifetimes;
+        }
+        draws[l] = sets[l];
+    }
+}
+
+// A refusal alone, and the visitor as it was.
+fn refused(visitor: BorrowingParamVisitor, refusal: Refusal) -> Visited
+    ensures { λ r. ⌜ r ≡ record { info = refuse refusal; visitor = visitor } ⌝ }
+{
+    let pairs = [0u64; 16];
+    Visited {
+        info: ParamBorrowInfo {
+            verdict: Verdict::Refused(refusal),
+            number: 0,
+            pairs,
+        },
+        visitor,
+    }
+}
+
+// Whether two records are those of a method, whatever else it has.
+fn check_params(structs: &[usize], params: &[usize]) -> Verdict
+    ensures { λ r. ⌜ r ≡ methodVerdict (envOf 0 0 []) (now (structs .entry)) (now (params .entry)) [] (0 ∷ []) ⌝ }
+{
+    let none = [0usize; 0];
+    let made = LifetimeEnv::new(0, 0, &none);
+    let env = made.env;
+    let force = [0usize; 1];
+    check_method(env, structs, params, &none, &force)
+}
+
+// The parameter with a number, where it stands.
+fn param_at(params: &[usize], param: usize) -> Located
+    ensures { λ r. ⌜ FoundAt (now (params .entry)) param r ⌝ }
+{
+    let mut at = 0;
+    let mut i = 0;
+    while i < param {
+        let found = type_at(params, at);
+        let Located::At(parts) = found else {
+            return Located::Missing;
+        };
+        at = parts.next;
+        i += 1;
+    }
+    type_at(params, at)
+}
+
+// Visit a parameter that stands there: refused by 9 if it brings edges and there is no room for them.
+fn visit_parts(
+    visitor: BorrowingParamVisitor,
+    params: &[usize],
+    parts: Parts,
+    param: usize,
+    edges: &mut [usize],
+) -> Visited
+    requires { ⌜ Inside (now params) (parts .from) (parts .count) × (parts .count ≤ 16) ⌝ }
+    ensures { λ r. ⌜ outcome (r .info) (state (r .visitor) (now (edges .exit))) ≡ visit (state visitor (now (edges .entry))) (typeIn (now (params .entry)) parts) param ⌝ }
+{
+    let used = visitor.used;
+    let draws = visitor.draws;
+    let stored = visitor.stored;
+    let brought = count_all(used, &draws, params, parts);
+    let kind = parts.kind;
+    let number = number_of(kind, brought);
+    let mut pairs = [0u64; 16];
+    if brought == 0 {
+        return Visited {
+            info: ParamBorrowInfo {
+                verdict: Verdict::Accepted,
+                number,
+                pairs,
+            },
+            visitor,
+        };
+    }
+    let room = edges.len() / BorrowingParamVisitor::EDGE_WORDS;
+    if room < brought {
+        return refused(visitor, Refusal::NoRoom);
+    }
+    if room - brought < stored {
+        return refused(visitor, Refusal::NoRoom);
+    }
+    let next = store_all(
+        used,
+        &draws,
+        params,
+        parts,
+        param,
+        edges,
+        stored,
+        &mut pairs,
+    );
+    Visited {
+        info: ParamBorrowInfo {
+            verdict: Verdict::Accepted,
+            number,
+            pairs,
+        },
+        visitor: BorrowingParamVisitor {
+            used,
+            draws,
+            stored: next,
+        },
+    }
+}
+
+// The answer's number, by the kind of the parameter and by how many edges it brings.
+fn number_of(kind: Kind, brought: usize) -> usize
+    ensures { λ r. ⌜ r ≡ numberBy kind brought ⌝ }
+{
+    match kind {
+        Kind::Plain => 0,
+        Kind::Opaque => if_any(brought, 0, 4),
+        Kind::Struct(_) => if_any(brought, 0, 3),
+        Kind::Slice => if_any(brought, 1, 2),
+    }
+}
+
+// One number where there are none, another where there are some.
+fn if_any(brought: usize, none: usize, some: usize) -> usize
+    ensures { λ r. ⌜ r ≡ cond (eqb brought 0) none some ⌝ }
+{
+    if brought == 0 {
+        return none;
+    }
+    some
+}
