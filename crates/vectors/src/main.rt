@@ -1,0 +1,73 @@
+// Questions and answers replayed: what the crates answer, beside what the scope paper ("01") and the Rust say.
+//
+// Standard input holds numbers, at most 131,072 bytes of them. A question is its kind and what the kind asks for; a record in it is the number of its words, then they.
+// Each answer is a line of numbers on standard output. The files stdin and stdout beside src/ are made by tests/vectors.py.
+//
+// To add a kind: a function in the module of its crate that reads the question at a place, prints one line, and answers the place behind the question; a line in
+// `answer` below; the same kind in tests/vectors.py.
+mod ast;
+mod lowerer;
+mod lowering;
+mod print;
+mod scan;
+mod types;
+mod visits;
+
+ghost use mathlib.Core.Path.{_≡_};
+ghost use Prim.Native.Nat.{_≤_};
+ghost use lib.ListN.{length};
+
+// Print the answer to the question that stands at a place. Answers the place behind it; behind a kind that is not known the end, so that the answers stop.
+fn answer(kind: usize, words: &[usize], at: usize) -> usize
+    requires { ⌜ at ≤ length (now words) ⌝ }
+    ensures { λ r. ⌜ (at ≤ r) × (r ≤ length (now (words .entry))) ⌝ }
+{
+    match kind {
+        1 => ast::from_method_item(words, at),
+        2 => ast::names_shape(words, at),
+        3 => ast::bounds_shape(words, at),
+        4 => ast::types_shape(words, at),
+        5 => ast::lists(words, at),
+        6 => ast::extend_implicit_lifetime_bounds(words, at),
+        7 => lowering::lower(words, at),
+        8 => lowering::self_shape(words, at),
+        9 => lowering::steps_shape(words, at),
+        10 => types::used_method_lifetimes(words, at),
+        11 => types::compute_for_struct_field(words, at),
+        12 => types::type_lifetimes(words, at),
+        13 => visits::visit_params(words, at),
+        14 => lowerer::step(words, at),
+        15 => lowerer::finish(words, at),
+        _ => words.len(),
+    }
+}
+
+// Print the answers to all questions.
+fn answer_all(words: &[usize]) {
+    let mut at = 0;
+    while at < words.len() {
+        at = answer(words[at], words, at + 1);
+    }
+}
+
+// Room for the bytes that are read.
+fn room_for_bytes() -> [u8; 131072]
+    ensures { λ r. ⌜ 131072 ≡ length r ⌝ }
+{
+    [0; 131072]
+}
+
+// Room for their numbers: every other byte may be one.
+fn room_for_numbers() -> [usize; 65536]
+    ensures { λ r. ⌜ 65536 ≡ length r ⌝ }
+{
+    [0; 65536]
+}
+
+fn main() {
+    let mut bytes = room_for_bytes();
+    let n = io::read_full(libc::STDIN_FILENO, &mut bytes);
+    let mut words = room_for_numbers();
+    let count = scan::numbers(&bytes[..n], &mut words);
+    answer_all(&words[..count]);
+}

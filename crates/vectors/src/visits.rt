@@ -1,0 +1,170 @@
+// Questions for the crate `borrowing_param`.
+ghost use mathlib.Core.Path.{_≡_};
+ghost use Prim.Native.Nat.{_≤_};
+ghost use lib.ListN.{length};
+use super::print;
+use super::scan;
+use super::types;
+use borrowing_param::BorrowingParamVisitor;
+use borrowing_param::ParamBorrowInfo;
+use lifetimes::Verdict;
+use lifetimes::set;
+
+// Kind 13: an environment made by hand as in types.rt, records structs, params, output, force, how many words the lent slice has, at most 20,480, and the
+// record of the params to visit. The number of `new` if it refuses; else 0, for each visit what it answers, then how many edges are stored and all words of the
+// slice, which were 99.
+pub(crate) fn visit_params(words: &[usize], at: usize) -> usize
+    requires { ⌜ at ≤ length (now words) ⌝ }
+    ensures { λ r. ⌜ (at ≤ r) × (r ≤ length (now (words .entry))) ⌝ }
+{
+    let env = types::made_by_hand(words, at);
+    let structs = types::behind_environment(words, at);
+    let params = scan::behind_record(words, structs);
+    let output = scan::behind_record(words, params);
+    let force = scan::behind_record(words, output);
+    let created = BorrowingParamVisitor::new(
+        env,
+        scan::record(words, structs),
+        scan::record(words, params),
+        scan::record(words, output),
+        scan::record(words, force),
+    );
+    let verdict = created.verdict;
+    print::first(print::number_of(verdict));
+    if let Verdict::Accepted = verdict {
+        let visitor = created.visitor;
+        print_visits(visitor, words, structs);
+    }
+    print::end();
+    behind_visits(words, types::behind_method(words, at))
+}
+
+// The place behind the length of the slice and the visits.
+fn behind_visits(words: &[usize], at: usize) -> usize
+    requires { ⌜ at ≤ length (now words) ⌝ }
+    ensures { λ r. ⌜ (at ≤ r) × (r ≤ length (now (words .entry))) ⌝ }
+{
+    let visits = scan::behind(words, at);
+    scan::behind_record(words, visits)
+}
+
+// The visits that are asked for behind the records of the method.
+fn print_visits(visitor: BorrowingParamVisitor, words: &[usize], structs: usize)
+    requires { ⌜ structs ≤ length (now words) ⌝ }
+{
+    let params = scan::behind_record(words, structs);
+    let output = scan::behind_record(words, params);
+    let force = scan::behind_record(words, output);
+    let room = scan::behind_record(words, force);
+    let visits = scan::behind(words, room);
+    print_room(
+        visitor,
+        scan::record(words, structs),
+        scan::record(words, params),
+        scan::record(words, visits),
+        scan::least(scan::number(words, room), 20480),
+    );
+}
+
+// Room for edges.
+fn room_for_edges() -> [usize; 20480]
+    ensures { λ r. ⌜ 20480 ≡ length r ⌝ }
+{
+    [99; 20480]
+}
+
+// The visits with a slice of this length.
+fn print_room(
+    visitor: BorrowingParamVisitor,
+    structs: &[usize],
+    params: &[usize],
+    visits: &[usize],
+    n: usize,
+)
+    requires { ⌜ n ≤ 20480 ⌝ }
+{
+    let mut edges = room_for_edges();
+    print_lent(visitor, structs, params, visits, &mut edges[..n]);
+}
+
+// The visits, how many edges are stored, and all words of the slice that they were lent.
+fn print_lent(
+    visitor: BorrowingParamVisitor,
+    structs: &[usize],
+    params: &[usize],
+    visits: &[usize],
+    edges: &mut [usize],
+) {
+    let stored = print_answers(visitor, structs, params, visits, edges);
+    print::next(stored);
+    print::some(edges, edges.len());
+}
+
+// What each visit answers, one after another. Answers how many edges are stored then.
+fn print_answers(
+    visitor: BorrowingParamVisitor,
+    structs: &[usize],
+    params: &[usize],
+    visits: &[usize],
+    edges: &mut [usize],
+) -> usize {
+    let mut state = visitor;
+    let mut i = 0;
+    while i < visits.len() {
+        let visited = state.visit_param(structs, params, visits[i], edges);
+        let info = visited.info;
+        print_info(info);
+        state = visited.visitor;
+        i += 1;
+    }
+    state.stored
+}
+
+// What a visit answers: the refusal's number or 0, the answer's number, and of how many definition lifetimes there are pairs; for each of these it, how many used lifetimes it
+// has, and they.
+fn print_info(info: ParamBorrowInfo) {
+    let verdict = info.verdict;
+    print::next(print::number_of(verdict));
+    print::next(info.number);
+    print::next(paired(info));
+    print_pairs(info);
+}
+
+// How many definition lifetimes have pairs.
+fn paired(info: ParamBorrowInfo) -> usize {
+    let mut count = 0;
+    let mut i = 0;
+    while i < 16 {
+        count += one(info.pairs[i]);
+        i += 1;
+    }
+    count
+}
+
+// 1 for a set with something in it.
+fn one(used: u64) -> usize
+    ensures { λ r. ⌜ r ≤ 1 ⌝ }
+{
+    if used != 0 {
+        return 1;
+    }
+    0
+}
+
+// Their pairs.
+fn print_pairs(info: ParamBorrowInfo) {
+    let mut i = 0;
+    while i < 16 {
+        print_pair(i, info.pairs[i]);
+        i += 1;
+    }
+}
+
+// One definition lifetime and its used lifetimes; nothing for no used ones.
+fn print_pair(def: usize, used: u64) {
+    if used != 0 {
+        print::next(def);
+        print::next(set::count(used));
+        types::print_members(used);
+    }
+}
