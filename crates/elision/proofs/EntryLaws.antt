@@ -1,4 +1,4 @@
--- What `lower` answers and writes, by what its tests and calls show.
+-- What `measure` and `lower` answer and write, by what their tests and calls show.
 use Prim.Native.Nat.{ℕ, _-_, _≤_, _<_}
 use mathlib.Core.Bool.{Bool, true, false, _&&_, not}
 use mathlib.Core.Path.{_≡_, refl, sym, ap, subst, _∙_}
@@ -15,10 +15,11 @@ use Rattle.lifetimes.specs.declared.answer.Verdict.the-variants as verdict
 use Rattle.lifetimes.specs.declared.maybe_static.MaybeStatic.{MaybeStatic}
 use Rattle.lifetimes.specs.Refusals.{Check, check, Outcome, Gives, Refuses, unless, FirstDue, NoneDue, here, later, next, end}
 use Rattle.lifetimes.specs.Lent.{written, roomCheck, verdictOf}
+use Rattle.lifetimes.specs.LoweredWords.{wordOf}
 use Rattle.lifetimes.specs.Env.{envOf}
 use Rattle.lifetimes.specs.Env as hirenv
 use Rattle.lifetimes.specs.declared.env.Made as hir
-use Rattle.lifetimes.proofs.RefusalLaws.{refused-first, accepted-none, due-given, due-refused, refused-due, given-due, none-first, first-more, first-after, none-more}
+use Rattle.lifetimes.proofs.RefusalLaws.{refused-first, accepted-none, due-given, due-refused, refused-due, given-due, none-first, none-rest, first-more, first-after, none-more}
 use Rattle.lifetimes.proofs.Copying.{sets-front}
 use Rattle.records.specs.Reading.{shapeVerdict}
 use Rattle.ast_lifetimes.specs.declared.env.LifetimeEnv as ast
@@ -28,8 +29,9 @@ use Rattle.elision.specs.declared.method.Totals.{Totals}
 use Rattle.elision.specs.Steps.{selfInShape, stepsInShape, stepsOf, receiverOf}
 use Rattle.elision.specs.Rfc.{Method, methodChecks, rfc141}
 use Rattle.elision.specs.Machine.{runMethod}
-use Rattle.elision.specs.Lowering.{words, recordsOf, inShapeAll, lowerChecks, finished, finishEnv, lowerRecords, answered, ownWords, stepWords, returnWords}
+use Rattle.elision.specs.Lowering.{words, recordsOf, inShapeAll, measureChecks, roomChecks, lowerChecks, measureRecords, finished, finishEnv, lowerRecords, answered, ownWords, stepWords, returnWords}
 use Rattle.elision.specs.Inner.{shown, totals, RunsAll}
+use Rattle.elision.proofs.ReadingLaws.{none-split}
 use Rattle.elision.proofs.RfcLaws.{method-said}
 use Rattle.elision.proofs.ShapeLaws.{shape-in, shape-out}
 use Rattle.elision.proofs.SmallLaws.{AllSmall, small-words, SmallMethod, method-small}
@@ -44,50 +46,60 @@ totals-given : (o : Outcome Method) {t : Totals} → t ≡ totals o → t .verdi
 totals-given (Gives m) e v = (m, (refl, e))
 totals-given (Refuses j) e v = refused-accepted (sym (ap (λ (x : Totals). x .verdict) e) ∙ v)
 
+not-false : (b : Bool) → not b ≡ false → b ≡ true
+not-false true h = refl
+not-false false h = sym h
+
 both : (a b : Bool) → (a && b) ≡ true → (a ≡ true) × (b ≡ true)
 both true b e = (refl, e)
 both false b e = let z : _≡_ {A = ℕ} 0 1 = cc in absurd (omega arith)
 
-module _ (e : ast.LifetimeEnv) (self steps returns own given taken : List ℕ) where
-  abbrev whole : Outcome Method
-  whole = lowerRecords e self steps returns (length own) (length given) (length taken)
+-- a refusal beside which nothing is counted
+abbrev refusedBy : Refusal → Lowering
+refusedBy r = record { verdict = verdict.Refused r; selves = 0; steps = 0; returns = 0; env = envOf 0 0 [] }
 
-  abbrev Answers : Lowering → List ℕ → List ℕ → List ℕ → Type 0
-  Answers x own₁ given₁ taken₁ =
-      (x ≡ answered e whole) × ((own₁ ≡ written (ownWords whole) own) × ((given₁ ≡ written (stepWords whole) given) × (taken₁ ≡ written (returnWords whole) taken)))
+-- what an answer tells of the outcome
+answer-refused : (e : ast.LifetimeEnv) (o : Outcome Method) {x : Lowering} {r : Refusal} → x ≡ answered e o → x .verdict ≡ verdict.Refused r → (o ≡ Refuses r) × (x ≡ refusedBy r)
+answer-refused e (Gives m) a v = refused-accepted (sym v ∙ ap (λ (x : Lowering). x .verdict) a)
+answer-refused e (Refuses j) {x} {r} a v =
+    let h : verdict.Refused j ≡ verdict.Refused r = sym (ap (λ (x : Lowering). x .verdict) a) ∙ v in
+    let q : j ≡ r = cc in
+    (rw q, a ∙ ap refusedBy q)
 
-  refused-answers : {r : Refusal} {x : Lowering} → x ≡ record { verdict = verdict.Refused r; selves = 0; steps = 0; returns = 0; env = envOf 0 0 [] } → whole ≡ Refuses r → Answers x own given taken
-  refused-answers h q = rw q (h, (refl, (refl, refl)))
+answer-given : (e : ast.LifetimeEnv) (o : Outcome Method) {x : Lowering} → x ≡ answered e o → x .verdict ≡ verdict.Accepted → (m : Method) × ((o ≡ Gives m) × (x ≡ answered e (Gives m)))
+answer-given e (Gives m) a v = (m, (refl, a))
+answer-given e (Refuses j) a v = refused-accepted (sym (ap (λ (x : Lowering). x .verdict) a) ∙ v)
+
+module _ (e : ast.LifetimeEnv) (self steps returns : List ℕ) where
+  abbrev measured : Outcome Method
+  measured = measureRecords e self steps returns
 
   abbrev method : Method
   method = recordsOf e self steps returns
 
-  abbrev rooms : List Check
-  rooms = roomCheck (length own) (words (method .self)) ∷ roomCheck (length given) (words (method .steps)) ∷ roomCheck (length taken) (words (method .returns)) ∷ []
+  measure-due : {r : Refusal} {x : Lowering} → x ≡ refusedBy r → FirstDue r (measureChecks e self steps returns) → x ≡ answered e measured
+  unfolding measureRecords
+  measure-due h f = rw (due-refused method f) h
 
-  pub entry-shape : {v : Verdict} {r : Refusal} {x : Lowering} → v ≡ shapeVerdict (inShapeAll self steps returns) → v ≡ verdict.Refused r
-      → x ≡ record { verdict = verdict.Refused r; selves = 0; steps = 0; returns = 0; env = envOf 0 0 [] } → Answers x own given taken
-  unfolding lowerRecords
-  entry-shape {v} {r} a b h =
+  -- ---- `measure`
+
+  pub measure-shape : {v : Verdict} {r : Refusal} {x : Lowering} → v ≡ shapeVerdict (inShapeAll self steps returns) → v ≡ verdict.Refused r → x ≡ refusedBy r → x ≡ answered e measured
+  measure-shape {v} {r} a b h =
       let p = shape-out (inShapeAll self steps returns) a b in
-      let due : FirstDue r (lowerChecks e self steps returns (length own) (length given) (length taken)) = here {c = check (not (inShapeAll self steps returns)) Malformed} (rw (p .0)) (sym (p .1)) in
-      refused-answers h (due-refused method due)
+      measure-due h (here {c = check (not (inShapeAll self steps returns)) Malformed} (rw (p .0)) (sym (p .1)))
 
   module _ {v : Verdict} (shape : v ≡ shapeVerdict (inShapeAll self steps returns)) (accepted : v ≡ verdict.Accepted) where
     in-shape : inShapeAll self steps returns ≡ true
     in-shape = shape-in (inShapeAll self steps returns) shape accepted
 
-    pub entry-shaped : (stepsInShape steps ≡ true) × (stepsInShape returns ≡ true)
-    entry-shaped = both (stepsInShape steps) (stepsInShape returns) ((both (selfInShape self) (stepsInShape steps && stepsInShape returns) in-shape) .1)
+    pub measure-shaped : (stepsInShape steps ≡ true) × (stepsInShape returns ≡ true)
+    measure-shaped = both (stepsInShape steps) (stepsInShape returns) ((both (selfInShape self) (stepsInShape steps && stepsInShape returns) in-shape) .1)
 
     shape-not : not (inShapeAll self steps returns) ≡ false
     shape-not = rw in-shape
 
-    pub entry-env : {r : Refusal} {x : Lowering} → FirstDue r (envChecks e) → x ≡ record { verdict = verdict.Refused r; selves = 0; steps = 0; returns = 0; env = envOf 0 0 [] } → Answers x own given taken
-    unfolding lowerRecords
-    entry-env {r} f h =
-        let due : FirstDue r (lowerChecks e self steps returns (length own) (length given) (length taken)) = later shape-not (first-more _ f) in
-        refused-answers h (due-refused method due)
+    pub measure-env : {r : Refusal} {x : Lowering} → FirstDue r (envChecks e) → x ≡ refusedBy r → x ≡ answered e measured
+    measure-env f h = measure-due h (later shape-not (first-more _ f))
 
     module _ (none : NoneDue (envChecks e)) where
       abbrev run : Outcome Method
@@ -104,13 +116,10 @@ module _ (e : ast.LifetimeEnv) (self steps returns own given taken : List ℕ) w
       lent-run : lent ≡ run
       lent-run = rw sub-zero
 
-      pub entry-refused : {t : Totals} {r : Refusal} {x : Lowering} → t ≡ totals lent → t .verdict ≡ verdict.Refused r
-          → x ≡ record { verdict = verdict.Refused r; selves = 0; steps = 0; returns = 0; env = envOf 0 0 [] } → Answers x own given taken
-      unfolding lowerRecords
-      entry-refused {t} {r} a b h =
+      pub measure-refused : {t : Totals} {r : Refusal} {x : Lowering} → t ≡ totals lent → t .verdict ≡ verdict.Refused r → x ≡ refusedBy r → x ≡ answered e measured
+      measure-refused {t} {r} a b h =
           let f = refused-due method r (methodChecks (namesOf e) (receiverOf self) (stepsOf steps) (stepsOf returns)) (sym said ∙ totals-refused run (a ∙ ap totals lent-run) b) in
-          let due : FirstDue r (lowerChecks e self steps returns (length own) (length given) (length taken)) = later shape-not (first-after none (first-more rooms f)) in
-          refused-answers h (due-refused method due)
+          measure-due h (later shape-not (first-after none f))
 
       module _ {t : Totals} (counts : t ≡ totals lent) (fine : t .verdict ≡ verdict.Accepted) where
         given-run : (m : Method) × ((run ≡ Gives m) × (t ≡ totals (Gives m)))
@@ -119,81 +128,123 @@ module _ (e : ast.LifetimeEnv) (self steps returns own given taken : List ℕ) w
         passed : NoneDue (methodChecks (namesOf e) (receiverOf self) (stepsOf steps) (stepsOf returns)) × (method ≡ given-run .0)
         passed = given-due method (given-run .0) (methodChecks (namesOf e) (receiverOf self) (stepsOf steps) (stepsOf returns)) (sym said ∙ given-run .1 .0)
 
-        is : run ≡ Gives method
-        is = given-run .1 .0 ∙ ap (λ (m : Method). Gives m) (sym (passed .1))
-
         told : t ≡ totals (Gives method)
         told = given-run .1 .1 ∙ ap (λ (m : Method). totals (Gives m)) (sym (passed .1))
 
-        selves : length (words (method .self)) ≡ t .selves
-        selves = length-map (method .self) _ ∙ sym (ap (λ (x : Totals). x .selves) told)
+        pub measure-all : record { verdict = verdict.Accepted; selves = t .selves; steps = t .steps; returns = t .returns; env = finished e (t .count) } ≡ answered e measured
+        unfolding measureRecords
+        measure-all =
+            let due : NoneDue (measureChecks e self steps returns) = next shape-not (none-more none (passed .0)) in
+            rw (due-given method due, told, length-map (method .self) wordOf, length-map (method .steps) wordOf, length-map (method .returns) wordOf)
 
-        stepped : length (words (method .steps)) ≡ t .steps
-        stepped = length-map (method .steps) _ ∙ sym (ap (λ (x : Totals). x .steps) told)
+  -- ---- `lower`
 
-        returned : length (words (method .returns)) ≡ t .returns
-        returned = length-map (method .returns) _ ∙ sym (ap (λ (x : Totals). x .returns) told)
+  module _ (own given taken : List ℕ) {m : Lowering} (counted : m ≡ answered e measured) where
+    abbrev whole : Outcome Method
+    whole = lowerRecords e self steps returns (length own) (length given) (length taken)
 
-        no-room : {x : Lowering} → FirstDue NoRoom rooms → x ≡ record { verdict = verdict.Refused NoRoom; selves = 0; steps = 0; returns = 0; env = envOf 0 0 [] } → Answers x own given taken
-        unfolding lowerRecords
-        no-room f h =
-            let due : FirstDue NoRoom (lowerChecks e self steps returns (length own) (length given) (length taken)) = later shape-not (first-after none (first-after (passed .0) f)) in
-            refused-answers h (due-refused method due)
+    abbrev Answers : Lowering → List ℕ → List ℕ → List ℕ → Type 0
+    Answers x own₁ given₁ taken₁ =
+        (x ≡ answered e whole) × ((own₁ ≡ written (ownWords whole) own) × ((given₁ ≡ written (stepWords whole) given) × (taken₁ ≡ written (returnWords whole) taken)))
 
-        pub entry-own : {x : Lowering} → length own < t .selves → x ≡ record { verdict = verdict.Refused NoRoom; selves = 0; steps = 0; returns = 0; env = envOf 0 0 [] } → Answers x own given taken
-        entry-own l h = no-room (here (lt-ltb (length own) (length (words (method .self))) (omega (arith, selves))) refl) h
+    refused-answers : {r : Refusal} {x : Lowering} → x ≡ refusedBy r → FirstDue r (lowerChecks e self steps returns (length own) (length given) (length taken)) → Answers x own given taken
+    unfolding lowerRecords
+    refused-answers h due = rw (due-refused method due) (h, (refl, (refl, refl)))
 
-        module _ (room₁ : t .selves ≤ length own) where
-          fits₁ : roomCheck (length own) (words (method .self)) .due ≡ false
-          fits₁ = le-ltb (length own) (length (words (method .self))) (omega (arith, selves))
+    pub lower-refused : {r : Refusal} → m .verdict ≡ verdict.Refused r → Answers m own given taken
+    unfolding measureRecords
+    lower-refused {r} v =
+        let p = answer-refused e measured counted v in
+        refused-answers (p .1) (first-more _ (refused-due method r (measureChecks e self steps returns) (p .0)))
 
-          pub entry-given : {x : Lowering} → length given < t .steps → x ≡ record { verdict = verdict.Refused NoRoom; selves = 0; steps = 0; returns = 0; env = envOf 0 0 [] } → Answers x own given taken
-          entry-given l h = no-room (later fits₁ (here (lt-ltb (length given) (length (words (method .steps))) (omega (arith, stepped))) refl)) h
+    module _ (fine : m .verdict ≡ verdict.Accepted) where
+      passes : NoneDue (measureChecks e self steps returns) × (m ≡ answered e (Gives method))
+      unfolding measureRecords
+      passes =
+          let g = answer-given e measured counted fine in
+          let d = given-due method (g .0) (measureChecks e self steps returns) (g .1 .0) in
+          (d .0, g .1 .1 ∙ ap (λ (x : Method). answered e (Gives x)) (sym (d .1)))
 
-          module _ (room₂ : t .steps ≤ length given) where
-            fits₂ : roomCheck (length given) (words (method .steps)) .due ≡ false
-            fits₂ = le-ltb (length given) (length (words (method .steps))) (omega (arith, stepped))
+      selves : length (words (method .self)) ≡ m .selves
+      selves = sym (ap (λ (x : Lowering). x .selves) (passes .1))
 
-            pub entry-taken : {x : Lowering} → length taken < t .returns → x ≡ record { verdict = verdict.Refused NoRoom; selves = 0; steps = 0; returns = 0; env = envOf 0 0 [] } → Answers x own given taken
-            entry-taken l h = no-room (later fits₁ (later fits₂ (here (lt-ltb (length taken) (length (words (method .returns))) (omega (arith, returned))) refl))) h
+      stepped : length (words (method .steps)) ≡ m .steps
+      stepped = sym (ap (λ (x : Lowering). x .steps) (passes .1))
 
-            module _ (room₃ : t .returns ≤ length taken) (full : length (e .names) ≡ 32) {own₁ given₁ taken₁ : List ℕ} {t₁ : Totals} (lays : RunsAll lent own given taken own₁ given₁ taken₁ t₁) where
-              stores : RunsAll run own given taken own₁ given₁ taken₁ t₁
-              stores = subst (λ (o : Outcome Method). RunsAll o own given taken own₁ given₁ taken₁ t₁) lent-run lays
+      returned : length (words (method .returns)) ≡ m .returns
+      returned = sym (ap (λ (x : Lowering). x .returns) (passes .1))
 
-              fits₃ : roomCheck (length taken) (words (method .returns)) .due ≡ false
-              fits₃ = le-ltb (length taken) (length (words (method .returns))) (omega (arith, returned))
+      fit : inShapeAll self steps returns ≡ true
+      fit = not-false (inShapeAll self steps returns) (none-first (passes .0))
 
-              all : whole ≡ Gives method
-              unfolding lowerRecords
-              all =
-                  let rest : NoneDue rooms = next fits₁ (next fits₂ (next fits₃ end)) in
-                  let due : NoneDue (lowerChecks e self steps returns (length own) (length given) (length taken)) = next shape-not (none-more none (none-more (passed .0) rest)) in
-                  due-given method due
+      pub lower-shaped : (stepsInShape steps ≡ true) × (stepsInShape returns ≡ true)
+      lower-shaped = both (stepsInShape steps) (stepsInShape returns) ((both (selfInShape self) (stepsInShape steps && stepsInShape returns) fit) .1)
 
-              few : length (namesOf e) ≤ 32
-              few =
-                  let n : e .named ≤ 32 = ltb-false 32 (e .named) (none-first none) in
-                  omega (arith, length-take-le (e .named) (e .names) (omega arith))
+      parted : NoneDue (envChecks e) × NoneDue (methodChecks (namesOf e) (receiverOf self) (stepsOf steps) (stepsOf returns))
+      parted = none-split (envChecks e) (methodChecks (namesOf e) (receiverOf self) (stepsOf steps) (stepsOf returns)) (none-rest (passes .0))
 
-              small : AllSmall (method .self) × (AllSmall (method .steps) × AllSmall (method .returns))
-              small = subst (SmallMethod (namesOf e) few) is (method-small (namesOf e) few (receiverOf self) (stepsOf steps) (stepsOf returns))
+      pub lower-named : e .named ≤ 32
+      lower-named = ltb-false 32 (e .named) (none-first (parted .0))
 
-              laid : (slice slice₁ : List ℕ) (ls : List MaybeStatic) → AllSmall ls → slice₁ ≡ sets slice 0 (map shown ls) → length (words ls) ≤ length slice → slice₁ ≡ words ls ++ drop (length (words ls)) slice
-              laid slice slice₁ ls p q r = q ∙ rw (small-words ls p) (sets-front slice (words ls) r)
+      no-room : {x : Lowering} → FirstDue NoRoom (roomChecks method (length own) (length given) (length taken)) → x ≡ refusedBy NoRoom → Answers x own given taken
+      no-room f h = refused-answers h (first-after (passes .0) f)
 
-              pub entry-all : Answers (record { verdict = verdict.Accepted; selves = t .selves; steps = t .steps; returns = t .returns; env = finished e (t .count) }) own₁ given₁ taken₁
-              entry-all =
-                  rw all (
-                    rw (selves, stepped, returned, told),
+      pub lower-own : {x : Lowering} → length own < m .selves → x ≡ refusedBy NoRoom → Answers x own given taken
+      lower-own l h = no-room (here (lt-ltb (length own) (length (words (method .self))) (omega (arith, selves))) refl) h
+
+      module _ (room₁ : m .selves ≤ length own) where
+        fits₁ : roomCheck (length own) (words (method .self)) .due ≡ false
+        fits₁ = le-ltb (length own) (length (words (method .self))) (omega (arith, selves))
+
+        pub lower-given : {x : Lowering} → length given < m .steps → x ≡ refusedBy NoRoom → Answers x own given taken
+        lower-given l h = no-room (later fits₁ (here (lt-ltb (length given) (length (words (method .steps))) (omega (arith, stepped))) refl)) h
+
+        module _ (room₂ : m .steps ≤ length given) where
+          fits₂ : roomCheck (length given) (words (method .steps)) .due ≡ false
+          fits₂ = le-ltb (length given) (length (words (method .steps))) (omega (arith, stepped))
+
+          pub lower-taken : {x : Lowering} → length taken < m .returns → x ≡ refusedBy NoRoom → Answers x own given taken
+          lower-taken l h = no-room (later fits₁ (later fits₂ (here (lt-ltb (length taken) (length (words (method .returns))) (omega (arith, returned))) refl))) h
+
+          module _ (room₃ : m .returns ≤ length taken) (full : length (e .names) ≡ 32) {own₁ given₁ taken₁ : List ℕ} {t : Totals}
+              (lays : RunsAll (runMethod (take (e .named - 0) (drop 0 (e .names))) (receiverOf self) (stepsOf steps) (stepsOf returns)) own given taken own₁ given₁ taken₁ t) where
+            is : runMethod (namesOf e) (receiverOf self) (stepsOf steps) (stepsOf returns) ≡ Gives method
+            unfolding rfc141
+            is = method-said (namesOf e) (receiverOf self) (stepsOf steps) (stepsOf returns) ∙ due-given method (parted .1)
+
+            stores : RunsAll (runMethod (namesOf e) (receiverOf self) (stepsOf steps) (stepsOf returns)) own given taken own₁ given₁ taken₁ t
+            stores = subst (λ (ns : List ℕ). RunsAll (runMethod ns (receiverOf self) (stepsOf steps) (stepsOf returns)) own given taken own₁ given₁ taken₁ t) (rw sub-zero) lays
+
+            fits₃ : roomCheck (length taken) (words (method .returns)) .due ≡ false
+            fits₃ = le-ltb (length taken) (length (words (method .returns))) (omega (arith, returned))
+
+            all : whole ≡ Gives method
+            unfolding lowerRecords
+            all =
+                let due : NoneDue (lowerChecks e self steps returns (length own) (length given) (length taken)) = none-more (passes .0) (next fits₁ (next fits₂ (next fits₃ end))) in
+                due-given method due
+
+            few : length (namesOf e) ≤ 32
+            few = omega (arith, lower-named, length-take-le (e .named) (e .names) (omega (arith, lower-named)))
+
+            small : AllSmall (method .self) × (AllSmall (method .steps) × AllSmall (method .returns))
+            small = subst (SmallMethod (namesOf e) few) is (method-small (namesOf e) few (receiverOf self) (stepsOf steps) (stepsOf returns))
+
+            laid : (slice slice₁ : List ℕ) (ls : List MaybeStatic) → AllSmall ls → slice₁ ≡ sets slice 0 (map shown ls) → length (words ls) ≤ length slice → slice₁ ≡ words ls ++ drop (length (words ls)) slice
+            laid slice slice₁ ls p q r = q ∙ rw (small-words ls p) (sets-front slice (words ls) r)
+
+            pub lower-all : Answers m own₁ given₁ taken₁
+            lower-all =
+                rw all (
+                  passes .1,
+                  (
+                    laid own own₁ (method .self) (small .0) (stores .self method is) (omega (arith, selves)),
                     (
-                      laid own own₁ (method .self) (small .0) (stores .self method is) (omega (arith, selves)),
-                      (
-                        laid given given₁ (method .steps) (small .1 .0) (stores .steps method is) (omega (arith, stepped)),
-                        laid taken taken₁ (method .returns) (small .1 .1) (stores .returns method is) (omega (arith, returned)),
-                      ),
+                      laid given given₁ (method .steps) (small .1 .0) (stores .steps method is) (omega (arith, stepped)),
+                      laid taken taken₁ (method .returns) (small .1 .1) (stores .returns method is) (omega (arith, returned)),
                     ),
-                  )
+                  ),
+                )
 
 -- ---- `finish`
 

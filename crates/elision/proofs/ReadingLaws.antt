@@ -103,7 +103,7 @@ steps-one-by-one names out words s = steps-same names out (stepsOf words) (steps
 
 -- ---- no refusal due, the count is at most 64
 
-none-split : (a b : List Check) → NoneDue (a ++ b) → NoneDue a × NoneDue b
+pub none-split : (a b : List Check) → NoneDue (a ++ b) → NoneDue a × NoneDue b
 none-split [] b n = (end, n)
 none-split (c ∷ a) b n = let p = none-split a b (none-rest n) in (next (none-first n) (p .0), p .1)
 

@@ -30,16 +30,19 @@ recordsOf e self steps returns = methodOf (namesOf e) (receiverOf self) (stepsOf
 abbrev pub inShapeAll : List ℕ → List ℕ → List ℕ → Bool
 inShapeAll self steps returns = selfInShape self && (stepsInShape steps && stepsInShape returns)
 
--- then the AST environment (4, 8), then by place (3, 4, 5, 6), then a slice too short (9)
-abbrev pub lowerChecks : ast.LifetimeEnv → List ℕ → List ℕ → List ℕ → ℕ → ℕ → ℕ → List Check
-lowerChecks e self steps returns own given taken =
+-- then the AST environment (4, 8), then by place (3, 4, 5, 6)
+abbrev pub measureChecks : ast.LifetimeEnv → List ℕ → List ℕ → List ℕ → List Check
+measureChecks e self steps returns =
     check (not (inShapeAll self steps returns)) Malformed
     ∷ (envChecks e
-    ++ (methodChecks (namesOf e) (receiverOf self) (stepsOf steps) (stepsOf returns)
-    ++ (roomCheck own (words (recordsOf e self steps returns .self))
-    ∷ roomCheck given (words (recordsOf e self steps returns .steps))
-    ∷ roomCheck taken (words (recordsOf e self steps returns .returns))
-    ∷ [])))
+    ++ methodChecks (namesOf e) (receiverOf self) (stepsOf steps) (stepsOf returns))
+
+-- then a slice too short (9)
+abbrev pub roomChecks : Method → ℕ → ℕ → ℕ → List Check
+roomChecks m own given taken = roomCheck own (words (m .self)) ∷ roomCheck given (words (m .steps)) ∷ roomCheck taken (words (m .returns)) ∷ []
+
+abbrev pub lowerChecks : ast.LifetimeEnv → List ℕ → List ℕ → List ℕ → ℕ → ℕ → ℕ → List Check
+lowerChecks e self steps returns own given taken = measureChecks e self steps returns ++ roomChecks (recordsOf e self steps returns) own given taken
 
 -- `finish`: all lifetimes, declared and new, and the bounds of the AST environment
 abbrev pub finished : ast.LifetimeEnv → ℕ → hir.LifetimeEnv
@@ -49,10 +52,13 @@ finished e count = record { declared = e .named; count = count; pushed = e .push
 unfoldable pub finishEnv : ast.LifetimeEnv → ℕ → Outcome hir.LifetimeEnv
 finishEnv e count = unless (envChecks e ++ hirenv.envChecks (finished e count)) (finished e count)
 
+unfoldable pub measureRecords : ast.LifetimeEnv → List ℕ → List ℕ → List ℕ → Outcome Method
+measureRecords e self steps returns = unless (measureChecks e self steps returns) (recordsOf e self steps returns)
+
 unfoldable pub lowerRecords : ast.LifetimeEnv → List ℕ → List ℕ → List ℕ → ℕ → ℕ → ℕ → Outcome Method
 lowerRecords e self steps returns own given taken = unless (lowerChecks e self steps returns own given taken) (recordsOf e self steps returns)
 
--- What the call answers, and what it writes: given, the words of each record; refused, nothing, and an environment without lifetimes
+-- What the calls answer, and what `lower` writes: given, the words of each record; refused, nothing, and an environment without lifetimes
 abbrev pub answered : ast.LifetimeEnv → Outcome Method → Lowering
 answered e (Gives m) = record {
   verdict = verdict.Accepted;

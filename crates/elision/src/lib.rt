@@ -19,6 +19,7 @@ pub use lowerer::Stepped;
 pub use method::Lowering;
 pub use method::finish;
 pub use method::lower;
+pub use method::measure;
 pub use source::ElisionSource;
 pub use steps::self_shape;
 pub use steps::steps_shape;

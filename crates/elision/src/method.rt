@@ -10,7 +10,7 @@ ghost use Rattle.lifetimes.specs.Env.{envOf, made};
 ghost use Rattle.records.specs.Reading.{shapeVerdict};
 ghost use Rattle.elision.specs.Steps.{readStep, receiverOf, selfInShape, stepsInShape, stepsOf};
 ghost use Rattle.elision.specs.Machine.{unused, lowerSelf, runSteps, runMethod, valuesIn};
-ghost use Rattle.elision.specs.Lowering.{inShapeAll, finishEnv, lowerRecords, answered, ownWords, stepWords, returnWords};
+ghost use Rattle.elision.specs.Lowering.{inShapeAll, finishEnv, measureRecords, lowerRecords, answered, ownWords, stepWords, returnWords};
 ghost use Rattle.elision.specs.Inner.{shown, takes, totals, Runs, RunsAll};
 use super::lowerer::Lifetimes;
 use super::lowerer::Lowerer;
@@ -55,22 +55,15 @@ struct Totals {
     count: usize,
 }
 
-// Lower the records `self`, `steps` and `returns` over the names of an AST environment, and write their words to three slices: 0 static, k the lifetime numbered k - 1. The
-// environment has the bounds of the AST's, and all lifetimes, declared and new. Refused by 1 over the three records, by 4 and 8 as the AST environment is, then by
-// 3, 4, 5, 6 at the first bad place, then by 9 where a slice is too short. Reads the records twice: the first time only to judge and to count.
-pub fn lower(
+// What `lower` answers of these records, before it looks at its slices: how many words each would be written, and the method's environment. Refused by 1 over the three
+// records, by 4 and 8 as the AST environment is, then by 3, 4, 5, 6 at the first bad place.
+pub fn measure(
     env: ast_lifetimes::LifetimeEnv,
     receiver: &[usize],
     steps: &[usize],
     returns: &[usize],
-    own: &mut [usize],
-    given: &mut [usize],
-    taken: &mut [usize],
 ) -> Lowering
-    ensures { λ r. ⌜ r ≡ answered env (lowerRecords env (now (receiver .entry)) (now (steps .entry)) (now (returns .entry)) (length (now (own .entry))) (length (now (given .entry))) (length (now (taken .entry)))) ⌝ }
-    ensures { λ _. ⌜ now (own .exit) ≡ written (ownWords (lowerRecords env (now (receiver .entry)) (now (steps .entry)) (now (returns .entry)) (length (now (own .entry))) (length (now (given .entry))) (length (now (taken .entry))))) (now (own .entry)) ⌝ }
-    ensures { λ _. ⌜ now (given .exit) ≡ written (stepWords (lowerRecords env (now (receiver .entry)) (now (steps .entry)) (now (returns .entry)) (length (now (own .entry))) (length (now (given .entry))) (length (now (taken .entry))))) (now (given .entry)) ⌝ }
-    ensures { λ _. ⌜ now (taken .exit) ≡ written (returnWords (lowerRecords env (now (receiver .entry)) (now (steps .entry)) (now (returns .entry)) (length (now (own .entry))) (length (now (given .entry))) (length (now (taken .entry))))) (now (taken .entry)) ⌝ }
+    ensures { λ r. ⌜ r ≡ answered env (measureRecords env (now (receiver .entry)) (now (steps .entry)) (now (returns .entry))) ⌝ }
 {
     let shape = shape_of(receiver, steps, returns);
     if let Verdict::Refused(refusal) = shape {
@@ -87,18 +80,55 @@ pub fn lower(
     if let Verdict::Refused(refusal) = verdict {
         return refused_lowering(refusal);
     }
-    let selves = totals.selves;
-    let stepped = totals.steps;
-    let returned = totals.returns;
-    if own.len() < selves {
+    let pushed = env.pushed;
+    let bounds = env.bounds;
+    Lowering {
+        verdict: Verdict::Accepted,
+        selves: totals.selves,
+        steps: totals.steps,
+        returns: totals.returns,
+        env: lifetimes::LifetimeEnv {
+            declared: named,
+            count: totals.count,
+            pushed,
+            bounds,
+        },
+    }
+}
+
+// Lower the records `self`, `steps` and `returns` over the names of an AST environment, and write their words to three slices: 0 static, k the lifetime numbered k - 1. The
+// environment has the bounds of the AST's, and all lifetimes, declared and new. Refused as `measure` is, then by 9 where a slice is too short. Reads the records twice: the
+// first time only to judge and to count.
+pub fn lower(
+    env: ast_lifetimes::LifetimeEnv,
+    receiver: &[usize],
+    steps: &[usize],
+    returns: &[usize],
+    own: &mut [usize],
+    given: &mut [usize],
+    taken: &mut [usize],
+) -> Lowering
+    ensures { λ r. ⌜ r ≡ answered env (lowerRecords env (now (receiver .entry)) (now (steps .entry)) (now (returns .entry)) (length (now (own .entry))) (length (now (given .entry))) (length (now (taken .entry)))) ⌝ }
+    ensures { λ _. ⌜ now (own .exit) ≡ written (ownWords (lowerRecords env (now (receiver .entry)) (now (steps .entry)) (now (returns .entry)) (length (now (own .entry))) (length (now (given .entry))) (length (now (taken .entry))))) (now (own .entry)) ⌝ }
+    ensures { λ _. ⌜ now (given .exit) ≡ written (stepWords (lowerRecords env (now (receiver .entry)) (now (steps .entry)) (now (returns .entry)) (length (now (own .entry))) (length (now (given .entry))) (length (now (taken .entry))))) (now (given .entry)) ⌝ }
+    ensures { λ _. ⌜ now (taken .exit) ≡ written (returnWords (lowerRecords env (now (receiver .entry)) (now (steps .entry)) (now (returns .entry)) (length (now (own .entry))) (length (now (given .entry))) (length (now (taken .entry))))) (now (taken .entry)) ⌝ }
+{
+    let measured = measure(env, receiver, steps, returns);
+    let verdict = measured.verdict;
+    if let Verdict::Refused(_) = verdict {
+        return measured;
+    }
+    if own.len() < measured.selves {
         return refused_lowering(Refusal::NoRoom);
     }
-    if given.len() < stepped {
+    if given.len() < measured.steps {
         return refused_lowering(Refusal::NoRoom);
     }
-    if taken.len() < returned {
+    if taken.len() < measured.returns {
         return refused_lowering(Refusal::NoRoom);
     }
+    let names = env.names;
+    let named = env.named;
     run(
         &names[0..named],
         receiver,
@@ -108,20 +138,7 @@ pub fn lower(
         given,
         taken,
     );
-    let pushed = env.pushed;
-    let bounds = env.bounds;
-    Lowering {
-        verdict: Verdict::Accepted,
-        selves,
-        steps: stepped,
-        returns: returned,
-        env: lifetimes::LifetimeEnv {
-            declared: named,
-            count: totals.count,
-            pushed,
-            bounds,
-        },
-    }
+    measured
 }
 
 // The method's environment once its lifetimes are lowered: all of them, declared and new, and the bounds of the AST environment. Refused by 4 and 8 as the AST environment
