@@ -51,5 +51,13 @@ digits-length (suc k) n h = go (ltb n 10) refl (digits-length k (n / 10))
         let q : n / 10 < 10 ^ suc k = (div-lt-iff-lt-mul {k = 10} {x = n} {y = 10 ^ suc k} (omega arith)) .1 (rw (pow-suc 10 (suc k)) at h) in
         rw (digits-more (ltb-false n 10 e), length-append) (omega (arith, ih q))
 
+-- and at least one
+pub digits-some : (n : ℕ) → 1 ≤ length (digits n)
+digits-some n = go (ltb n 10) refl
+  where
+    go : (t : Bool) → ltb n 10 ≡ t → 1 ≤ length (digits n)
+    go true e = rw (digits-single (ltb-true n 10 e)) (omega arith)
+    go false e = rw (digits-more (ltb-false n 10 e), length-append) (omega arith)
+
 pub digits-of-word : {n : ℕ} → n ≤ mostWord → length (digits n) ≤ 5
 digits-of-word {n} h = digits-length 4 n (omega arith)

@@ -5,7 +5,8 @@ use mathlib.Core.Path.{_≡_, refl, ap, _∙_}
 use mathlib.Core.List.{List, [], _∷_, flatten}
 use native.Mathlib.Nat.{sub-zero}
 use native.Mathlib.Omega.{arith}
-use borrow.Author.Tests.{not-false}
+use borrow.Author.Tests.{not-false, lt-ltb, le-ltb, le-leb, lt-leb}
+use lib.Dec.{leb}
 use lib.ListN.{length, getD, take, drop, length-append}
 use lib.Seq.{sets, slice}
 use Rattle.lifetimes.specs.declared.answer.Verdict.the-variants as verdict
@@ -20,7 +21,7 @@ use Rattle.lowered_types.specs.declared.shapes.Shape.{Shape}
 use Rattle.lowered_types.specs.Rows.{methodInShape, methodShape, noShape, rowsOf, typesOf}
 use Rattle.sheet.specs.Text.{Records, lists, wordsOf}
 use Rattle.sheet.specs.Reading.{sheetOf, textChecks, allShort}
-use Rattle.sheet.specs.Answer.{endsFrom}
+use Rattle.sheet.specs.Answer.{endsFrom, startOf, recordWords}
 use Rattle.sheet.specs.Shape.{sheetInShape}
 use Rattle.sheet.specs.Inner.{recordAt, recordsAt, Laid, Counted, isAccepted}
 use Rattle.sheet.proofs.SheetLaws.{few-all, total-words}
@@ -50,6 +51,36 @@ end-inside at [] i h = absurd (omega arith)
 end-inside at (l ∷ ls) zero h = rw length-append (omega arith)
 end-inside at (l ∷ ls) (suc i) h = rw length-append (omega (arith, end-inside (at + length l) ls i (omega arith)))
 
+-- `record_words`, way out by way out
+module _ (words ends : List ℕ) (i : ℕ) where
+  pub start-next : (i ≡ 0 → ⊥) → startOf ends i ≡ getD ends (i - 1) 0
+  start-next h = go i h
+    where
+      go : (i : ℕ) → (i ≡ 0 → ⊥) → startOf ends i ≡ getD ends (i - 1) 0
+      go zero h = absurd (h refl)
+      go (suc i) h = let e : suc i - 1 ≡ i = omega arith in rw e
+
+  pub no-record : {l : List ℕ} → l ≡ take (0 - 0) words → 10 ≤ i → l ≡ recordWords words ends i
+  unfolding recordWords
+  no-record e h = rw (le-ltb i 10 h) e
+
+  module _ (h : i < 10) {from : ℕ} (is : from ≡ startOf ends i) where
+    pub turned-ends : {l : List ℕ} → l ≡ take (0 - 0) words → getD ends i 0 < from → l ≡ recordWords words ends i
+    unfolding recordWords
+    turned-ends e k = rw (lt-ltb i 10 h, lt-leb (startOf ends i) (getD ends i 0) (omega (arith, is))) e
+
+    module _ (after : from ≤ getD ends i 0) where
+      in-order : leb (startOf ends i) (getD ends i 0) ≡ true
+      in-order = le-leb (startOf ends i) (getD ends i 0) (omega (arith, is))
+
+      pub past-words : {l : List ℕ} → l ≡ take (0 - 0) words → length words < getD ends i 0 → l ≡ recordWords words ends i
+      unfolding recordWords
+      past-words e m = rw (lt-ltb i 10 h, in-order, lt-leb (getD ends i 0) (length words) m) e
+
+      pub record-there : getD ends i 0 ≤ length words → take (getD ends i 0 - from) (drop from words) ≡ recordWords words ends i
+      unfolding recordWords
+      record-there m = rw (is, lt-ltb i 10 h, in-order, le-leb (getD ends i 0) (length words) m) (part-is (startOf ends i) (getD ends i 0) words (omega (arith, is)))
+
 module _ {words ends : List ℕ} (l : Laid words ends) where
   pub laid-after : (i : ℕ) → i < 10 → getD (0 ∷ ends) i 0 ≤ getD ends i 0
   laid-after i h = rw (l .placed) (end-after 0 (lists (l .sheet)) i h)
@@ -57,19 +88,10 @@ module _ {words ends : List ℕ} (l : Laid words ends) where
   pub laid-inside : (i : ℕ) → i < 10 → getD ends i 0 ≤ length words
   laid-inside i h = rw (l .placed, l .stored, length-append) (omega (arith, end-inside 0 (lists (l .sheet)) i h))
 
-  -- what stands there, as the code takes it
-  laid-before : (i : ℕ) → (i ≡ 0 → ⊥) → getD (0 ∷ ends) i 0 ≡ getD ends (i - 1) 0
-  laid-before zero h = absurd (h refl)
-  laid-before (suc i) h = let e : suc i - 1 ≡ i = omega arith in rw e
-
-  pub laid-part : (i : ℕ) → i < 10 → (i ≡ 0 → ⊥) → (getD ends (i - 1) 0 ≤ getD ends i 0) × (getD ends i 0 ≤ length words)
-  laid-part i h k = let e = laid-before i k in let f = laid-after i h in (omega arith, laid-inside i h)
-
-  pub laid-first : (i : ℕ) → i ≡ 0 → take (getD ends i 0 - 0) words ≡ recordAt words ends i
-  laid-first i e = rw (e, sub-zero)
-
-  pub laid-next : (i : ℕ) → i < 10 → (i ≡ 0 → ⊥) → take (getD ends i 0 - getD ends (i - 1) 0) (drop (getD ends (i - 1) 0) words) ≡ recordAt words ends i
-  laid-next i h k = part-is (getD ends (i - 1) 0) (getD ends i 0) words (laid-part i h k .0) ∙ rw (laid-before i k)
+  -- the public call finds it there
+  pub laid-words : (i : ℕ) → i < 10 → recordWords words ends i ≡ recordAt words ends i
+  unfolding recordWords
+  laid-words i h = rw (lt-ltb i 10 h, le-leb (startOf ends i) (getD ends i 0) (laid-after i h), le-leb (getD ends i 0) (length words) (laid-inside i h))
 
   pub laid-record : (i : ℕ) → i < 10 → recordAt words ends i ≡ getD (lists (l .sheet)) i []
   laid-record i h = rw (l .placed, l .stored) (list-between [] 0 (lists (l .sheet)) (l .rest) i refl h)

@@ -12,9 +12,10 @@ use lib.ListN.{length, length-append, drop-of-length-le}
 use lib.Seq.{drop-cons}
 use Rattle.lifetimes.specs.declared.answer.Refusal.the-variants.{Malformed, Unreadable}
 use Rattle.lifetimes.specs.Refusals.{Gives, Refuses, unless}
-use Rattle.sheet.specs.Text.{heading, line, Records, lists, wordsOf, text, mostWord, mostBytes, mostWords}
+use Rattle.sheet.specs.Text.{heading, line, following, Records, lists, wordsOf, text, mostWord, mostBytes, mostWords}
 use Rattle.sheet.specs.Reading.{behind, LineStart, readLines, recordsOf, ten, linesBehind, sheetIn, sheetOf, allShort, textChecks, readText}
 use Rattle.sheet.specs.Theorems.{IsSheet}
+use Rattle.sheet.proofs.DigitLaws.{digits-some}
 use Rattle.sheet.proofs.TextLaws.{read-lines, behind-append, behind-splits}
 use Rattle.sheet.proofs.SpellingLaws.{read-spelt}
 
@@ -139,3 +140,23 @@ text-lists r s e =
     let b = read-lines limit (lists s) (λ w m. omega (arith, within-total (wordsOf s) w m)) in
     let c : readLines limit LineStart (flatMap line (lists r)) ≡ readLines limit LineStart (flatMap line (lists s)) = ap (readLines limit LineStart) f in
     cc
+
+-- each word takes two bytes or more: a digit, and what follows it
+following-bytes : (ws : List ℕ) → 2 * length ws + 1 ≤ length (following ws)
+unfolding following
+following-bytes [] = omega arith
+following-bytes (w ∷ ws) = rw length-append (omega (arith, digits-some w, following-bytes ws))
+
+line-bytes : (ws : List ℕ) → 2 * length ws ≤ length (line ws)
+unfolding line
+line-bytes [] = omega arith
+line-bytes (w ∷ ws) = rw length-append (omega (arith, digits-some w, following-bytes ws))
+
+lines-bytes : (ls : List (List ℕ)) → 2 * length (flatten ls) ≤ length (flatMap line ls)
+unfolding flatten flatMap
+lines-bytes [] = omega arith
+lines-bytes (l ∷ ls) = rw (length-append, length-append) (omega (arith, line-bytes l, lines-bytes ls))
+
+pub text-bytes : (r : Records) → 2 * length (wordsOf r) ≤ length (text r)
+unfolding text
+text-bytes r = rw length-append (omega (arith, lines-bytes (lists r)))

@@ -12,9 +12,9 @@ use Rattle.sheet.specs.Text.{lists, text, line, following, digits, digit
 use Rattle.sheet.specs.Reading.{recordsOf, readText, textChecks, sheetOf, sheetIn, linesBehind, ten, readLines, behind, allShort}
 use Rattle.sheet.specs.Shape.{readSheet, sheetWords, sheetEnds, sheetChecks, sheetInShape}
 use Rattle.sheet.specs.Answer.{readWords, readEnds}
-use Rattle.sheet.specs.Theorems.{DigitsOfNumbers, TextIsOneToOne, ReadingIsInverse, ReadingJudgesShapes, ShapesAreShort, CallReadsText, CallReadsSheet, RecordsInPlace, RoomForAnySheet, ExamplesHold, SheetExamplesHold}
+use Rattle.sheet.specs.Theorems.{DigitsOfNumbers, TextIsOneToOne, ReadingIsInverse, ReadingJudgesShapes, ShapesAreShort, CallReadsText, CallReadsSheet, RecordsInPlace, RoomForAnySheet, WordsTakeTwoBytes, ExamplesHold, SheetExamplesHold}
 use Rattle.sheet.proofs.DigitLaws.{digits-single, digits-more, digits-of-word}
-use Rattle.sheet.proofs.SheetLaws.{text-lists, total-words, few-all}
+use Rattle.sheet.proofs.SheetLaws.{text-lists, text-bytes, total-words, few-all}
 use Rattle.sheet.proofs.Answers.{call-gives, list-between}
 use Rattle.sheet.proofs.ReadingCases.{reads-back}
 use Rattle.sheet.proofs.ShapeCases.{shape-short, reads-in-shape}
@@ -47,6 +47,9 @@ records-in-place r rest i h = list-between [] 0 (lists r) rest i refl h
 
 pub room-for-any-sheet : RoomForAnySheet
 room-for-any-sheet bytes r e = total-words (lists r) ((reads-back bytes .given r) .0 e .1)
+
+pub words-take-two-bytes : WordsTakeTwoBytes
+words-take-two-bytes bytes r e = rw ((reads-back bytes .given r) .0 e .0 .spelt) (text-bytes r)
 
 pub examples-hold : ExamplesHold
 unfolding readText textChecks sheetOf sheetIn linesBehind ten readLines behind allShort unless flatten

@@ -1,7 +1,10 @@
 -- What `read_text` answers: the words of the ten records one after another in the lent slice, and where each record ends.
 use Prim.Native.Nat.{ℕ, _+_}
+use mathlib.Core.Bool.{cond, _&&_}
 use mathlib.Core.List.{List, [], _∷_, _++_}
-use lib.ListN.{length, replicate}
+use lib.Dec.{leb, ltb}
+use lib.ListN.{length, getD, replicate}
+use lib.Seq.{slice}
 use Rattle.lifetimes.specs.Refusals.{Check, Outcome, unless}
 use Rattle.lifetimes.specs.Lent.{verdictOf, resultOr, roomCheck}
 use Rattle.sheet.specs.declared.text.Text.{Text}
@@ -12,6 +15,16 @@ use Rattle.sheet.specs.Reading.{sheetOf, textChecks}
 unfoldable pub endsFrom : ℕ → List (List ℕ) → List ℕ
 endsFrom at [] = []
 endsFrom at (l ∷ ls) = (at + length l) ∷ endsFrom (at + length l) ls
+
+-- the words of the record with a number: from where the one before ends to where it ends. None where there is no such record, or where these are no ends of records in the slice
+abbrev pub startOf : List ℕ → ℕ → ℕ
+startOf ends i = getD (0 ∷ ends) i 0
+
+unfoldable pub recordWords : List ℕ → List ℕ → ℕ → List ℕ
+recordWords words ends i =
+    cond (ltb i 10 && (leb (startOf ends i) (getD ends i 0) && leb (getD ends i 0) (length words)))
+    (slice (startOf ends i) (getD ends i 0) words)
+    []
 
 -- an answer from the ends of the records; beside a refusal all ends are 0
 abbrev pub answerOf : Outcome (List ℕ) → Text

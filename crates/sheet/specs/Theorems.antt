@@ -82,6 +82,10 @@ RecordsInPlace = (r : Records) (rest : List ℕ) (i : ℕ) → i < 10
 abbrev pub RoomForAnySheet : Type 0
 RoomForAnySheet = (bytes : List ℕ) (r : Records) → readText bytes ≡ Gives r → length (wordsOf r) ≤ 10 * mostWords
 
+-- and a sheet has at most half as many words as bytes, so that a small sheet needs little room
+abbrev pub WordsTakeTwoBytes : Type 0
+WordsTakeTwoBytes = (bytes : List ℕ) (r : Records) → readText bytes ≡ Gives r → 2 * length (wordsOf r) ≤ length bytes
+
 -- The examples
 abbrev pub ExamplesHold : Type 0
 ExamplesHold = Right readText examples

@@ -1,7 +1,7 @@
 // The shape of the ten records of a sheet.
 //
 // A refused call writes nothing, so the words are judged in scratch. It has two sizes, so that a small sheet does not pay for a large one.
-ghost use Prim.Native.Nat.{_≤_, _<_};
+ghost use Prim.Native.Nat.{_≤_};
 ghost use mathlib.Core.Bool.{_&&_};
 ghost use mathlib.Core.Path.{_≡_};
 ghost use lib.ListN.{length, getD};
@@ -12,6 +12,7 @@ ghost use Rattle.lowered_types.specs.Rows.{methodInShape};
 ghost use Rattle.sheet.specs.Reading.{sheetOf};
 ghost use Rattle.sheet.specs.Shape.{sheetInShape};
 ghost use Rattle.sheet.specs.Inner.{isAccepted, recordAt, recordsAt, Laid, Counted};
+use super::record::record_words;
 use super::text::write;
 use ast_lifetimes::bounds_shape;
 use ast_lifetimes::names_shape;
@@ -102,19 +103,6 @@ fn method_in_shape(words: &[usize], ends: [usize; 10]) -> bool
     );
     let verdict = shape.verdict;
     accepted(verdict)
-}
-
-// The words of a record: they stand from where the one before ends.
-fn record_words(words: &[usize], ends: [usize; 10], i: usize) -> &[usize]
-    requires { ⌜ Laid (now words) ends × (i < 10) ⌝ }
-    ensures { λ r. ⌜ now r ≡ recordAt (now (words .entry)) ends i ⌝ }
-{
-    let to = ends[i];
-    if i == 0 {
-        return &words[0..to];
-    }
-    let from = ends[i - 1];
-    &words[from..to]
 }
 
 fn accepted(verdict: Verdict) -> bool

@@ -1,6 +1,8 @@
 -- `elision_in_shape` meets its contract: each record is judged, and all must be in shape.
 use Rattle.elision.specs.Steps.{selfInShape, stepsInShape}
-use Rattle.sheet.proofs.Placing.{shape-is, all-three}
+use mathlib.Core.Path.{_∙_}
+use native.Mathlib.Omega.{arith}
+use Rattle.sheet.proofs.Placing.{laid-words, shape-is, all-three}
 use borrow.Author.Needs.{needs}
 use Rattle.sheet.proofs.shapes.elision_in_shape.Statement.{statement}
 use Rattle.sheet.proofs.shapes.elision_in_shape.Tie as tie
@@ -40,13 +42,14 @@ both-requires-2 c κs = search needs
 
 returns : tie.Need-returns
 returns c =
+    let l = c .before .before .before .before .before .before .before .before .before .before .before .before .pre in
     let a = c .before .before .before .before .before .before .before .before in
     let b = c .before .before .before .before .before in
     let d = c .before .before in
     all-three
-    (shape-is selfInShape (a .before .before .record-words .ensures) (a .before .self-shape .ensures) (a .accepted .ensures))
-    (shape-is stepsInShape (b .before .before .record-words2 .ensures) (b .before .steps-shape .ensures) (b .accepted2 .ensures))
-    (shape-is stepsInShape (d .before .before .record-words3 .ensures) (d .before .steps-shape2 .ensures) (d .accepted3 .ensures))
+    (shape-is selfInShape (a .before .before .record-words .ensures ∙ laid-words l 3 (omega arith)) (a .before .self-shape .ensures) (a .accepted .ensures))
+    (shape-is stepsInShape (b .before .before .record-words2 .ensures ∙ laid-words l 4 (omega arith)) (b .before .steps-shape .ensures) (b .accepted2 .ensures))
+    (shape-is stepsInShape (d .before .before .record-words3 .ensures ∙ laid-words l 5 (omega arith)) (d .before .steps-shape2 .ensures) (d .accepted3 .ensures))
     (c .before .both .ensures) (c .both2 .ensures)
 
 pub elision-in-shape-spec : {M : Type 1} → statement M

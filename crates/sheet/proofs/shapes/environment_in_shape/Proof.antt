@@ -1,7 +1,9 @@
 -- `environment_in_shape` meets its contract: each record is judged, and all must be in shape.
 use Rattle.ast_lifetimes.specs.Shapes.{namesInShape, boundsInShape}
 use Rattle.ast_lifetimes.specs.Types.{typesInShape}
-use Rattle.sheet.proofs.Placing.{shape-is, all-three}
+use mathlib.Core.Path.{_∙_}
+use native.Mathlib.Omega.{arith}
+use Rattle.sheet.proofs.Placing.{laid-words, shape-is, all-three}
 use borrow.Author.Needs.{needs}
 use Rattle.sheet.proofs.shapes.environment_in_shape.Statement.{statement}
 use Rattle.sheet.proofs.shapes.environment_in_shape.Tie as tie
@@ -41,13 +43,14 @@ both-requires-2 c κs = search needs
 
 returns : tie.Need-returns
 returns c =
+    let l = c .before .before .before .before .before .before .before .before .before .before .before .before .pre in
     let a = c .before .before .before .before .before .before .before .before in
     let b = c .before .before .before .before .before in
     let d = c .before .before in
     all-three
-    (shape-is namesInShape (a .before .before .record-words .ensures) (a .before .names-shape .ensures) (a .accepted .ensures))
-    (shape-is boundsInShape (b .before .before .record-words2 .ensures) (b .before .bounds-shape .ensures) (b .accepted2 .ensures))
-    (shape-is typesInShape (d .before .before .record-words3 .ensures) (d .before .types-shape .ensures) (d .accepted3 .ensures))
+    (shape-is namesInShape (a .before .before .record-words .ensures ∙ laid-words l 0 (omega arith)) (a .before .names-shape .ensures) (a .accepted .ensures))
+    (shape-is boundsInShape (b .before .before .record-words2 .ensures ∙ laid-words l 1 (omega arith)) (b .before .bounds-shape .ensures) (b .accepted2 .ensures))
+    (shape-is typesInShape (d .before .before .record-words3 .ensures ∙ laid-words l 2 (omega arith)) (d .before .types-shape .ensures) (d .accepted3 .ensures))
     (c .before .both .ensures) (c .both2 .ensures)
 
 pub environment-in-shape-spec : {M : Type 1} → statement M

@@ -1,5 +1,7 @@
 -- `method_in_shape` meets its contract: the four records are judged together.
-use Rattle.sheet.proofs.Placing.{method-is}
+use mathlib.Core.Path.{_∙_}
+use native.Mathlib.Omega.{arith}
+use Rattle.sheet.proofs.Placing.{laid-words, method-is}
 use borrow.Author.Needs.{needs}
 use Rattle.sheet.proofs.shapes.method_in_shape.Statement.{statement}
 use Rattle.sheet.proofs.shapes.method_in_shape.Tie as tie
@@ -24,9 +26,10 @@ accepted-requires c κs = search needs
 
 returns : tie.Need-returns
 returns c =
+    let l = c .before .before .before .before .before .before .before .pre in
     let m = c .before in
     let d = m .before in
-    method-is (d .before .before .before .record-words .ensures) (d .before .before .record-words2 .ensures) (d .before .record-words3 .ensures) (d .record-words4 .ensures) (m .method-shape .ensures) (c .accepted .ensures)
+    method-is (d .before .before .before .record-words .ensures ∙ laid-words l 6 (omega arith)) (d .before .before .record-words2 .ensures ∙ laid-words l 7 (omega arith)) (d .before .record-words3 .ensures ∙ laid-words l 8 (omega arith)) (d .record-words4 .ensures ∙ laid-words l 9 (omega arith)) (m .method-shape .ensures) (c .accepted .ensures)
 
 pub method-in-shape-spec : {M : Type 1} → statement M
 method-in-shape-spec =
