@@ -139,15 +139,15 @@ pub data Under (n : ℕ) : List Bound → Type 0 where
   none : Under n []
   more : {b : Bound} {bs : List Bound} → b .longer .0 < n → b .shorter .0 < n → Under n bs → Under n (b ∷ bs)
 
-under-append : {n : ℕ} {bs cs : List Bound} → Under n bs → Under n cs → Under n (bs ++ cs)
+pub under-append : {n : ℕ} {bs cs : List Bound} → Under n bs → Under n cs → Under n (bs ++ cs)
 under-append none v = v
 under-append (more l s u) v = more l s (under-append u v)
 
-under-wider : {m n : ℕ} {bs : List Bound} → m ≤ n → Under m bs → Under n bs
+pub under-wider : {m n : ℕ} {bs : List Bound} → m ≤ n → Under m bs → Under n bs
 under-wider h none = none
 under-wider h (more {b} l s u) = more {b = b} (omega (arith, h, l)) (omega (arith, h, s)) (under-wider h u)
 
-pairs-under : (names : List ℕ) (pushed : ℕ) (ps : List Pair) → NoneDue (allPairChecks names pushed ps) → Under (length names) (boundsFor names ps)
+pub pairs-under : (names : List ℕ) (pushed : ℕ) (ps : List Pair) → NoneDue (allPairChecks names pushed ps) → Under (length names) (boundsFor names ps)
 unfolding allPairChecks
 pairs-under names pushed [] d = none
 pairs-under names pushed (p ∷ ps) (next a (next b (next c d))) =

@@ -15,6 +15,7 @@ pub mod AstEnvLaws
 pub mod Assembling
 pub mod Listing
 pub mod Building
+pub mod AcceptedLaws
 pub mod ExtendLaws
 pub mod EntryLaws
 pub mod DepthFirstLaws

@@ -8,14 +8,15 @@ use Rattle.lifetimes.specs.Refusals as refusals
 use Rattle.lifetimes.specs.Sets as sets
 use Rattle.lifetimes.specs.Env as hir
 use Rattle.lifetimes.specs.Walk as walk
-use Rattle.lifetimes.proofs.RefusalLaws.{given-due}
+use Rattle.lifetimes.proofs.RefusalLaws.{given-due, none-rest}
 use Rattle.lifetimes.proofs.ReachLaws.{listed-toward, traversal-once}
 use Rattle.records.specs.Reading as reading
 use Rattle.ast_lifetimes.specs.declared.env.LifetimeEnv.{LifetimeEnv}
 use Rattle.ast_lifetimes.specs.Shapes as shapes
 use Rattle.ast_lifetimes.specs.Types as types
 use Rattle.ast_lifetimes.specs.Env as env
-use Rattle.ast_lifetimes.specs.Theorems.{BuiltInOrder, AstReachIsOutlives, ListedDepthFirst, ExamplesHold}
+use Rattle.ast_lifetimes.specs.Theorems.{BuiltInOrder, AcceptedIsValid, AstReachIsOutlives, ListedDepthFirst, ExamplesHold}
+use Rattle.ast_lifetimes.proofs.AcceptedLaws.{accepted-valid}
 use Rattle.ast_lifetimes.proofs.EntryLaws as entry-laws
 use Rattle.ast_lifetimes.proofs.DepthFirstLaws.{found, found-only}
 
@@ -29,6 +30,12 @@ built-in-order names bounds types = record {
   where
     given : (e : LifetimeEnv) → env.fromMethodItem names bounds types ≡ refusals.Gives e → env.envOf (env.allNamesOf names) (env.methodBounds names bounds types) ≡ e
     given e h = (given-due (env.envOf (env.allNamesOf names) (env.methodBounds names bounds types)) e (env.methodChecks names bounds types) h) .1
+
+pub accepted-is-valid : AcceptedIsValid
+unfolding env.fromMethodItem
+accepted-is-valid names bounds types e h =
+    let g = given-due (env.envOf (env.allNamesOf names) (env.methodBounds names bounds types)) e (env.methodChecks names bounds types) h in
+    rw (sym (g .1)) (accepted-valid names bounds types (none-rest (g .0)))
 
 pub ast-reach-is-outlives : AstReachIsOutlives
 ast-reach-is-outlives longer names bs word = record {

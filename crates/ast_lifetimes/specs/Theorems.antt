@@ -5,14 +5,14 @@ use mathlib.Core.Path.{_≡_}
 use mathlib.Core.Logic.{_↔_}
 use mathlib.Core.List.{List, [], _∷_, _++_, List·Memᴰ, List·Nodup}
 use Rattle.lifetimes.specs.declared.env.Bound.{Bound}
-use Rattle.lifetimes.specs.Refusals.{Gives}
+use Rattle.lifetimes.specs.Refusals.{Gives, NoneDue}
 use Rattle.lifetimes.specs.Sets.{empty}
 use Rattle.lifetimes.specs.Walk.{LastFirst, traversal}
 use Rattle.lifetimes.specs.Outlives.{Toward}
 use Rattle.ast_lifetimes.specs.declared.env.LifetimeEnv.{LifetimeEnv}
 use Rattle.ast_lifetimes.specs.Shapes.{namesInShape, boundsInShape, implNames, methodNames}
 use Rattle.ast_lifetimes.specs.Types.{typesInShape}
-use Rattle.ast_lifetimes.specs.Env.{place, isDeclared, boundsFor, reachOf, namesOf, boundsOf, allNamesOf, explicitBounds, impliedPairs, fromMethodItem}
+use Rattle.ast_lifetimes.specs.Env.{place, isDeclared, boundsFor, reachOf, namesOf, boundsOf, allNamesOf, explicitBounds, impliedPairs, fromMethodItem, envChecks}
 use Rattle.ast_lifetimes.specs.Entries.{built}
 use Rattle.ast_lifetimes.specs.DepthFirst.{Lists}
 use Rattle.ast_lifetimes.specs.Examples.{examples, Right}
@@ -27,6 +27,10 @@ pub record InOrder (names bounds types : List ℕ) : Type 0 where
 
 abbrev pub BuiltInOrder : Type 0
 BuiltInOrder = (names bounds types : List ℕ) → InOrder names bounds types
+
+-- What is given is an environment on which no refusal is due, as the calls ask that take one
+abbrev pub AcceptedIsValid : Type 0
+AcceptedIsValid = (names bounds types : List ℕ) (e : LifetimeEnv) → fromMethodItem names bounds types ≡ Gives e → NoneDue (envChecks e)
 
 -- `longer_than` and `shorter_than`: nothing for an unknown name; of a declared one exactly what outlives it (what it outlives), each once: the members of the HIR's list. One statement over the direction.
 pub record ListsTheReach (longer : Bool) (names : List ℕ) (bs : List Bound) (word : ℕ) : Type 0 where

@@ -5,35 +5,33 @@ use mathlib.Core.Path.{_≡_, refl, sym, ap, _∙_}
 use mathlib.Core.Logic.{⊎-elim}
 use mathlib.Core.List.{List, [], _∷_, _++_, map, List·Memᴰ, List·Memᴰ·cases-cons, List·Memᴰ·not-nil}
 use native.Mathlib.Nat.{zero-add}
-use native.Mathlib.Decide.{decLt, ℕ-discrete}
+use native.Mathlib.Decide.{ℕ-discrete}
 use native.Mathlib.Omega.{arith}
 use borrow.Author.Tests.{leb-false, ltb-false}
-use lib.Dec.{leb, ltb}
 use lib.ListN.{length, getD, take, drop, set, replicate, length-map, length-set, length-append, length-replicate, getD-replicate, List·getD-append}
 use lib.Seq.{ext-getD, getD-set-same, getD-set-other}
 use Rattle.lifetimes.specs.declared.answer.Refusal.{Refusal}
 use Rattle.lifetimes.specs.declared.answer.Refusal.the-variants.{OutOfRange}
 use Rattle.lifetimes.specs.declared.answer.Verdict.the-variants.{Accepted, Refused}
 use Rattle.lifetimes.specs.declared.maybe_static.MaybeStatic.{MaybeStatic}
-use Rattle.lifetimes.specs.declared.maybe_static.MaybeStatic.the-variants.{Static, NonStatic}
+use Rattle.lifetimes.specs.declared.maybe_static.MaybeStatic.the-variants.{NonStatic}
 use Rattle.lifetimes.specs.declared.env.LifetimeEnv.{LifetimeEnv}
 use Rattle.lifetimes.specs.declared.reach.ReachSets.{ReachSets}
 use Rattle.lifetimes.specs.Numbers.{lifetime}
 use Rattle.lifetimes.specs.Ranges.{ascending}
-use Rattle.lifetimes.specs.Refusals.{Check, check, Outcome, Gives, Refuses, unless, NoneDue, end, next}
+use Rattle.lifetimes.specs.Refusals.{Check, check, Outcome, Gives, Refuses, unless, NoneDue}
 use Rattle.lifetimes.specs.Lent.{resultOr}
 use Rattle.lifetimes.specs.Sets.{member}
 use Rattle.lifetimes.specs.Env.{boundsOf, envChecks}
 use Rattle.lifetimes.specs.Walk.{reachSet}
 use Rattle.lifetimes.specs.Reach.{allSets, noSets, reachSets}
-use Rattle.lifetimes.proofs.RefusalLaws.{due-given, given-due, none-first, none-rest, none-more}
+use Rattle.lifetimes.proofs.RefusalLaws.{due-given, given-due, none-first, none-rest, none-split, none-more}
 use Rattle.lifetimes.proofs.SetLaws.{length-ascending}
 use Rattle.hir_types.specs.declared.used.UsedLifetimes.{UsedLifetimes}
 use Rattle.hir_types.specs.declared.used.UsedLifetimes.the-variants as answer
 use Rattle.hir_types.specs.Method.{outputLifetimes, isPast, anyPast, placeChecks, methodChecks}
-use Rattle.hir_types.specs.Used.{usedSet, usedAnswer, usedNumbers}
+use Rattle.hir_types.specs.Used.{usedSet, usedAnswer}
 use Rattle.hir_types.proofs.Theorems.{used-lifetimes-are}
-use Rattle.borrowing_param.specs.declared.visitor.Created.{Created}
 use Rattle.borrowing_param.specs.New.{drawsTo, newVisitor, noVisitor, createdBy, created}
 use Rattle.borrowing_param.specs.Inner.{keptAt, keptOf}
 
@@ -91,10 +89,6 @@ module _ {used : ℕ} {sets draws₀ draws : List ℕ} {i : ℕ} (inv : Keeping 
         go j (no n) k = getD-set-other draws i j (getD sets i 0) 0 n ∙ inv .done j (omega arith)
 
 -- ---- what an accepted method says
-
-pub none-split : (checks more : List Check) → NoneDue (checks ++ more) → NoneDue checks × NoneDue more
-none-split [] more n = (end, n)
-none-split (c ∷ cs) more (next h n) = let k = none-split cs more n in (next h (k .0), k .1)
 
 not-past : (count : ℕ) (ms : List MaybeStatic) → anyPast count ms ≡ false → (k : ℕ) → List·Memᴰ (NonStatic (lifetime k)) ms → k < count
 unfolding anyPast

@@ -19,7 +19,7 @@ use Rattle.lifetimes.specs.LoweredWords.{wordOf}
 use Rattle.lifetimes.specs.Env.{envOf}
 use Rattle.lifetimes.specs.Env as hirenv
 use Rattle.lifetimes.specs.declared.env.Made as hir
-use Rattle.lifetimes.proofs.RefusalLaws.{refused-first, accepted-none, due-given, due-refused, refused-due, given-due, none-first, none-rest, first-more, first-after, none-more}
+use Rattle.lifetimes.proofs.RefusalLaws.{refused-first, accepted-none, due-given, due-refused, refused-due, given-due, none-first, none-rest, none-split, first-more, first-after, none-more}
 use Rattle.lifetimes.proofs.Copying.{sets-front}
 use Rattle.records.specs.Reading.{shapeVerdict}
 use Rattle.ast_lifetimes.specs.declared.env.LifetimeEnv as ast
@@ -31,7 +31,6 @@ use Rattle.elision.specs.Rfc.{Method, methodChecks, rfc141}
 use Rattle.elision.specs.Machine.{runMethod}
 use Rattle.elision.specs.Lowering.{words, recordsOf, inShapeAll, measureChecks, roomChecks, lowerChecks, measureRecords, finished, finishEnv, lowerRecords, answered, ownWords, stepWords, returnWords}
 use Rattle.elision.specs.Inner.{shown, totals, RunsAll}
-use Rattle.elision.proofs.ReadingLaws.{none-split}
 use Rattle.elision.proofs.RfcLaws.{method-said}
 use Rattle.elision.proofs.ShapeLaws.{shape-in, shape-out}
 use Rattle.elision.proofs.SmallLaws.{AllSmall, small-words, SmallMethod, method-small}

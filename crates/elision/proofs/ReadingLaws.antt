@@ -10,8 +10,8 @@ use lib.ListN.{length}
 use Rattle.lifetimes.specs.declared.maybe_static.MaybeStatic.{MaybeStatic}
 use Rattle.lifetimes.specs.declared.maybe_static.MaybeStatic.the-variants.{Static, NonStatic}
 use Rattle.lifetimes.specs.Numbers.{lifetime}
-use Rattle.lifetimes.specs.Refusals.{Check, Outcome, Gives, Refuses, NoneDue, end, next, after}
-use Rattle.lifetimes.proofs.RefusalLaws.{none-first, none-rest}
+use Rattle.lifetimes.specs.Refusals.{Outcome, Gives, Refuses, NoneDue, after}
+use Rattle.lifetimes.proofs.RefusalLaws.{none-first, none-rest, none-split}
 use Rattle.ast_lifetimes.specs.Env.{place}
 use Rattle.records.specs.Reading.{Reading, readOr, readAll, itemsOf}
 use Rattle.records.proofs.ReadingLaws.{Holds, read, fails, passed, holds-onward}
@@ -102,10 +102,6 @@ pub steps-one-by-one : (names : List ℕ) (out : Bool) (words : List ℕ) (s : L
 steps-one-by-one names out words s = steps-same names out (stepsOf words) (steps-fit words) s
 
 -- ---- no refusal due, the count is at most 64
-
-pub none-split : (a b : List Check) → NoneDue (a ++ b) → NoneDue a × NoneDue b
-none-split [] b n = (end, n)
-none-split (c ∷ a) b n = let p = none-split a b (none-rest n) in (next (none-first n) (p .0), p .1)
 
 module _ (names : List ℕ) (self : Receiver) where
   one-few : (before : List Occurrence) (st : Standing) (word : ℕ) → elidedCheck names self before st (eqb word 1) .due ≡ false → countOf names before ≤ 64

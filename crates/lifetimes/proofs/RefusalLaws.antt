@@ -73,3 +73,14 @@ first-after (next h n) f = later h (first-after n f)
 pub none-more : {checks more : List Check} → NoneDue checks → NoneDue more → NoneDue (checks ++ more)
 none-more end m = m
 none-more (next h n) m = next h (none-more n m)
+
+-- none is due of the one list, and of the other
+pub none-split : (checks more : List Check) → NoneDue (checks ++ more) → NoneDue checks × NoneDue more
+none-split [] more n = (end, n)
+none-split (c ∷ cs) more n = let k = none-split cs more (none-rest n) in (next (none-first n) (k .0), k .1)
+
+-- what is due behind checks of which none is
+pub first-behind : {r : Refusal} {checks more : List Check} → NoneDue checks → FirstDue r (checks ++ more) → FirstDue r more
+first-behind end f = f
+first-behind (next {c} h n) (here d e) = let z : _≡_ {A = ℕ} 0 1 = cc in absurd (omega arith)
+first-behind (next h n) (later d f) = first-behind n f
