@@ -6,7 +6,8 @@ use mathlib.Core.List.{List, [], _∷_, _++_, append-assoc, flatMap, flatten}
 use mathlib.Core.Option.{Option, none, some}
 use native.Mathlib.Nat.{add-zero}
 use native.Mathlib.Omega.{arith}
-use borrow.Author.Tests.{le-leb, lt-leb, eq-eqb}
+use borrow.Author.Tests.{le-leb, lt-leb, leb-true, leb-false, eq-eqb}
+use lib.Dec.{leb}
 use lib.ListN.{length, getD, take, drop, length-append}
 use lib.Seq.{sets, slice, drop-append-seam, drop-at, take-at}
 use Rattle.lifetimes.specs.declared.answer.Refusal.{Refusal}
@@ -115,6 +116,14 @@ module _ (bytes words words′ ends : List ℕ) (none : NoneDue (textChecks byte
   wrote judged.TooLong l = wrote-ten l
   wrote judged.Good l = wrote-ten l
 
+-- what `write_all` leaves: all words where they fit, else none
+module _ (count : ℕ) (words all : List ℕ) where
+  pub left-fitting : leb count (length words) ≡ true → {words′ : List ℕ} → words′ ≡ all → words′ ≡ cond (leb count (length words)) all words
+  left-fitting t w = rw t w
+
+  pub left-short : leb count (length words) ≡ false → words ≡ cond (leb count (length words)) all words
+  left-short f = rw f
+
 -- an accepted text, by what `measure` answers
 module _ (bytes : List ℕ) (j : Text) (m : j ≡ measured bytes) (e : j .verdict ≡ verdict.Accepted) where
   pub none-due : NoneDue (textChecks bytes)
@@ -151,13 +160,22 @@ module _ (checks : List Check) (s : Records) (words : List ℕ) where
   call-refuses : {k : Refusal} → FirstDue k (withRoom checks (length words) s) → Answers (answerOf (Refuses k)) words
   call-refuses f = (rw (due-refused (endsFrom 0 (lists s)) f), rw (due-refused (wordsOf s) f))
 
-  call-short : NoneDue checks → length words < length (wordsOf s) → Answers (answerOf (Refuses NoRoom)) words
-  call-short n h = call-refuses (first-after n (no-room (length words) (wordsOf s) h))
+  -- by what `write_all` says and leaves
+  module _ (n : NoneDue checks) {count : ℕ} (c : count ≡ length (wordsOf s)) {fits : Bool} (l : fits ≡ leb count (length words))
+      {words′ : List ℕ} (w : words′ ≡ cond fits (sets words 0 (wordsOf s)) words) where
+    call-short : fits ≡ false → Answers (answerOf (Refuses NoRoom)) words′
+    call-short f =
+        let h : length words < count = leb-false count (length words) (sym l ∙ f) in
+        let kept : words′ ≡ words = rw f at w in
+        let a = call-refuses (first-after n (no-room (length words) (wordsOf s) (omega (arith, c)))) in (a .0, kept ∙ a .1)
 
-  call-writes : NoneDue checks → length (wordsOf s) ≤ length words → {words′ : List ℕ} → words′ ≡ sets words 0 (wordsOf s) → Answers (answerOf (Gives (endsFrom 0 (lists s)))) words′
-  call-writes n h w =
-      let d : NoneDue (withRoom checks (length words) s) = none-more n (has-room (length words) (wordsOf s) h end) in
-      (rw (due-given (endsFrom 0 (lists s)) d), rw (due-given (wordsOf s) d) (w ∙ sets-front words (wordsOf s) h))
+    call-writes : fits ≡ true → Answers (answerOf (Gives (endsFrom 0 (lists s)))) words′
+    call-writes t =
+        let some : count ≤ length words = leb-true count (length words) (sym l ∙ t) in
+        let h : length (wordsOf s) ≤ length words = omega (arith, c) in
+        let stored : words′ ≡ sets words 0 (wordsOf s) = rw t at w in
+        let d : NoneDue (withRoom checks (length words) s) = none-more n (has-room (length words) (wordsOf s) h end) in
+        (rw (due-given (endsFrom 0 (lists s)) d), rw (due-given (wordsOf s) d) (stored ∙ sets-front words (wordsOf s) h))
 
 -- what `read_text` answers and writes
 module _ (bytes words : List ℕ) (j : Text) (m : j ≡ measured bytes) where
@@ -170,15 +188,16 @@ module _ (bytes words : List ℕ) (j : Text) (m : j ≡ measured bytes) where
       let f = measured-refused bytes j m e in
       let a = call-refuses (textChecks bytes) (sheetOf bytes) words (first-more _ (f .0)) in (f .1 ∙ a .0, a .1)
 
-  module _ (e : j .verdict ≡ verdict.Accepted) where
-    pub read-short : length words < getD (j .ends) 9 0 → Reads (answerOf (Refuses NoRoom)) words
+  module _ (e : j .verdict ≡ verdict.Accepted) {fits : Bool} (l : fits ≡ leb (getD (j .ends) 9 0) (length words))
+      {words′ : List ℕ} (w : words′ ≡ cond fits (sets words 0 (wordsOf (sheetOf bytes))) words) where
+    pub read-short : fits ≡ false → Reads (answerOf (Refuses NoRoom)) words′
     unfolding readAnswer readEnds readWords
-    read-short h = call-short (textChecks bytes) (sheetOf bytes) words (none-due bytes j m e) (omega (arith, ends-end bytes j m e))
+    read-short = call-short (textChecks bytes) (sheetOf bytes) words (none-due bytes j m e) (ends-end bytes j m e) l w
 
-    pub read-wrote : getD (j .ends) 9 0 ≤ length words → {words′ : List ℕ} → words′ ≡ sets words 0 (wordsOf (sheetOf bytes)) → Reads j words′
+    pub read-wrote : fits ≡ true → Reads j words′
     unfolding readAnswer readEnds readWords
-    read-wrote h w =
-        let a = call-writes (textChecks bytes) (sheetOf bytes) words (none-due bytes j m e) (omega (arith, ends-end bytes j m e)) w in
+    read-wrote t =
+        let a = call-writes (textChecks bytes) (sheetOf bytes) words (none-due bytes j m e) (ends-end bytes j m e) l w t in
         (measured-given bytes j m e ∙ a .0, a .1)
 
 -- what `read_sheet` answers and writes
@@ -199,15 +218,16 @@ module _ (bytes words : List ℕ) (j : Text) (m : j ≡ measured bytes) where
         unfolding sheetChecks
         sheet-none = none-more (none-due bytes j m e) (next (ap not (sym s ∙ f)) end)
 
-        pub sheet-short : length words < getD (j .ends) 9 0 → ReadsSheet (answerOf (Refuses NoRoom)) words
-        unfolding sheetAnswer sheetEnds sheetWords
-        sheet-short h = call-short (sheetChecks bytes) (sheetOf bytes) words sheet-none (omega (arith, ends-end bytes j m e))
+        module _ {fits : Bool} (l : fits ≡ leb (getD (j .ends) 9 0) (length words)) {words′ : List ℕ} (w : words′ ≡ cond fits (sets words 0 (wordsOf (sheetOf bytes))) words) where
+          pub sheet-short : fits ≡ false → ReadsSheet (answerOf (Refuses NoRoom)) words′
+          unfolding sheetAnswer sheetEnds sheetWords
+          sheet-short = call-short (sheetChecks bytes) (sheetOf bytes) words sheet-none (ends-end bytes j m e) l w
 
-        pub sheet-wrote : getD (j .ends) 9 0 ≤ length words → {words′ : List ℕ} → words′ ≡ sets words 0 (wordsOf (sheetOf bytes)) → ReadsSheet j words′
-        unfolding sheetAnswer sheetEnds sheetWords
-        sheet-wrote h w =
-            let a = call-writes (sheetChecks bytes) (sheetOf bytes) words sheet-none (omega (arith, ends-end bytes j m e)) w in
-            (measured-given bytes j m e ∙ a .0, a .1)
+          pub sheet-wrote : fits ≡ true → ReadsSheet j words′
+          unfolding sheetAnswer sheetEnds sheetWords
+          sheet-wrote t =
+              let a = call-writes (sheetChecks bytes) (sheetOf bytes) words sheet-none (ends-end bytes j m e) l w t in
+              (measured-given bytes j m e ∙ a .0, a .1)
 
   pub sheet-refused : {k : Refusal} → j .verdict ≡ verdict.Refused k → ReadsSheet j words
   unfolding sheetAnswer sheetEnds sheetWords sheetChecks

@@ -1,7 +1,8 @@
 -- The loop of `lines`: the lines so far, and reading on at the next line.
 use Prim.Native.Nat.{ℕ, _+_, _-_, _≤_, _<_}
-use mathlib.Core.Bool.{Bool, true, false, _&&_}
+use mathlib.Core.Bool.{Bool, true, false, cond, _&&_}
 use mathlib.Core.Path.{_≡_, refl, sym, ap, subst, _∙_}
+use mathlib.Core.Logic.{⊎-elim}
 use mathlib.Core.List.{List, [], _∷_, _++_, append-nil, append-assoc, flatMap, flatten}
 use mathlib.Core.Option.{Option, none, some}
 use native.Mathlib.Nat.{add-zero, zero-add}
@@ -14,10 +15,12 @@ use lib.Seq.{drop-cons, sets, length-sets, take-suc-set, take-all}
 use Rattle.lifetimes.proofs.Copying.{sets-append}
 use Rattle.sheet.specs.declared.lines.Read.{Read}
 use Rattle.sheet.specs.declared.lines.Read.the-variants as read
+use Rattle.sheet.specs.declared.lines.Judged.{Judged}
+use Rattle.sheet.specs.declared.lines.Judged.the-variants.{Good, TooLong}
 use Rattle.sheet.specs.Text.{line, mostWord, mostWords}
 use Rattle.sheet.specs.Reading.{LineStart, lineBefore, readLines, ten, allShort}
 use Rattle.sheet.specs.Answer.{endsFrom}
-use Rattle.sheet.specs.Inner.{readFrom, LineAt, LineRead, TenAt}
+use Rattle.sheet.specs.Inner.{readFrom, NoLine, LineAt, LineRead, TenAt, judgedBy, LinesRead}
 use Rattle.sheet.proofs.SpellingLaws.{read-spelt}
 
 -- lines before other lines
@@ -54,6 +57,10 @@ few-more (k ∷ ls) l = rw (few-more ls l) (swap (leb (length k) mostWords) (leb
     swap false true c = refl
     swap false false c = refl
 
+judged-more : (few others : Bool) → cond few (judgedBy others) TooLong ≡ judgedBy (few && others)
+judged-more true others = refl
+judged-more false others = refl
+
 ends-more : (at : ℕ) (ls : List (List ℕ)) (l : List ℕ) → endsFrom at (ls ++ (l ∷ [])) ≡ endsFrom at ls ++ ((at + length (flatten ls) + length l) ∷ [])
 unfolding endsFrom flatten
 ends-more at [] l = rw add-zero
@@ -79,11 +86,11 @@ module _ (bytes : List ℕ) (from : ℕ) (words words′ : List ℕ) (to : ℕ) 
   pub read-words : {at count : ℕ} → r ≡ read.Words at count → LineRead bytes from words words′ to r → LineAt bytes from words words′ to at count
   read-words e w = subst (LineRead bytes from words words′ to) e w
 
-  pub read-nothing : r ≡ read.Nothing → LineRead bytes from words words′ to r → readFrom LineStart bytes from ≡ none
+  pub read-nothing : r ≡ read.Nothing → LineRead bytes from words words′ to r → NoLine bytes from
   read-nothing e w = subst (LineRead bytes from words words′ to) e w
 
 -- the invariant
-pub record Lining (bytes : List ℕ) (from : ℕ) (words₀ words ends : List ℕ) (at count : ℕ) (few : Bool) (i : ℕ) : Type 0 where
+pub record Lining (bytes : List ℕ) (from : ℕ) (words₀ words ends : List ℕ) (at count : ℕ) (judged : Judged) (i : ℕ) : Type 0 where
   pub lines : List (List ℕ)
   pub reads : readFrom LineStart bytes from ≡ linesBefore lines (readFrom LineStart bytes at)
   pub many : length lines ≡ i
@@ -91,11 +98,11 @@ pub record Lining (bytes : List ℕ) (from : ℕ) (words₀ words ends : List �
   pub stored : words ≡ sets words₀ 0 (flatten lines)
   pub placed : take i ends ≡ endsFrom 0 lines
   pub size : length ends ≡ 10
-  pub short : few ≡ allShort lines
+  pub short : judged ≡ judgedBy (allShort lines)
   pub place : count ≤ at
   pub last : i ≤ 10
 
-pub lining-start : (bytes : List ℕ) (from : ℕ) (words ends : List ℕ) → length ends ≡ 10 → Lining bytes from words words ends from 0 true 0
+pub lining-start : (bytes : List ℕ) (from : ℕ) (words ends : List ℕ) → length ends ≡ 10 → Lining bytes from words words ends from 0 Good 0
 unfolding flatten endsFrom allShort
 lining-start bytes from words ends h = record {
   lines = [];
@@ -110,13 +117,13 @@ lining-start bytes from words ends h = record {
   last = omega arith;
 }
 
-module _ {bytes : List ℕ} {from : ℕ} {words₀ words ends : List ℕ} {at count : ℕ} {few : Bool} {i : ℕ} (inv : Lining bytes from words₀ words ends at count few i) where
+module _ {bytes : List ℕ} {from : ℕ} {words₀ words ends : List ℕ} {at count : ℕ} {judged : Judged} {i : ℕ} (inv : Lining bytes from words₀ words ends at count judged i) where
   pub lining-size : length words ≡ length words₀
   lining-size = ap length (inv .stored) ∙ length-sets words₀ 0 (flatten (inv .lines))
 
-  pub lining-none : readFrom LineStart bytes at ≡ none → ten (readFrom LineStart bytes from) ≡ none
+  unread : readFrom LineStart bytes at ≡ none → ten (readFrom LineStart bytes from) ≡ none
   unfolding ten
-  lining-none e = ap ten (inv .reads ∙ ap (linesBefore (inv .lines)) e ∙ lines-none (inv .lines))
+  unread e = ap ten (inv .reads ∙ ap (linesBefore (inv .lines)) e ∙ lines-none (inv .lines))
 
   -- not ten lines
   other : (rs : List (List ℕ)) → (i + length rs ≡ 10 → ⊥) → readFrom LineStart bytes at ≡ some rs → ten (readFrom LineStart bytes from) ≡ none
@@ -125,37 +132,44 @@ module _ {bytes : List ℕ} {from : ℕ} {words₀ words ends : List ℕ} {at co
       let m : length (inv .lines ++ rs) ≡ 10 → ⊥ = λ q. n (omega (arith, length-append (inv .lines) rs, inv .many)) in
       ap ten (inv .reads ∙ ap (linesBefore (inv .lines)) e ∙ lines-some (inv .lines) rs) ∙ rw (ne-eqb (length (inv .lines ++ rs)) 10 m)
 
-  pub lining-few : i < 10 → length bytes ≤ at → ten (readFrom LineStart bytes from) ≡ none
-  lining-few h e = other [] (λ q. omega arith) (end-of-bytes bytes at e)
+  pub lining-none : i < 10 → NoLine bytes at → ten (readFrom LineStart bytes from) ≡ none
+  lining-none h = ⊎-elim (λ e. other [] (λ q. omega arith) (end-of-bytes bytes at e)) unread
 
   pub lining-many : 10 ≤ i → at < length bytes → ten (readFrom LineStart bytes from) ≡ none
   lining-many h b = go (readFrom LineStart bytes at) refl
     where
       go : (o : Option (List (List ℕ))) → readFrom LineStart bytes at ≡ o → ten (readFrom LineStart bytes from) ≡ none
-      go none e = lining-none e
+      go none e = unread e
       go (some []) e = absurd (some-line bytes at b e)
       go (some (r ∷ rs)) e = other (r ∷ rs) (λ q. omega arith) e
 
-  pub lining-end : 10 ≤ i → length bytes ≤ at → {t : Bool} → few ≡ t → TenAt bytes from words₀ words ends t
-  lining-end h e f =
+  ten-lines : 10 ≤ i → length bytes ≤ at → {t : Bool} → allShort (inv .lines) ≡ t → TenAt bytes from words₀ words ends t
+  ten-lines h e f =
       let ten : i ≡ 10 = omega (arith, inv .last) in
       record {
         lines = inv .lines;
         reads = inv .reads ∙ ap (linesBefore (inv .lines)) (end-of-bytes bytes at e) ∙ lines-some (inv .lines) [] ∙ rw append-nil;
         count = inv .many ∙ ten;
-        size = sym (inv .short) ∙ f;
+        size = f;
         stored = inv .stored;
         placed = sym (take-all i ends (omega (arith, inv .size))) ∙ inv .placed;
       }
+
+  pub lining-end : 10 ≤ i → length bytes ≤ at → LinesRead bytes from words₀ words ends judged
+  lining-end h e = go (allShort (inv .lines)) refl
+    where
+      go : (t : Bool) → allShort (inv .lines) ≡ t → LinesRead bytes from words₀ words ends judged
+      go true f = subst (LinesRead bytes from words₀ words ends) (sym (inv .short ∙ ap judgedBy f)) (ten-lines h e f)
+      go false f = subst (LinesRead bytes from words₀ words ends) (sym (inv .short ∙ ap judgedBy f)) (ten-lines h e f)
 
   module _ {words′ : List ℕ} {next more : ℕ} (l : LineAt bytes at words words′ count next more) where
     -- the words of the line that was read are counted without wrapping
     pub lining-sub : count ≤ more
     lining-sub = omega (arith, l .counts)
 
-    pub lining-more : i < 10 → {few′ : Bool} {ends′ : List ℕ} → few′ ≡ leb (more - count) mostWords && few → ends′ ≡ set ends i more
-        → Lining bytes from words₀ words′ ends′ next more few′ (i + 1)
-    lining-more h {few′} {ends′} f e =
+    pub lining-more : i < 10 → {judged′ : Judged} {ends′ : List ℕ} → judged′ ≡ cond (leb (more - count) mostWords) judged TooLong → ends′ ≡ set ends i more
+        → Lining bytes from words₀ words′ ends′ next more judged′ (i + 1)
+    lining-more h {judged′} {ends′} f e =
         let z : length (flatten (inv .lines ++ (l .line ∷ []))) ≡ count + length (l .line) =
         ap length (flatten-more (inv .lines) (l .line)) ∙ length-append (flatten (inv .lines)) (l .line) ∙ rw (← inv .counts) in
         let d : more - count ≡ length (l .line) = omega (arith, l .counts) in
@@ -170,7 +184,7 @@ module _ {bytes : List ℕ} {from : ℕ} {words₀ words ends : List ℕ} {at co
           stored = sym s;
           placed = rw (e, add-one i) (take-suc-set ends i more (omega (arith, inv .size)) ∙ rw (inv .placed) (sym (ends-more 0 (inv .lines) (l .line) ∙ rw m)));
           size = ap length e ∙ length-set ends i more ∙ inv .size;
-          short = f ∙ rw (d, inv .short) (sym (few-more (inv .lines) (l .line)));
+          short = f ∙ rw (d, inv .short, few-more (inv .lines) (l .line)) (judged-more (leb (length (l .line)) mostWords) (allShort (inv .lines)));
           place = omega (arith, l .counts, l .after, inv .place);
           last = omega arith;
         }

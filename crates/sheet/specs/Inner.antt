@@ -2,6 +2,7 @@
 use Prim.Native.Nat.{ℕ, _+_, _≤_, _<_}
 use mathlib.Core.Bool.{Bool, true, false}
 use mathlib.Core.Path.{_≡_}
+use mathlib.Core.Logic.{_⊎_}
 use mathlib.Core.List.{List, _∷_, _++_, flatten}
 use mathlib.Core.Option.{Option, none, some}
 use lib.ListN.{length, getD, drop}
@@ -43,9 +44,13 @@ pub record LineAt (bytes : List ℕ) (from : ℕ) (words words′ : List ℕ) (t
   pub after : from + length line < at
   pub inside : at ≤ length bytes
 
+-- no line stands there: the bytes end before, or they cannot be read
+abbrev pub NoLine : List ℕ → ℕ → Type 0
+NoLine bytes from = (length bytes ≤ from) ⊎ (readFrom LineStart bytes from ≡ none)
+
 abbrev pub LineRead : List ℕ → ℕ → List ℕ → List ℕ → ℕ → Read → Type 0
 LineRead bytes from words words′ to (read.Words at count) = LineAt bytes from words words′ to at count
-LineRead bytes from words words′ to read.Nothing = readFrom LineStart bytes from ≡ none
+LineRead bytes from words words′ to read.Nothing = NoLine bytes from
 
 -- the bytes from an index on are ten lines; their words are stored, and where each line ends
 pub record TenAt (bytes : List ℕ) (from : ℕ) (words words′ ends : List ℕ) (few : Bool) : Type 0 where
@@ -55,6 +60,11 @@ pub record TenAt (bytes : List ℕ) (from : ℕ) (words words′ ends : List ℕ
   pub size : allShort lines ≡ few
   pub stored : words′ ≡ sets words 0 (flatten lines)
   pub placed : ends ≡ endsFrom 0 lines
+
+-- what lines are whose records all have few words, or not
+abbrev pub judgedBy : Bool → Judged
+judgedBy true = judged.Good
+judgedBy false = judged.TooLong
 
 abbrev pub LinesRead : List ℕ → ℕ → List ℕ → List ℕ → List ℕ → Judged → Type 0
 LinesRead bytes from words words′ ends judged.Unreadable = ten (readFrom LineStart bytes from) ≡ none

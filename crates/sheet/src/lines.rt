@@ -1,11 +1,12 @@
 // The words of a line, and of ten lines.
 //
 // Words are stored as far as the slice goes, so that the same reading counts (with a slice of one word) and writes.
-ghost use Prim.Native.Nat.{_≤_, _<_};
-ghost use mathlib.Core.Bool.{_&&_};
+ghost use Prim.Native.Nat.{_≤_};
+ghost use mathlib.Core.Bool.{cond};
 ghost use mathlib.Core.Path.{_≡_};
 ghost use lib.Dec.{leb};
 ghost use lib.ListN.{length, set};
+ghost use Rattle.sheet.specs.declared.lines.Judged.the-variants.{TooLong};
 ghost use Rattle.sheet.specs.Text.{mostWords};
 ghost use Rattle.sheet.specs.Inner.{LineRead, LinesRead};
 use super::text::Text;
@@ -27,12 +28,15 @@ fn put(words: &mut [usize], at: usize, word: usize)
     }
 }
 
-// The words of the line that starts at a place, stored from `to` on.
+// The words of the line that starts at a place, stored from `to` on; none at the end of the bytes.
 fn line(bytes: &[u8], from: usize, words: &mut [usize], to: usize) -> Read
-    requires { ⌜ (from < length (now bytes)) × (to ≤ from) ⌝ }
+    requires { ⌜ to ≤ from ⌝ }
     ensures { λ r. ⌜ LineRead (now (bytes .entry)) from (now (words .entry)) (now (words .exit)) to r ⌝ }
 {
     let n = bytes.len();
+    if n <= from {
+        return Read::Nothing;
+    }
     let mut i = from;
     let mut count = to;
     if bytes[i] == b'\n' {
@@ -67,14 +71,14 @@ pub(crate) enum Judged {
     Good,
 }
 
-// Whether all records so far have few words, and one more.
-fn also_few(few: bool, count: usize) -> bool
-    ensures { λ r. ⌜ r ≡ leb count mostWords && few ⌝ }
+// What lines are with one more line of so many words.
+fn also(before: Judged, count: usize) -> Judged
+    ensures { λ r. ⌜ r ≡ cond (leb count mostWords) before TooLong ⌝ }
 {
     if Text::MAX_WORDS < count {
-        return false;
+        return Judged::TooLong;
     }
-    few
+    before
 }
 
 // The words of ten lines from a place on to the end of the bytes, stored from the front, and where each line's words end.
@@ -89,12 +93,9 @@ pub(crate) fn lines(
 {
     let mut at = from;
     let mut count = 0;
-    let mut few = true;
+    let mut judged = Judged::Good;
     let mut i = 0;
     while i < 10 {
-        if bytes.len() <= at {
-            return Judged::Unreadable;
-        }
         let read = line(bytes, at, words, count);
         let Read::Words {
             at: next,
@@ -103,7 +104,7 @@ pub(crate) fn lines(
         else {
             return Judged::Unreadable;
         };
-        few = also_few(few, more - count);
+        judged = also(judged, more - count);
         at = next;
         count = more;
         ends[i] = count;
@@ -112,8 +113,5 @@ pub(crate) fn lines(
     if at < bytes.len() {
         return Judged::Unreadable;
     }
-    if few {
-        return Judged::Good;
-    }
-    Judged::TooLong
+    judged
 }

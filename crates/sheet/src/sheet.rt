@@ -7,7 +7,7 @@ use super::shapes::in_shape;
 use super::text::Text;
 use super::text::measure;
 use super::text::refused;
-use super::text::write;
+use super::text::write_all;
 use lifetimes::Refusal;
 use lifetimes::Verdict;
 
@@ -27,9 +27,8 @@ pub fn read_sheet(sheet: &[u8], words: &mut [usize]) -> Text
     if !in_shape(sheet, ends) {
         return refused(Refusal::Malformed);
     }
-    if words.len() < ends[9] {
+    if !write_all(sheet, ends[9], words) {
         return refused(Refusal::NoRoom);
     }
-    write(sheet, words);
     judged
 }

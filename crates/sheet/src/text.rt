@@ -2,6 +2,7 @@
 ghost use mathlib.Core.Bool.{cond};
 ghost use mathlib.Core.Path.{_≡_};
 ghost use mathlib.Core.Option.{none, some};
+ghost use lib.Dec.{leb};
 ghost use lib.ListN.{length, drop};
 ghost use lib.Seq.{sets};
 ghost use Rattle.lifetimes.specs.Refusals.{Refuses, NoneDue};
@@ -42,10 +43,9 @@ pub fn read_text(sheet: &[u8], words: &mut [usize]) -> Text
         return judged;
     };
     let ends = judged.ends;
-    if words.len() < ends[9] {
+    if !write_all(sheet, ends[9], words) {
         return refused(Refusal::NoRoom);
     }
-    write(sheet, words);
     judged
 }
 
@@ -78,6 +78,19 @@ pub(crate) fn measure(sheet: &[u8]) -> Text
             ends,
         },
     }
+}
+
+// Write the words of an accepted text, `count` of them, where the slice takes them all; else none. Says whether it does.
+pub(crate) fn write_all(sheet: &[u8], count: usize, words: &mut [usize]) -> bool
+    requires { ⌜ NoneDue (textChecks (now sheet)) ⌝ }
+    ensures { λ r. ⌜ r ≡ leb count (length (now (words .entry))) ⌝ }
+    ensures { λ r. ⌜ now (words .exit) ≡ cond r (sets (now (words .entry)) 0 (wordsOf (sheetOf (now (sheet .entry))))) (now (words .entry)) ⌝ }
+{
+    let fits = count <= words.len();
+    if fits {
+        write(sheet, words);
+    }
+    fits
 }
 
 // Write the words of an accepted text, one record after another, as far as the slice goes.

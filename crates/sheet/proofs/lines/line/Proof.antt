@@ -1,6 +1,7 @@
 -- `line` meets its contract: each turn of the loop takes one word more.
 use Prim.Native.Nat.{_-_}
 use mathlib.Core.Path.{_∙_}
+use mathlib.Core.Logic.{inl, inr}
 use native.Mathlib.Omega.{arith}
 use borrow.Author.Needs.{needs}
 use lib.ListN.{length}
@@ -14,17 +15,20 @@ Inv-loop bytes from words₀ to n i₀ count₀ words i count = Wording bytes fr
 abbrev μ-loop : tie.MeasureT-loop
 μ-loop bytes from words₀ to n i₀ count₀ words i count = length bytes - i
 
-shared-slice-read-if1 : tie.Need-shared-slice-read-if1 Inv-loop μ-loop
-shared-slice-read-if1 c = search needs
+returns : tie.Need-returns Inv-loop μ-loop
+returns c = inl (c .if1 .taken)
+
+shared-slice-read-if2 : tie.Need-shared-slice-read-if2 Inv-loop μ-loop
+shared-slice-read-if2 c = search needs
 
 add-i : tie.Need-add-i Inv-loop μ-loop
 add-i c = search needs
 
-returns : tie.Need-returns Inv-loop μ-loop
-returns c = empty-line _ _ _ _ (c .before .before .before .before .pre .0) (c .if1 .taken)
+returns-2 : tie.Need-returns-2 Inv-loop μ-loop
+returns-2 c = empty-line _ _ _ _ (c .before .before .if1 .left) (c .if2 .taken)
 
 loop-holds : tie.Need-loop-holds Inv-loop μ-loop
-loop-holds c = wording-start _ _ _ _ (c .before .before .before .before .pre .0) (c .if1 .left)
+loop-holds c = wording-start _ _ _ _ (c .before .before .if1 .left) (c .if2 .left)
 
 word-requires : tie.Need-word-requires Inv-loop μ-loop
 word-requires c κs = search needs
@@ -38,16 +42,16 @@ enum-told c = search needs
 same-length : tie.Need-same-length Inv-loop μ-loop
 same-length c = wording-size (c .before .before .before .loop .inv)
 
-returns-2 : tie.Need-returns-2 Inv-loop μ-loop
-returns-2 c = wording-none (c .before .before .before .loop .inv) (found-nothing _ _ (c .enum-told .given .1) (c .before .before .word .ensures))
+returns-3 : tie.Need-returns-3 Inv-loop μ-loop
+returns-3 c = inr (wording-none (c .before .before .before .loop .inv) (found-nothing _ _ (c .enum-told .given .1) (c .before .before .word .ensures)))
 
 same-length-2 : tie.Need-same-length-2 Inv-loop μ-loop
 same-length-2 c = wording-size (c .before .before .before .before .before .loop .inv)
 
-returns-3 : tie.Need-returns-3 Inv-loop μ-loop
-returns-3 c =
+returns-4 : tie.Need-returns-4 Inv-loop μ-loop
+returns-4 c =
     let f = c .before .before in
-    wording-cut (f .before .before .before .loop .inv) (found-number _ _ (f .found .given .1) (f .before .before .word .ensures)) (c .if2 .taken)
+    inr (wording-cut (f .before .before .before .loop .inv) (found-number _ _ (f .found .given .1) (f .before .before .word .ensures)) (c .if3 .taken))
 
 shared-slice-read-b : tie.Need-shared-slice-read-b Inv-loop μ-loop
 shared-slice-read-b c = search needs
@@ -56,7 +60,7 @@ put-requires : tie.Need-put-requires Inv-loop μ-loop
 put-requires c κs = search needs
 
 add-count : tie.Need-add-count Inv-loop μ-loop
-add-count c = let l = c .before .before .before .before .before .before .before .before .before .before .loop .inv in omega (arith, l .counts, l .place, l .inside, c .before .before .before .before .before .before .before .before .before .before .before .before .before .before .before .pre .1)
+add-count c = let l = c .before .before .before .before .before .before .before .before .before .before .loop .inv in omega (arith, l .counts, l .place, l .inside, c .before .before .before .before .before .before .before .before .before .before .before .before .before .before .before .before .pre)
 
 add-i-2 : tie.Need-add-i-2 Inv-loop μ-loop
 add-i-2 c =
@@ -66,18 +70,18 @@ add-i-2 c =
 same-length-3 : tie.Need-same-length-3 Inv-loop μ-loop
 same-length-3 c = c .before .before .before .put .kept .0 ∙ wording-size (c .before .before .before .before .before .before .before .before .before .before .before .loop .inv)
 
-returns-4 : tie.Need-returns-4 Inv-loop μ-loop
-returns-4 c =
+returns-5 : tie.Need-returns-5 Inv-loop μ-loop
+returns-5 c =
     let f = c .before .before .before .before .before .before .before .before in
-    wording-end (f .before .before .before .loop .inv) (found-number _ _ (f .found .given .1) (f .before .before .word .ensures)) (c .before .before .before .before .before .before .if2 .left) (c .before .before .before .put .ensures) (c .if3 .taken)
+    wording-end (f .before .before .before .loop .inv) (found-number _ _ (f .found .given .1) (f .before .before .word .ensures)) (c .before .before .before .before .before .before .if3 .left) (c .before .before .before .put .ensures) (c .if4 .taken)
 
 same-length-4 : tie.Need-same-length-4 Inv-loop μ-loop
 same-length-4 c = c .before .before .before .before .put .kept .0 ∙ wording-size (c .before .before .before .before .before .before .before .before .before .before .before .before .loop .inv)
 
-returns-5 : tie.Need-returns-5 Inv-loop μ-loop
-returns-5 c =
+returns-6 : tie.Need-returns-6 Inv-loop μ-loop
+returns-6 c =
     let f = c .before .before .before .before .before .before .before .before .before in
-    wording-bad (f .before .before .before .loop .inv) (found-number _ _ (f .found .given .1) (f .before .before .word .ensures)) (c .before .before .before .before .before .before .before .if2 .left) (c .before .if3 .left) (c .if4 .taken)
+    inr (wording-bad (f .before .before .before .loop .inv) (found-number _ _ (f .found .given .1) (f .before .before .word .ensures)) (c .before .before .before .before .before .before .before .if3 .left) (c .before .if4 .left) (c .if5 .taken))
 
 loop-less : tie.Need-loop-less Inv-loop μ-loop
 loop-less c =
@@ -87,7 +91,7 @@ loop-less c =
 loop-again : tie.Need-loop-again Inv-loop μ-loop
 loop-again c =
     let f = c .before .before .before .before .before .before .before .before .before in
-    wording-more (f .before .before .before .loop .inv) (found-number _ _ (f .found .given .1) (f .before .before .word .ensures)) (c .before .before .before .before .before .before .before .if2 .left) (c .before .before .before .before .put .ensures) (c .if4 .left)
+    wording-more (f .before .before .before .loop .inv) (found-number _ _ (f .found .given .1) (f .before .before .word .ensures)) (c .before .before .before .before .before .before .before .if3 .left) (c .before .before .before .before .put .ensures) (c .if5 .left)
 
 pub line-spec : {M : Type 1} → statement M
 line-spec =
@@ -95,24 +99,25 @@ line-spec =
     (tie.spec
     Inv-loop
     μ-loop
-    shared-slice-read-if1
-    add-i
     returns
+    shared-slice-read-if2
+    add-i
+    returns-2
     loop-holds
     word-requires
     enum-known-found
     enum-told
     same-length
-    returns-2
-    same-length-2
     returns-3
+    same-length-2
+    returns-4
     shared-slice-read-b
     put-requires
     add-count
     add-i-2
     same-length-3
-    returns-4
-    same-length-4
     returns-5
+    same-length-4
+    returns-6
     loop-less
     loop-again)
