@@ -7,5 +7,6 @@ pub mod Storing
 pub mod Visiting
 pub mod Creating
 pub mod Forcing
+pub mod Listing
 -- The main theorems:
 pub mod Theorems
