@@ -10,13 +10,13 @@ use native.Mathlib.Omega.{arith}
 use borrow.Author.Tests.{lt-ltb, le-ltb, leb-false}
 use lib.Dec.{leb, ltb}
 use lib.ListN.{length, getD, take, drop, set, length-append, length-set, length-drop, drop-of-length-le}
-use lib.Seq.{sets, take-at}
+use lib.Seq.{sets, length-sets, take-at}
 use Rattle.lifetimes.specs.declared.answer.Refusal.{Refusal}
 use Rattle.lifetimes.specs.declared.answer.Refusal.the-variants.{NoRoom}
 use Rattle.lifetimes.specs.declared.answer.Verdict.{Verdict}
 use Rattle.lifetimes.specs.declared.answer.Verdict.the-variants.{Accepted, Refused}
 use Rattle.lifetimes.specs.Refusals.{Check, Outcome, Gives, Refuses, unless, FirstDue, here, later, NoneDue, end, next}
-use Rattle.lifetimes.specs.Lent.{roomCheck}
+use Rattle.lifetimes.specs.Lent.{roomCheck, written}
 use Rattle.lifetimes.specs.Env.{envOf}
 use Rattle.lifetimes.specs.Sets.{member, members}
 use Rattle.lifetimes.proofs.RefusalLaws.{due-given, due-refused, refused-first, accepted-none, first-more}
@@ -340,12 +340,15 @@ copying-front {items} {n} {out₀} {out} {i} inv full h = rw (zero-add i) at (co
 
 -- ---- the answers of `map_params`
 
-maps-refused : {o : Outcome Mapping} {r : Refusal} {b : BorrowMap} (answers edges : List ℕ) → o ≡ Refuses r → b ≡ mapAnswer (Refuses r) → Maps o answers edges b answers edges
+pub maps-refused : {o : Outcome Mapping} {r : Refusal} {b : BorrowMap} (answers edges : List ℕ) → o ≡ Refuses r → b ≡ mapAnswer (Refuses r) → Maps o answers edges b answers edges
 maps-refused answers edges e q = rw e (record { answer = q; numbers = refl; words = refl })
 
 module _ (v : BorrowingParamVisitor) (types : List LoweredType) (answers edges : List ℕ) {numbers₀ : List ℕ} {n : Counted} {numbers : List ℕ} (c : CountsParams (v .used) (v .draws) types numbers₀ n numbers) where
   answers-size : length (answersFrom v 0 types) ≡ n .params
   answers-size = answers-many v 0 types ∙ sym (c .params)
+
+  pub numbers-size : length numbers₀ ≡ 16 → length numbers ≡ 16
+  numbers-size e = ap length (c .noted) ∙ length-sets numbers₀ 0 (answersFrom (visitorIn (v .used) (v .draws)) 0 types) ∙ e
 
   edges-are : listedEdges (visitorIn (v .used) (v .draws)) types ≡ listedEdges v types
   edges-are = listed-holding v 0 types
@@ -383,12 +386,16 @@ module _ (v : BorrowingParamVisitor) (types : List LoweredType) (answers edges :
           let first : take (n .params) numbers ≡ answersFrom v 0 types = rw (named, ← answers-size) (take-at (answersFrom v 0 types) (drop (length (answersFrom v 0 types)) numbers₀) (length (answersFrom v 0 types)) refl) in
           let stands : answers₁ ≡ answersFrom v 0 types ++ drop (length (answersFrom v 0 types)) answers =
           a ∙ ap (sets answers 0) first ∙ sets-front answers (answersFrom v 0 types) (omega (arith, answers-size)) in
-          let written : edges₁ ≡ flatMap edgeWords (listedEdges v types) ++ drop (length (flatMap edgeWords (listedEdges v types))) edges =
+          let stored-words : edges₁ ≡ flatMap edgeWords (listedEdges v types) ++ drop (length (flatMap edgeWords (listedEdges v types))) edges =
           s .stored ∙ ap (λ (l : List LifetimeEdge). sets edges 0 (flatMap edgeWords l)) edges-are ∙ sets-front edges (flatMap edgeWords (listedEdges v types)) past in
           let count : stored ≡ length (listedEdges v types) = s .count ∙ zero-add _ ∙ ap length edges-are in
-          rw given (record { answer = rw (← answers-size, ← count); numbers = stands; words = written })
+          rw given (record { answer = rw (← answers-size, ← count); numbers = stands; words = stored-words })
 
 -- ---- the answers of `borrow_map`
+
+pub told : {o p : Outcome Mapping} {answers edges : List ℕ} {b : BorrowMap} {answers₁ edges₁ : List ℕ} → p ≡ o → Maps o answers edges b answers₁ edges₁
+    → (b ≡ mapAnswer p) × ((answers₁ ≡ written (answersIn p) answers) × (edges₁ ≡ written (edgesIn p) edges))
+told e m = rw e (m .answer, (m .numbers, m .words))
 
 after-none : {A : Type 0} (a : A) {checks : List Check} (others : List Check) → NoneDue checks → unless (checks ++ others) a ≡ unless others a
 unfolding unless

@@ -1,51 +1,46 @@
+-- `map_params` meets its contract: its three answers are laws of proofs/Listing.antt.
+use Prim.Native.Nat.{_≤_}
+use mathlib.Core.Path.{_≡_, refl}
+use native.Mathlib.Omega.{arith}
+use lib.ListN.{length, length-map}
+use Rattle.borrowing_param.specs.InnerMap.{loweredOf}
+use Rattle.borrowing_param.proofs.Listing.{no-room-answers, no-room-edges, numbers-size, listed-room, mapped}
+use borrow.Author.Needs.{needs}
 use Rattle.borrowing_param.proofs.listed.map_params.Statement.{statement}
 use Rattle.borrowing_param.proofs.listed.map_params.Tie as tie
-use Rattle.borrowing_param.proofs.listed.map_params.Reads as reads
-use Rattle.borrowing_param.proofs.listed.map_params.Lts as lts
-use Rattle.borrowing_param.proofs.listed.copy_numbers.Reads as copy-numbers-reads
-use Rattle.borrowing_param.proofs.listed.count_params.Reads as count-params-reads
-use Rattle.borrowing_param.proofs.listed.store_listed.Reads as store-listed-reads
-use Rattle.borrowing_param.proofs.listed.unmapped.Reads as unmapped-reads
 
--- src/listed.rt:84:9
+full : (c : tie.Start) → length (c .args .visitor .draws) ≡ 64
+full c = simp length-map at (c .good .0 .1 .1 .1 .0 .1 .0 .1)
+
 count-params-requires : tie.Need-count-params-requires
-count-params-requires c κs = ?
+count-params-requires c κs = (c .before .before .before .before .before .before .pre, full (c .before .before .before .before .before .before), refl)
 
--- src/listed.rt:88:9
 unmapped-requires : tie.Need-unmapped-requires
-unmapped-requires c κs = ?
+unmapped-requires c κs = search needs
 
--- src/listed.rt:88:9
 returns : tie.Need-returns
-returns c = ?
+returns c = no-room-answers (c .before .before .before .before .before .before .before .before .before .args .visitor) (loweredOf (c .before .before .before .before .before .before .before .before .before .args .params .now)) (c .before .before .before .before .before .before .before .before .before .args .answers .now) (c .before .before .before .before .before .before .before .before .before .args .edges .now) (c .before .before .count-params .ensures) (c .before .if1 .taken) (c .unmapped .ensures)
 
--- src/listed.rt:91:9
 unmapped-requires-2 : tie.Need-unmapped-requires-2
-unmapped-requires-2 c κs = ?
+unmapped-requires-2 c κs = search needs
 
--- src/listed.rt:91:9
 returns-2 : tie.Need-returns-2
-returns-2 c = ?
+returns-2 c = no-room-edges (c .before .before .before .before .before .before .before .before .before .before .args .visitor) (loweredOf (c .before .before .before .before .before .before .before .before .before .before .args .params .now)) (c .before .before .before .before .before .before .before .before .before .before .args .answers .now) (c .before .before .before .before .before .before .before .before .before .before .args .edges .now) (c .before .before .before .count-params .ensures) (c .before .before .if1 .left) (c .before .if2 .taken) (c .unmapped2 .ensures)
 
--- src/listed.rt:93:5
 copy-numbers-requires : tie.Need-copy-numbers-requires
-copy-numbers-requires c κs = ?
+copy-numbers-requires c κs = (omega (arith, c .before .before .before .before .count-params .ensures .params, c .before .before .before .before .before .before .before .before .before .before .before .pre .few), numbers-size (c .before .before .before .before .before .before .before .before .before .before .before .args .visitor) (loweredOf (c .before .before .before .before .before .before .before .before .before .before .before .args .params .now)) (c .before .before .before .before .before .before .before .before .before .before .before .args .answers .now) (c .before .before .before .before .before .before .before .before .before .before .before .args .edges .now) (c .before .before .before .before .count-params .ensures) refl, c .before .before .before .if1 .left)
 
--- src/listed.rt:94:9
 store-listed-requires : tie.Need-store-listed-requires
-store-listed-requires c κs = ?
+store-listed-requires c κs = (c .before .before .before .before .before .before .before .before .before .before .before .before .before .before .before .before .pre, full (c .before .before .before .before .before .before .before .before .before .before .before .before .before .before .before .before), listed-room (c .before .before .before .before .before .before .before .before .before .before .before .before .before .before .before .before .args .visitor) (loweredOf (c .before .before .before .before .before .before .before .before .before .before .before .before .before .before .before .before .args .params .now)) (c .before .before .before .before .before .before .before .before .before .before .before .before .before .before .before .before .args .answers .now) (c .before .before .before .before .before .before .before .before .before .before .before .before .before .before .before .before .args .edges .now) (c .before .before .before .before .before .before .before .before .before .count-params .ensures) (c .before .before .before .before .before .before .before .before .if1 .left) (c .before .before .before .before .before .before .before .if2 .left))
 
--- src/listed.rt:72:1
 same-length : tie.Need-same-length
-same-length c = ?
+same-length c = search needs
 
--- src/listed.rt:72:1
 same-length-2 : tie.Need-same-length-2
-same-length-2 c = ?
+same-length-2 c = search needs
 
--- src/listed.rt:72:1
 returns-3 : tie.Need-returns-3
-returns-3 c = ?
+returns-3 c = mapped (c .before .before .before .before .before .before .before .before .before .before .before .before .before .before .before .before .before .before .before .args .visitor) (loweredOf (c .before .before .before .before .before .before .before .before .before .before .before .before .before .before .before .before .before .before .before .args .params .now)) (c .before .before .before .before .before .before .before .before .before .before .before .before .before .before .before .before .before .before .before .args .answers .now) (c .before .before .before .before .before .before .before .before .before .before .before .before .before .before .before .before .before .before .before .args .edges .now) (c .before .before .before .before .before .before .before .before .before .before .before .before .count-params .ensures) (c .before .before .before .before .before .before .before .before .before .before .before .if1 .left) (c .before .before .before .before .before .before .before .before .before .before .if2 .left) refl (c .before .before .before .before .before .before .before .before .before .before .before .before .before .before .before .before .before .before .before .pre .few) (c .before .before .before .before .before .before .before .copy-numbers .ensures) (c .before .before .store-listed .ensures)
 
 pub map-params-spec : {M : Type 1} → statement M
 map-params-spec =

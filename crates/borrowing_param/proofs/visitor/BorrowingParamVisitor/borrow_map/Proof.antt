@@ -1,48 +1,38 @@
-use Rattle.borrowing_param.proofs.visitor.BorrowingParamVisitor.borrow_map.Statement.{
-  statement,
-}
+-- `borrow_map` meets its contract: each way out is a law of proofs/Listing.antt.
+use mathlib.Core.Path.{refl}
+use lib.ListN.{length}
+use Rattle.borrowing_param.proofs.Listing.{are-params, maps-refused, told, map-refused, map-none, map-given}
+use borrow.Author.Needs.{needs}
+use Rattle.borrowing_param.proofs.visitor.BorrowingParamVisitor.borrow_map.Statement.{statement}
 use Rattle.borrowing_param.proofs.visitor.BorrowingParamVisitor.borrow_map.Tie as tie
-use Rattle.borrowing_param.proofs.visitor.BorrowingParamVisitor.borrow_map.Reads as reads
-use Rattle.borrowing_param.proofs.visitor.BorrowingParamVisitor.borrow_map.Lts as lts
-use Rattle.borrowing_param.proofs.listed.map_params.Reads as map-params-reads
-use Rattle.borrowing_param.proofs.listed.unmapped.Reads as unmapped-reads
-use Rattle.borrowing_param.proofs.visitor.check_params.Reads as check-params-reads
 
--- src/listed.rt:52:13
 check-params-requires : tie.Need-check-params-requires
-check-params-requires c κs = ?
+check-params-requires c κs = search needs
 
--- src/listed.rt:54:30
 enum-known-verdict : tie.Need-enum-known-verdict
-enum-known-verdict c = ?
+enum-known-verdict c = search needs
 
--- src/listed.rt:54:42
 unmapped-requires : tie.Need-unmapped-requires
-unmapped-requires c κs = ?
+unmapped-requires c κs = search needs
 
--- src/listed.rt:55:59
 enum-told : tie.Need-enum-told
-enum-told c = ?
+enum-told c = search needs
 
--- src/listed.rt:55:34
 map-params-requires : tie.Need-map-params-requires
-map-params-requires c κs = ?
+map-params-requires c κs = are-params (c .before .before .before .before .before .before .before .before .before .args .structs .now) (c .before .before .before .before .before .before .before .before .before .args .params .now) (map-none (c .before .before .before .before .before .before .before .before .before .args .self) (c .before .before .before .before .before .before .before .before .before .args .structs .now) (c .before .before .before .before .before .before .before .before .before .args .params .now) (length (c .before .before .before .before .before .before .before .before .before .args .answers .now)) (length (c .before .before .before .before .before .before .before .before .before .args .edges .now)) (c .before .before .before .before .check-params .ensures) (c .before .before .enum-told .given .1))
 
--- src/listed.rt:41:5
 returns : tie.Need-returns
-returns c = ?
+returns c = let gone = map-refused (c .before .before .before .before .before .before .before .before .before .args .self) (c .before .before .before .before .before .before .before .before .before .args .structs .now) (c .before .before .before .before .before .before .before .before .before .args .params .now) (length (c .before .before .before .before .before .before .before .before .before .args .answers .now)) (length (c .before .before .before .before .before .before .before .before .before .args .edges .now)) (c .before .before .before .before .check-params .ensures) (c .before .before .verdict .given .1) in
+    told gone (maps-refused (c .before .before .before .before .before .before .before .before .before .args .answers .now) (c .before .before .before .before .before .before .before .before .before .args .edges .now) refl (c .unmapped .ensures))
 
--- src/listed.rt:41:5
 same-length : tie.Need-same-length
-same-length c = ?
+same-length c = search needs
 
--- src/listed.rt:41:5
 same-length-2 : tie.Need-same-length-2
-same-length-2 c = ?
+same-length-2 c = search needs
 
--- src/listed.rt:41:5
 returns-2 : tie.Need-returns-2
-returns-2 c = ?
+returns-2 c = told (map-given (c .before .before .before .before .before .before .before .before .before .before .before .before .before .before .args .self) (c .before .before .before .before .before .before .before .before .before .before .before .before .before .before .args .structs .now) (c .before .before .before .before .before .before .before .before .before .before .before .before .before .before .args .params .now) (length (c .before .before .before .before .before .before .before .before .before .before .before .before .before .before .args .answers .now)) (length (c .before .before .before .before .before .before .before .before .before .before .before .before .before .before .args .edges .now)) (c .before .before .before .before .before .before .before .before .before .check-params .ensures) (c .before .before .before .before .before .before .before .enum-told .given .1)) (c .before .before .before .before .map-params .ensures)
 
 pub borrow-map-spec : {M : Type 1} → statement M
 borrow-map-spec =
