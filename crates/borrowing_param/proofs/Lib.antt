@@ -1,4 +1,4 @@
--- Laws: joined lists and words of edges; a run of visits; what a parameter brings; which lifetimes draw; storing edges; a visit.
+-- Laws: joined lists and words of edges; a run of visits; what a parameter brings; which lifetimes draw; storing edges; a visit; a new visitor; the numberings; the listing and its order.
 pub mod Joining
 pub mod Running
 pub mod Bringing
@@ -8,5 +8,6 @@ pub mod Visiting
 pub mod Creating
 pub mod Forcing
 pub mod Listing
+pub mod Ordering
 -- The main theorems:
 pub mod Theorems
