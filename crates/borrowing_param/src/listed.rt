@@ -179,15 +179,15 @@ fn store_to(
 {
     let mut next = stored;
     let mut param = 0;
-    let mut at = 0;
-    while at < params.len() {
-        let found = type_at(params, at);
+    let mut place = 0;
+    while place < params.len() {
+        let found = type_at(params, place);
         let Located::At(parts) = found else {
             return next;
         };
         next = store_for(set, params, parts, used, param, edges, next, pairs);
         param += 1;
-        at = parts.next;
+        place = parts.next;
     }
     next
 }

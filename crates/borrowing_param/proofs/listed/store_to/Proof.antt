@@ -10,10 +10,10 @@ use Rattle.borrowing_param.proofs.listed.store_to.Statement.{statement}
 use Rattle.borrowing_param.proofs.listed.store_to.Tie as tie
 
 abbrev Inv-loop : tie.InvT-loop
-Inv-loop set params used edges₀ stored pairs₀ next₀ param₀ at₀ edges pairs next param at = StoringTo (drawsIn set) used params (loweredOf params) stored pairs₀ edges₀ next param at pairs edges
+Inv-loop set params used edges₀ stored pairs₀ next₀ param₀ place₀ edges pairs next param place = StoringTo (drawsIn set) used params (loweredOf params) stored pairs₀ edges₀ next param place pairs edges
 
 abbrev μ-loop : tie.MeasureT-loop
-μ-loop set params used edges₀ stored pairs₀ next₀ param₀ at₀ edges pairs next param at = length params - at
+μ-loop set params used edges₀ stored pairs₀ next₀ param₀ place₀ edges pairs next param place = length params - place
 
 loop-holds : tie.Need-loop-holds Inv-loop μ-loop
 loop-holds c = to-start _ _ (c .before .before .pre .0 .0 .lists) _ _ _ (c .before .before .pre .0 .2) (c .before .before .pre .1)
