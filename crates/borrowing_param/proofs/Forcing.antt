@@ -93,7 +93,7 @@ once-from f x (suc n) = go (f x) (once-from f (suc x) n)
     go true r = (λ m. let k = (ascending-has (suc x) n x) .0 ((select-has f (ascending (suc x) n) x) .0 m .0) in omega (arith, k .0), r)
     go false r = r
 
-once-used : (used : ℕ) → Once (members used)
+pub once-used : (used : ℕ) → Once (members used)
 unfolding members
 once-used used = once-from (member used) 0 64
 

@@ -1,4 +1,4 @@
--- Laws: joined lists and words of edges; a run of visits; what a parameter brings; which lifetimes draw; storing edges; a visit; a new visitor; the numberings; the listing and its order.
+-- Laws: joined lists and words of edges; a run of visits; what a parameter brings; which lifetimes draw; storing edges; a visit; a new visitor; the numberings; the listing, its order, and the visits that give it.
 pub mod Joining
 pub mod Running
 pub mod Bringing
@@ -9,5 +9,6 @@ pub mod Creating
 pub mod Forcing
 pub mod Listing
 pub mod Ordering
+pub mod InTurn
 -- The main theorems:
 pub mod Theorems

@@ -86,7 +86,7 @@ module _ (v : BorrowingParamVisitor) where
       let same : param + suc n ≡ suc param + n = omega arith in
       Memᴰ·append-right (bringTo v t param used) (of-to (suc param) ts used n e (omega arith) (rw same at m))
 
-  to-used : (param : ℕ) (ts : List LoweredType) (used : ℕ) (e : LifetimeEdge) → List·Memᴰ e (listedTo v param ts used) → e .used ≡ used
+  pub to-used : (param : ℕ) (ts : List LoweredType) (used : ℕ) (e : LifetimeEdge) → List·Memᴰ e (listedTo v param ts used) → e .used ≡ used
   to-used param ts used e m = let r = to-of param ts used e m in bring-formed (drawsOf v used) used (e .param) (typeAt ts (r .number)) e (r .brought) .own
 
   -- an edge of the listing
@@ -152,7 +152,7 @@ module _ (v : BorrowingParamVisitor) where
   answer-at param (t ∷ ts) zero h = rw add-zero
   answer-at param (t ∷ ts) (suc n) h = let same : param + suc n ≡ suc param + n = omega arith in rw same (answer-at (suc param) ts n (omega arith))
 
-  answer-is : (ts : List LoweredType) (n : ℕ) → n < length ts → getD (answersFrom v 0 ts) n 0 ≡ numberOf (typeAt ts n .kind) (bringAll v (typeAt ts n) n)
+  pub answer-is : (ts : List LoweredType) (n : ℕ) → n < length ts → getD (answersFrom v 0 ts) n 0 ≡ numberOf (typeAt ts n .kind) (bringAll v (typeAt ts n) n)
   answer-is ts n h = answer-at 0 ts n h ∙ ap (λ (k : ℕ). numberOf (typeAt ts n .kind) (bringAll v (typeAt ts n) k)) (zero-add n)
 
 number-most : (k : Kind) (es : List LifetimeEdge) → numberOf k es ≤ 4
