@@ -1,34 +1,31 @@
 -- A visit to each parameter, one after another: with room for all edges none is refused, and they give the listing; without, one is refused.
 use Prim.Native.Nat.{ℕ, zero, suc, _+_, _*_, _≤_, _<_}
-use mathlib.Core.Bool.{Bool, true, false, cond}
-use mathlib.Core.Path.{_≡_, refl, sym, ap, subst, _∙_}
-use mathlib.Core.Logic.{⊎-elim}
-use mathlib.Core.List.{List, [], _∷_, _++_, flatMap, List·Memᴰ}
+use mathlib.Core.Bool.{Bool, true, false}
+use mathlib.Core.Path.{_≡_, refl, sym, ap, _∙_}
+use mathlib.Core.List.{List, [], _∷_, flatMap, List·Memᴰ}
 use native.Mathlib.Nat.{add-zero, zero-add}
 use native.Mathlib.Decide.{decLt}
 use native.Mathlib.Omega.{arith}
-use borrow.Author.Tests.{le-leb, lt-leb, leb-true, leb-false}
+use borrow.Author.Tests.{le-leb, leb-true, leb-false}
 use lib.Dec.{leb}
 use lib.ListN.{length, getD, take}
 use Rattle.lifetimes.specs.declared.answer.Refusal.the-variants.{NoRoom}
-use Rattle.lifetimes.specs.declared.answer.Verdict.the-variants.{Accepted}
 use Rattle.lifetimes.specs.declared.env.LifetimeEnv.{LifetimeEnv}
 use Rattle.lifetimes.specs.Refusals.{NoneDue}
 use Rattle.lifetimes.specs.Ranges.{ascending}
-use Rattle.lifetimes.specs.Sets.{member, members}
+use Rattle.lifetimes.specs.Sets.{member}
 use Rattle.lifetimes.proofs.SetLaws.{length-ascending, getD-ascending, ascending-has, members-has}
 use Rattle.lowered_types.specs.LoweredTypes.{LoweredType}
 use Rattle.hir_types.specs.Method.{typesIn, methodChecks}
-use Rattle.borrowing_param.specs.declared.visitor.LifetimeEdge.{LifetimeEdge}
 use Rattle.borrowing_param.specs.declared.visitor.ParamBorrowInfo.{ParamBorrowInfo}
 use Rattle.borrowing_param.specs.declared.visitor.BorrowingParamVisitor.{BorrowingParamVisitor}
 use Rattle.borrowing_param.specs.Edges.{width, edgesIn, edgesOf}
 use Rattle.borrowing_param.specs.Brings.{refuse}
-use Rattle.borrowing_param.specs.Visit.{usedOf, bringTo, bringAll, Outcome, outcome}
+use Rattle.borrowing_param.specs.Visit.{usedOf, bringTo, bringAll, Outcome}
 use Rattle.borrowing_param.specs.VisitParam.{typeAt, visitParam}
-use Rattle.borrowing_param.specs.Visits.{filled, kept, allOf, Visits}
+use Rattle.borrowing_param.specs.Visits.{filled, kept, Visits}
 use Rattle.borrowing_param.specs.New.{created}
-use Rattle.borrowing_param.specs.BorrowMap.{listedTo, listedEdges, answersFrom}
+use Rattle.borrowing_param.specs.BorrowMap.{listedTo, listedEdges}
 use Rattle.borrowing_param.specs.Theorems.{answerAt, inTurn, visitOf, visited, RoomForAll, AsVisited}
 use Rattle.borrowing_param.proofs.Joining.{of-part, of-others}
 use Rattle.borrowing_param.proofs.Forcing.{all-visits, once-used}

@@ -1,14 +1,14 @@
 -- Edges in listing order: passing over all parameters, counting their edges and noting their answers, storing them by used lifetime, and the answers of `borrow_map`.
 -- In order: the types of a record; passing over them; how many edges there are; the loops of `store_to`, `store_listed` and `count_params`; the answers.
-use Prim.Native.Nat.{ℕ, zero, suc, _+_, _-_, _*_, _/_, _≤_, _<_}
+use Prim.Native.Nat.{ℕ, zero, suc, _+_, _*_, _/_, _≤_, _<_}
 use mathlib.Core.Bool.{Bool, true, false, _&&_}
 use mathlib.Core.Path.{_≡_, refl, sym, ap, _∙_}
 use mathlib.Core.List.{List, [], _∷_, _++_, flatMap}
-use native.Mathlib.Nat.{add-zero, zero-add, mul-suc, div-add-mod', mod-lt}
+use native.Mathlib.Nat.{zero-add, mul-suc, div-add-mod', mod-lt}
 use native.Mathlib.Numerals.{add-one}
 use native.Mathlib.Omega.{arith}
 use borrow.Author.Tests.{lt-ltb, le-ltb, leb-false}
-use lib.Dec.{leb, ltb}
+use lib.Dec.{ltb}
 use lib.ListN.{length, getD, take, drop, set, length-append, length-set, length-drop, drop-of-length-le}
 use lib.Seq.{sets, length-sets, take-at}
 use Rattle.lifetimes.specs.declared.answer.Refusal.{Refusal}
@@ -16,21 +16,21 @@ use Rattle.lifetimes.specs.declared.answer.Refusal.the-variants.{NoRoom}
 use Rattle.lifetimes.specs.declared.answer.Verdict.{Verdict}
 use Rattle.lifetimes.specs.declared.answer.Verdict.the-variants.{Accepted, Refused}
 use Rattle.lifetimes.specs.Refusals.{Check, Outcome, Gives, Refuses, unless, FirstDue, here, later, NoneDue, end, next}
-use Rattle.lifetimes.specs.Lent.{roomCheck, written}
+use Rattle.lifetimes.specs.Lent.{written}
 use Rattle.lifetimes.specs.Env.{envOf}
 use Rattle.lifetimes.specs.Sets.{member, members}
 use Rattle.lifetimes.proofs.RefusalLaws.{due-given, due-refused, refused-first, accepted-none, first-more}
 use Rattle.lifetimes.proofs.SetLaws.{members-few}
 use Rattle.lifetimes.proofs.Copying.{sets-front, Copying, copying-more}
-use Rattle.records.specs.Reading.{Reading, Read, Fails, readAll, readOr, isRead, fewWords, inShape, itemsOf}
+use Rattle.records.specs.Reading.{Read, Fails, readAll, readOr, fewWords, inShape, itemsOf}
 use Rattle.records.proofs.ReadingLaws.{Holds, read, fails, holds-onward, holds-or, passed}
 use Rattle.lowered_types.specs.declared.types.Parts.{Parts}
 use Rattle.lowered_types.specs.declared.types.Located.{Located}
 use Rattle.lowered_types.specs.declared.types.Located.the-variants.{At, Missing}
 use Rattle.lowered_types.specs.LoweredTypes.{LoweredType, readLowered}
 use Rattle.lowered_types.specs.Rows.{Row, rowsOf, readKnown, typesOf, paramsInShape}
-use Rattle.lowered_types.specs.Places.{Stands, Locates}
-use Rattle.lowered_types.proofs.FoundLaws.{Found, found-told, missing-told, path-inside}
+use Rattle.lowered_types.specs.Places.{Locates}
+use Rattle.lowered_types.proofs.FoundLaws.{found-told, missing-told, path-inside}
 use Rattle.hir_types.specs.Method.{typesIn, paramChecks, methodChecks, methodVerdict}
 use Rattle.borrowing_param.specs.declared.listed.BorrowMap.{BorrowMap}
 use Rattle.borrowing_param.specs.declared.listed.Counted.{Counted}
@@ -39,12 +39,12 @@ use Rattle.borrowing_param.specs.declared.visitor.BorrowingParamVisitor.
 use Rattle.borrowing_param.specs.Edges.{width, edgeWords}
 use Rattle.borrowing_param.specs.Brings.{bring, numberOf}
 use Rattle.borrowing_param.specs.Visit.{usedOf, drawsIn, drawsOf, bringTo, bringAll, holding}
-use Rattle.borrowing_param.specs.BorrowMap.{listedTo, listedEdges, answersFrom, Mapping, mappingOf, mapChecks, borrowMap, mapAnswer, answersIn, edgesIn}
+use Rattle.borrowing_param.specs.BorrowMap.{listedTo, listedEdges, answersFrom, Mapping, mappingOf, borrowMap, mapAnswer, answersIn, edgesIn}
 use Rattle.borrowing_param.specs.Inner.{Inside, typeIn, numberBy, CountsAll, StoresWords, Stores}
 use Rattle.borrowing_param.specs.InnerMap.{Lists, done, more, loweredOf, Params, visitorIn, bringFrom, CountsParams, roomChecks, mapOf, Maps}
 use Rattle.borrowing_param.proofs.Joining.{join-cons, words-many}
 use Rattle.borrowing_param.proofs.Drawing.{bring-few}
-use Rattle.borrowing_param.proofs.Storing.{Storing, storing-start, storing-end, storing-fits, storing-part, storing-none, usedFrom, used-all, used-end, used-here, used-not}
+use Rattle.borrowing_param.proofs.Storing.{Storing, storing-start, storing-end, storing-fits, storing-part, usedFrom, used-all, used-end, used-here, used-not}
 use Rattle.borrowing_param.proofs.Visiting.{known-reads, number-is, parts-type}
 use Rattle.borrowing_param.proofs.Forcing.{in-shape, rows-params}
 

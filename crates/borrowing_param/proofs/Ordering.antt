@@ -2,9 +2,9 @@
 use Prim.Native.Nat.{ℕ, zero, suc, _+_, _*_, _≤_, _<_}
 use mathlib.Core.Bool.{Bool, true, false, cond}
 use mathlib.Core.Path.{_≡_, refl, sym, ap, subst, _∙_}
-use mathlib.Core.Logic.{_⊎_, inl, inr, ⊎-elim, _↔_}
+use mathlib.Core.Logic.{inl, inr, ⊎-elim, _↔_}
 use mathlib.Core.List.{List, [], _∷_, _++_, flatMap, List·Memᴰ, List·Memᴰ·head, List·Memᴰ·tail, List·Memᴰ·cases-cons, List·Memᴰ·append-cases, List·Memᴰ·not-nil, Memᴰ·append-left, Memᴰ·append-right}
-use native.Mathlib.Nat.{add-zero, zero-add, mul-suc}
+use native.Mathlib.Nat.{add-zero, zero-add}
 use native.Mathlib.Omega.{arith}
 use lib.ListN.{length, getD, length-append}
 use Rattle.lifetimes.specs.Refusals.{NoneDue}
@@ -45,6 +45,21 @@ increasing-from f x (suc n) = go (f x) (increasing-from f (suc x) n)
 members-increase : (s : ℕ) → Increasing (members s)
 unfolding members
 members-increase s = increasing-from (member s) 0 64
+
+-- ---- edges one after another
+
+order-append : (l m : List LifetimeEdge) → InOrder l → InOrder m → ((x y : LifetimeEdge) → List·Memᴰ x l → List·Memᴰ y m → Before x y) → InOrder (l ++ m)
+unfolding InOrder
+order-append [] m a b h = b
+order-append (e ∷ l) m a b h =
+    (λ x k. ⊎-elim (a .0 x) (λ i. h e x (List·Memᴰ·head refl) i) (List·Memᴰ·append-cases l k), order-append l m (a .1) b (λ x y i j. h x y (List·Memᴰ·tail i) j))
+
+order-by-def : (used param : ℕ) (l : List LifetimeEdge) → Ascending l → ((e : LifetimeEdge) → List·Memᴰ e l → (e .used ≡ used) × (e .param ≡ param)) → InOrder l
+unfolding Ascending InOrder
+order-by-def used param [] a h = tt
+order-by-def used param (e ∷ l) a h =
+    let here = h e (List·Memᴰ·head refl) in
+    (λ x k. let there = h x (List·Memᴰ·tail k) in inr (here .0 ∙ sym (there .0), inr (here .1 ∙ sym (there .1), a .0 x k)), order-by-def used param l (a .1) (λ x k. h x (List·Memᴰ·tail k)))
 
 -- ---- which edges are listed
 
@@ -109,19 +124,6 @@ module _ (v : BorrowingParamVisitor) where
   listed-edge ts e used n m h b = join-has (listedTo v 0 ts) (usedOf v) m (of-to 0 ts used n e h (rw zero-add b))
 
   -- ---- their order
-
-  order-append : (l m : List LifetimeEdge) → InOrder l → InOrder m → ((x y : LifetimeEdge) → List·Memᴰ x l → List·Memᴰ y m → Before x y) → InOrder (l ++ m)
-  unfolding InOrder
-  order-append [] m a b h = b
-  order-append (e ∷ l) m a b h =
-      (λ x k. ⊎-elim (a .0 x) (λ i. h e x (List·Memᴰ·head refl) i) (List·Memᴰ·append-cases l k), order-append l m (a .1) b (λ x y i j. h x y (List·Memᴰ·tail i) j))
-
-  order-by-def : (used param : ℕ) (l : List LifetimeEdge) → Ascending l → ((e : LifetimeEdge) → List·Memᴰ e l → (e .used ≡ used) × (e .param ≡ param)) → InOrder l
-  unfolding Ascending InOrder
-  order-by-def used param [] a h = tt
-  order-by-def used param (e ∷ l) a h =
-      let here = h e (List·Memᴰ·head refl) in
-      (λ x k. let there = h x (List·Memᴰ·tail k) in inr (here .0 ∙ sym (there .0), inr (here .1 ∙ sym (there .1), a .0 x k)), order-by-def used param l (a .1) (λ x k. h x (List·Memᴰ·tail k)))
 
   to-order : (param : ℕ) (ts : List LoweredType) (used : ℕ) → InOrder (listedTo v param ts used)
   unfolding listedTo InOrder

@@ -7,7 +7,7 @@ use lib.ListN.{length}
 use lib.Seq.{sets}
 use Rattle.lifetimes.specs.Refusals.{Check, Outcome, unless}
 use Rattle.lifetimes.specs.Lent.{roomCheck, written}
-use Rattle.records.specs.Reading.{Reading, Read, itemsOf}
+use Rattle.records.specs.Reading.{Read, itemsOf}
 use Rattle.lowered_types.specs.LoweredTypes.{LoweredType, readLowered}
 use Rattle.borrowing_param.specs.declared.listed.BorrowMap.{BorrowMap}
 use Rattle.borrowing_param.specs.declared.listed.Counted.{Counted}

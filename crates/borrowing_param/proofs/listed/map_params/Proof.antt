@@ -1,5 +1,4 @@
 -- `map_params` meets its contract: its three answers are laws of proofs/Listing.antt.
-use Prim.Native.Nat.{_≤_}
 use mathlib.Core.Path.{_≡_, refl}
 use native.Mathlib.Omega.{arith}
 use lib.ListN.{length, length-map}
