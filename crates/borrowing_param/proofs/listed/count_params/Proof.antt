@@ -30,34 +30,41 @@ returns : tie.Need-returns Inv-loop μ-loop
 returns c = absurd (passing-missing (c .before .before .before .before .loop .inv .passing) (c .before .before .before .loop-test .taken) (c .before .before .type-at .ensures .1) (c .enum-told .given .1))
 
 count-all-requires : tie.Need-count-all-requires Inv-loop μ-loop
-count-all-requires c κs = let o = passing-next (c .before .before .before .before .before .loop .inv .passing) (c .before .before .before .before .loop-test .taken) (c .before .before .before .type-at .ensures .1) (c .before .found .given .1) in
+count-all-requires c κs =
+    let o = passing-next (c .before .before .before .before .before .loop .inv .passing) (c .before .before .before .before .loop-test .taken) (c .before .before .before .type-at .ensures .1) (c .before .found .given .1) in
     (o .inside, o .few, c .before .before .before .before .before .before .before .pre .1)
 
 number-of-requires : tie.Need-number-of-requires Inv-loop μ-loop
 number-of-requires c κs = search needs
 
 mul-numbers : tie.Need-mul-numbers Inv-loop μ-loop
-mul-numbers c = let o = passing-next (c .before .before .before .before .before .before .before .loop .inv .passing) (c .before .before .before .before .before .before .loop-test .taken) (c .before .before .before .before .before .type-at .ensures .1) (c .before .before .before .found .given .1) in
+mul-numbers c =
+    let o = passing-next (c .before .before .before .before .before .before .before .loop .inv .passing) (c .before .before .before .before .before .before .loop-test .taken) (c .before .before .before .before .before .type-at .ensures .1) (c .before .before .before .found .given .1) in
     omega (arith, one-more (c .before .before .before .before .before .before .before .loop .inv) o)
 
 element-write-numbers : tie.Need-element-write-numbers Inv-loop μ-loop
-element-write-numbers c = let o = passing-next (c .before .before .before .before .before .before .before .loop .inv .passing) (c .before .before .before .before .before .before .loop-test .taken) (c .before .before .before .before .before .type-at .ensures .1) (c .before .before .before .found .given .1) in
+element-write-numbers c =
+    let o = passing-next (c .before .before .before .before .before .before .before .loop .inv .passing) (c .before .before .before .before .before .before .loop-test .taken) (c .before .before .before .before .before .type-at .ensures .1) (c .before .before .before .found .given .1) in
     one-more (c .before .before .before .before .before .before .before .loop .inv) o
 
 add-total : tie.Need-add-total Inv-loop μ-loop
-add-total c = let o = passing-next (c .before .before .before .before .before .before .before .loop .inv .passing) (c .before .before .before .before .before .before .loop-test .taken) (c .before .before .before .before .before .type-at .ensures .1) (c .before .before .before .found .given .1) in
+add-total c =
+    let o = passing-next (c .before .before .before .before .before .before .before .loop .inv .passing) (c .before .before .before .before .before .before .loop-test .taken) (c .before .before .before .before .before .type-at .ensures .1) (c .before .before .before .found .given .1) in
     omega (arith, one-more (c .before .before .before .before .before .before .before .loop .inv) o, c .before .before .before .before .before .before .before .loop .inv .small, brought-few (c .before .before .before .before .before .before .before .loop .inv) o (c .before .count-all .ensures))
 
 add-param : tie.Need-add-param Inv-loop μ-loop
-add-param c = let o = passing-next (c .before .before .before .before .before .before .before .loop .inv .passing) (c .before .before .before .before .before .before .loop-test .taken) (c .before .before .before .before .before .type-at .ensures .1) (c .before .before .before .found .given .1) in
+add-param c =
+    let o = passing-next (c .before .before .before .before .before .before .before .loop .inv .passing) (c .before .before .before .before .before .before .loop-test .taken) (c .before .before .before .before .before .type-at .ensures .1) (c .before .before .before .found .given .1) in
     omega (arith, one-more (c .before .before .before .before .before .before .before .loop .inv) o)
 
 loop-less : tie.Need-loop-less Inv-loop μ-loop
-loop-less c = let o = passing-next (c .before .before .before .before .before .before .before .loop .inv .passing) (c .before .before .before .before .before .before .loop-test .taken) (c .before .before .before .before .before .type-at .ensures .1) (c .before .before .before .found .given .1) in
+loop-less c =
+    let o = passing-next (c .before .before .before .before .before .before .before .loop .inv .passing) (c .before .before .before .before .before .before .loop-test .taken) (c .before .before .before .before .before .type-at .ensures .1) (c .before .before .before .found .given .1) in
     omega (arith, o .past, o .within)
 
 loop-again : tie.Need-loop-again Inv-loop μ-loop
-loop-again c = let o = passing-next (c .before .before .before .before .before .before .before .loop .inv .passing) (c .before .before .before .before .before .before .loop-test .taken) (c .before .before .before .before .before .type-at .ensures .1) (c .before .before .before .found .given .1) in
+loop-again c =
+    let o = passing-next (c .before .before .before .before .before .before .before .loop .inv .passing) (c .before .before .before .before .before .before .loop-test .taken) (c .before .before .before .before .before .type-at .ensures .1) (c .before .before .before .found .given .1) in
     params-more (c .before .before .before .before .before .before .before .loop .inv) o (c .before .count-all .ensures) (c .number-of .ensures)
 
 returns-2 : tie.Need-returns-2 Inv-loop μ-loop

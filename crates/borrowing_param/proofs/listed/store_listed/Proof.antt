@@ -23,7 +23,8 @@ abbrev μ-used : tie.MeasureT-used
 μ-used used drawn params edges₀ pairs₀ next₀ i₀ edges pairs next i = 64 - i
 
 used-holds : tie.Need-used-holds Inv-used μ-used
-used-holds c = let s = c .before .before in
+used-holds c =
+    let s = c .before .before in
     (omega arith, storing-none (storing-start (listedEdges (visitorIn (s .args .used) (s .args .drawn .now)) (loweredOf (s .args .params .now))) 0 _ (s .args .edges .now) refl (rw zero-add (s .pre .2))) (listed-left (s .args .used) (s .args .drawn .now) (loweredOf (s .args .params .now))))
 
 add-i : tie.Need-add-i Inv-used μ-used
@@ -39,7 +40,8 @@ used-less : tie.Need-used-less Inv-used μ-used
 used-less c = search needs
 
 used-again : tie.Need-used-again Inv-used μ-used
-used-again c = let s = c .before .before .before .before .before .before .before in
+used-again c =
+    let s = c .before .before .before .before .before .before .before in
     (omega (arith, c .before .before .before .used-test .taken), storing-none (c .before .before .before .before .used .inv .1) (listed-not (s .args .used) (s .args .drawn .now) (loweredOf (s .args .params .now)) (c .before .before .before .before .used .i) (c .before .before .before .used-test .taken) (sym (not-true _ (c .if1 .taken)) ∙ c .before .contains .ensures ∙ ap (λ (x : Lifetime). member (s .args .used) (x .0)) (c .before .before .new .ensures))))
 
 mul-store-to : tie.Need-mul-store-to Inv-used μ-used
@@ -49,7 +51,8 @@ element-copy-out-store-to : tie.Need-element-copy-out-store-to Inv-used μ-used
 element-copy-out-store-to c = search needs
 
 store-to-requires : tie.Need-store-to-requires Inv-used μ-used
-store-to-requires c κs = let s = c .before .before .before .before .before .before .before .before .before .before in
+store-to-requires c κs =
+    let s = c .before .before .before .before .before .before .before .before .before .before in
     let l = c .before .before .before .before .before .before .before .used in
     let split = listed-here (s .args .used) (s .args .drawn .now) (loweredOf (s .args .params .now)) (l .i) (c .before .before .before .before .before .before .used-test .taken) (sym (not-false _ (c .before .before .before .if1 .left)) ∙ c .before .before .before .before .contains .ensures ∙ ap (λ (x : Lifetime). member (s .args .used) (x .0)) (c .before .before .before .before .before .new .ensures)) in
     ((s .pre .0, c .before .before .before .before .before .before .used-test .taken, l .inv .1 .sets16), storing-fits (l .inv .1) (bringFrom (drawsIn (getD (s .args .drawn .now) (l .i) 0)) (l .i) 0 (loweredOf (s .args .params .now))) (leftListed (s .args .used) (s .args .drawn .now) (loweredOf (s .args .params .now)) (l .i + 1)) split)
@@ -58,7 +61,8 @@ used-less-2 : tie.Need-used-less-2 Inv-used μ-used
 used-less-2 c = search needs
 
 used-again-2 : tie.Need-used-again-2 Inv-used μ-used
-used-again-2 c = let s = c .before .before .before .before .before .before .before .before .before .before .before .before .before in
+used-again-2 c =
+    let s = c .before .before .before .before .before .before .before .before .before .before .before .before .before in
     let l = c .before .before .before .before .before .before .before .before .before .before .used in
     let split = listed-here (s .args .used) (s .args .drawn .now) (loweredOf (s .args .params .now)) (l .i) (c .before .before .before .before .before .before .before .before .before .used-test .taken) (sym (not-false _ (c .before .before .before .before .before .before .if1 .left)) ∙ c .before .before .before .before .before .before .before .contains .ensures ∙ ap (λ (x : Lifetime). member (s .args .used) (x .0)) (c .before .before .before .before .before .before .before .before .new .ensures)) in
     (omega (arith, c .before .before .before .before .before .before .before .before .before .used-test .taken), storing-part (l .inv .1) (bringFrom (drawsIn (getD (s .args .drawn .now) (l .i) 0)) (l .i) 0 (loweredOf (s .args .params .now))) (leftListed (s .args .used) (s .args .drawn .now) (loweredOf (s .args .params .now)) (l .i + 1)) split (c .before .before .store-to .ensures))

@@ -34,19 +34,23 @@ returns : tie.Need-returns Inv-loop μ-loop
 returns c = absurd (passing-missing (c .before .before .before .before .loop .inv .passing) (c .before .before .before .loop-test .taken) (c .before .before .type-at .ensures .1) (c .enum-told .given .1))
 
 store-for-requires : tie.Need-store-for-requires Inv-loop μ-loop
-store-for-requires c κs = let o = passing-next (c .before .before .before .before .before .before .before .loop .inv .passing) (c .before .before .before .before .before .before .loop-test .taken) (c .before .before .before .before .before .type-at .ensures .1) (c .before .before .before .found .given .1) in
+store-for-requires c κs =
+    let o = passing-next (c .before .before .before .before .before .before .before .loop .inv .passing) (c .before .before .before .before .before .before .loop-test .taken) (c .before .before .before .before .before .type-at .ensures .1) (c .before .before .before .found .given .1) in
     ((o .inside, o .few, c .before .before .before .before .before .before .before .before .before .before .pre .0 .1, c .before .before .before .before .before .before .before .loop .inv .storing .sets16), to-fits (c .before .before .before .before .before .before .before .loop .inv) o)
 
 add-param : tie.Need-add-param Inv-loop μ-loop
-add-param c = let o = passing-next (c .before .before .before .before .before .before .before .before .before .before .loop .inv .passing) (c .before .before .before .before .before .before .before .before .before .loop-test .taken) (c .before .before .before .before .before .before .before .before .type-at .ensures .1) (c .before .before .before .before .before .before .found .given .1) in
+add-param c =
+    let o = passing-next (c .before .before .before .before .before .before .before .before .before .before .loop .inv .passing) (c .before .before .before .before .before .before .before .before .before .loop-test .taken) (c .before .before .before .before .before .before .before .before .type-at .ensures .1) (c .before .before .before .before .before .before .found .given .1) in
     omega (arith, to-few (c .before .before .before .before .before .before .before .before .before .before .loop .inv) o (c .before .before .before .before .before .before .before .before .before .before .before .before .before .pre .0 .0 .few))
 
 loop-less : tie.Need-loop-less Inv-loop μ-loop
-loop-less c = let o = passing-next (c .before .before .before .before .before .before .before .before .before .before .loop .inv .passing) (c .before .before .before .before .before .before .before .before .before .loop-test .taken) (c .before .before .before .before .before .before .before .before .type-at .ensures .1) (c .before .before .before .before .before .before .found .given .1) in
+loop-less c =
+    let o = passing-next (c .before .before .before .before .before .before .before .before .before .before .loop .inv .passing) (c .before .before .before .before .before .before .before .before .before .loop-test .taken) (c .before .before .before .before .before .before .before .before .type-at .ensures .1) (c .before .before .before .before .before .before .found .given .1) in
     omega (arith, o .past, o .within)
 
 loop-again : tie.Need-loop-again Inv-loop μ-loop
-loop-again c = let o = passing-next (c .before .before .before .before .before .before .before .before .before .before .loop .inv .passing) (c .before .before .before .before .before .before .before .before .before .loop-test .taken) (c .before .before .before .before .before .before .before .before .type-at .ensures .1) (c .before .before .before .before .before .before .found .given .1) in
+loop-again c =
+    let o = passing-next (c .before .before .before .before .before .before .before .before .before .before .loop .inv .passing) (c .before .before .before .before .before .before .before .before .before .loop-test .taken) (c .before .before .before .before .before .before .before .before .type-at .ensures .1) (c .before .before .before .before .before .before .found .given .1) in
     to-more (c .before .before .before .before .before .before .before .before .before .before .loop .inv) o (c .before .before .store-for .ensures)
 
 same-length-2 : tie.Need-same-length-2 Inv-loop μ-loop

@@ -22,7 +22,8 @@ map-params-requires : tie.Need-map-params-requires
 map-params-requires c κs = are-params (c .before .before .before .before .before .before .before .before .before .args .structs .now) (c .before .before .before .before .before .before .before .before .before .args .params .now) (map-none (c .before .before .before .before .before .before .before .before .before .args .self) (c .before .before .before .before .before .before .before .before .before .args .structs .now) (c .before .before .before .before .before .before .before .before .before .args .params .now) (length (c .before .before .before .before .before .before .before .before .before .args .answers .now)) (length (c .before .before .before .before .before .before .before .before .before .args .edges .now)) (c .before .before .before .before .check-params .ensures) (c .before .before .enum-told .given .1))
 
 returns : tie.Need-returns
-returns c = let gone = map-refused (c .before .before .before .before .before .before .before .before .before .args .self) (c .before .before .before .before .before .before .before .before .before .args .structs .now) (c .before .before .before .before .before .before .before .before .before .args .params .now) (length (c .before .before .before .before .before .before .before .before .before .args .answers .now)) (length (c .before .before .before .before .before .before .before .before .before .args .edges .now)) (c .before .before .before .before .check-params .ensures) (c .before .before .verdict .given .1) in
+returns c =
+    let gone = map-refused (c .before .before .before .before .before .before .before .before .before .args .self) (c .before .before .before .before .before .before .before .before .before .args .structs .now) (c .before .before .before .before .before .before .before .before .before .args .params .now) (length (c .before .before .before .before .before .before .before .before .before .args .answers .now)) (length (c .before .before .before .before .before .before .before .before .before .args .edges .now)) (c .before .before .before .before .check-params .ensures) (c .before .before .verdict .given .1) in
     told gone (maps-refused (c .before .before .before .before .before .before .before .before .before .args .answers .now) (c .before .before .before .before .before .before .before .before .before .args .edges .now) refl (c .unmapped .ensures))
 
 same-length : tie.Need-same-length
