@@ -93,14 +93,14 @@ once-from f x (suc n) = go (f x) (once-from f (suc x) n)
     go true r = (λ m. let k = (ascending-has (suc x) n x) .0 ((select-has f (ascending (suc x) n) x) .0 m .0) in omega (arith, k .0), r)
     go false r = r
 
-once-used : (used : ℕ) → Once (members used)
+pub once-used : (used : ℕ) → Once (members used)
 unfolding members
 once-used used = once-from (member used) 0 64
 
 -- ---- the visits of an accepted method
 
 module _ (env : LifetimeEnv) (structs params output force : List ℕ) (none : NoneDue (methodChecks env structs params output force)) where
-  in-shape : (structsInShape structs ≡ true) × (paramsInShape (length (rowsOf structs)) params ≡ true)
+  pub in-shape : (structsInShape structs ≡ true) × (paramsInShape (length (rowsOf structs)) params ≡ true)
   unfolding methodInShape
   in-shape =
       let all = both (structsInShape structs) (not-false _ (none-first none)) in
@@ -110,7 +110,7 @@ module _ (env : LifetimeEnv) (structs params output force : List ℕ) (none : No
   unfolding methodInShape inShape itemsOf readAll
   shape-none = rw (in-shape .0, in-shape .1)
 
-  rows-params : NoneDue (rowChecks (rowsOf structs) 0 (rowsOf structs)) × NoneDue (paramChecks (rowsOf structs) 0 (typesIn structs params))
+  pub rows-params : NoneDue (rowChecks (rowsOf structs) 0 (rowsOf structs)) × NoneDue (paramChecks (rowsOf structs) 0 (typesIn structs params))
   rows-params =
       let a = none-split (rowChecks (rowsOf structs) 0 (rowsOf structs)) (paramChecks (rowsOf structs) 0 (typesIn structs params) ++ typeChecks (rowsOf structs) (typesIn structs output)) (places-none env structs params output force none) in
       (a .0, none-split (paramChecks (rowsOf structs) 0 (typesIn structs params)) (typeChecks (rowsOf structs) (typesIn structs output)) (a .1) .0)

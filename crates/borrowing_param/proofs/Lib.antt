@@ -1,4 +1,4 @@
--- Laws: joined lists and words of edges; a run of visits; what a parameter brings; which lifetimes draw; storing edges; a visit.
+-- Laws: joined lists and words of edges; a run of visits; what a parameter brings; which lifetimes draw; storing edges; a visit; a new visitor; the numberings; the listing, its order, and the visits that give it.
 pub mod Joining
 pub mod Running
 pub mod Bringing
@@ -7,5 +7,8 @@ pub mod Storing
 pub mod Visiting
 pub mod Creating
 pub mod Forcing
+pub mod Listing
+pub mod Ordering
+pub mod InTurn
 -- The main theorems:
 pub mod Theorems

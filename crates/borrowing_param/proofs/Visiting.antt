@@ -160,7 +160,7 @@ nth-none (suc n) = refl
 none-is : (n : ℕ) → NthIs [] n (nthType n [])
 none-is n = record { inside = λ h. absurd (omega arith); past = λ h. nth-none n }
 
-known-reads : (rows : ℕ) (words : List ℕ) → Holds (λ t rest. readLowered words ≡ Read t rest) (readKnown rows words)
+pub known-reads : (rows : ℕ) (words : List ℕ) → Holds (λ t rest. readLowered words ≡ Read t rest) (readKnown rows words)
 unfolding readKnown
 known-reads rows words = go (readLowered words)
   where
@@ -272,7 +272,7 @@ parts-short n {words} {at} {p} f =
     let few : length (f .type .path) ≤ 16 = holds-read Short (f .type) (f .rest) (rw (f .reads) at (short-nth n words)) in
     (path-inside (f .stands), omega (arith, f .stands .count))
 
-number-is : (k : Kind) (es : List LifetimeEdge) → numberBy k (length es) ≡ numberOf k es
+pub number-is : (k : Kind) (es : List LifetimeEdge) → numberBy k (length es) ≡ numberOf k es
 number-is Plain es = refl
 number-is Opaque [] = refl
 number-is Opaque (e ∷ es) = rw (ne-eqb (suc (length es)) 0 (λ z. omega arith))

@@ -5,8 +5,11 @@ pub mod Visit
 pub mod VisitParam
 pub mod Visits
 pub mod New
+pub mod BorrowMap
+pub mod Consistent
 pub mod Condition3
 pub mod Examples
 pub mod Theorems
 -- For private functions only
 pub mod Inner
+pub mod InnerMap

@@ -1,18 +1,25 @@
 -- The main theorems of this crate, stated. Each has its proof, a term of exactly this type and of the same name in small letters, in proofs/Theorems.antt.
-use Prim.Native.Nat.{ℕ, _<_}
-use mathlib.Core.List.{List, List·Memᴰ}
-use lib.ListN.{length}
+use Prim.Native.Nat.{ℕ, _*_, _≤_, _<_}
+use mathlib.Core.Path.{_≡_}
+use mathlib.Core.List.{List, [], _∷_, List·Memᴰ}
+use lib.ListN.{length, getD}
 use Rattle.lifetimes.specs.declared.env.LifetimeEnv.{LifetimeEnv}
+use Rattle.lifetimes.specs.declared.answer.Refusal.the-variants.{NoRoom}
+use Rattle.lifetimes.specs.declared.answer.Verdict.the-variants.{Accepted}
+use Rattle.lifetimes.specs.Ranges.{ascending}
 use Rattle.lifetimes.specs.Refusals.{NoneDue}
-use Rattle.lifetimes.specs.Env.{boundsOf}
+use Rattle.lifetimes.specs.Env.{boundsOf, envOf}
 use Rattle.hir_types.specs.Method.{typesIn, methodChecks}
 use Rattle.borrowing_param.specs.declared.visitor.ParamBorrowInfo.{ParamBorrowInfo}
 use Rattle.borrowing_param.specs.declared.visitor.BorrowingParamVisitor.{BorrowingParamVisitor}
-use Rattle.borrowing_param.specs.Brings.{answerOf}
-use Rattle.borrowing_param.specs.Visit.{bringTo, bringAll}
+use Rattle.borrowing_param.specs.Edges.{width, edgesIn, edgesOf}
+use Rattle.borrowing_param.specs.Brings.{answerOf, refuse}
+use Rattle.borrowing_param.specs.Visit.{usedOf, bringTo, bringAll, State, state, after, visitAt}
 use Rattle.borrowing_param.specs.VisitParam.{typeAt, visitParam}
 use Rattle.borrowing_param.specs.Visits.{Visits}
 use Rattle.borrowing_param.specs.New.{created}
+use Rattle.borrowing_param.specs.BorrowMap.{listedTo, listedEdges, answersFrom}
+use Rattle.borrowing_param.specs.Consistent.{Consistent}
 use Rattle.borrowing_param.specs.Condition3.{Param}
 use Rattle.borrowing_param.specs.Examples.{examples, Right}
 
@@ -29,6 +36,43 @@ pub record AllVisits (env : LifetimeEnv) (structs params : List ℕ) (v : Borrow
 abbrev pub Condition3 : Type 0
 Condition3 = (env : LifetimeEnv) (structs params output force : List ℕ) → NoneDue (methodChecks env structs params output force) → (words ps : List ℕ)
     → ((p : ℕ) → List·Memᴰ p ps → p < length (typesIn structs params)) → AllVisits env structs params (created env structs params output force .visitor) words ps
+
+-- The listing. Whatever the visitor, the used lifetimes, the answers by parameter and the edges that `borrow_map` gives are what `Consistent` says: in 01's order, each edge of one of the used lifetimes and
+-- of one of the parameters, its kind by the parameter's answer, and a parameter with an edge exactly if its answer is one that borrows
+abbrev pub ListingInOrder : Type 0
+ListingInOrder = (v : BorrowingParamVisitor) (structs params : List ℕ) → NoneDue (methodChecks (envOf 0 0 []) structs params [] (0 ∷ []))
+    → Consistent (usedOf v) (answersFrom v 0 (typesIn structs params)) (listedEdges v (typesIn structs params))
+
+-- The listing and the visits. For every method on which no refusal is due, with its new visitor v: a visit to each parameter, one after another, gives what `borrow_map` lists
+
+abbrev pub inTurn : List ℕ → List ℕ → List ℕ
+inTurn structs params = ascending 0 (length (typesIn structs params))
+
+-- what the visit of a parameter answers, and what all of them leave
+abbrev pub visitOf : List ℕ → List ℕ → BorrowingParamVisitor → List ℕ → ℕ → ParamBorrowInfo
+visitOf structs params v words p = visitAt (visitParam structs params) (state v words) (inTurn structs params) p .info
+
+abbrev pub visited : List ℕ → List ℕ → BorrowingParamVisitor → List ℕ → State
+visited structs params v words = after (visitParam structs params) (state v words) (inTurn structs params)
+
+abbrev pub RoomForAll : List ℕ → List ℕ → BorrowingParamVisitor → List ℕ → Type 0
+RoomForAll structs params v words = width * length (listedEdges v (typesIn structs params)) ≤ length words
+
+pub record AsVisited (structs params : List ℕ) (v : BorrowingParamVisitor) (words : List ℕ) : Type 0 where
+  -- with room for all edges no visit is refused, and each answers the number in the listing
+  pub answered : RoomForAll structs params v words → (p : ℕ) → p < length (typesIn structs params)
+      → (visitOf structs params v words p .verdict ≡ Accepted) × (visitOf structs params v words p .number ≡ getD (answersFrom v 0 (typesIn structs params)) p 0)
+  -- and each lifetime has the edges that it has in the listing, in the same order
+  pub edges : RoomForAll structs params v words → (used : ℕ)
+      → edgesOf used (edgesIn (visited structs params v words .visitor .stored) (visited structs params v words .words)) ≡ edgesOf used (listedEdges v (typesIn structs params))
+  -- without, a visit is refused by 9
+  pub refused : (RoomForAll structs params v words → ⊥) → (p : ℕ) × (p < length (typesIn structs params)) × (visitOf structs params v words p ≡ refuse NoRoom)
+  -- in the listing a used lifetime has what the parameters bring to it, in order
+  pub listed : (used : ℕ) → List·Memᴰ used (usedOf v) → edgesOf used (listedEdges v (typesIn structs params)) ≡ listedTo v 0 (typesIn structs params) used
+
+abbrev pub ListingIsVisits : Type 0
+ListingIsVisits = (env : LifetimeEnv) (structs params output force : List ℕ) → NoneDue (methodChecks env structs params output force) → (words : List ℕ)
+    → AsVisited structs params (created env structs params output force .visitor) words
 
 -- The worked methods: among them the starred examples, and an accepted method with an edge of each kind, so that condition 3 speaks of something
 abbrev pub ExamplesHold : Type 0

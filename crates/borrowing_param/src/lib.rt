@@ -1,7 +1,9 @@
 // Borrow edges: which buffers a view has to hold on to.
 mod edges;
+mod listed;
 mod visitor;
 
+pub use listed::BorrowMap;
 pub use visitor::BorrowingParamVisitor;
 pub use visitor::Created;
 pub use visitor::LifetimeEdge;

@@ -158,7 +158,7 @@ fn refused(visitor: BorrowingParamVisitor, refusal: Refusal) -> Visited
 }
 
 // Whether two records are those of a method, whatever else it has.
-fn check_params(structs: &[usize], params: &[usize]) -> Verdict
+pub(crate) fn check_params(structs: &[usize], params: &[usize]) -> Verdict
     ensures { λ r. ⌜ r ≡ methodVerdict (envOf 0 0 []) (now (structs .entry)) (now (params .entry)) [] (0 ∷ []) ⌝ }
 {
     let none = [0usize; 0];
@@ -245,7 +245,7 @@ fn visit_parts(
 }
 
 // The answer's number, by the kind of the parameter and by how many edges it brings.
-fn number_of(kind: Kind, brought: usize) -> usize
+pub(crate) fn number_of(kind: Kind, brought: usize) -> usize
     ensures { λ r. ⌜ r ≡ numberBy kind brought ⌝ }
 {
     match kind {

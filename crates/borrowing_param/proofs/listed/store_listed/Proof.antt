@@ -1,0 +1,94 @@
+-- `store_listed` meets its contract. The loop's invariant is `Storing` of proofs/Storing.antt, over the edges that are left; the measure is how many lifetimes are to be looked at.
+use Prim.Native.Nat.{_+_, _-_, _≤_}
+use mathlib.Core.Path.{refl, sym, ap, _∙_}
+use native.Mathlib.Nat.{zero-add}
+use native.Mathlib.Omega.{arith}
+use borrow.Author.Tests.{not-true, not-false}
+use lib.ListN.{getD}
+use Rattle.lifetimes.specs.declared.lifetime.Lifetime.{Lifetime}
+use Rattle.lifetimes.specs.Sets.{member}
+use Rattle.borrowing_param.specs.Visit.{drawsIn}
+use Rattle.borrowing_param.specs.BorrowMap.{listedEdges}
+use Rattle.borrowing_param.specs.InnerMap.{loweredOf, visitorIn, bringFrom}
+use Rattle.borrowing_param.proofs.Storing.{Storing, storing-start, storing-fits, storing-part, storing-none, storing-end}
+use Rattle.borrowing_param.proofs.Listing.{leftListed, listed-left, listed-end, listed-here, listed-not}
+use borrow.Author.Needs.{needs}
+use Rattle.borrowing_param.proofs.listed.store_listed.Statement.{statement}
+use Rattle.borrowing_param.proofs.listed.store_listed.Tie as tie
+
+abbrev Inv-used : tie.InvT-used
+Inv-used used drawn params edges₀ pairs₀ next₀ i₀ edges pairs next i = (i ≤ 64) × Storing (listedEdges (visitorIn used drawn) (loweredOf params)) (leftListed used drawn (loweredOf params) i) 0 pairs₀ edges₀ next pairs edges
+
+abbrev μ-used : tie.MeasureT-used
+μ-used used drawn params edges₀ pairs₀ next₀ i₀ edges pairs next i = 64 - i
+
+used-holds : tie.Need-used-holds Inv-used μ-used
+used-holds c =
+    let s = c .before .before in
+    (omega arith, storing-none (storing-start (listedEdges (visitorIn (s .args .used) (s .args .drawn .now)) (loweredOf (s .args .params .now))) 0 _ (s .args .edges .now) refl (rw zero-add (s .pre .2))) (listed-left (s .args .used) (s .args .drawn .now) (loweredOf (s .args .params .now))))
+
+add-i : tie.Need-add-i Inv-used μ-used
+add-i c = search needs
+
+new-requires : tie.Need-new-requires Inv-used μ-used
+new-requires c κs = search needs
+
+contains-requires : tie.Need-contains-requires Inv-used μ-used
+contains-requires c κs = search needs
+
+used-less : tie.Need-used-less Inv-used μ-used
+used-less c = search needs
+
+used-again : tie.Need-used-again Inv-used μ-used
+used-again c =
+    let s = c .before .before .before .before .before .before .before in
+    (omega (arith, c .before .before .before .used-test .taken), storing-none (c .before .before .before .before .used .inv .1) (listed-not (s .args .used) (s .args .drawn .now) (loweredOf (s .args .params .now)) (c .before .before .before .before .used .i) (c .before .before .before .used-test .taken) (sym (not-true _ (c .if1 .taken)) ∙ c .before .contains .ensures ∙ ap (λ (x : Lifetime). member (s .args .used) (x .0)) (c .before .before .new .ensures))))
+
+mul-store-to : tie.Need-mul-store-to Inv-used μ-used
+mul-store-to c = search needs
+
+element-copy-out-store-to : tie.Need-element-copy-out-store-to Inv-used μ-used
+element-copy-out-store-to c = search needs
+
+store-to-requires : tie.Need-store-to-requires Inv-used μ-used
+store-to-requires c κs =
+    let s = c .before .before .before .before .before .before .before .before .before .before in
+    let l = c .before .before .before .before .before .before .before .used in
+    let split = listed-here (s .args .used) (s .args .drawn .now) (loweredOf (s .args .params .now)) (l .i) (c .before .before .before .before .before .before .used-test .taken) (sym (not-false _ (c .before .before .before .if1 .left)) ∙ c .before .before .before .before .contains .ensures ∙ ap (λ (x : Lifetime). member (s .args .used) (x .0)) (c .before .before .before .before .before .new .ensures)) in
+    ((s .pre .0, c .before .before .before .before .before .before .used-test .taken, l .inv .1 .sets16), storing-fits (l .inv .1) (bringFrom (drawsIn (getD (s .args .drawn .now) (l .i) 0)) (l .i) 0 (loweredOf (s .args .params .now))) (leftListed (s .args .used) (s .args .drawn .now) (loweredOf (s .args .params .now)) (l .i + 1)) split)
+
+used-less-2 : tie.Need-used-less-2 Inv-used μ-used
+used-less-2 c = search needs
+
+used-again-2 : tie.Need-used-again-2 Inv-used μ-used
+used-again-2 c =
+    let s = c .before .before .before .before .before .before .before .before .before .before .before .before .before in
+    let l = c .before .before .before .before .before .before .before .before .before .before .used in
+    let split = listed-here (s .args .used) (s .args .drawn .now) (loweredOf (s .args .params .now)) (l .i) (c .before .before .before .before .before .before .before .before .before .used-test .taken) (sym (not-false _ (c .before .before .before .before .before .before .if1 .left)) ∙ c .before .before .before .before .before .before .before .contains .ensures ∙ ap (λ (x : Lifetime). member (s .args .used) (x .0)) (c .before .before .before .before .before .before .before .before .new .ensures)) in
+    (omega (arith, c .before .before .before .before .before .before .before .before .before .used-test .taken), storing-part (l .inv .1) (bringFrom (drawsIn (getD (s .args .drawn .now) (l .i) 0)) (l .i) 0 (loweredOf (s .args .params .now))) (leftListed (s .args .used) (s .args .drawn .now) (loweredOf (s .args .params .now)) (l .i + 1)) split (c .before .before .store-to .ensures))
+
+same-length : tie.Need-same-length Inv-used μ-used
+same-length c = c .before .used .inv .1 .size
+
+returns : tie.Need-returns Inv-used μ-used
+returns c = storing-end (c .before .used .inv .1) (listed-end (c .before .before .before .before .args .used) (c .before .before .before .before .args .drawn .now) (loweredOf (c .before .before .before .before .args .params .now)) (c .before .used .i) (c .used-test .left)) .stores
+
+pub store-listed-spec : {M : Type 1} → statement M
+store-listed-spec =
+    tie.close
+    (tie.spec
+    Inv-used
+    μ-used
+    used-holds
+    add-i
+    new-requires
+    contains-requires
+    used-less
+    used-again
+    mul-store-to
+    element-copy-out-store-to
+    store-to-requires
+    used-less-2
+    used-again-2
+    same-length
+    returns)

@@ -1,0 +1,61 @@
+-- The edges in listing order (01: by used lifetime, parameter, def), and the answers by parameter: of a visitor and the types of the parameters.
+use Prim.Native.Nat.{ℕ, suc}
+use mathlib.Core.List.{List, [], _∷_, _++_, flatMap}
+use lib.ListN.{length}
+use Rattle.lifetimes.specs.declared.answer.Verdict.the-variants as verdict
+use Rattle.lifetimes.specs.Refusals.{Check, Outcome, Gives, Refuses, unless}
+use Rattle.lifetimes.specs.Lent.{roomCheck}
+use Rattle.lifetimes.specs.Env.{envOf}
+use Rattle.lowered_types.specs.LoweredTypes.{LoweredType}
+use Rattle.hir_types.specs.Method.{typesIn, methodChecks}
+use Rattle.borrowing_param.specs.declared.listed.BorrowMap.{BorrowMap}
+use Rattle.borrowing_param.specs.declared.visitor.LifetimeEdge.{LifetimeEdge}
+use Rattle.borrowing_param.specs.declared.visitor.BorrowingParamVisitor.{BorrowingParamVisitor}
+use Rattle.borrowing_param.specs.Edges.{edgeWords}
+use Rattle.borrowing_param.specs.Brings.{numberOf}
+use Rattle.borrowing_param.specs.Visit.{usedOf, bringTo, bringAll}
+
+-- what the parameters bring to one used lifetime, numbered from `param` on
+unfoldable pub listedTo : BorrowingParamVisitor → ℕ → List LoweredType → ℕ → List LifetimeEdge
+listedTo v param [] used = []
+listedTo v param (t ∷ ts) used = bringTo v t param used ++ listedTo v (suc param) ts used
+
+-- to all used lifetimes, ascending
+unfoldable pub listedEdges : BorrowingParamVisitor → List LoweredType → List LifetimeEdge
+listedEdges v types = flatMap (listedTo v 0 types) (usedOf v)
+
+-- the answers' numbers, the parameters numbered from `param` on
+unfoldable pub answersFrom : BorrowingParamVisitor → ℕ → List LoweredType → List ℕ
+answersFrom v param [] = []
+answersFrom v param (t ∷ ts) = numberOf (t .kind) (bringAll v t param) ∷ answersFrom v (suc param) ts
+
+pub record Mapping : Type 0 where
+  pub answers : List ℕ
+  pub edges : List LifetimeEdge
+
+abbrev pub mappingOf : BorrowingParamVisitor → List LoweredType → Mapping
+mappingOf v types = record { answers = answersFrom v 0 types; edges = listedEdges v types }
+
+-- `borrow_map`: refused as a method with these records is, whatever its environment, output and force (1, then 4 and 7 by place); then where a slice is too short (9)
+abbrev pub mapChecks : BorrowingParamVisitor → List ℕ → List ℕ → ℕ → ℕ → List Check
+mapChecks v structs params answers edges =
+    methodChecks (envOf 0 0 []) structs params [] (0 ∷ [])
+    ++ (roomCheck answers (answersFrom v 0 (typesIn structs params))
+    ∷ roomCheck edges (flatMap edgeWords (listedEdges v (typesIn structs params)))
+    ∷ [])
+
+unfoldable pub borrowMap : BorrowingParamVisitor → List ℕ → List ℕ → ℕ → ℕ → Outcome Mapping
+borrowMap v structs params answers edges = unless (mapChecks v structs params answers edges) (mappingOf v (typesIn structs params))
+
+-- what the call answers, and what it writes
+abbrev pub mapAnswer : Outcome Mapping → BorrowMap
+mapAnswer (Gives m) = record { verdict = verdict.Accepted; params = length (m .answers); edges = length (m .edges) }
+mapAnswer (Refuses r) = record { verdict = verdict.Refused r; params = 0; edges = 0 }
+
+abbrev pub answersIn : Outcome Mapping → Outcome (List ℕ)
+answersIn (Gives m) = Gives (m .answers)
+answersIn (Refuses r) = Refuses r
+
+abbrev pub edgesIn : Outcome Mapping → Outcome (List ℕ)
+edgesIn (Gives m) = Gives (flatMap edgeWords (m .edges))
+edgesIn (Refuses r) = Refuses r

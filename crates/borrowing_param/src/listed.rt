@@ -1,0 +1,193 @@
+// Edges in listing order: by used lifetime, parameter, lifetime of the definition; and the answers by parameter.
+ghost use mathlib.Core.Path.{_≡_};
+ghost use Prim.Native.Nat.{_+_, _*_, _≤_, _<_};
+ghost use lib.ListN.{length, take};
+ghost use lib.Seq.{sets};
+ghost use Rattle.lifetimes.specs.Refusals.{Refuses};
+ghost use Rattle.lifetimes.specs.Lent.{written};
+ghost use Rattle.borrowing_param.specs.Edges.{width};
+ghost use Rattle.borrowing_param.specs.Visit.{drawsIn};
+ghost use Rattle.borrowing_param.specs.BorrowMap.{listedEdges, borrowMap, mapAnswer, answersIn, edgesIn};
+ghost use Rattle.borrowing_param.specs.Inner.{Stores, StoresWords};
+ghost use Rattle.borrowing_param.specs.InnerMap.{loweredOf, Params, visitorIn, bringFrom, CountsParams, mapOf, Maps};
+use super::edges::count_all;
+use super::edges::store_for;
+use super::visitor::BorrowingParamVisitor;
+use super::visitor::check_params;
+use super::visitor::number_of;
+use lifetimes::Lifetime;
+use lifetimes::Refusal;
+use lifetimes::Verdict;
+use lifetimes::set;
+use lowered_types::Located;
+use lowered_types::type_at;
+
+// How many parameters and edges there are, or why the call is refused; beside a refusal none.
+pub struct BorrowMap {
+    pub verdict: Verdict,
+    pub params: usize,
+    pub edges: usize,
+}
+
+// How many parameters there are, and how many edges they bring.
+pub(crate) struct Counted {
+    pub params: usize,
+    pub edges: usize,
+}
+
+impl BorrowingParamVisitor {
+    // All parameters of a method: the numbers of their answers to one slice, and their edges to the used lifetimes, in listing order, to the other. The edges that the visitor has stored do not
+    // matter. Refused by 1, 4 and 7 as the records of a method are, then by 9 where a slice is too short.
+    pub fn borrow_map(
+        self,
+        structs: &[usize],
+        params: &[usize],
+        answers: &mut [usize],
+        edges: &mut [usize],
+    ) -> BorrowMap
+        ensures { λ r. ⌜ r ≡ mapAnswer (borrowMap self (now (structs .entry)) (now (params .entry)) (length (now (answers .entry))) (length (now (edges .entry)))) ⌝ }
+        ensures { λ _. ⌜ now (answers .exit) ≡ written (answersIn (borrowMap self (now (structs .entry)) (now (params .entry)) (length (now (answers .entry))) (length (now (edges .entry))))) (now (answers .entry)) ⌝ }
+        ensures { λ _. ⌜ now (edges .exit) ≡ written (edgesIn (borrowMap self (now (structs .entry)) (now (params .entry)) (length (now (answers .entry))) (length (now (edges .entry))))) (now (edges .entry)) ⌝ }
+    {
+        let verdict = check_params(structs, params);
+        match verdict {
+            Verdict::Refused(refusal) => unmapped(refusal),
+            Verdict::Accepted => map_params(self, params, answers, edges),
+        }
+    }
+}
+
+// A refusal alone.
+fn unmapped(refusal: Refusal) -> BorrowMap
+    ensures { λ r. ⌜ r ≡ mapAnswer (Refuses refusal) ⌝ }
+{
+    BorrowMap {
+        verdict: Verdict::Refused(refusal),
+        params: 0,
+        edges: 0,
+    }
+}
+
+// All parameters of a record that is in shape. Refused by 9 where a slice is too short, before anything is written.
+fn map_params(
+    visitor: BorrowingParamVisitor,
+    params: &[usize],
+    answers: &mut [usize],
+    edges: &mut [usize],
+) -> BorrowMap
+    requires { ⌜ Params (now params) ⌝ }
+    ensures { λ r. ⌜ Maps (mapOf visitor (loweredOf (now (params .entry))) (length (now (answers .entry))) (length (now (edges .entry)))) (now (answers .entry)) (now (edges .entry)) r (now (answers .exit)) (now (edges .exit)) ⌝ }
+{
+    let used = visitor.used;
+    let draws = visitor.draws;
+    let mut numbers = [0usize; 16];
+    let counted = count_params(used, &draws, params, &mut numbers);
+    let count = counted.params;
+    let total = counted.edges;
+    if answers.len() < count {
+        return unmapped(Refusal::NoRoom);
+    }
+    if edges.len() / BorrowingParamVisitor::EDGE_WORDS < total {
+        return unmapped(Refusal::NoRoom);
+    }
+    copy_numbers(&numbers, count, answers);
+    let stored = store_listed(used, &draws, params, edges);
+    BorrowMap {
+        verdict: Verdict::Accepted,
+        params: count,
+        edges: stored,
+    }
+}
+
+// How many parameters there are, and how many edges they bring to all used lifetimes; and the numbers of their answers.
+fn count_params(
+    used: u64,
+    drawn: &[u64; 64],
+    params: &[usize],
+    numbers: &mut [usize; 16],
+) -> Counted
+    requires { ⌜ Params (now params) × (length (now drawn) ≡ 64) × (length (now numbers) ≡ 16) ⌝ }
+    ensures { λ r. ⌜ CountsParams used (now (drawn .entry)) (loweredOf (now (params .entry))) (now (numbers .entry)) r (now (numbers .exit)) ⌝ }
+{
+    let mut total = 0;
+    let mut param = 0;
+    let mut at = 0;
+    while at < params.len() {
+        let found = type_at(params, at);
+        let Located::At(parts) = found else {
+            return Counted {
+                params: param,
+                edges: total,
+            };
+        };
+        let brought = count_all(used, drawn, params, parts);
+        let kind = parts.kind;
+        numbers[param] = number_of(kind, brought);
+        total += brought;
+        param += 1;
+        at = parts.next;
+    }
+    Counted {
+        params: param,
+        edges: total,
+    }
+}
+
+// The first of some numbers, to the front of a slice.
+fn copy_numbers(numbers: &[usize; 16], count: usize, answers: &mut [usize])
+    requires { ⌜ (count ≤ 16) × (length (now numbers) ≡ 16) × (count ≤ length (now answers)) ⌝ }
+    ensures { λ _. ⌜ now (answers .exit) ≡ sets (now (answers .entry)) 0 (take count (now (numbers .entry))) ⌝ }
+{
+    let mut i = 0;
+    while i < count {
+        answers[i] = numbers[i];
+        i += 1;
+    }
+}
+
+// Store the edges of all parameters, by used lifetime. Answers how many there are.
+fn store_listed(used: u64, drawn: &[u64; 64], params: &[usize], edges: &mut [usize]) -> usize
+    requires { ⌜ Params (now params) × (length (now drawn) ≡ 64) × (width * length (listedEdges (visitorIn used (now drawn)) (loweredOf (now params))) ≤ length (now edges)) ⌝ }
+    ensures { λ r. ⌜ StoresWords (listedEdges (visitorIn used (now (drawn .entry))) (loweredOf (now (params .entry)))) 0 (now (edges .entry)) r (now (edges .exit)) ⌝ }
+{
+    let mut pairs = [0u64; 16];
+    let mut next = 0;
+    let mut i = 0;
+    'used: while i < 64 {
+        let l = i;
+        i += 1;
+        if !set::contains(used, Lifetime::new(l)) {
+            continue 'used;
+        }
+        next = store_to(drawn[l], params, l, edges, next, &mut pairs);
+    }
+    next
+}
+
+// Store the edges of all parameters to one used lifetime behind so many. Answers how many there are then. The pairs are noted for whoever wants them.
+fn store_to(
+    set: u64,
+    params: &[usize],
+    used: usize,
+    edges: &mut [usize],
+    stored: usize,
+    pairs: &mut [u64; 16],
+) -> usize
+    requires { ⌜ Params (now params) × (used < 64) × (length (now pairs) ≡ 16) ⌝ }
+    requires { ⌜ width * (stored + length (bringFrom (drawsIn set) used 0 (loweredOf (now params)))) ≤ length (now edges) ⌝ }
+    ensures { λ r. ⌜ Stores (bringFrom (drawsIn set) used 0 (loweredOf (now (params .entry)))) stored (now (pairs .entry)) (now (edges .entry)) r (now (pairs .exit)) (now (edges .exit)) ⌝ }
+{
+    let mut next = stored;
+    let mut param = 0;
+    let mut place = 0;
+    while place < params.len() {
+        let found = type_at(params, place);
+        let Located::At(parts) = found else {
+            return next;
+        };
+        next = store_for(set, params, parts, used, param, edges, next, pairs);
+        param += 1;
+        place = parts.next;
+    }
+    next
+}
