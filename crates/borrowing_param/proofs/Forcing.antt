@@ -18,7 +18,7 @@ use Rattle.lifetimes.specs.Ranges.{ascending, select}
 use Rattle.lifetimes.specs.Sets.{member, members, setOf}
 use Rattle.lifetimes.specs.Env.{boundsOf, envChecks, envOf, allBelow}
 use Rattle.lifetimes.specs.Walk.{LastFirst, reachSet}
-use Rattle.lifetimes.proofs.RefusalLaws.{due-given, none-first, none-more}
+use Rattle.lifetimes.proofs.RefusalLaws.{due-given, none-first, none-more, none-split}
 use Rattle.lifetimes.proofs.SetLaws.{members-has, ascending-has, select-has}
 use Rattle.lifetimes.proofs.Theorems.{reach-is-outlives, outlives-is-forced}
 use Rattle.records.specs.Reading.{readAll, inShape, itemsOf}
@@ -41,7 +41,7 @@ use Rattle.borrowing_param.proofs.Joining.{Once, join-part}
 use Rattle.borrowing_param.proofs.Running.{visits-all}
 use Rattle.borrowing_param.proofs.Bringing.{brought-by, bring-ascends, bring-formed, Formed, kindNumber, defs, answers}
 use Rattle.borrowing_param.proofs.Visiting.{both, param-short}
-use Rattle.borrowing_param.proofs.Creating.{at-place, none-split, places-none, env-none, few-lifetimes, used-below}
+use Rattle.borrowing_param.proofs.Creating.{at-place, places-none, env-none, few-lifetimes, used-below}
 
 -- ---- by the numberings
 

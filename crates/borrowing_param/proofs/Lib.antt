@@ -10,5 +10,8 @@ pub mod Forcing
 pub mod Listing
 pub mod Ordering
 pub mod InTurn
+-- A sheet's method:
+pub mod MethodLaws
+pub mod SheetLaws
 -- The main theorems:
 pub mod Theorems

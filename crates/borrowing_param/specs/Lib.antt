@@ -7,9 +7,11 @@ pub mod Visits
 pub mod New
 pub mod BorrowMap
 pub mod Consistent
+pub mod SheetMethod
 pub mod Condition3
 pub mod Examples
 pub mod Theorems
 -- For private functions only
 pub mod Inner
 pub mod InnerMap
+pub mod InnerSheet

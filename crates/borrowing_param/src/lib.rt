@@ -1,9 +1,12 @@
 // Borrow edges: which buffers a view has to hold on to.
 mod edges;
 mod listed;
+mod method;
 mod visitor;
 
 pub use listed::BorrowMap;
+pub use method::SheetMethod;
+pub use method::lower_sheet;
 pub use visitor::BorrowingParamVisitor;
 pub use visitor::Created;
 pub use visitor::LifetimeEdge;

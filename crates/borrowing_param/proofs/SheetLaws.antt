@@ -1,0 +1,219 @@
+-- A sheet judged in scratch: what reading it says, where its records are found, and what the call answers and writes.
+use Prim.Native.Nat.{ℕ, _*_, _≤_, _<_}
+use mathlib.Core.Bool.{Bool, true, false, not}
+use mathlib.Core.Logic.{_⊎_, inl, inr}
+use mathlib.Core.Path.{_≡_, refl, sym, ap, _∙_}
+use mathlib.Core.List.{List, [], _∷_, _++_, append-assoc}
+use native.Mathlib.Omega.{arith}
+use borrow.Author.Tests.{le-ltb, lt-ltb, not-false}
+use lib.ListN.{length, getD, take, drop, length-append}
+use lib.Seq.{sets, take-append-seam}
+use Rattle.lifetimes.specs.declared.answer.Refusal.{Refusal}
+use Rattle.lifetimes.specs.declared.answer.Refusal.the-variants.{Malformed, NoRoom}
+use Rattle.lifetimes.specs.declared.answer.Verdict.the-variants as verdict
+use Rattle.lifetimes.specs.declared.env.LifetimeEnv.{LifetimeEnv}
+use Rattle.lifetimes.specs.declared.env.Made.{Made}
+use Rattle.lifetimes.specs.Refusals.{Check, check, Outcome, Gives, Refuses, unless, FirstDue, here, later, NoneDue, next, end}
+use Rattle.lifetimes.specs.Lent.{verdictOf, resultOr, roomCheck, written}
+use Rattle.lifetimes.specs.Env.{envOf, made}
+use Rattle.lifetimes.proofs.Copying.{sets-front}
+use Rattle.lifetimes.proofs.RefusalLaws.{due-given, due-refused, given-due, none-first, none-rest, none-split, none-more, first-more, first-after, refused-first, accepted-none}
+use Rattle.records.proofs.VerdictLaws.{refused-accepted}
+use Rattle.sheet.specs.declared.text.Text.{Text}
+use Rattle.sheet.specs.Text.{Records, lists, wordsOf}
+use Rattle.sheet.specs.Reading.{sheetOf, textChecks, readText}
+use Rattle.sheet.specs.Answer.{endsFrom, recordWords}
+use Rattle.sheet.specs.Shape as shape
+use Rattle.sheet.specs.Shape.{sheetInShape, sheetAnswer, sheetEnds, callChecks}
+use Rattle.sheet.specs.Inner.{recordsAt, Laid}
+use Rattle.sheet.proofs.Answers.{last-end}
+use Rattle.sheet.proofs.Placing.{laid-words, laid-records}
+use Rattle.sheet.proofs.Theorems.{room-for-any-sheet, words-take-two-bytes}
+use Rattle.borrowing_param.specs.declared.method.SheetMethod.{SheetMethod}
+use Rattle.borrowing_param.specs.SheetMethod.{envOfSheet, recordsChecks, sheetChecks, lowerSheet, methodAnswer, sheetWords}
+use Rattle.borrowing_param.specs.InnerSheet.{records, methodOf, Roomy, Judges}
+
+-- the first due is in the one list or in the other
+first-either : {k : Refusal} (checks more : List Check) → FirstDue k (checks ++ more) → FirstDue k checks ⊎ (NoneDue checks × FirstDue k more)
+first-either {k} [] more f = inr (end, f)
+first-either {k} (c ∷ cs) more (here d e) = inl (here {c = c} d e)
+first-either {k} (c ∷ cs) more (later d f) = go (first-either cs more f)
+  where
+    go : FirstDue k cs ⊎ (NoneDue cs × FirstDue k more) → FirstDue k (c ∷ cs) ⊎ (NoneDue (c ∷ cs) × FirstDue k more)
+    go (inl g) = inl (later d g)
+    go (inr (n, g)) = inr (next d n, g)
+
+-- ten records, found one by one
+pub ten-found : {words ends : List ℕ} → Laid words ends → {a b c d e f g h i j : List ℕ}
+    → a ≡ recordWords words ends 0 → b ≡ recordWords words ends 1 → c ≡ recordWords words ends 2 → d ≡ recordWords words ends 3 → e ≡ recordWords words ends 4
+    → f ≡ recordWords words ends 5 → g ≡ recordWords words ends 6 → h ≡ recordWords words ends 7 → i ≡ recordWords words ends 8 → j ≡ recordWords words ends 9
+    → records a b c d e f g h i j ≡ recordsAt words ends
+ten-found l pa pb pc pd pe pf pg ph pi pj =
+    rw (
+      pa ∙ laid-words l 0 (omega arith),
+      pb ∙ laid-words l 1 (omega arith),
+      pc ∙ laid-words l 2 (omega arith),
+      pd ∙ laid-words l 3 (omega arith),
+      pe ∙ laid-words l 4 (omega arith),
+      pf ∙ laid-words l 5 (omega arith),
+      pg ∙ laid-words l 6 (omega arith),
+      ph ∙ laid-words l 7 (omega arith),
+      pi ∙ laid-words l 8 (omega arith),
+      pj ∙ laid-words l 9 (omega arith),
+    )
+
+-- the shape is the last check of the reading and the first of the records
+module _ (bytes : List ℕ) where
+  abbrev sheet : Records
+  sheet = sheetOf bytes
+
+  abbrev shapeCheck : Check
+  shapeCheck = check (not (sheetInShape sheet)) Malformed
+
+  read-refused : {k : Refusal} → FirstDue k (shape.sheetChecks bytes) → FirstDue k (sheetChecks bytes)
+  unfolding shape.sheetChecks sheetChecks recordsChecks
+  read-refused {k} f = go (first-either (textChecks bytes) (shapeCheck ∷ []) f)
+    where
+      go : FirstDue k (textChecks bytes) ⊎ (NoneDue (textChecks bytes) × FirstDue k (shapeCheck ∷ [])) → FirstDue k (textChecks bytes ++ recordsChecks sheet)
+      go (inl g) = first-more _ g
+      go (inr (n, g)) = first-after n (first-more _ g)
+
+  read-none : NoneDue (shape.sheetChecks bytes) → NoneDue (textChecks bytes) × (sheetInShape sheet ≡ true)
+  unfolding shape.sheetChecks
+  read-none n =
+      let p = none-split (textChecks bytes) (shapeCheck ∷ []) n in
+      (p .0, not-false (sheetInShape sheet) (none-first (p .1)))
+
+  fits : {room : ℕ} → Roomy bytes room → NoneDue (textChecks bytes) → length (wordsOf sheet) ≤ room
+  unfolding readText
+  fits roomy n =
+      let e = due-given sheet n in
+      roomy (length (wordsOf sheet)) (omega (arith, room-for-any-sheet bytes sheet e)) (words-take-two-bytes bytes sheet e)
+
+  -- 512 words are enough for a sheet of 1,024 bytes
+  pub small-room : length bytes ≤ 1024 → Roomy bytes 512
+  small-room h n few half = omega (arith, h, half)
+
+  module _ (scratch : List ℕ) (roomy : Roomy bytes (length scratch)) {t : Text} (read : t ≡ sheetAnswer bytes (length scratch)) {scratch₁ : List ℕ}
+      (wrote : scratch₁ ≡ written (shape.sheetWords bytes (length scratch)) scratch) where
+    abbrev Ends : Outcome (List ℕ)
+    Ends = sheetEnds bytes (length scratch)
+
+    verdict-is : t .verdict ≡ verdictOf Ends
+    unfolding sheetAnswer
+    verdict-is = ap (λ (x : Text). x .verdict) read
+
+    pub judge-text : {k : Refusal} {m : SheetMethod} → t .verdict ≡ verdict.Refused k → m ≡ methodAnswer (Refuses k) → Judges bytes m scratch₁
+    unfolding sheetEnds
+    judge-text {k} {m} v h = go (first-either (shape.sheetChecks bytes) (roomCheck (length scratch) (wordsOf sheet) ∷ []) (refused-first _ k (callChecks bytes (length scratch)) (sym verdict-is ∙ v)))
+      where
+        go : FirstDue k (shape.sheetChecks bytes) ⊎ (NoneDue (shape.sheetChecks bytes) × FirstDue k (roomCheck (length scratch) (wordsOf sheet) ∷ [])) → Judges bytes m scratch₁
+        go (inl f) = record {
+          answers = rw (due-refused sheet (read-refused f)) h;
+          leaves = λ a. refused-accepted (sym (ap (λ (x : SheetMethod). x .verdict) h) ∙ a);
+        }
+        go (inr (n, f)) =
+            let enough = le-ltb (length scratch) (length (wordsOf sheet)) (fits roomy (read-none n .0)) in
+            absurd (none-of f enough)
+          where
+            none-of : FirstDue k (roomCheck (length scratch) (wordsOf sheet) ∷ []) → roomCheck (length scratch) (wordsOf sheet) .due ≡ false → ⊥
+            none-of (here d e) z = let y : _≡_ {A = ℕ} 0 1 = cc in omega arith
+
+    module _ (fine : t .verdict ≡ verdict.Accepted) where
+      call-none : NoneDue (callChecks bytes (length scratch))
+      unfolding sheetEnds
+      call-none = accepted-none _ (callChecks bytes (length scratch)) (sym verdict-is ∙ fine)
+
+      text-none : NoneDue (textChecks bytes) × (sheetInShape sheet ≡ true)
+      text-none = read-none (none-split (shape.sheetChecks bytes) _ call-none .0)
+
+      ends-are : t .ends ≡ endsFrom 0 (lists sheet)
+      unfolding sheetAnswer sheetEnds
+      ends-are = ap (λ (x : Text). x .ends) read ∙ ap (resultOr _) (due-given (endsFrom 0 (lists sheet)) call-none)
+
+      pub read-laid : Laid scratch₁ (t .ends)
+      unfolding shape.sheetWords
+      read-laid = record {
+        sheet = sheet;
+        rest = drop (length (wordsOf sheet)) scratch;
+        stored = wrote ∙ ap (λ (o : Outcome (List ℕ)). written o scratch) (due-given (wordsOf sheet) call-none);
+        placed = ends-are;
+      }
+
+      found : recordsAt scratch₁ (t .ends) ≡ sheet
+      unfolding read-laid
+      found = laid-records read-laid
+
+      pub judge-shape : Laid scratch₁ (t .ends) × (sheetInShape (recordsAt scratch₁ (t .ends)) ≡ true)
+      judge-shape = (read-laid, rw found (text-none .1))
+
+      module _ {a : Made} (judged : a ≡ made (envOf 0 0 []) (methodOf (recordsAt scratch₁ (t .ends)))) where
+        at-sheet : a ≡ made (envOf 0 0 []) (methodOf sheet)
+        at-sheet = judged ∙ ap (λ (x : Records). made (envOf 0 0 []) (methodOf x)) found
+
+        verdict-of : a .verdict ≡ verdictOf (methodOf sheet)
+        verdict-of = ap (λ (x : Made). x .verdict) at-sheet
+
+        pub judge-refused : {k : Refusal} {m : SheetMethod} → a .verdict ≡ verdict.Refused k → m ≡ methodAnswer (Refuses k) → Judges bytes m scratch₁
+        unfolding methodOf sheetChecks
+        judge-refused {k} {m} v h =
+            let f = refused-first (envOfSheet sheet) k (recordsChecks sheet) (sym verdict-of ∙ v) in
+            let g : FirstDue k (sheetChecks bytes) = first-after (text-none .0) f in
+            record { answers = rw (due-refused sheet g) h; leaves = λ x. refused-accepted (sym (ap (λ (x : SheetMethod). x .verdict) h) ∙ x) }
+
+        pub judge-given : a .verdict ≡ verdict.Accepted → Judges bytes (record { verdict = verdict.Accepted; ends = t .ends; env = a .env }) scratch₁
+        unfolding methodOf sheetChecks read-laid
+        judge-given v =
+            let n = accepted-none (envOfSheet sheet) (recordsChecks sheet) (sym verdict-of ∙ v) in
+            let e : a .env ≡ envOfSheet sheet = ap (λ (x : Made). x .env) at-sheet ∙ ap (resultOr (envOf 0 0 [])) (due-given (envOfSheet sheet) n) in
+            let g : NoneDue (sheetChecks bytes) = none-more (text-none .0) n in
+            record { answers = rw (due-given sheet g, ends-are, e); leaves = λ x. (drop (length (wordsOf sheet)) scratch, read-laid .stored) }
+
+  -- `lower_within`: what was judged, and the words
+  module _ {m : SheetMethod} {scratch : List ℕ} (judges : Judges bytes m scratch) (words : List ℕ) where
+    abbrev given : Outcome Records
+    given = lowerSheet bytes (length words)
+
+    abbrev Answers : SheetMethod → List ℕ → Type 0
+    Answers x words₁ = (x ≡ methodAnswer given) × (words₁ ≡ written (sheetWords given) words)
+
+    refused-answers : {k : Refusal} {x : SheetMethod} → x ≡ methodAnswer (Refuses k) → FirstDue k (sheetChecks bytes ++ (roomCheck (length words) (wordsOf sheet) ∷ [])) → Answers x words
+    unfolding lowerSheet
+    refused-answers h f = rw (due-refused sheet f) (h, refl)
+
+    judged-verdict : m .verdict ≡ verdictOf (unless (sheetChecks bytes) sheet)
+    judged-verdict = ap (λ (x : SheetMethod). x .verdict) (judges .answers) ∙ go (unless (sheetChecks bytes) sheet)
+      where
+        go : (o : Outcome Records) → methodAnswer o .verdict ≡ verdictOf o
+        go (Gives r) = refl
+        go (Refuses k) = refl
+
+    pub within-refused : {k : Refusal} → m .verdict ≡ verdict.Refused k → Answers m words
+    within-refused {k} v =
+        let f = refused-first sheet k (sheetChecks bytes) (sym judged-verdict ∙ v) in
+        refused-answers (judges .answers ∙ ap methodAnswer (due-refused sheet f)) (first-more _ f)
+
+    module _ (fine : m .verdict ≡ verdict.Accepted) where
+      none : NoneDue (sheetChecks bytes)
+      none = accepted-none sheet (sheetChecks bytes) (sym judged-verdict ∙ fine)
+
+      is-given : m ≡ methodAnswer (Gives sheet)
+      is-given = judges .answers ∙ ap methodAnswer (due-given sheet none)
+
+      total : getD (m .ends) 9 0 ≡ length (wordsOf sheet)
+      total = ap (λ (x : SheetMethod). getD (x .ends) 9 0) is-given ∙ last-end 0 (sheet .names) _ ∙ omega arith
+
+      pub within-inside : getD (m .ends) 9 0 ≤ length scratch
+      within-inside = let p = judges .leaves fine in rw (p .1, length-append) (omega (arith, total))
+
+      pub within-short : {x : SheetMethod} → length words < getD (m .ends) 9 0 → x ≡ methodAnswer (Refuses NoRoom) → Answers x words
+      within-short l h = refused-answers h (first-after none (here (lt-ltb (length words) (length (wordsOf sheet)) (omega (arith, total))) refl))
+
+      pub within-all : getD (m .ends) 9 0 ≤ length words → {words₁ : List ℕ} → words₁ ≡ sets words 0 (take (getD (m .ends) 9 0) scratch) → Answers m words₁
+      unfolding lowerSheet
+      within-all l {words₁} e =
+          let p = judges .leaves fine in
+          let t : take (getD (m .ends) 9 0) scratch ≡ wordsOf sheet = rw (p .1, total) (take-append-seam (wordsOf sheet) (p .0)) in
+          let room : roomCheck (length words) (wordsOf sheet) .due ≡ false = le-ltb (length words) (length (wordsOf sheet)) (omega (arith, total)) in
+          let g : NoneDue (sheetChecks bytes ++ (roomCheck (length words) (wordsOf sheet) ∷ [])) = none-more none (next room end) in
+          rw (due-given sheet g) (is-given, e ∙ ap (sets words 0) t ∙ sets-front words (wordsOf sheet) (omega (arith, total)))

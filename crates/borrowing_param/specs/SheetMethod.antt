@@ -1,0 +1,58 @@
+-- A sheet's *method* (01's word): its environment beside the records structs, params, output and force; and the refusals of a sheet, one list in 01's order.
+use Prim.Native.Nat.{ℕ}
+use mathlib.Core.Bool.{not}
+use mathlib.Core.List.{List, [], _∷_, _++_}
+use lib.ListN.{replicate}
+use Rattle.lifetimes.specs.declared.answer.Refusal.the-variants.{Malformed, OutOfRange}
+use Rattle.lifetimes.specs.declared.answer.Verdict.the-variants as verdict
+use Rattle.lifetimes.specs.declared.env.LifetimeEnv.{LifetimeEnv}
+use Rattle.lifetimes.specs.Refusals.{Check, check, Outcome, Gives, Refuses, unless}
+use Rattle.lifetimes.specs.Env.{envOf}
+use Rattle.ast_lifetimes.specs.declared.env.LifetimeEnv as ast-env
+use Rattle.ast_lifetimes.specs.Env as ast
+use Rattle.elision.specs.Steps.{receiverOf, stepsOf}
+use Rattle.elision.specs.Rfc as rfc
+use Rattle.elision.specs.Lowering.{finished}
+use Rattle.hir_types.specs.Method.{placeChecks, outputLifetimes, anyPast}
+use Rattle.sheet.specs.Text.{Records, lists, wordsOf}
+use Rattle.sheet.specs.Reading.{sheetOf, textChecks}
+use Rattle.sheet.specs.Answer.{endsFrom, withRoom}
+use Rattle.sheet.specs.Shape.{sheetInShape}
+use Rattle.borrowing_param.specs.declared.method.SheetMethod.{SheetMethod}
+
+-- what RFC 141 says of the records self, steps and returns
+abbrev pub loweredOf : Records → rfc.Method
+loweredOf r = rfc.methodOf (ast.allNamesOf (r .names)) (receiverOf (r .self)) (stepsOf (r .steps)) (stepsOf (r .returns))
+
+-- the AST's environment, of names, bounds and types; and the method's
+abbrev pub astEnvOf : Records → ast-env.LifetimeEnv
+astEnvOf r = ast.envOf (ast.allNamesOf (r .names)) (ast.methodBounds (r .names) (r .bounds) (r .types))
+
+abbrev pub envOfSheet : Records → LifetimeEnv
+envOfSheet r = finished (astEnvOf r) (loweredOf r .count)
+
+-- 1 over all ten records; then by place: names, bounds and types (2, 3, 4); self, steps and returns (3, 4, 5, 6); structs, params and output (4, 7); then a lifetime of the output that there is not (8)
+unfoldable pub recordsChecks : Records → List Check
+recordsChecks r =
+    check (not (sheetInShape r)) Malformed
+    ∷ (ast.placeChecks (r .names) (r .bounds) (r .types)
+    ++ (rfc.methodChecks (ast.allNamesOf (r .names)) (receiverOf (r .self)) (stepsOf (r .steps)) (stepsOf (r .returns))
+    ++ (placeChecks (r .structs) (r .params) (r .output)
+    ++ (check (anyPast (loweredOf r .count) (outputLifetimes (r .structs) (r .output))) OutOfRange ∷ []))))
+
+-- before them the text: 10, then 1 for a record above 1,024 words
+unfoldable pub sheetChecks : List ℕ → List Check
+sheetChecks bytes = textChecks bytes ++ recordsChecks (sheetOf bytes)
+
+-- `lower_sheet`: last 9, a slice too short for the words of the records
+unfoldable pub lowerSheet : List ℕ → ℕ → Outcome Records
+lowerSheet bytes room = unless (withRoom (sheetChecks bytes) room (sheetOf bytes)) (sheetOf bytes)
+
+-- what the call answers, and what it writes
+abbrev pub methodAnswer : Outcome Records → SheetMethod
+methodAnswer (Gives r) = record { verdict = verdict.Accepted; ends = endsFrom 0 (lists r); env = envOfSheet r }
+methodAnswer (Refuses k) = record { verdict = verdict.Refused k; ends = replicate 10 0; env = envOf 0 0 [] }
+
+abbrev pub sheetWords : Outcome Records → Outcome (List ℕ)
+sheetWords (Gives r) = Gives (wordsOf r)
+sheetWords (Refuses k) = Refuses k

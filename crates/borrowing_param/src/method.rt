@@ -1,0 +1,199 @@
+// A sheet's method: bytes to an environment and ten records, refused in the scope paper's order.
+//
+// A refused call writes nothing, so the words are judged in scratch. It has two sizes, so that a small sheet does not pay for a large one.
+ghost use Prim.Native.Nat.{_*_, _≤_};
+ghost use mathlib.Core.Bool.{true};
+ghost use mathlib.Core.Path.{_≡_};
+ghost use mathlib.Core.List.{[]};
+ghost use lib.ListN.{length, take};
+ghost use lib.Seq.{sets};
+ghost use Rattle.lifetimes.specs.Refusals.{Refuses};
+ghost use Rattle.lifetimes.specs.Lent.{written};
+ghost use Rattle.lifetimes.specs.Env.{envOf, made};
+ghost use Rattle.sheet.specs.Shape.{sheetInShape};
+ghost use Rattle.sheet.specs.Inner.{Laid, recordsAt};
+ghost use Rattle.borrowing_param.specs.SheetMethod.{lowerSheet, methodAnswer, sheetWords};
+ghost use Rattle.borrowing_param.specs.InnerSheet.{records, methodOf, Roomy, Judges};
+use elision::measure;
+use hir_types::check_method;
+use lifetimes::LifetimeEnv;
+use lifetimes::Made;
+use lifetimes::Refusal;
+use lifetimes::Verdict;
+use sheet::read_sheet;
+use sheet::record_words;
+
+// A sheet's method: where each of its ten records ends in the words that were written, and its environment. Beside a refusal all ends are 0, and the environment has no lifetimes.
+pub struct SheetMethod {
+    pub verdict: Verdict,
+    pub ends: [usize; 10],
+    pub env: LifetimeEnv,
+}
+
+// Read a sheet, lower its lifetimes and judge its method. The words of its ten records are written to a slice, one record after another (`sheet::record_words` finds each).
+// Refused in the scope paper's order: 10; 1 over all records; 2 to 7 at the first bad place; 8; then 9 where the slice is too short. 10,240 words are always enough.
+pub fn lower_sheet(sheet: &[u8], words: &mut [usize]) -> SheetMethod
+    ensures { λ r. ⌜ r ≡ methodAnswer (lowerSheet (now (sheet .entry)) (length (now (words .entry)))) ⌝ }
+    ensures { λ _. ⌜ now (words .exit) ≡ written (sheetWords (lowerSheet (now (sheet .entry)) (length (now (words .entry))))) (now (words .entry)) ⌝ }
+{
+    if sheet.len() <= 1024 {
+        return lower_small(sheet, words);
+    }
+    lower_large(sheet, words)
+}
+
+// The same with scratch of one size.
+fn lower_small(sheet: &[u8], words: &mut [usize]) -> SheetMethod
+    requires { ⌜ length (now sheet) ≤ 1024 ⌝ }
+    ensures { λ r. ⌜ r ≡ methodAnswer (lowerSheet (now (sheet .entry)) (length (now (words .entry)))) ⌝ }
+    ensures { λ _. ⌜ now (words .exit) ≡ written (sheetWords (lowerSheet (now (sheet .entry)) (length (now (words .entry))))) (now (words .entry)) ⌝ }
+{
+    let mut scratch = [0usize; 512];
+    lower_within(sheet, &mut scratch, words)
+}
+
+fn lower_large(sheet: &[u8], words: &mut [usize]) -> SheetMethod
+    ensures { λ r. ⌜ r ≡ methodAnswer (lowerSheet (now (sheet .entry)) (length (now (words .entry)))) ⌝ }
+    ensures { λ _. ⌜ now (words .exit) ≡ written (sheetWords (lowerSheet (now (sheet .entry)) (length (now (words .entry))))) (now (words .entry)) ⌝ }
+{
+    let mut scratch = [0usize; 10240];
+    lower_within(sheet, &mut scratch, words)
+}
+
+// The same with scratch that takes the words of any sheet of so many bytes.
+fn lower_within(sheet: &[u8], scratch: &mut [usize], words: &mut [usize]) -> SheetMethod
+    requires { ⌜ Roomy (now sheet) (length (now scratch)) ⌝ }
+    ensures { λ r. ⌜ r ≡ methodAnswer (lowerSheet (now (sheet .entry)) (length (now (words .entry)))) ⌝ }
+    ensures { λ _. ⌜ now (words .exit) ≡ written (sheetWords (lowerSheet (now (sheet .entry)) (length (now (words .entry))))) (now (words .entry)) ⌝ }
+{
+    let method = judge_sheet(sheet, scratch);
+    let verdict = method.verdict;
+    if let Verdict::Refused(_) = verdict {
+        return method;
+    }
+    let ends = method.ends;
+    let count = ends[9];
+    if words.len() < count {
+        return refused_method(Refusal::NoRoom);
+    }
+    copy(scratch, count, words);
+    method
+}
+
+// A sheet's method, its words left in scratch.
+pub(crate) fn judge_sheet(sheet: &[u8], scratch: &mut [usize]) -> SheetMethod
+    requires { ⌜ Roomy (now sheet) (length (now scratch)) ⌝ }
+    ensures { λ r. ⌜ Judges (now (sheet .entry)) r (now (scratch .exit)) ⌝ }
+{
+    let text = read_sheet(sheet, scratch);
+    let verdict = text.verdict;
+    if let Verdict::Refused(refusal) = verdict {
+        return refused_method(refusal);
+    }
+    let ends = text.ends;
+    let made = lower_laid(scratch, ends);
+    let judged = made.verdict;
+    if let Verdict::Refused(refusal) = judged {
+        return refused_method(refusal);
+    }
+    let env = made.env;
+    SheetMethod {
+        verdict: Verdict::Accepted,
+        ends,
+        env,
+    }
+}
+
+// The environment of records in shape whose words stand one record after another, or the first refusal due on them.
+fn lower_laid(words: &[usize], ends: [usize; 10]) -> Made
+    requires { ⌜ Laid (now words) ends × (sheetInShape (recordsAt (now words) ends) ≡ true) ⌝ }
+    ensures { λ r. ⌜ r ≡ made (envOf 0 0 []) (methodOf (recordsAt (now (words .entry)) ends)) ⌝ }
+{
+    lower_records(
+        record_words(words, ends, 0),
+        record_words(words, ends, 1),
+        record_words(words, ends, 2),
+        record_words(words, ends, 3),
+        record_words(words, ends, 4),
+        record_words(words, ends, 5),
+        record_words(words, ends, 6),
+        record_words(words, ends, 7),
+        record_words(words, ends, 8),
+        record_words(words, ends, 9),
+    )
+}
+
+// The same of ten records, each in a slice.
+fn lower_records(
+    names: &[usize],
+    bounds: &[usize],
+    types: &[usize],
+    receiver: &[usize],
+    steps: &[usize],
+    returns: &[usize],
+    structs: &[usize],
+    params: &[usize],
+    output: &[usize],
+    force: &[usize],
+) -> Made
+    requires { ⌜ sheetInShape (records (now names) (now bounds) (now types) (now receiver) (now steps) (now returns) (now structs) (now params) (now output) (now force)) ≡ true ⌝ }
+    ensures { λ r. ⌜ r ≡ made (envOf 0 0 []) (methodOf (records (now (names .entry)) (now (bounds .entry)) (now (types .entry)) (now (receiver .entry)) (now (steps .entry)) (now (returns .entry)) (now (structs .entry)) (now (params .entry)) (now (output .entry)) (now (force .entry)))) ⌝ }
+{
+    let ast = ast_lifetimes::LifetimeEnv::from_method_item(names, bounds, types);
+    let declared = ast.verdict;
+    if let Verdict::Refused(refusal) = declared {
+        return refused_env(refusal);
+    }
+    let lowered = measure(ast.env, receiver, steps, returns);
+    let elided = lowered.verdict;
+    if let Verdict::Refused(refusal) = elided {
+        return refused_env(refusal);
+    }
+    let env = lowered.env;
+    let verdict = check_method(env, structs, params, output, force);
+    if let Verdict::Refused(refusal) = verdict {
+        return refused_env(refusal);
+    }
+    Made {
+        verdict: Verdict::Accepted,
+        env,
+    }
+}
+
+// A refusal, beside an environment without lifetimes.
+fn refused_env(refusal: Refusal) -> Made
+    ensures { λ r. ⌜ r ≡ made (envOf 0 0 []) (Refuses refusal) ⌝ }
+{
+    let none = [0usize; 0];
+    let made = LifetimeEnv::new(0, 0, &none);
+    let env = made.env;
+    Made {
+        verdict: Verdict::Refused(refusal),
+        env,
+    }
+}
+
+// A refusal, beside no records and an environment without lifetimes.
+pub(crate) fn refused_method(refusal: Refusal) -> SheetMethod
+    ensures { λ r. ⌜ r ≡ methodAnswer (Refuses refusal) ⌝ }
+{
+    let made = refused_env(refusal);
+    let env = made.env;
+    SheetMethod {
+        verdict: Verdict::Refused(refusal),
+        ends: [0; 10],
+        env,
+    }
+}
+
+// Copy the first words of a slice to the front of another.
+fn copy(words: &[usize], count: usize, out: &mut [usize])
+    requires { ⌜ (count ≤ length (now words)) × (count ≤ length (now out)) ⌝ }
+    ensures { λ _. ⌜ now (out .exit) ≡ sets (now (out .entry)) 0 (take count (now (words .entry))) ⌝ }
+{
+    let mut i = 0;
+    while i < count {
+        out[i] = words[i];
+        i += 1;
+    }
+}
