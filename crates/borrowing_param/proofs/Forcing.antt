@@ -119,9 +119,13 @@ module _ (env : LifetimeEnv) (structs params output force : List ℕ) (none : No
   unfolding typeChecks itemsOf readAll
   places-still = none-more (rows-params .0) (none-more (rows-params .1) end)
 
-  visit-none : (p : ℕ) → p < length (typesIn structs params) → NoneDue (visitChecks structs params p)
+  -- its structs and params alone, as `visit_param` and `borrow_map` look at them
+  pub params-none : NoneDue (methodChecks (envOf 0 0 []) structs params [] (0 ∷ []))
   unfolding envOf allBelow anyPast itemsOf readAll flatMap
-  visit-none p h = next (lt-leb (length (typesIn structs params)) p h) (next {c = check (not (methodInShape structs params [] (0 ∷ []))) Malformed} (rw shape-none) (next refl (next refl (none-more places-still (next refl (next refl (next refl end)))))))
+  params-none = next {c = check (not (methodInShape structs params [] (0 ∷ []))) Malformed} (rw shape-none) (next refl (next refl (none-more places-still (next refl (next refl (next refl end))))))
+
+  visit-none : (p : ℕ) → p < length (typesIn structs params) → NoneDue (visitChecks structs params p)
+  visit-none p h = next (lt-leb (length (typesIn structs params)) p h) params-none
 
   abbrev used : ℕ
   used = setOf (usedNumbers env structs params output force)

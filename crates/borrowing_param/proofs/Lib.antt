@@ -13,5 +13,6 @@ pub mod InTurn
 -- A sheet's method:
 pub mod MethodLaws
 pub mod SheetLaws
+pub mod BorrowLaws
 -- The main theorems:
 pub mod Theorems

@@ -16,10 +16,11 @@ use Rattle.borrowing_param.specs.Visit as visit
 use Rattle.borrowing_param.specs.VisitParam as visit-param
 use Rattle.borrowing_param.specs.New as new
 use Rattle.borrowing_param.specs.BorrowMap as map
-use Rattle.borrowing_param.specs.Theorems.{Condition3, ListingInOrder, ListingIsVisits, ExamplesHold}
+use Rattle.borrowing_param.specs.Theorems.{Condition3, ListingInOrder, ListingIsVisits, SheetsGiveMethods, ExamplesHold}
 use Rattle.borrowing_param.proofs.Forcing.{all-visits}
 use Rattle.borrowing_param.proofs.Ordering.{listing-consistent}
 use Rattle.borrowing_param.proofs.InTurn.{as-visited}
+use Rattle.borrowing_param.proofs.BorrowLaws.{sheet-method}
 
 pub condition3 : Condition3
 condition3 env structs params output force none words ps within = all-visits env structs params output force none words ps within
@@ -29,6 +30,9 @@ listing-in-order v structs params none = listing-consistent v structs params non
 
 pub listing-is-visits : ListingIsVisits
 listing-is-visits env structs params output force none words = as-visited env structs params output force none words
+
+pub sheets-give-methods : SheetsGiveMethods
+sheets-give-methods bytes none = sheet-method bytes none
 
 pub examples-hold : ExamplesHold
 unfolding new.created new.newVisitor map.listedTo map.listedEdges map.answersFrom map.borrowMap visit-param.visitParam visit.visit visit.after brings.bring brings.anyDrawn brings.structEdges brings.notes used.usedSet used.numbersOf used.inTypes used.inRows method.typeChecks method.rowChecks method.paramChecks method.anyPast rows.readKnown rows.readTypes rows.readRow rows.methodInShape types.readOpaque types.readStruct types.readSlice types.readBare types.readLowered reading.readAll reading.inShape reading.itemsOf refusals.unless env.envOf env.allBelow ranges.ascending ranges.select walk.reachSet walk.traversal walk.walk walk.walkFor walk.unpushed walk.neighbours sets.member sets.insert sets.insertAll sets.members flatMap

@@ -8,6 +8,7 @@ pub mod New
 pub mod BorrowMap
 pub mod Consistent
 pub mod SheetMethod
+pub mod Borrows
 pub mod Condition3
 pub mod Examples
 pub mod Theorems

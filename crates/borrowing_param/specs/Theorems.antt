@@ -10,6 +10,7 @@ use Rattle.lifetimes.specs.Ranges.{ascending}
 use Rattle.lifetimes.specs.Refusals.{NoneDue}
 use Rattle.lifetimes.specs.Env.{boundsOf, envOf}
 use Rattle.hir_types.specs.Method.{typesIn, methodChecks}
+use Rattle.sheet.specs.Reading.{sheetOf}
 use Rattle.borrowing_param.specs.declared.visitor.ParamBorrowInfo.{ParamBorrowInfo}
 use Rattle.borrowing_param.specs.declared.visitor.BorrowingParamVisitor.{BorrowingParamVisitor}
 use Rattle.borrowing_param.specs.Edges.{width, edgesIn, edgesOf}
@@ -21,6 +22,7 @@ use Rattle.borrowing_param.specs.New.{created}
 use Rattle.borrowing_param.specs.BorrowMap.{listedTo, listedEdges, answersFrom}
 use Rattle.borrowing_param.specs.Consistent.{Consistent}
 use Rattle.borrowing_param.specs.Condition3.{Param}
+use Rattle.borrowing_param.specs.SheetMethod.{envOfSheet, sheetChecks}
 use Rattle.borrowing_param.specs.Examples.{examples, Right}
 
 -- what a visit of a parameter answers when it is not refused, by the method and the parameter alone
@@ -73,6 +75,11 @@ pub record AsVisited (structs params : List ℕ) (v : BorrowingParamVisitor) (wo
 abbrev pub ListingIsVisits : Type 0
 ListingIsVisits = (env : LifetimeEnv) (structs params output force : List ℕ) → NoneDue (methodChecks env structs params output force) → (words : List ℕ)
     → AsVisited structs params (created env structs params output force .visitor) words
+
+-- Sheets give accepted methods: on a sheet's method no refusal is due, if none is on the sheet, so that condition 3 and the listing speak of it
+abbrev pub SheetsGiveMethods : Type 0
+SheetsGiveMethods = (bytes : List ℕ) → NoneDue (sheetChecks bytes)
+    → NoneDue (methodChecks (envOfSheet (sheetOf bytes)) (sheetOf bytes .structs) (sheetOf bytes .params) (sheetOf bytes .output) (sheetOf bytes .force))
 
 -- The worked methods: among them the starred examples, and an accepted method with an edge of each kind, so that condition 3 speaks of something
 abbrev pub ExamplesHold : Type 0

@@ -1,0 +1,84 @@
+-- `borrow_by` meets its contract: each way out is one law of proofs/BorrowLaws.antt.
+use Rattle.borrowing_param.proofs.BorrowLaws.{by-used, by-map-refused, by-given}
+use borrow.Author.Needs.{needs}
+use Rattle.borrowing_param.proofs.borrows.borrow_by.Statement.{statement}
+use Rattle.borrowing_param.proofs.borrows.borrow_by.Tie as tie
+
+-- src/borrows.rt:141:9
+count-requires : tie.Need-count-requires
+count-requires c κs = search needs
+
+-- src/borrows.rt:143:9
+unborrowed-requires : tie.Need-unborrowed-requires
+unborrowed-requires c κs = search needs
+
+-- src/borrows.rt:143:9
+returns : tie.Need-returns
+returns c = by-used (c .before .before .before .before .before .before .before .before .args .visitor) (c .before .before .before .before .before .before .before .before .args .structs .now) (c .before .before .before .before .before .before .before .before .args .params .now) (c .before .before .before .before .before .before .before .before .args .used .now) (c .before .before .before .before .before .before .before .before .args .answers .now) (c .before .before .before .before .before .before .before .before .args .edges .now) (c .before .before .before .before .before .before .before .before .pre) (c .before .before .count .ensures) (c .before .if1 .taken) (c .unborrowed .ensures)
+
+-- src/borrows.rt:145:9
+borrow-map-requires : tie.Need-borrow-map-requires
+borrow-map-requires c κs = search needs
+
+-- src/borrows.rt:147:29
+enum-known-verdict : tie.Need-enum-known-verdict
+enum-known-verdict c = search needs
+
+-- src/borrows.rt:148:9
+unborrowed-requires-2 : tie.Need-unborrowed-requires-2
+unborrowed-requires-2 c κs = search needs
+
+-- src/borrows.rt:148:9
+same-length : tie.Need-same-length
+same-length c = search needs
+
+-- src/borrows.rt:148:9
+same-length-2 : tie.Need-same-length-2
+same-length-2 c = search needs
+
+-- src/borrows.rt:148:9
+returns-2 : tie.Need-returns-2
+returns-2 c = by-map-refused (c .before .before .before .before .before .before .before .before .before .before .before .before .before .before .before .before .before .before .args .visitor) (c .before .before .before .before .before .before .before .before .before .before .before .before .before .before .before .before .before .before .args .structs .now) (c .before .before .before .before .before .before .before .before .before .before .before .before .before .before .before .before .before .before .args .params .now) (c .before .before .before .before .before .before .before .before .before .before .before .before .before .before .before .before .before .before .args .used .now) (c .before .before .before .before .before .before .before .before .before .before .before .before .before .before .before .before .before .before .args .answers .now) (c .before .before .before .before .before .before .before .before .before .before .before .before .before .before .before .before .before .before .args .edges .now) (c .before .before .before .before .before .before .before .before .before .before .before .before .before .before .before .before .before .before .pre) (c .before .before .before .before .before .before .before .before .before .before .before .before .count .ensures) (c .before .before .before .before .before .before .before .before .before .before .before .if1 .left) (c .before .before .before .before .before .before .before .before .borrow-map .ensures .0) (c .before .before .before .before .before .before .before .before .borrow-map .ensures .1 .0) (c .before .before .before .before .before .before .before .before .borrow-map .ensures .1 .1) (c .before .before .verdict .given .1) (c .unborrowed2 .ensures)
+
+enum-told : tie.Need-enum-told
+enum-told c = search needs
+
+-- src/borrows.rt:150:5
+members-requires : tie.Need-members-requires
+members-requires c κs = search needs
+
+-- src/borrows.rt:129:1
+same-length-3 : tie.Need-same-length-3
+same-length-3 c = search needs
+
+-- src/borrows.rt:129:1
+same-length-4 : tie.Need-same-length-4
+same-length-4 c = search needs
+
+-- src/borrows.rt:129:1
+same-length-5 : tie.Need-same-length-5
+same-length-5 c = search needs
+
+-- src/borrows.rt:129:1
+returns-3 : tie.Need-returns-3
+returns-3 c = by-given (c .before .before .before .before .before .before .before .before .before .before .before .before .before .before .before .before .before .before .before .before .args .visitor) (c .before .before .before .before .before .before .before .before .before .before .before .before .before .before .before .before .before .before .before .before .args .structs .now) (c .before .before .before .before .before .before .before .before .before .before .before .before .before .before .before .before .before .before .before .before .args .params .now) (c .before .before .before .before .before .before .before .before .before .before .before .before .before .before .before .before .before .before .before .before .args .used .now) (c .before .before .before .before .before .before .before .before .before .before .before .before .before .before .before .before .before .before .before .before .args .answers .now) (c .before .before .before .before .before .before .before .before .before .before .before .before .before .before .before .before .before .before .before .before .args .edges .now) (c .before .before .before .before .before .before .before .before .before .before .before .before .before .before .before .before .before .before .before .before .pre) (c .before .before .before .before .before .before .before .before .before .before .before .before .before .before .count .ensures) (c .before .before .before .before .before .before .before .before .before .before .before .before .before .if1 .left) (c .before .before .before .before .before .before .before .before .before .before .borrow-map .ensures .0) (c .before .before .before .before .before .before .before .before .before .before .borrow-map .ensures .1 .0) (c .before .before .before .before .before .before .before .before .before .before .borrow-map .ensures .1 .1) (c .before .before .before .before .enum-told .given .1) (c .before .before .members .ensures .1)
+
+pub borrow-by-spec : {M : Type 1} → statement M
+borrow-by-spec =
+    tie.close
+    (tie.spec
+    count-requires
+    unborrowed-requires
+    returns
+    borrow-map-requires
+    enum-known-verdict
+    unborrowed-requires-2
+    same-length
+    same-length-2
+    returns-2
+    enum-told
+    members-requires
+    same-length-3
+    same-length-4
+    same-length-5
+    returns-3)

@@ -1,0 +1,59 @@
+-- `borrow_method` meets its contract: each way out is one law of proofs/BorrowLaws.antt.
+use Rattle.borrowing_param.proofs.BorrowLaws.{method-unborrowed, method-of, method-borrowed}
+use borrow.Author.Needs.{needs}
+use Rattle.borrowing_param.proofs.borrows.borrow_method.Statement.{statement}
+use Rattle.borrowing_param.proofs.borrows.borrow_method.Tie as tie
+
+-- src/borrows.rt:119:9
+new-requires : tie.Need-new-requires
+new-requires c κs = search needs
+
+-- src/borrows.rt:121:29
+enum-known-verdict : tie.Need-enum-known-verdict
+enum-known-verdict c = search needs
+
+-- src/borrows.rt:122:9
+unborrowed-requires : tie.Need-unborrowed-requires
+unborrowed-requires c κs = search needs
+
+-- src/borrows.rt:122:9
+returns : tie.Need-returns
+returns c = method-unborrowed (c .before .before .before .before .before .before .before .before .before .before .before .before .args .env) (c .before .before .before .before .before .before .before .before .before .before .before .before .args .structs .now) (c .before .before .before .before .before .before .before .before .before .before .before .before .args .params .now) (c .before .before .before .before .before .before .before .before .before .before .before .before .args .output .now) (c .before .before .before .before .before .before .before .before .before .before .before .before .args .force .now) (c .before .before .before .before .before .before .before .before .before .before .before .before .args .used .now) (c .before .before .before .before .before .before .before .before .before .before .before .before .args .answers .now) (c .before .before .before .before .before .before .before .before .before .before .before .before .args .edges .now) (c .before .before .before .before .new .ensures) (c .before .before .verdict .given .1) (c .unborrowed .ensures)
+
+enum-told : tie.Need-enum-told
+enum-told c = search needs
+
+-- src/borrows.rt:125:5
+borrow-by-requires : tie.Need-borrow-by-requires
+borrow-by-requires c κs = method-of (c .before .before .before .before .before .before .before .before .before .before .before .before .before .before .args .env) (c .before .before .before .before .before .before .before .before .before .before .before .before .before .before .args .structs .now) (c .before .before .before .before .before .before .before .before .before .before .before .before .before .before .args .params .now) (c .before .before .before .before .before .before .before .before .before .before .before .before .before .before .args .output .now) (c .before .before .before .before .before .before .before .before .before .before .before .before .before .before .args .force .now) (c .before .before .before .before .before .before .before .before .before .before .before .before .before .before .args .used .now) (c .before .before .before .before .before .before .before .before .before .before .before .before .before .before .args .answers .now) (c .before .before .before .before .before .before .before .before .before .before .before .before .before .before .args .edges .now) (c .before .before .before .before .before .before .new .ensures) (c .before .before .before .before .enum-told .given .1)
+
+-- src/borrows.rt:104:1
+same-length : tie.Need-same-length
+same-length c = search needs
+
+-- src/borrows.rt:104:1
+same-length-2 : tie.Need-same-length-2
+same-length-2 c = search needs
+
+-- src/borrows.rt:104:1
+same-length-3 : tie.Need-same-length-3
+same-length-3 c = search needs
+
+-- src/borrows.rt:104:1
+returns-2 : tie.Need-returns-2
+returns-2 c = method-borrowed (c .before .before .before .before .before .before .before .before .before .before .before .before .before .before .before .before .before .before .before .before .before .args .env) (c .before .before .before .before .before .before .before .before .before .before .before .before .before .before .before .before .before .before .before .before .before .args .structs .now) (c .before .before .before .before .before .before .before .before .before .before .before .before .before .before .before .before .before .before .before .before .before .args .params .now) (c .before .before .before .before .before .before .before .before .before .before .before .before .before .before .before .before .before .before .before .before .before .args .output .now) (c .before .before .before .before .before .before .before .before .before .before .before .before .before .before .before .before .before .before .before .before .before .args .force .now) (c .before .before .before .before .before .before .before .before .before .before .before .before .before .before .before .before .before .before .before .before .before .args .used .now) (c .before .before .before .before .before .before .before .before .before .before .before .before .before .before .before .before .before .before .before .before .before .args .answers .now) (c .before .before .before .before .before .before .before .before .before .before .before .before .before .before .before .before .before .before .before .before .before .args .edges .now) (c .before .before .before .before .before .before .before .before .before .before .before .before .before .new .ensures) (c .before .before .before .before .before .before .before .before .before .before .before .enum-told .given .1) (c .before .before .before .before .before .before .borrow-by .ensures)
+
+pub borrow-method-spec : {M : Type 1} → statement M
+borrow-method-spec =
+    tie.close
+    (tie.spec
+    new-requires
+    enum-known-verdict
+    unborrowed-requires
+    returns
+    enum-told
+    borrow-by-requires
+    same-length
+    same-length-2
+    same-length-3
+    returns-2)

@@ -1,0 +1,60 @@
+-- `borrow_sheet` meets its contract: what its scratch of either size gave, and what follows for a crate above.
+use Rattle.borrowing_param.proofs.BorrowLaws.{sheet-says}
+use borrow.Author.Needs.{needs}
+use Rattle.borrowing_param.proofs.borrows.borrow_sheet.Statement.{statement}
+use Rattle.borrowing_param.proofs.borrows.borrow_sheet.Tie as tie
+
+-- src/borrows.rt:42:9
+borrow-small-requires : tie.Need-borrow-small-requires
+borrow-small-requires c κs = search needs
+
+-- src/borrows.rt:42:9
+same-length : tie.Need-same-length
+same-length c = search needs
+
+-- src/borrows.rt:42:9
+same-length-2 : tie.Need-same-length-2
+same-length-2 c = search needs
+
+-- src/borrows.rt:42:9
+same-length-3 : tie.Need-same-length-3
+same-length-3 c = search needs
+
+-- src/borrows.rt:42:9
+returns : tie.Need-returns
+returns c = sheet-says (c .before .before .before .before .before .before .before .before .before .before .before .before .before .before .before .args .sheet .now) (c .before .before .before .before .before .before .before .before .before .before .before .before .before .before .before .args .used .now) (c .before .before .before .before .before .before .before .before .before .before .before .before .before .before .before .args .answers .now) (c .before .before .before .before .before .before .before .before .before .before .before .before .before .before .before .args .edges .now) (c .before .before .before .before .before .before .borrow-small .ensures)
+
+-- src/borrows.rt:44:5
+borrow-large-requires : tie.Need-borrow-large-requires
+borrow-large-requires c κs = search needs
+
+-- src/borrows.rt:29:1
+same-length-4 : tie.Need-same-length-4
+same-length-4 c = search needs
+
+-- src/borrows.rt:29:1
+same-length-5 : tie.Need-same-length-5
+same-length-5 c = search needs
+
+-- src/borrows.rt:29:1
+same-length-6 : tie.Need-same-length-6
+same-length-6 c = search needs
+
+-- src/borrows.rt:29:1
+returns-2 : tie.Need-returns-2
+returns-2 c = sheet-says (c .before .before .before .before .before .before .before .before .before .before .before .before .before .before .before .args .sheet .now) (c .before .before .before .before .before .before .before .before .before .before .before .before .before .before .before .args .used .now) (c .before .before .before .before .before .before .before .before .before .before .before .before .before .before .before .args .answers .now) (c .before .before .before .before .before .before .before .before .before .before .before .before .before .before .before .args .edges .now) (c .before .before .before .before .before .before .borrow-large .ensures)
+
+pub borrow-sheet-spec : {M : Type 1} → statement M
+borrow-sheet-spec =
+    tie.close
+    (tie.spec
+    borrow-small-requires
+    same-length
+    same-length-2
+    same-length-3
+    returns
+    borrow-large-requires
+    same-length-4
+    same-length-5
+    same-length-6
+    returns-2)

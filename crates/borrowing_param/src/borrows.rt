@@ -1,0 +1,169 @@
+// A whole method, and a whole sheet: the used lifetimes, the answers by parameter, and the edges in listing order, each to a lent slice.
+ghost use Prim.Native.Nat.{_≤_};
+ghost use mathlib.Core.Path.{_≡_};
+ghost use lib.ListN.{length, take};
+ghost use Rattle.lifetimes.specs.Refusals.{Refuses};
+ghost use Rattle.lifetimes.specs.Lent.{written};
+ghost use Rattle.borrowing_param.specs.Edges.{edgesIn};
+ghost use Rattle.borrowing_param.specs.Borrows.{borrowMethod, borrowSheet, borrowsAnswer, usedWords, answerWords, edgesWords};
+ghost use Rattle.borrowing_param.specs.Consistent.{Consistent};
+ghost use Rattle.borrowing_param.specs.InnerSheet.{Roomy, OfMethod, borrowBy, Gave};
+use super::method::judge_sheet;
+use super::visitor::BorrowingParamVisitor;
+use lifetimes::LifetimeEnv;
+use lifetimes::Refusal;
+use lifetimes::Verdict;
+use lifetimes::set;
+use sheet::record_words;
+
+// How many used lifetimes, parameters and edges there are, or why the call is refused; beside a refusal none.
+pub struct Borrows {
+    pub verdict: Verdict,
+    pub used: usize,
+    pub params: usize,
+    pub edges: usize,
+}
+
+// What a sheet's wrapper has to hold on to: the used lifetimes, ascending, to the first slice; the number of each parameter's answer to the second; the edges, in listing order, to the third.
+// Refused in the scope paper's order: 10; 1 over all records; 2 to 7 at the first bad place; 8; then 9 where a slice is too short. 64, 16 and 81,920 words are always enough.
+pub fn borrow_sheet(
+    sheet: &[u8],
+    used: &mut [usize],
+    answers: &mut [usize],
+    edges: &mut [usize],
+) -> Borrows
+    ensures { λ r. ⌜ r ≡ borrowsAnswer (borrowSheet (now (sheet .entry)) (length (now (used .entry))) (length (now (answers .entry))) (length (now (edges .entry)))) ⌝ }
+    ensures { λ _. ⌜ now (used .exit) ≡ written (usedWords (borrowSheet (now (sheet .entry)) (length (now (used .entry))) (length (now (answers .entry))) (length (now (edges .entry))))) (now (used .entry)) ⌝ }
+    ensures { λ _. ⌜ now (answers .exit) ≡ written (answerWords (borrowSheet (now (sheet .entry)) (length (now (used .entry))) (length (now (answers .entry))) (length (now (edges .entry))))) (now (answers .entry)) ⌝ }
+    ensures { λ _. ⌜ now (edges .exit) ≡ written (edgesWords (borrowSheet (now (sheet .entry)) (length (now (used .entry))) (length (now (answers .entry))) (length (now (edges .entry))))) (now (edges .entry)) ⌝ }
+    ensures { λ r. ⌜ (r .verdict ≡ Verdict.Accepted → Consistent (take (r .used) (now (used .exit))) (take (r .params) (now (answers .exit))) (edgesIn (r .edges) (now (edges .exit)))) ⌝ }
+{
+    if sheet.len() <= 1024 {
+        return borrow_small(sheet, used, answers, edges);
+    }
+    borrow_large(sheet, used, answers, edges)
+}
+
+// The same with scratch of one size.
+fn borrow_small(
+    sheet: &[u8],
+    used: &mut [usize],
+    answers: &mut [usize],
+    edges: &mut [usize],
+) -> Borrows
+    requires { ⌜ length (now sheet) ≤ 1024 ⌝ }
+    ensures { λ r. ⌜ Gave (borrowSheet (now (sheet .entry)) (length (now (used .entry))) (length (now (answers .entry))) (length (now (edges .entry)))) (now (used .entry)) (now (answers .entry)) (now (edges .entry)) r (now (used .exit)) (now (answers .exit)) (now (edges .exit)) ⌝ }
+{
+    let mut scratch = [0usize; 512];
+    borrow_within(sheet, &mut scratch, used, answers, edges)
+}
+
+fn borrow_large(
+    sheet: &[u8],
+    used: &mut [usize],
+    answers: &mut [usize],
+    edges: &mut [usize],
+) -> Borrows
+    ensures { λ r. ⌜ Gave (borrowSheet (now (sheet .entry)) (length (now (used .entry))) (length (now (answers .entry))) (length (now (edges .entry)))) (now (used .entry)) (now (answers .entry)) (now (edges .entry)) r (now (used .exit)) (now (answers .exit)) (now (edges .exit)) ⌝ }
+{
+    let mut scratch = [0usize; 10240];
+    borrow_within(sheet, &mut scratch, used, answers, edges)
+}
+
+// The same with scratch that takes the words of any sheet of so many bytes.
+fn borrow_within(
+    sheet: &[u8],
+    scratch: &mut [usize],
+    used: &mut [usize],
+    answers: &mut [usize],
+    edges: &mut [usize],
+) -> Borrows
+    requires { ⌜ Roomy (now sheet) (length (now scratch)) ⌝ }
+    ensures { λ r. ⌜ Gave (borrowSheet (now (sheet .entry)) (length (now (used .entry))) (length (now (answers .entry))) (length (now (edges .entry)))) (now (used .entry)) (now (answers .entry)) (now (edges .entry)) r (now (used .exit)) (now (answers .exit)) (now (edges .exit)) ⌝ }
+{
+    let method = judge_sheet(sheet, scratch);
+    let verdict = method.verdict;
+    if let Verdict::Refused(refusal) = verdict {
+        return unborrowed(refusal);
+    }
+    let ends = method.ends;
+    let env = method.env;
+    borrow_method(
+        env,
+        record_words(scratch, ends, 6),
+        record_words(scratch, ends, 7),
+        record_words(scratch, ends, 8),
+        record_words(scratch, ends, 9),
+        used,
+        answers,
+        edges,
+    )
+}
+
+// The same of a method made by hand, from its environment and its records. Refused as the method is (1, 4, 7, 8), then by 9.
+pub fn borrow_method(
+    env: LifetimeEnv,
+    structs: &[usize],
+    params: &[usize],
+    output: &[usize],
+    force: &[usize],
+    used: &mut [usize],
+    answers: &mut [usize],
+    edges: &mut [usize],
+) -> Borrows
+    ensures { λ r. ⌜ r ≡ borrowsAnswer (borrowMethod env (now (structs .entry)) (now (params .entry)) (now (output .entry)) (now (force .entry)) (length (now (used .entry))) (length (now (answers .entry))) (length (now (edges .entry)))) ⌝ }
+    ensures { λ _. ⌜ now (used .exit) ≡ written (usedWords (borrowMethod env (now (structs .entry)) (now (params .entry)) (now (output .entry)) (now (force .entry)) (length (now (used .entry))) (length (now (answers .entry))) (length (now (edges .entry))))) (now (used .entry)) ⌝ }
+    ensures { λ _. ⌜ now (answers .exit) ≡ written (answerWords (borrowMethod env (now (structs .entry)) (now (params .entry)) (now (output .entry)) (now (force .entry)) (length (now (used .entry))) (length (now (answers .entry))) (length (now (edges .entry))))) (now (answers .entry)) ⌝ }
+    ensures { λ _. ⌜ now (edges .exit) ≡ written (edgesWords (borrowMethod env (now (structs .entry)) (now (params .entry)) (now (output .entry)) (now (force .entry)) (length (now (used .entry))) (length (now (answers .entry))) (length (now (edges .entry))))) (now (edges .entry)) ⌝ }
+{
+    let created = BorrowingParamVisitor::new(env, structs, params, output, force);
+    let verdict = created.verdict;
+    if let Verdict::Refused(refusal) = verdict {
+        return unborrowed(refusal);
+    }
+    let visitor = created.visitor;
+    borrow_by(visitor, structs, params, used, answers, edges)
+}
+
+// The same by a visitor.
+fn borrow_by(
+    visitor: BorrowingParamVisitor,
+    structs: &[usize],
+    params: &[usize],
+    used: &mut [usize],
+    answers: &mut [usize],
+    edges: &mut [usize],
+) -> Borrows
+    requires { ⌜ OfMethod (now structs) (now params) ⌝ }
+    ensures { λ r. ⌜ Gave (borrowBy visitor (now (structs .entry)) (now (params .entry)) (length (now (used .entry))) (length (now (answers .entry))) (length (now (edges .entry)))) (now (used .entry)) (now (answers .entry)) (now (edges .entry)) r (now (used .exit)) (now (answers .exit)) (now (edges .exit)) ⌝ }
+{
+    let members = visitor.used;
+    let count = set::count(members);
+    if used.len() < count {
+        return unborrowed(Refusal::NoRoom);
+    }
+    let map = visitor.borrow_map(structs, params, answers, edges);
+    let verdict = map.verdict;
+    if let Verdict::Refused(refusal) = verdict {
+        return unborrowed(refusal);
+    }
+    set::members(members, used);
+    Borrows {
+        verdict: Verdict::Accepted,
+        used: count,
+        params: map.params,
+        edges: map.edges,
+    }
+}
+
+// A refusal alone.
+fn unborrowed(refusal: Refusal) -> Borrows
+    ensures { λ r. ⌜ r ≡ borrowsAnswer (Refuses refusal) ⌝ }
+{
+    Borrows {
+        verdict: Verdict::Refused(refusal),
+        used: 0,
+        params: 0,
+        edges: 0,
+    }
+}
