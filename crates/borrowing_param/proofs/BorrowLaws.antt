@@ -1,26 +1,24 @@
 -- A whole method and a whole sheet: what `borrow_method` and `borrow_sheet` answer and write, by what their tests and calls show.
 use Prim.Native.Nat.{ℕ, _≤_, _<_}
-use mathlib.Core.Bool.{true, false}
+use mathlib.Core.Bool.{false}
 use mathlib.Core.Path.{_≡_, refl, sym, ap, subst, _∙_}
-use mathlib.Core.List.{List, [], _∷_, _++_, flatMap}
+use mathlib.Core.List.{List, [], _∷_, _++_}
 use native.Mathlib.Omega.{arith}
 use borrow.Author.Tests.{le-ltb, lt-ltb}
 use lib.ListN.{length, getD, take, drop}
 use lib.Seq.{take-append-seam}
 use Rattle.lifetimes.specs.declared.answer.Refusal.{Refusal}
 use Rattle.lifetimes.specs.declared.answer.Refusal.the-variants.{NoRoom}
-use Rattle.lifetimes.specs.declared.answer.Verdict.{Verdict}
 use Rattle.lifetimes.specs.declared.answer.Verdict.the-variants as verdict
-use Rattle.lifetimes.specs.declared.env.Bound.{Bound}
 use Rattle.lifetimes.specs.declared.env.LifetimeEnv.{LifetimeEnv}
 use Rattle.lifetimes.specs.Refusals.{Check, Outcome, Gives, Refuses, unless, FirstDue, here, later, NoneDue, next, end}
 use Rattle.lifetimes.specs.Lent.{verdictOf, roomCheck, written}
 use Rattle.lifetimes.specs.Env.{boundsOf, envOf}
 use Rattle.lifetimes.specs.Sets as sets
-use Rattle.lifetimes.proofs.RefusalLaws.{due-given, due-refused, none-first, none-rest, none-split, none-more, first-more, first-after, first-behind, refused-first, accepted-none}
+use Rattle.lifetimes.proofs.RefusalLaws.{due-given, due-refused, none-split, first-more, first-behind, refused-first, accepted-none}
 use Rattle.hir_types.specs.Method.{typesIn, methodChecks}
 use Rattle.hir_types.specs.Used.{usedSet, usedNumbers}
-use Rattle.sheet.specs.Text.{Records, lists, wordsOf}
+use Rattle.sheet.specs.Text.{Records, lists}
 use Rattle.sheet.specs.Reading.{sheetOf, textChecks}
 use Rattle.sheet.specs.Answer.{recordWords}
 use Rattle.sheet.specs.Inner.{Laid}
@@ -30,7 +28,7 @@ use Rattle.borrowing_param.specs.declared.listed.BorrowMap.{BorrowMap}
 use Rattle.borrowing_param.specs.declared.method.SheetMethod.{SheetMethod}
 use Rattle.borrowing_param.specs.declared.visitor.BorrowingParamVisitor.{BorrowingParamVisitor}
 use Rattle.borrowing_param.specs.declared.visitor.Created.{Created}
-use Rattle.borrowing_param.specs.Edges.{edgeWords, edgesIn}
+use Rattle.borrowing_param.specs.Edges.{edgesIn}
 use Rattle.borrowing_param.specs.New.{createdBy, created}
 use Rattle.borrowing_param.specs.BorrowMap as map
 use Rattle.borrowing_param.specs.Consistent.{Consistent}

@@ -1,20 +1,19 @@
 -- Which lifetimes of a parameter draw: the first one, how many, and how many edges that makes.
 -- In order: one lifetime; the words that are left to a loop over path words; the first that draws; how many draw; edges counted.
-use Prim.Native.Nat.{ℕ, zero, suc, _+_, _-_, _*_, _≤_, _<_}
+use Prim.Native.Nat.{ℕ, zero, suc, _+_, _-_, _≤_, _<_}
 use mathlib.Core.Bool.{Bool, true, false, cond}
 use mathlib.Core.Path.{_≡_, refl, sym, ap, _∙_}
-use mathlib.Core.List.{List, [], _∷_, _++_, map, flatMap, append-nil}
+use mathlib.Core.List.{List, [], _∷_, _++_, map}
 use native.Mathlib.Nat.{sub-zero, add-zero, zero-add}
 use native.Mathlib.Numerals.{add-one}
 use native.Mathlib.Omega.{arith}
 use borrow.Author.Tests.{lt-ltb, le-ltb}
-use lib.ListN.{length, getD, take, drop, length-drop, length-map, length-append}
+use lib.ListN.{length, getD, take, drop, length-drop, length-map}
 use lib.Seq.{drop-cons, length-take-le}
 use Rattle.lifetimes.specs.declared.answer.Refusal.{Refusal}
 use Rattle.lifetimes.specs.declared.maybe_static.MaybeStatic.{MaybeStatic}
 use Rattle.lifetimes.specs.LoweredWords.{fromWord}
-use Rattle.lifetimes.specs.Ranges.{ascending, select}
-use Rattle.lifetimes.specs.Sets.{member, members}
+use Rattle.lifetimes.specs.Sets.{member}
 use Rattle.lowered_types.specs.declared.types.Kind.{Kind}
 use Rattle.lowered_types.specs.declared.types.Kind.the-variants.{Plain, Opaque, Struct, Slice}
 use Rattle.lowered_types.specs.declared.types.Own.{Own}
@@ -27,9 +26,9 @@ use Rattle.borrowing_param.specs.declared.edges.First.{First}
 use Rattle.borrowing_param.specs.declared.edges.First.the-variants.{At, Absent}
 use Rattle.borrowing_param.specs.declared.visitor.LifetimeEdge.{LifetimeEdge}
 use Rattle.borrowing_param.specs.Edges.{edge}
-use Rattle.borrowing_param.specs.Brings.{drawn, anyDrawn, oneEdge, structEdges, optionOf, bringAs, bring}
+use Rattle.borrowing_param.specs.Brings.{drawn, anyDrawn, structEdges, optionOf, bringAs, bring}
 use Rattle.borrowing_param.specs.Visit.{drawsIn}
-use Rattle.borrowing_param.specs.Inner.{Inside, typeIn, firstFrom, countDrawn, oneIf, CountsFor, allIn, CountsAll}
+use Rattle.borrowing_param.specs.Inner.{Inside, typeIn, firstFrom, countDrawn, oneIf, CountsFor}
 
 -- ---- one lifetime
 

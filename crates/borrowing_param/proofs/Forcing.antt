@@ -1,19 +1,17 @@
 -- Condition 3: the test by which a new visitor's visits go is that of the numberings, and its visits are those of `visit_param`.
-use Prim.Native.Nat.{ℕ, zero, suc, _+_, _≤_, _<_}
-use mathlib.Core.Bool.{Bool, true, false, cond, _&&_, not, and-eq-true-iff}
+use Prim.Native.Nat.{ℕ, zero, suc, _≤_, _<_}
+use mathlib.Core.Bool.{Bool, true, false, cond, not, and-eq-true-iff}
 use mathlib.Core.Path.{_≡_, refl, sym, ap, subst, _∙_}
-use mathlib.Core.Logic.{_↔_, ⊎-elim}
-use mathlib.Core.List.{List, [], _∷_, _++_, map, flatMap, append-nil, List·Memᴰ, List·Nodup, nodup-cons}
+use mathlib.Core.Logic.{_↔_}
+use mathlib.Core.List.{List, [], _∷_, _++_, flatMap, List·Memᴰ}
 use native.Mathlib.Nat.{zero-add}
 use native.Mathlib.Omega.{arith}
 use borrow.Author.Tests.{lt-ltb, lt-leb, not-false}
-use lib.Dec.{ltb, leb}
-use lib.ListN.{length, getD, take, drop}
-use Rattle.lifetimes.specs.declared.env.Bound.{Bound}
+use lib.Dec.{ltb}
+use lib.ListN.{length, getD}
 use Rattle.lifetimes.specs.declared.env.LifetimeEnv.{LifetimeEnv}
 use Rattle.lifetimes.specs.declared.answer.Refusal.the-variants.{Malformed}
-use Rattle.lifetimes.specs.declared.answer.Verdict.the-variants.{Accepted}
-use Rattle.lifetimes.specs.Refusals.{Check, check, Outcome, Gives, unless, NoneDue, end, next}
+use Rattle.lifetimes.specs.Refusals.{check, Gives, NoneDue, end, next}
 use Rattle.lifetimes.specs.Ranges.{ascending, select}
 use Rattle.lifetimes.specs.Sets.{member, members, setOf}
 use Rattle.lifetimes.specs.Env.{boundsOf, envChecks, envOf, allBelow}
@@ -25,15 +23,15 @@ use Rattle.records.specs.Reading.{readAll, inShape, itemsOf}
 use Rattle.lowered_types.specs.declared.types.Kind.{Kind}
 use Rattle.lowered_types.specs.declared.types.Kind.the-variants.{Plain, Opaque, Struct, Slice}
 use Rattle.lowered_types.specs.LoweredTypes.{LoweredType}
-use Rattle.lowered_types.specs.Rows.{rowsOf, structsInShape, paramsInShape, outputInShape, forceInShape, methodInShape}
-use Rattle.hir_types.specs.Method.{typesIn, typeChecks, rowChecks, paramChecks, placeChecks, anyPast, outputLifetimes, methodChecks}
+use Rattle.lowered_types.specs.Rows.{rowsOf, structsInShape, paramsInShape, methodInShape}
+use Rattle.hir_types.specs.Method.{typesIn, typeChecks, rowChecks, paramChecks, placeChecks, anyPast, methodChecks}
 use Rattle.hir_types.specs.Used.{usedSet, usedNumbers}
 use Rattle.borrowing_param.specs.declared.visitor.LifetimeEdge.{LifetimeEdge}
 use Rattle.borrowing_param.specs.declared.visitor.BorrowingParamVisitor.{BorrowingParamVisitor}
-use Rattle.borrowing_param.specs.Brings.{bring, answerOf}
-use Rattle.borrowing_param.specs.Visit.{usedOf, drawsIn, drawsOf, bringTo, bringAll, holding, state, visitWith, visit}
+use Rattle.borrowing_param.specs.Brings.{answerOf}
+use Rattle.borrowing_param.specs.Visit.{usedOf, drawsOf, bringTo, bringAll, holding, state, visitWith, visit}
 use Rattle.borrowing_param.specs.VisitParam.{typeAt, visitChecks, visitParam}
-use Rattle.borrowing_param.specs.Visits.{allOf, Visits}
+use Rattle.borrowing_param.specs.Visits.{allOf}
 use Rattle.borrowing_param.specs.New.{drawsTo, newVisitor, created}
 use Rattle.borrowing_param.specs.Condition3.{Above, Param}
 use Rattle.borrowing_param.specs.Theorems.{answerAt, AllVisits}

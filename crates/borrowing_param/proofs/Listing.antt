@@ -21,7 +21,7 @@ use Rattle.lifetimes.specs.Env.{envOf}
 use Rattle.lifetimes.specs.Sets.{member, members}
 use Rattle.lifetimes.proofs.RefusalLaws.{due-given, due-refused, refused-first, accepted-none, first-more}
 use Rattle.lifetimes.proofs.SetLaws.{members-few}
-use Rattle.lifetimes.proofs.Copying.{sets-front, Copying, copying-more}
+use Rattle.lifetimes.proofs.Copying.{sets-front}
 use Rattle.records.specs.Reading.{Read, Fails, readAll, readOr, fewWords, inShape, itemsOf}
 use Rattle.records.proofs.ReadingLaws.{Holds, read, fails, holds-onward, holds-or, passed}
 use Rattle.lowered_types.specs.declared.types.Parts.{Parts}
@@ -332,11 +332,6 @@ module _ {used : ℕ} {drawn words : List ℕ} {types : List LoweredType} {numbe
             notes = rw (add-one param, named) noted;
             size = length-set numbers param number ∙ inv .size;
           }
-
--- ---- the loop of `copy_numbers`
-
-pub copying-front : {items : List ℕ} {n : ℕ} {out₀ out : List ℕ} {i : ℕ} → Copying items n 0 out₀ out i → n ≤ length items → i < n → Copying items n 0 out₀ (set out i (getD items i 0)) (i + 1)
-copying-front {items} {n} {out₀} {out} {i} inv full h = rw (zero-add i) at (copying-more inv full h)
 
 -- ---- the answers of `map_params`
 

@@ -1,7 +1,7 @@
 -- A sheet's method: the first refusal due on ten records in shape is that of the stage which refuses them; if none is due, the method is accepted.
 use Prim.Native.Nat.{ℕ, _≤_}
-use mathlib.Core.Bool.{Bool, true, false, _&&_, not, and-eq-true-iff}
-use mathlib.Core.Path.{_≡_, refl, sym, ap, subst, _∙_}
+use mathlib.Core.Bool.{true, false, _&&_, not, and-eq-true-iff}
+use mathlib.Core.Path.{_≡_, refl, sym, ap, _∙_}
 use mathlib.Core.List.{List, [], _∷_, _++_}
 use native.Mathlib.Omega.{arith}
 use borrow.Author.Tests.{le-ltb, not-false}
@@ -15,7 +15,7 @@ use Rattle.lifetimes.specs.declared.env.Made.{Made}
 use Rattle.lifetimes.specs.Refusals.{Check, check, Outcome, Gives, Refuses, unless, FirstDue, here, later, NoneDue, next, end}
 use Rattle.lifetimes.specs.Lent.{verdictOf, resultOr}
 use Rattle.lifetimes.specs.Env.{envChecks, envOf, made}
-use Rattle.lifetimes.proofs.RefusalLaws.{due-given, due-refused, refused-due, given-due, none-first, none-rest, none-split, none-more, first-more, first-after, first-behind, refused-first, accepted-none}
+use Rattle.lifetimes.proofs.RefusalLaws.{due-given, due-refused, none-first, none-rest, none-split, none-more, first-more, first-after, first-behind, refused-first, accepted-none}
 use Rattle.ast_lifetimes.specs.declared.env.LifetimeEnv as ast-env
 use Rattle.ast_lifetimes.specs.declared.env.Made as ast-made
 use Rattle.ast_lifetimes.specs.Shapes.{namesInShape, boundsInShape}
@@ -23,9 +23,9 @@ use Rattle.ast_lifetimes.specs.Types.{typesInShape}
 use Rattle.ast_lifetimes.specs.Env as ast
 use Rattle.ast_lifetimes.proofs.AcceptedLaws.{accepted-names, accepted-names-of, accepted-valid}
 use Rattle.elision.specs.declared.method.Lowering.{Lowering}
-use Rattle.elision.specs.Steps.{selfInShape, stepsInShape, receiverOf, stepsOf}
+use Rattle.elision.specs.Steps.{receiverOf, stepsOf}
 use Rattle.elision.specs.Rfc as rfc
-use Rattle.elision.specs.Lowering.{inShapeAll, recordsOf, measureChecks, measureRecords, finished, answered}
+use Rattle.elision.specs.Lowering.{inShapeAll, recordsOf, measureChecks, measureRecords, answered}
 use Rattle.elision.proofs.Theorems.{rfc141-says}
 use Rattle.lowered_types.specs.Rows.{methodInShape}
 use Rattle.hir_types.specs.Method.{placeChecks, outputLifetimes, anyPast, methodChecks, methodVerdict}

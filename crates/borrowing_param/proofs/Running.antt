@@ -12,7 +12,6 @@ use lib.Dec.{leb}
 use lib.ListN.{length, getD, take, drop, length-append}
 use lib.Seq.{sets, sets-eq, length-sets, split-at}
 use Rattle.lifetimes.specs.declared.answer.Refusal.the-variants.{NoRoom}
-use Rattle.lifetimes.specs.declared.answer.Verdict.{Verdict}
 use Rattle.lifetimes.specs.declared.answer.Verdict.the-variants.{Accepted, Refused}
 use Rattle.records.proofs.VerdictLaws.{refused-accepted}
 use Rattle.borrowing_param.specs.declared.visitor.LifetimeEdge.{LifetimeEdge}
@@ -21,7 +20,7 @@ use Rattle.borrowing_param.specs.declared.visitor.BorrowingParamVisitor.
 use Rattle.borrowing_param.specs.Edges.{width, edgeWords, edgesOf}
 use Rattle.borrowing_param.specs.Brings.{refuse}
 use Rattle.borrowing_param.specs.Visit.{usedOf, holding, State, state, Outcome, outcome, roomFor, stored, visitWith, after, visitAt}
-use Rattle.borrowing_param.specs.Visits.{filled, kept, allOf, many, before, leaves, edgesAfter, NoneRefused, Visits}
+use Rattle.borrowing_param.specs.Visits.{filled, kept, allOf, many, edgesAfter, NoneRefused, Visits}
 use Rattle.borrowing_param.proofs.Joining.{join-cons, join-append, perm-length, perm-member, join-perm, sets-behind, words-many, words-read, of-append, Once, of-others, of-part}
 
 -- ---- one visit, by whether there is room

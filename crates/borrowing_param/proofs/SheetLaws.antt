@@ -1,9 +1,9 @@
 -- A sheet judged in scratch: what reading it says, where its records are found, and what the call answers and writes.
-use Prim.Native.Nat.{ℕ, _*_, _≤_, _<_}
-use mathlib.Core.Bool.{Bool, true, false, not}
+use Prim.Native.Nat.{ℕ, _≤_, _<_}
+use mathlib.Core.Bool.{true, false, not}
 use mathlib.Core.Logic.{_⊎_, inl, inr}
 use mathlib.Core.Path.{_≡_, refl, sym, ap, _∙_}
-use mathlib.Core.List.{List, [], _∷_, _++_, append-assoc}
+use mathlib.Core.List.{List, [], _∷_, _++_}
 use native.Mathlib.Omega.{arith}
 use borrow.Author.Tests.{le-ltb, lt-ltb, not-false}
 use lib.ListN.{length, getD, take, drop, length-append}
@@ -11,13 +11,12 @@ use lib.Seq.{sets, take-append-seam}
 use Rattle.lifetimes.specs.declared.answer.Refusal.{Refusal}
 use Rattle.lifetimes.specs.declared.answer.Refusal.the-variants.{Malformed, NoRoom}
 use Rattle.lifetimes.specs.declared.answer.Verdict.the-variants as verdict
-use Rattle.lifetimes.specs.declared.env.LifetimeEnv.{LifetimeEnv}
 use Rattle.lifetimes.specs.declared.env.Made.{Made}
 use Rattle.lifetimes.specs.Refusals.{Check, check, Outcome, Gives, Refuses, unless, FirstDue, here, later, NoneDue, next, end}
 use Rattle.lifetimes.specs.Lent.{verdictOf, resultOr, roomCheck, written}
 use Rattle.lifetimes.specs.Env.{envOf, made}
 use Rattle.lifetimes.proofs.Copying.{sets-front}
-use Rattle.lifetimes.proofs.RefusalLaws.{due-given, due-refused, given-due, none-first, none-rest, none-split, none-more, first-more, first-after, refused-first, accepted-none}
+use Rattle.lifetimes.proofs.RefusalLaws.{due-given, due-refused, none-first, none-split, none-more, first-more, first-after, refused-first, accepted-none}
 use Rattle.records.proofs.VerdictLaws.{refused-accepted}
 use Rattle.sheet.specs.declared.text.Text.{Text}
 use Rattle.sheet.specs.Text.{Records, lists, wordsOf}

@@ -1,25 +1,24 @@
 -- Storing edges behind others: what is left, stored from here, gives what all gives from the start; the used lifetimes one after another; one edge; the edges of a struct.
-use Prim.Native.Nat.{ℕ, zero, suc, _+_, _-_, _*_, _≤_, _<_}
+use Prim.Native.Nat.{ℕ, suc, _+_, _-_, _*_, _≤_, _<_}
 use mathlib.Core.Bool.{Bool, true, false, cond}
 use mathlib.Core.Path.{_≡_, refl, sym, ap, _∙_}
-use mathlib.Core.List.{List, [], _∷_, _++_, map, flatMap, append-nil}
-use native.Mathlib.Nat.{sub-zero, add-zero, zero-add}
+use mathlib.Core.List.{List, [], _∷_, _++_, flatMap}
+use native.Mathlib.Nat.{add-zero, zero-add}
 use native.Mathlib.Numerals.{add-one}
 use native.Mathlib.Omega.{arith}
 use borrow.Author.Tests.{lt-ltb, eq-eqb, ne-eqb}
 use lib.Dec.{eqb, ltb}
-use lib.ListN.{length, getD, set, length-append, length-set, length-map}
+use lib.ListN.{length, getD, set, length-append, length-set}
 use lib.Seq.{sets, length-sets}
 use Rattle.lifetimes.specs.declared.maybe_static.MaybeStatic.{MaybeStatic}
 use Rattle.lifetimes.specs.LoweredWords.{fromWord}
 use Rattle.lifetimes.specs.Ranges.{ascending, select}
 use Rattle.lifetimes.specs.Sets.{member, insert, members}
-use Rattle.lowered_types.specs.declared.types.Kind.{Kind}
 use Rattle.lowered_types.specs.declared.types.Kind.the-variants.{Plain, Opaque, Struct, Slice}
 use Rattle.lowered_types.specs.LoweredTypes.{LoweredType, lifetimesOf}
 use Rattle.borrowing_param.specs.declared.visitor.LifetimeEdge.{LifetimeEdge}
 use Rattle.borrowing_param.specs.Edges.{edge, width, edgeWords}
-use Rattle.borrowing_param.specs.Brings.{drawn, anyDrawn, oneEdge, structEdges, optionOf, bring, note, notes}
+use Rattle.borrowing_param.specs.Brings.{drawn, anyDrawn, oneEdge, structEdges, bring, note, notes}
 use Rattle.borrowing_param.specs.Visit.{drawsIn}
 use Rattle.borrowing_param.specs.Inner.{Inside, CountsFor, allIn, CountsAll, structOf, StoresWords, Stores}
 use Rattle.borrowing_param.proofs.Joining.{join-cons, join-append, sets-behind, words-many}

@@ -1,16 +1,16 @@
 -- A visit of one parameter: finding it, the answers of `visit_parts` and of `visit_param`.
 -- In order: the type with a number; its path is short; the records of a method and the parameter; room; the answers.
-use Prim.Native.Nat.{ℕ, zero, suc, _+_, _-_, _*_, _/_, _%_, _≤_, _<_}
+use Prim.Native.Nat.{ℕ, zero, suc, _+_, _-_, _*_, _/_, _≤_, _<_}
 use mathlib.Core.Bool.{Bool, true, false, cond, _&&_, not, true≢false}
-use mathlib.Core.Path.{_≡_, refl, sym, ap, subst, _∙_}
+use mathlib.Core.Path.{_≡_, refl, sym, ap, _∙_}
 use mathlib.Core.List.{List, [], _∷_, flatMap}
 use native.Mathlib.Nat.{sub-zero, add-zero}
 use native.Mathlib.Nat.{div-add-mod', mod-lt}
 use native.Mathlib.Decide.{decLt}
 use native.Mathlib.Omega.{arith}
-use borrow.Author.Tests.{le-leb, lt-leb, leb-true, leb-false, not-false, eq-eqb, ne-eqb}
+use borrow.Author.Tests.{lt-leb, leb-true, leb-false, not-false, ne-eqb}
 use lib.Dec.{eqb, leb}
-use lib.ListN.{length, getD, take, drop, length-take, length-drop}
+use lib.ListN.{length, take, drop}
 use lib.Seq.{length-take-le}
 use Rattle.lifetimes.specs.declared.answer.Refusal.{Refusal}
 use Rattle.lifetimes.specs.declared.answer.Refusal.the-variants.{Malformed, NoRoom}
@@ -22,17 +22,16 @@ use Rattle.lifetimes.specs.Env.{envOf, pairsOf, newEnv, made}
 use Rattle.lifetimes.specs.Refusals as refusals
 use Rattle.lifetimes.specs.Refusals.{check, unless, FirstDue, here, later, NoneDue, next}
 use Rattle.lifetimes.proofs.RefusalLaws.{due-given, due-refused, refused-first, accepted-none, none-first}
-use Rattle.records.specs.Reading.{Reading, Read, Fails, onward, readWord, readLifetimes, isRead, readOr, readAll, fewWords, inShape, itemsOf}
+use Rattle.records.specs.Reading.{Reading, Read, Fails, onward, readWord, readLifetimes, readAll, fewWords, inShape, itemsOf}
 use Rattle.records.proofs.ReadingLaws.{Holds, read, fails, holds-read, holds-cond, holds-onward, holds-or, passed}
-use Rattle.records.proofs.VerdictLaws.{refused-accepted}
 use Rattle.lowered_types.specs.declared.types.Kind.{Kind}
 use Rattle.lowered_types.specs.declared.types.Kind.the-variants.{Plain, Opaque, Struct, Slice}
 use Rattle.lowered_types.specs.declared.types.Own.{Own}
 use Rattle.lowered_types.specs.declared.types.Parts.{Parts}
 use Rattle.lowered_types.specs.declared.types.Located.{Located}
 use Rattle.lowered_types.specs.declared.types.Located.the-variants.{At, Missing}
-use Rattle.lowered_types.specs.LoweredTypes.{LoweredType, lowered, readFlag, readOwner, readOpaque, readStruct, readSlice, readBare, readLowered, knows}
-use Rattle.lowered_types.specs.Rows.{rowsOf, readKnown, typesOf, paramsInShape, methodInShape, structsInShape, outputInShape, forceInShape}
+use Rattle.lowered_types.specs.LoweredTypes.{LoweredType, readFlag, readOwner, readOpaque, readStruct, readSlice, readBare, readLowered, knows}
+use Rattle.lowered_types.specs.Rows.{rowsOf, readKnown, typesOf, paramsInShape, methodInShape, structsInShape}
 use Rattle.lowered_types.specs.Places.{Stands, Locates, nowhere}
 use Rattle.lowered_types.proofs.FoundLaws.{Found, found-told, missing-told, path-inside}
 use Rattle.hir_types.specs.Method.{typesIn, methodChecks, methodVerdict}
@@ -41,7 +40,7 @@ use Rattle.borrowing_param.specs.declared.visitor.BorrowingParamVisitor.
 use Rattle.borrowing_param.specs.declared.visitor.ParamBorrowInfo.{ParamBorrowInfo}
 use Rattle.borrowing_param.specs.Edges.{width}
 use Rattle.borrowing_param.specs.Brings.{numberOf, notes, noPairs, answerOf, refuse}
-use Rattle.borrowing_param.specs.Visit.{bringAll, holding, State, state, Outcome, outcome, roomFor, visitWith, visit}
+use Rattle.borrowing_param.specs.Visit.{bringAll, holding, State, state, outcome, visitWith, visit}
 use Rattle.borrowing_param.specs.VisitParam.{typeAt, visitChecks, visitParam}
 use Rattle.borrowing_param.specs.Inner.{Inside, typeIn, nthType, FoundAt, numberBy, allIn, CountsAll, Stores}
 use Rattle.borrowing_param.proofs.Running.{visit-stores}

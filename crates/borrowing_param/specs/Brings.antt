@@ -1,7 +1,7 @@
 -- What a parameter brings, over any test of which lifetimes draw an edge to a used lifetime.
-use Prim.Native.Nat.{ℕ, zero, suc}
+use Prim.Native.Nat.{ℕ, suc}
 use mathlib.Core.Bool.{Bool, true, false, cond}
-use mathlib.Core.List.{List, [], _∷_, map, flatMap}
+use mathlib.Core.List.{List, [], _∷_, map}
 use lib.Dec.{eqb}
 use lib.ListN.{getD, set, replicate}
 use Rattle.lifetimes.specs.declared.answer.Refusal.{Refusal}

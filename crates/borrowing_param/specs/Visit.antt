@@ -1,6 +1,6 @@
 -- One visit, and a list of visits.
-use Prim.Native.Nat.{ℕ, suc, _+_, _*_}
-use mathlib.Core.Bool.{Bool, true, false, cond, _&&_}
+use Prim.Native.Nat.{ℕ, _+_, _*_}
+use mathlib.Core.Bool.{Bool, true, cond, _&&_}
 use mathlib.Core.List.{List, [], _∷_, flatMap}
 use lib.Dec.{leb, ltb}
 use lib.ListN.{length, getD, take}

@@ -1,5 +1,5 @@
 -- `visit_param`: a visit of one parameter of the records `structs` and `params`, total on all words.
-use Prim.Native.Nat.{ℕ, zero, suc}
+use Prim.Native.Nat.{ℕ}
 use mathlib.Core.Bool.{false}
 use mathlib.Core.List.{List, [], _∷_}
 use lib.Dec.{leb}

@@ -1,6 +1,6 @@
 -- What any list of visits answers, stores and leaves. For condition 3 (specs/Condition3.antt): this part does not ask why an edge is drawn.
-use Prim.Native.Nat.{ℕ, suc, _+_, _*_, _≤_, _<_}
-use mathlib.Core.Bool.{true, cond}
+use Prim.Native.Nat.{ℕ, _+_, _*_, _≤_, _<_}
+use mathlib.Core.Bool.{cond}
 use mathlib.Core.Path.{_≡_}
 use mathlib.Core.List.{List, [], _∷_, _++_, flatMap, List·Memᴰ, List·Permᴰ}
 use lib.Dec.{leb}

@@ -1,5 +1,6 @@
 // Borrow edges: which buffers a view has to hold on to.
 mod borrows;
+mod copy;
 mod edges;
 mod listed;
 mod method;

@@ -10,6 +10,7 @@ ghost use Rattle.borrowing_param.specs.Visit.{drawsIn};
 ghost use Rattle.borrowing_param.specs.BorrowMap.{listedEdges, borrowMap, mapAnswer, answersIn, edgesIn};
 ghost use Rattle.borrowing_param.specs.Inner.{Stores, StoresWords};
 ghost use Rattle.borrowing_param.specs.InnerMap.{loweredOf, Params, visitorIn, bringFrom, CountsParams, mapOf, Maps};
+use super::copy::copy;
 use super::edges::count_all;
 use super::edges::store_for;
 use super::visitor::BorrowingParamVisitor;
@@ -90,7 +91,7 @@ fn map_params(
     if edges.len() / BorrowingParamVisitor::EDGE_WORDS < total {
         return unmapped(Refusal::NoRoom);
     }
-    copy_numbers(&numbers, count, answers);
+    copy(&numbers, count, answers);
     let stored = store_listed(used, &draws, params, edges);
     BorrowMap {
         verdict: Verdict::Accepted,
@@ -130,18 +131,6 @@ fn count_params(
     Counted {
         params: param,
         edges: total,
-    }
-}
-
-// The first of some numbers, to the front of a slice.
-fn copy_numbers(numbers: &[usize; 16], count: usize, answers: &mut [usize])
-    requires { ⌜ (count ≤ 16) × (length (now numbers) ≡ 16) × (count ≤ length (now answers)) ⌝ }
-    ensures { λ _. ⌜ now (answers .exit) ≡ sets (now (answers .entry)) 0 (take count (now (numbers .entry))) ⌝ }
-{
-    let mut i = 0;
-    while i < count {
-        answers[i] = numbers[i];
-        i += 1;
     }
 }
 

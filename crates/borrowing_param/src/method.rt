@@ -5,8 +5,7 @@ ghost use Prim.Native.Nat.{_*_, _≤_};
 ghost use mathlib.Core.Bool.{true};
 ghost use mathlib.Core.Path.{_≡_};
 ghost use mathlib.Core.List.{[]};
-ghost use lib.ListN.{length, take};
-ghost use lib.Seq.{sets};
+ghost use lib.ListN.{length};
 ghost use Rattle.lifetimes.specs.Refusals.{Refuses};
 ghost use Rattle.lifetimes.specs.Lent.{written};
 ghost use Rattle.lifetimes.specs.Env.{envOf, made};
@@ -14,6 +13,7 @@ ghost use Rattle.sheet.specs.Shape.{sheetInShape};
 ghost use Rattle.sheet.specs.Inner.{Laid, recordsAt};
 ghost use Rattle.borrowing_param.specs.SheetMethod.{lowerSheet, methodAnswer, sheetWords};
 ghost use Rattle.borrowing_param.specs.InnerSheet.{records, methodOf, Roomy, Judges};
+use super::copy::copy;
 use elision::measure;
 use hir_types::check_method;
 use lifetimes::LifetimeEnv;
@@ -183,17 +183,5 @@ pub(crate) fn refused_method(refusal: Refusal) -> SheetMethod
         verdict: Verdict::Refused(refusal),
         ends: [0; 10],
         env,
-    }
-}
-
-// Copy the first words of a slice to the front of another.
-fn copy(words: &[usize], count: usize, out: &mut [usize])
-    requires { ⌜ (count ≤ length (now words)) × (count ≤ length (now out)) ⌝ }
-    ensures { λ _. ⌜ now (out .exit) ≡ sets (now (out .entry)) 0 (take count (now (words .entry))) ⌝ }
-{
-    let mut i = 0;
-    while i < count {
-        out[i] = words[i];
-        i += 1;
     }
 }

@@ -1,12 +1,11 @@
 -- `store_all` meets its contract. The loop's invariant is `Storing` of proofs/Storing.antt, over the edges that are left; the measure is how many lifetimes are to be looked at.
-use Prim.Native.Nat.{_+_, _-_, _*_, _≤_}
-use mathlib.Core.Path.{_≡_, sym, ap, _∙_}
+use Prim.Native.Nat.{_+_, _-_, _≤_}
+use mathlib.Core.Path.{sym, ap, _∙_}
 use native.Mathlib.Omega.{arith}
 use borrow.Author.Tests.{not-true, not-false}
-use lib.ListN.{length, getD}
+use lib.ListN.{getD}
 use Rattle.lifetimes.specs.declared.lifetime.Lifetime.{Lifetime}
 use Rattle.lifetimes.specs.Sets.{member}
-use Rattle.borrowing_param.specs.Edges.{width}
 use Rattle.borrowing_param.specs.Brings.{bring}
 use Rattle.borrowing_param.specs.Visit.{drawsIn}
 use Rattle.borrowing_param.specs.Inner.{typeIn, allIn}

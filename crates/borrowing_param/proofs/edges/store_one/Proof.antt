@@ -1,7 +1,6 @@
 -- `store_one` meets its contract.
 use mathlib.Core.Path.{sym, _∙_}
 use native.Mathlib.Omega.{arith}
-use Rattle.borrowing_param.specs.Visit.{drawsIn}
 use Rattle.borrowing_param.proofs.Drawing.{first-any, none-any}
 use Rattle.borrowing_param.proofs.Storing.{one-stored, one-room, none-stored}
 use borrow.Author.Needs.{needs}

@@ -1,12 +1,12 @@
 -- `store_struct` meets its contract. The loop's invariant is `Storing` of proofs/Storing.antt, over the edges that are left; the measure is how many words are to be read.
 use Prim.Native.Nat.{_+_, _-_, _*_, _≤_}
-use mathlib.Core.Path.{_≡_, refl, sym, ap, _∙_}
+use mathlib.Core.Path.{refl, sym, _∙_}
 use mathlib.Core.List.{[], _∷_}
 use native.Mathlib.Omega.{arith}
 use borrow.Author.Tests.{not-true, not-false}
 use lib.ListN.{length}
 use Rattle.borrowing_param.specs.Edges.{edge, width}
-use Rattle.borrowing_param.specs.Brings.{structEdges, optionOf}
+use Rattle.borrowing_param.specs.Brings.{structEdges}
 use Rattle.borrowing_param.specs.Visit.{drawsIn}
 use Rattle.borrowing_param.proofs.Drawing.{allPath}
 use Rattle.borrowing_param.proofs.Storing.{Storing, storing-start, storing-fits, storing-part, storing-none, storing-end, leftEdges, edges-all, edges-none, edges-one, edges-skip}

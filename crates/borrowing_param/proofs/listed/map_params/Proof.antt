@@ -1,5 +1,5 @@
 -- `map_params` meets its contract: its three answers are laws of proofs/Listing.antt.
-use mathlib.Core.Path.{_≡_, refl}
+use mathlib.Core.Path.{_≡_, refl, sym}
 use native.Mathlib.Omega.{arith}
 use lib.ListN.{length, length-map}
 use Rattle.borrowing_param.specs.InnerMap.{loweredOf}
@@ -26,8 +26,11 @@ unmapped-requires-2 c κs = search needs
 returns-2 : tie.Need-returns-2
 returns-2 c = no-room-edges (c .before .before .before .before .before .before .before .before .before .before .args .visitor) (loweredOf (c .before .before .before .before .before .before .before .before .before .before .args .params .now)) (c .before .before .before .before .before .before .before .before .before .before .args .answers .now) (c .before .before .before .before .before .before .before .before .before .before .args .edges .now) (c .before .before .before .count-params .ensures) (c .before .before .if1 .left) (c .before .if2 .taken) (c .unmapped2 .ensures)
 
-copy-numbers-requires : tie.Need-copy-numbers-requires
-copy-numbers-requires c κs = (omega (arith, c .before .before .before .before .count-params .ensures .params, c .before .before .before .before .before .before .before .before .before .before .before .pre .few), numbers-size (c .before .before .before .before .before .before .before .before .before .before .before .args .visitor) (loweredOf (c .before .before .before .before .before .before .before .before .before .before .before .args .params .now)) (c .before .before .before .before .before .before .before .before .before .before .before .args .answers .now) (c .before .before .before .before .before .before .before .before .before .before .before .args .edges .now) (c .before .before .before .before .count-params .ensures) refl, c .before .before .before .if1 .left)
+slice-aggregate-copy : tie.Need-slice-aggregate-copy
+slice-aggregate-copy c = sym (numbers-size (c .before .before .before .before .before .before .before .before .before .before .args .visitor) (loweredOf (c .before .before .before .before .before .before .before .before .before .before .args .params .now)) (c .before .before .before .before .before .before .before .before .before .before .args .answers .now) (c .before .before .before .before .before .before .before .before .before .before .args .edges .now) (c .before .before .before .count-params .ensures) refl)
+
+copy-requires : tie.Need-copy-requires
+copy-requires c κs = (omega (arith, c .before .before .before .before .count-params .ensures .params, c .before .before .before .before .before .before .before .before .before .before .before .pre .few, numbers-size (c .before .before .before .before .before .before .before .before .before .before .before .args .visitor) (loweredOf (c .before .before .before .before .before .before .before .before .before .before .before .args .params .now)) (c .before .before .before .before .before .before .before .before .before .before .before .args .answers .now) (c .before .before .before .before .before .before .before .before .before .before .before .args .edges .now) (c .before .before .before .before .count-params .ensures) refl), c .before .before .before .if1 .left)
 
 store-listed-requires : tie.Need-store-listed-requires
 store-listed-requires c κs = (c .before .before .before .before .before .before .before .before .before .before .before .before .before .before .before .before .pre, full (c .before .before .before .before .before .before .before .before .before .before .before .before .before .before .before .before), listed-room (c .before .before .before .before .before .before .before .before .before .before .before .before .before .before .before .before .args .visitor) (loweredOf (c .before .before .before .before .before .before .before .before .before .before .before .before .before .before .before .before .args .params .now)) (c .before .before .before .before .before .before .before .before .before .before .before .before .before .before .before .before .args .answers .now) (c .before .before .before .before .before .before .before .before .before .before .before .before .before .before .before .before .args .edges .now) (c .before .before .before .before .before .before .before .before .before .count-params .ensures) (c .before .before .before .before .before .before .before .before .if1 .left) (c .before .before .before .before .before .before .before .if2 .left))
@@ -39,7 +42,7 @@ same-length-2 : tie.Need-same-length-2
 same-length-2 c = search needs
 
 returns-3 : tie.Need-returns-3
-returns-3 c = mapped (c .before .before .before .before .before .before .before .before .before .before .before .before .before .before .before .before .before .before .before .args .visitor) (loweredOf (c .before .before .before .before .before .before .before .before .before .before .before .before .before .before .before .before .before .before .before .args .params .now)) (c .before .before .before .before .before .before .before .before .before .before .before .before .before .before .before .before .before .before .before .args .answers .now) (c .before .before .before .before .before .before .before .before .before .before .before .before .before .before .before .before .before .before .before .args .edges .now) (c .before .before .before .before .before .before .before .before .before .before .before .before .count-params .ensures) (c .before .before .before .before .before .before .before .before .before .before .before .if1 .left) (c .before .before .before .before .before .before .before .before .before .before .if2 .left) refl (c .before .before .before .before .before .before .before .before .before .before .before .before .before .before .before .before .before .before .before .pre .few) (c .before .before .before .before .before .before .before .copy-numbers .ensures) (c .before .before .store-listed .ensures)
+returns-3 c = mapped (c .before .before .before .before .before .before .before .before .before .before .before .before .before .before .before .before .before .before .before .args .visitor) (loweredOf (c .before .before .before .before .before .before .before .before .before .before .before .before .before .before .before .before .before .before .before .args .params .now)) (c .before .before .before .before .before .before .before .before .before .before .before .before .before .before .before .before .before .before .before .args .answers .now) (c .before .before .before .before .before .before .before .before .before .before .before .before .before .before .before .before .before .before .before .args .edges .now) (c .before .before .before .before .before .before .before .before .before .before .before .before .count-params .ensures) (c .before .before .before .before .before .before .before .before .before .before .before .if1 .left) (c .before .before .before .before .before .before .before .before .before .before .if2 .left) refl (c .before .before .before .before .before .before .before .before .before .before .before .before .before .before .before .before .before .before .before .pre .few) (c .before .before .before .before .before .before .before .copy .ensures) (c .before .before .store-listed .ensures)
 
 pub map-params-spec : {M : Type 1} → statement M
 map-params-spec =
@@ -50,7 +53,8 @@ map-params-spec =
     returns
     unmapped-requires-2
     returns-2
-    copy-numbers-requires
+    slice-aggregate-copy
+    copy-requires
     store-listed-requires
     same-length
     same-length-2

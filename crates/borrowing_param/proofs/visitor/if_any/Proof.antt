@@ -1,6 +1,5 @@
 -- `if_any` meets its contract.
 use borrow.Author.Tests.{eq-eqb, ne-eqb}
-use borrow.Author.Needs.{needs}
 use Rattle.borrowing_param.proofs.visitor.if_any.Statement.{statement}
 use Rattle.borrowing_param.proofs.visitor.if_any.Tie as tie
 

@@ -1,7 +1,6 @@
 -- `keep_used` meets its contract. The loop's invariant is `Keeping` of proofs/Creating.antt; the measure is how many lifetimes are to be looked at.
 use Prim.Native.Nat.{_-_}
 use mathlib.Core.Path.{sym, ap, _∙_}
-use native.Mathlib.Omega.{arith}
 use borrow.Author.Tests.{not-true, not-false}
 use Rattle.lifetimes.specs.declared.lifetime.Lifetime.{Lifetime}
 use Rattle.lifetimes.specs.Sets.{member}

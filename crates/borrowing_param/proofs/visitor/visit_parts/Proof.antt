@@ -1,7 +1,5 @@
 -- `visit_parts` meets its contract: its four answers are laws of proofs/Visiting.antt.
-use Prim.Native.Nat.{_-_, _/_}
 use mathlib.Core.Path.{_≡_, refl, ap, _∙_}
-use native.Mathlib.Omega.{arith}
 use lib.ListN.{length, length-map}
 use Rattle.borrowing_param.specs.declared.visitor.Visited.{Visited}
 use Rattle.borrowing_param.specs.Visit.{outcome, state}

@@ -4,8 +4,8 @@ use native.Mathlib.Nat.{zero-add}
 use native.Mathlib.Omega.{arith}
 use borrow.Author.Needs.{needs}
 use Rattle.lifetimes.proofs.Copying.{Copying, copying-start, copying-more, copying-end}
-use Rattle.borrowing_param.proofs.method.copy.Statement.{statement}
-use Rattle.borrowing_param.proofs.method.copy.Tie as tie
+use Rattle.borrowing_param.proofs.copy.copy.Statement.{statement}
+use Rattle.borrowing_param.proofs.copy.copy.Tie as tie
 
 abbrev Inv-loop : tie.InvT-loop
 Inv-loop words count out₀ i₀ out i = Copying words count 0 out₀ out i
