@@ -1,4 +1,10 @@
 // Borrow edges: which buffers a view has to hold on to.
+//
+// For whoever generates wrappers. A method is an environment with its records structs, params, output and force, made by hand or from a sheet. The scope paper ("01") decides what an edge is;
+// a refused call answers one of its numbers (`Refusal`) and leaves the lent slices as they were.
+//
+// What is here, bottom up: the edges of one parameter (`edges`), the visitor and its visits (`visitor`), all parameters in listing order (`listed`), the method of a sheet (`method`), and a whole
+// method or sheet in one call (`borrows`).
 mod borrows;
 mod copy;
 mod edges;
