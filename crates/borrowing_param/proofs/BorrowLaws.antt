@@ -16,6 +16,7 @@ use Rattle.lifetimes.specs.Lent.{verdictOf, roomCheck, written}
 use Rattle.lifetimes.specs.Env.{boundsOf, envOf}
 use Rattle.lifetimes.specs.Sets as sets
 use Rattle.lifetimes.proofs.RefusalLaws.{due-given, due-refused, none-split, first-more, first-behind, refused-first, accepted-none}
+use Rattle.records.proofs.VerdictLaws.{unless-after}
 use Rattle.hir_types.specs.Method.{typesIn, methodChecks}
 use Rattle.hir_types.specs.Used.{usedSet, usedNumbers}
 use Rattle.sheet.specs.Text.{Records, lists}
@@ -39,12 +40,6 @@ use Rattle.borrowing_param.proofs.Joining.{words-read}
 use Rattle.borrowing_param.proofs.Forcing.{params-none}
 use Rattle.borrowing_param.proofs.Ordering.{listing-consistent}
 use Rattle.borrowing_param.proofs.MethodLaws.{accepted-method}
-
--- checks of which none is due do not matter
-unless-none : {A : Type 0} (a : A) {checks : List Check} (more : List Check) → NoneDue checks → unless (checks ++ more) a ≡ unless more a
-unfolding unless
-unless-none a more end = refl
-unless-none a more (next {c} h n) = rw h (unless-none a more n)
 
 -- a refusal leaves the slices
 left-alone : {o : Outcome Borrows} {k : Refusal} {used answers edges : List ℕ} {r : answer.Borrows} → o ≡ Refuses k → r ≡ borrowsAnswer (Refuses k) → Gave o used answers edges r used answers edges
@@ -177,7 +172,7 @@ module _ (env : LifetimeEnv) (structs params output force used answers edges : L
     unfolding borrowBy borrowMethod
     method-borrowed {r} {used₁} {answers₁} {edges₁} g =
         let e : borrowBy (c .visitor) structs params (length used) (length answers) (length edges) ≡ outcome =
-        ap (λ (x : Created). borrowBy (x .visitor) structs params (length used) (length answers) (length edges)) is ∙ sym (unless-none whole (roomChecks whole (length used) (length answers) (length edges)) method-none) in
+        ap (λ (x : Created). borrowBy (x .visitor) structs params (length used) (length answers) (length edges)) is ∙ sym (unless-after whole (roomChecks whole (length used) (length answers) (length edges)) method-none) in
         gave-four (subst (λ (o : Outcome Borrows). Gave o used answers edges r used₁ answers₁ edges₁) e g)
 
 -- ---- a sheet
@@ -234,7 +229,7 @@ module _ (bytes used answers edges : List ℕ) where
           let whole = sheetBorrows sheet in
           let rooms = roomChecks whole (length used) (length answers) (length edges) in
           let skips : borrowMethod (envOfSheet sheet) (sheet .structs) (sheet .params) (sheet .output) (sheet .force) (length used) (length answers) (length edges) ≡ borrowed =
-          unless-none whole rooms (sheet-method bytes sheet-none) ∙ sym (unless-none whole rooms sheet-none) in
+          unless-after whole rooms (sheet-method bytes sheet-none) ∙ sym (unless-after whole rooms sheet-none) in
           subst (λ (o : Outcome Borrows). Gave o used answers edges r used₁ answers₁ edges₁) (same ∙ skips) (four-gave g)
 
   -- what a crate above may rely on
