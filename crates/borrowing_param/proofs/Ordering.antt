@@ -11,7 +11,7 @@ use Rattle.lifetimes.specs.Refusals.{NoneDue}
 use Rattle.lifetimes.specs.Ranges.{ascending, select}
 use Rattle.lifetimes.specs.Sets.{member, members}
 use Rattle.lifetimes.specs.Env.{envOf}
-use Rattle.lifetimes.proofs.SetLaws.{ascending-has, select-has, members-few}
+use Rattle.lifetimes.proofs.SetLaws.{ascending-has, select-has, members-few, members-has}
 use Rattle.lowered_types.specs.declared.types.Kind.{Kind}
 use Rattle.lowered_types.specs.declared.types.Kind.the-variants.{Plain, Opaque, Struct, Slice}
 use Rattle.lowered_types.specs.LoweredTypes.{LoweredType}
@@ -262,6 +262,8 @@ consistent v ts few short = record {
       let l = edge-listed v ts e m in
       let t = typeAt ts (e .param) in
       omega (arith, form e m .below, few-defs (t .kind) t (short (e .param) (l .below)));
+  edge-kind = λ e m. rw (form e m .what) (kind-most (typeAt ts (e .param) .kind));
+  edge-option = λ e m. rw (option e m) (option-most (typeAt ts (e .param) .kind) (typeAt ts (e .param)));
   struct = λ e m.
       let l = edge-listed v ts e m in
       let k = typeAt ts (e .param) .kind in
@@ -271,11 +273,28 @@ consistent v ts few short = record {
   one-option = λ e x m n q. option e m ∙ ap (λ (p : ℕ). optionBy (typeAt ts p .kind) (typeAt ts p)) q ∙ sym (option x n);
   borrowed = λ p h. let below : p < length ts = omega (arith, answers-many v 0 ts) in (λ k. edge-for p below k, λ k. two p k);
   most = λ p h. rw (answer-is v ts p (omega (arith, answers-many v 0 ts))) (number-most (typeAt ts p .kind) (bringAll v (typeAt ts p) p));
+  used-below = λ l m. (members-has (v .used) l) .0 m .0;
   few-used = members-few (v .used);
   few-params = rw (answers-many v 0 ts) few;
   few-edges = edges-few v ts few short;
 }
   where
+    kind-most : (k : Kind) → kindNumber k ≤ 3
+    kind-most Plain = omega arith
+    kind-most Opaque = omega arith
+    kind-most (Struct row) = omega arith
+    kind-most Slice = omega arith
+
+    flag-most : (b : Bool) → optionOf b ≤ 1
+    flag-most true = omega arith
+    flag-most false = omega arith
+
+    option-most : (k : Kind) (t : LoweredType) → optionBy k t ≤ 1
+    option-most Plain t = omega arith
+    option-most Opaque t = omega arith
+    option-most (Struct row) t = flag-most (t .option)
+    option-most Slice t = omega arith
+
     form : (e : LifetimeEdge) → List·Memᴰ e (listedEdges v ts) → Formed (e .used) (e .param) (kindNumber (typeAt ts (e .param) .kind)) (defs (typeAt ts (e .param) .kind) (typeAt ts (e .param))) e
     form e m = bring-formed (drawsOf v (e .used)) (e .used) (e .param) (typeAt ts (e .param)) e (edge-listed v ts e m .brought)
 

@@ -27,12 +27,15 @@ pub record Consistent (used answers : List ℕ) (edges : List LifetimeEdge) : Ty
   pub edge-used : (e : LifetimeEdge) → List·Memᴰ e edges → List·Memᴰ (e .used) used
   pub edge-param : (e : LifetimeEdge) → List·Memᴰ e edges → e .param < length answers
   pub edge-def : (e : LifetimeEdge) → List·Memᴰ e edges → e .def < 16
+  pub edge-kind : (e : LifetimeEdge) → List·Memᴰ e edges → e .kind ≤ 3
+  pub edge-option : (e : LifetimeEdge) → List·Memᴰ e edges → e .option ≤ 1
   -- kind 3 exactly where the parameter's answer is 3
   pub struct : (e : LifetimeEdge) → List·Memᴰ e edges → (e .kind ≡ 3) ↔ (getD answers (e .param) 0 ≡ 3)
   pub one-option : (e x : LifetimeEdge) → List·Memᴰ e edges → List·Memᴰ x edges → e .param ≡ x .param → e .option ≡ x .option
   -- a parameter has an edge exactly if its answer is 2, 3 or 4
   pub borrowed : (p : ℕ) → p < length answers → (2 ≤ getD answers p 0) ↔ ((e : LifetimeEdge) × List·Memᴰ e edges × (e .param ≡ p))
   pub most : (p : ℕ) → p < length answers → getD answers p 0 ≤ 4
+  pub used-below : (l : ℕ) → List·Memᴰ l used → l < 64
   pub few-used : length used ≤ 64
   pub few-params : length answers ≤ 16
   pub few-edges : length edges ≤ 16384
