@@ -16,6 +16,7 @@ pub mod Taking
 pub mod Recording
 pub mod MethodLaws
 pub mod SmallLaws
+pub mod SizeLaws
 pub mod EntryLaws
 -- The main theorems
 pub mod Theorems

@@ -66,7 +66,7 @@ another-is names before behind o h = omega (arith, anonymous-grows before behind
 
 -- ---- the steps of a record fit
 
-abbrev AllFit : List Step → Type 0
+abbrev pub AllFit : List Step → Type 0
 AllFit [] = Unit {0}
 AllFit (s ∷ l) = (fits s ≡ true) × AllFit l
 
@@ -79,7 +79,7 @@ all-fit number (suc fuel) (w ∷ words) =
     holds-onward (λ step rest. fits step ≡ true) (λ items rest. AllFit items) (step-fits (w ∷ words))
     (λ s rest p. holds-onward (λ items last. AllFit items) (λ items last. AllFit items) (all-fit (suc number) fuel rest) (λ items last q. read (p, q)))
 
-steps-fit : (words : List ℕ) → AllFit (stepsOf words)
+pub steps-fit : (words : List ℕ) → AllFit (stepsOf words)
 unfolding itemsOf
 steps-fit words = go (all-fit 0 (length words) words)
   where

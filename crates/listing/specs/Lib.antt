@@ -1,0 +1,4 @@
+-- Definitions that the contracts cite, and the statements of the main theorems.
+pub mod Listing
+-- For private functions only
+pub mod InnerPrint

@@ -1,0 +1,2 @@
+// The listing of a sheet: its text as bytes.
+mod print;
