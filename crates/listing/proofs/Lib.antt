@@ -1,3 +1,4 @@
--- Laws: printing, text after text; how long a listing can be.
+-- Laws: printing, text after text; the sections; how long a listing can be.
 pub mod Printing
+pub mod SectionLaws
 pub mod RoomLaws

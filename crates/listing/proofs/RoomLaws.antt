@@ -1,8 +1,8 @@
 -- How long a listing can be: all that is printed but the number of edges is below 100, so a line of n words has at most 3 n + 1 bytes.
-use Prim.Native.Nat.{ℕ, zero, suc, _+_, _*_, _^_, _≤_, _<_}
-use mathlib.Core.Bool.{Bool, true, false}
+use Prim.Native.Nat.{ℕ, suc, _+_, _*_, _≤_, _<_}
+use mathlib.Core.Bool.{true}
 use mathlib.Core.Path.{_≡_, refl}
-use mathlib.Core.List.{List, [], _∷_, _++_, map, flatMap, List·Memᴰ, List·Memᴰ·head, List·Memᴰ·tail}
+use mathlib.Core.List.{List, [], _∷_, _++_, flatMap, List·Memᴰ, List·Memᴰ·head, List·Memᴰ·tail}
 use native.Mathlib.Omega.{arith}
 use lib.ListN.{length, getD, length-append, length-map}
 use borrow.Author.Tests.{ltb-false, not-false}
@@ -25,7 +25,7 @@ use Rattle.elision.specs.Rfc as rfc
 use Rattle.elision.specs.Lowering.{words}
 use Rattle.elision.proofs.SmallLaws.{AllSmall}
 use Rattle.elision.proofs.SizeLaws.{lowered-self, lowered-steps, lowered-returns, accepted-small}
-use Rattle.sheet.specs.Text.{digits, following, line, Records, lists}
+use Rattle.sheet.specs.Text.{digits, following, line, Records}
 use Rattle.sheet.specs.Shape.{sheetInShape}
 use Rattle.sheet.proofs.DigitLaws.{digits-length, digits-of-word}
 use Rattle.sheet.proofs.Theorems.{shapes-are-short}

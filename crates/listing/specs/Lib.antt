@@ -2,3 +2,4 @@
 pub mod Listing
 -- For private functions only
 pub mod InnerPrint
+pub mod InnerSections

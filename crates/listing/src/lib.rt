@@ -1,2 +1,3 @@
 // The listing of a sheet: its text as bytes.
 mod print;
+mod sections;

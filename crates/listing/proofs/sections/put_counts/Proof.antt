@@ -1,0 +1,25 @@
+-- `put_counts` meets its contract: the heading, then the line.
+use Rattle.sheet.specs.Text.{line}
+use Rattle.listing.proofs.Printing.{leaves-all, leaves-rest, leaves-none}
+use borrow.Author.Needs.{needs}
+use Rattle.listing.proofs.sections.put_counts.Statement.{statement}
+use Rattle.listing.proofs.sections.put_counts.Tie as tie
+
+-- src/sections.rt:23:9
+put-text-requires : tie.Need-put-text-requires
+put-text-requires c κs = search needs
+
+-- src/sections.rt:24:5
+put-line-requires : tie.Need-put-line-requires
+put-line-requires c κs = search needs
+
+-- src/sections.rt:18:1
+same-length : tie.Need-same-length
+same-length c = search needs
+
+-- src/sections.rt:18:1
+returns : tie.Need-returns
+returns c = leaves-none (leaves-rest (line (c .before .before .before .before .before .before .before .before .before .before .before .before .args .counts .now)) (leaves-all _ _ _) (c .before .before .before .before .before .before .put-text .ensures)) (c .before .before .put-line .ensures)
+
+pub put-counts-spec : {M : Type 1} → statement M
+put-counts-spec = tie.close (tie.spec put-text-requires put-line-requires same-length returns)

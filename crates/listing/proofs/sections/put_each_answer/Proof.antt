@@ -1,0 +1,87 @@
+-- `put_each_answer` meets its contract: each turn prints one parameter.
+use Prim.Native.Nat.{_-_}
+use mathlib.Core.Path.{_≡_, refl}
+use native.Mathlib.Omega.{arith}
+use lib.ListN.{length}
+use borrow.Author.Needs.{needs}
+use Rattle.listing.proofs.SectionLaws.{Answering, answering-start, answering-end, answering-more, answering-size, param-fits, answer-fits}
+use Rattle.listing.proofs.sections.put_each_answer.Statement.{statement}
+use Rattle.listing.proofs.sections.put_each_answer.Tie as tie
+
+abbrev Inv-loop : tie.InvT-loop
+Inv-loop out₀ at answers count next₀ i₀ out next i = Answering answers at out₀ next out i × (count ≡ length answers)
+
+abbrev μ-loop : tie.MeasureT-loop
+μ-loop out₀ at answers count next₀ i₀ out next i = count - i
+
+-- src/sections.rt:112:5
+loop-holds : tie.Need-loop-holds Inv-loop μ-loop
+loop-holds c = (answering-start _ _ _, refl)
+
+-- src/sections.rt:113:13
+put-number-requires : tie.Need-put-number-requires Inv-loop μ-loop
+put-number-requires c κs = param-fits (c .before .before .loop .inv .0) (omega (arith, c .before .loop-test .taken, c .before .before .loop .inv .1)) (c .before .before .before .before .before .pre)
+
+-- src/sections.rt:114:54
+add-put-following : tie.Need-add-put-following Inv-loop μ-loop
+add-put-following c = search needs
+
+-- src/sections.rt:114:42
+mul-put-following : tie.Need-mul-put-following Inv-loop μ-loop
+mul-put-following c = search needs
+
+-- src/sections.rt:114:42
+sub-put-following : tie.Need-sub-put-following Inv-loop μ-loop
+sub-put-following c = search needs
+
+-- src/sections.rt:114:42
+part-put-following-start : tie.Need-part-put-following-start Inv-loop μ-loop
+part-put-following-start c = search needs
+
+-- src/sections.rt:114:42
+part-put-following-end : tie.Need-part-put-following-end Inv-loop μ-loop
+part-put-following-end c = search needs
+
+-- src/sections.rt:114:9
+put-following-requires : tie.Need-put-following-requires Inv-loop μ-loop
+put-following-requires c κs = answer-fits (c .before .before .before .before .before .before .before .loop .inv .0) (omega (arith, c .before .before .before .before .before .before .loop-test .taken, c .before .before .before .before .before .before .before .loop .inv .1)) (c .before .before .before .before .before .before .before .before .before .before .pre) (c .before .before .before .before .put-number .ensures)
+
+-- src/sections.rt:115:9
+add-i : tie.Need-add-i Inv-loop μ-loop
+add-i c = search needs
+
+-- src/sections.rt:112:5
+loop-less : tie.Need-loop-less Inv-loop μ-loop
+loop-less c = search needs
+
+-- src/sections.rt:112:5
+loop-again : tie.Need-loop-again Inv-loop μ-loop
+loop-again c = (answering-more (c .before .before .before .before .before .before .before .before .before .before .loop .inv .0) (omega (arith, c .before .before .before .before .before .before .before .before .before .loop-test .taken, c .before .before .before .before .before .before .before .before .before .before .loop .inv .1)) (c .before .before .before .before .before .before .before .put-number .ensures) (c .before .before .put-following .ensures), c .before .before .before .before .before .before .before .before .before .before .loop .inv .1)
+
+-- src/sections.rt:105:1
+same-length : tie.Need-same-length Inv-loop μ-loop
+same-length c = answering-size (c .before .loop .inv .0)
+
+-- src/sections.rt:105:1
+returns : tie.Need-returns Inv-loop μ-loop
+returns c = answering-end (c .before .loop .inv .0) (omega (arith, c .loop-test .left, c .before .loop .inv .1))
+
+pub put-each-answer-spec : {M : Type 1} → statement M
+put-each-answer-spec =
+    tie.close
+    (tie.spec
+    Inv-loop
+    μ-loop
+    loop-holds
+    put-number-requires
+    add-put-following
+    mul-put-following
+    sub-put-following
+    part-put-following-start
+    part-put-following-end
+    put-following-requires
+    add-i
+    loop-less
+    loop-again
+    same-length
+    returns)

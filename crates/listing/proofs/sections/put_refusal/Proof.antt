@@ -1,0 +1,25 @@
+-- `put_refusal` meets its contract: the heading, then the line.
+use Rattle.sheet.specs.Text.{line}
+use Rattle.listing.proofs.Printing.{leaves-all, leaves-rest, leaves-none}
+use borrow.Author.Needs.{needs}
+use Rattle.listing.proofs.sections.put_refusal.Statement.{statement}
+use Rattle.listing.proofs.sections.put_refusal.Tie as tie
+
+-- src/sections.rt:51:9
+put-text-requires : tie.Need-put-text-requires
+put-text-requires c κs = search needs
+
+-- src/sections.rt:52:5
+put-line-requires : tie.Need-put-line-requires
+put-line-requires c κs = search needs
+
+-- src/sections.rt:46:1
+same-length : tie.Need-same-length
+same-length c = search needs
+
+-- src/sections.rt:46:1
+returns : tie.Need-returns
+returns c = leaves-none (leaves-rest (line (c .before .before .before .before .before .before .before .before .before .before .before .before .args .number .now)) (leaves-all _ _ _) (c .before .before .before .before .before .before .put-text .ensures)) (c .before .before .put-line .ensures)
+
+pub put-refusal-spec : {M : Type 1} → statement M
+put-refusal-spec = tie.close (tie.spec put-text-requires put-line-requires same-length returns)
