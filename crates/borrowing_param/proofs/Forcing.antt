@@ -3,17 +3,18 @@ use Prim.Native.Nat.{ℕ, zero, suc, _≤_, _<_}
 use mathlib.Core.Bool.{Bool, true, false, cond, not, and-eq-true-iff}
 use mathlib.Core.Path.{_≡_, refl, sym, ap, subst, _∙_}
 use mathlib.Core.Logic.{_↔_}
-use mathlib.Core.List.{List, [], _∷_, _++_, flatMap, List·Memᴰ}
+use mathlib.Core.List.{List, [], _∷_, _++_, map, flatMap, List·Memᴰ}
 use native.Mathlib.Nat.{zero-add}
+use native.Mathlib.Decide.{decLt}
 use native.Mathlib.Omega.{arith}
 use borrow.Author.Tests.{lt-ltb, lt-leb, not-false}
 use lib.Dec.{ltb}
-use lib.ListN.{length, getD}
+use lib.ListN.{length, getD, List·getD-eq-default}
 use Rattle.lifetimes.specs.declared.env.LifetimeEnv.{LifetimeEnv}
 use Rattle.lifetimes.specs.declared.answer.Refusal.the-variants.{Malformed}
 use Rattle.lifetimes.specs.Refusals.{check, Gives, NoneDue, end, next}
 use Rattle.lifetimes.specs.Ranges.{ascending, select}
-use Rattle.lifetimes.specs.Sets.{member, members, setOf}
+use Rattle.lifetimes.specs.Sets.{empty, member, members, setOf}
 use Rattle.lifetimes.specs.Env.{boundsOf, envChecks, envOf, allBelow}
 use Rattle.lifetimes.specs.Walk.{LastFirst, reachSet}
 use Rattle.lifetimes.proofs.RefusalLaws.{due-given, none-first, none-more, none-split}
@@ -34,12 +35,12 @@ use Rattle.borrowing_param.specs.VisitParam.{typeAt, visitChecks, visitP
 use Rattle.borrowing_param.specs.Visits.{allOf}
 use Rattle.borrowing_param.specs.New.{drawsTo, newVisitor, created}
 use Rattle.borrowing_param.specs.Condition3.{Above, Param}
-use Rattle.borrowing_param.specs.Theorems.{answerAt, AllVisits}
+use Rattle.borrowing_param.specs.Theorems.{IsNew, answerAt, AllVisits}
 use Rattle.borrowing_param.proofs.Joining.{Once, join-part}
 use Rattle.borrowing_param.proofs.Running.{visits-all}
 use Rattle.borrowing_param.proofs.Bringing.{brought-by, bring-ascends, bring-formed, Formed, kindNumber, defs, answers}
 use Rattle.borrowing_param.proofs.Visiting.{both, param-short}
-use Rattle.borrowing_param.proofs.Creating.{at-place, places-none, env-none, few-lifetimes, used-below}
+use Rattle.borrowing_param.proofs.Creating.{at-place, places, places-none, env-none, few-lifetimes, used-below}
 
 -- ---- by the numberings
 
@@ -58,6 +59,18 @@ module _ (env : LifetimeEnv) (valid : NoneDue (envChecks env)) (few : env .count
         λ h. let k = reach .0 (rw set at (both .0 h .1)) in (k .0, forced .0 (k .1)),
         λ h. both .1 (lt-ltb b 64 (omega (arith, h .0)), rw set (reach .1 (h .0, forced .1 (h .1)))),
       )
+
+  pub draws-nothing : (l : ℕ) → (List·Memᴰ l (usedOf v) → ⊥) → getD (v .draws) l 0 ≡ empty
+  unfolding newVisitor
+  draws-nothing l out = go (decLt l 64)
+    where
+      not-member : l < 64 → (t : Bool) → member used l ≡ t → cond t (reachSet true (boundsOf env) l) empty ≡ empty
+      not-member h true e = absurd (out ((members-has used l) .1 (h, e)))
+      not-member h false e = refl
+
+      go : Dec (l < 64) → getD (map (drawsTo used (boundsOf env)) (ascending 0 64)) l 0 ≡ empty
+      go (yes h) = at-place (drawsTo used (boundsOf env)) 0 64 l h ∙ ap (drawsTo used (boundsOf env)) (zero-add l) ∙ not-member h (member used l) refl
+      go (no h) = List·getD-eq-default (map (drawsTo used (boundsOf env)) (ascending 0 64)) 0 {n = l} (omega (arith, h, places (drawsTo used (boundsOf env)) 64))
 
   -- what one parameter brings and answers
   param-is : (t : LoweredType) (p : ℕ) → length (t .path) ≤ 16 → Param (boundsOf env) (env .count) v t p (answerOf (t .kind) (bringAll v t p))
@@ -138,6 +151,20 @@ module _ (env : LifetimeEnv) (structs params output force : List ℕ) (none : No
   created-is : created env structs params output force .visitor ≡ new
   unfolding created
   created-is = rw used-given
+
+  pub new-is : IsNew env structs params output force (created env structs params output force)
+  unfolding created newVisitor
+  new-is =
+      let valid = env-none env structs params output force none in
+      let few = few-lifetimes env structs params output force none in
+      let below = used-below env structs params output force none used used-given in
+      rw used-given (record {
+        accepted = refl;
+        used = used-given;
+        draws = λ l m b. draws-above env valid few used below l b m;
+        draws-none = λ l out. draws-nothing env valid few used below l out;
+        stored = refl;
+      })
 
   abbrev type : ℕ → LoweredType
   type p = typeAt (typesIn structs params) p

@@ -16,11 +16,14 @@ use Rattle.borrowing_param.specs.Visit as visit
 use Rattle.borrowing_param.specs.VisitParam as visit-param
 use Rattle.borrowing_param.specs.New as new
 use Rattle.borrowing_param.specs.BorrowMap as map
-use Rattle.borrowing_param.specs.Theorems.{Condition3, ListingInOrder, ListingIsVisits, SheetsGiveMethods, ExamplesHold}
-use Rattle.borrowing_param.proofs.Forcing.{all-visits}
+use Rattle.borrowing_param.specs.Theorems.{NewVisitor, Condition3, ListingInOrder, ListingIsVisits, SheetsGiveMethods, ExamplesHold}
+use Rattle.borrowing_param.proofs.Forcing.{new-is, all-visits}
 use Rattle.borrowing_param.proofs.Ordering.{listing-consistent}
 use Rattle.borrowing_param.proofs.InTurn.{as-visited}
 use Rattle.borrowing_param.proofs.BorrowLaws.{sheet-method}
+
+pub new-visitor : NewVisitor
+new-visitor env structs params output force none = new-is env structs params output force none
 
 pub condition3 : Condition3
 condition3 env structs params output force none words ps within = all-visits env structs params output force none words ps within

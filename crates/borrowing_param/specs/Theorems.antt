@@ -1,29 +1,45 @@
 -- The main theorems of this crate, stated. Each has its proof, a term of exactly this type and of the same name in small letters, in proofs/Theorems.antt.
 use Prim.Native.Nat.{ℕ, _*_, _≤_, _<_}
+use mathlib.Core.Bool.{true}
 use mathlib.Core.Path.{_≡_}
+use mathlib.Core.Logic.{_↔_}
 use mathlib.Core.List.{List, [], _∷_, List·Memᴰ}
 use lib.ListN.{length, getD}
 use Rattle.lifetimes.specs.declared.env.LifetimeEnv.{LifetimeEnv}
 use Rattle.lifetimes.specs.declared.answer.Refusal.the-variants.{NoRoom}
 use Rattle.lifetimes.specs.declared.answer.Verdict.the-variants.{Accepted}
 use Rattle.lifetimes.specs.Ranges.{ascending}
-use Rattle.lifetimes.specs.Refusals.{NoneDue}
+use Rattle.lifetimes.specs.Refusals.{Gives, NoneDue}
+use Rattle.lifetimes.specs.Sets.{empty}
 use Rattle.lifetimes.specs.Env.{boundsOf, envOf}
 use Rattle.hir_types.specs.Method.{typesIn, methodChecks}
+use Rattle.hir_types.specs.Used.{usedSet}
 use Rattle.sheet.specs.Reading.{sheetOf}
 use Rattle.borrowing_param.specs.declared.visitor.ParamBorrowInfo.{ParamBorrowInfo}
 use Rattle.borrowing_param.specs.declared.visitor.BorrowingParamVisitor.{BorrowingParamVisitor}
+use Rattle.borrowing_param.specs.declared.visitor.Created.{Created}
 use Rattle.borrowing_param.specs.Edges.{width, edgesIn, edgesOf}
 use Rattle.borrowing_param.specs.Brings.{answerOf, refuse}
-use Rattle.borrowing_param.specs.Visit.{usedOf, bringTo, bringAll, State, state, after, visitAt}
+use Rattle.borrowing_param.specs.Visit.{usedOf, drawsOf, bringTo, bringAll, State, state, after, visitAt}
 use Rattle.borrowing_param.specs.VisitParam.{typeAt, visitParam}
 use Rattle.borrowing_param.specs.Visits.{Visits}
 use Rattle.borrowing_param.specs.New.{created}
 use Rattle.borrowing_param.specs.BorrowMap.{listedTo, listedEdges, answersFrom}
 use Rattle.borrowing_param.specs.Consistent.{Consistent}
-use Rattle.borrowing_param.specs.Condition3.{Param}
+use Rattle.borrowing_param.specs.Condition3.{Above, Param}
 use Rattle.borrowing_param.specs.SheetMethod.{envOfSheet, sheetChecks}
 use Rattle.borrowing_param.specs.Examples.{examples, Right}
+
+-- The new visitor of a method on which no refusal is due: the used lifetimes; for each of them exactly the lifetimes that are forced above it draw, for a lifetime that is not used none; no edges
+pub record IsNew (env : LifetimeEnv) (structs params output force : List ℕ) (c : Created) : Type 0 where
+  pub accepted : c .verdict ≡ Accepted
+  pub used : usedSet env structs params output force ≡ Gives (c .visitor .used)
+  pub draws : (used : ℕ) → List·Memᴰ used (usedOf (c .visitor)) → (b : ℕ) → (drawsOf (c .visitor) used b ≡ true) ↔ Above (boundsOf env) (env .count) used b
+  pub draws-none : (other : ℕ) → (List·Memᴰ other (usedOf (c .visitor)) → ⊥) → getD (c .visitor .draws) other 0 ≡ empty
+  pub stored : c .visitor .stored ≡ 0
+
+abbrev pub NewVisitor : Type 0
+NewVisitor = (env : LifetimeEnv) (structs params output force : List ℕ) → NoneDue (methodChecks env structs params output force) → IsNew env structs params output force (created env structs params output force)
 
 -- what a visit of a parameter answers when it is not refused, by the method and the parameter alone
 abbrev pub answerAt : List ℕ → List ℕ → BorrowingParamVisitor → ℕ → ParamBorrowInfo
