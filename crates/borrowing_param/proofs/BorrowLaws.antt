@@ -33,7 +33,7 @@ use Rattle.borrowing_param.specs.Edges.{edgesIn}
 use Rattle.borrowing_param.specs.New.{createdBy, created}
 use Rattle.borrowing_param.specs.BorrowMap as map
 use Rattle.borrowing_param.specs.Consistent.{Consistent}
-use Rattle.borrowing_param.specs.SheetMethod.{envOfSheet, recordsChecks, sheetChecks, methodAnswer}
+use Rattle.borrowing_param.specs.SheetMethod.{envOfSheet, recordsChecks, sheetRefusals, methodAnswer}
 use Rattle.borrowing_param.specs.Borrows.{Borrows, borrowsBy, borrowsOf, sheetBorrows, roomChecks, borrowMethod, borrowSheet, borrowsAnswer, usedWords, answerWords, edgesWords}
 use Rattle.borrowing_param.specs.InnerSheet.{Judges, borrowBy, OfMethod, Gave}
 use Rattle.borrowing_param.proofs.Joining.{words-read}
@@ -177,9 +177,9 @@ module _ (env : LifetimeEnv) (structs params output force used answers edges : L
 
 -- ---- a sheet
 
-pub sheet-method : (bytes : List ℕ) → NoneDue (sheetChecks bytes)
+pub sheet-method : (bytes : List ℕ) → NoneDue (sheetRefusals bytes)
     → NoneDue (methodChecks (envOfSheet (sheetOf bytes)) (sheetOf bytes .structs) (sheetOf bytes .params) (sheetOf bytes .output) (sheetOf bytes .force))
-unfolding sheetChecks
+unfolding sheetRefusals
 sheet-method bytes n = accepted-method (sheetOf bytes) (none-split (textChecks bytes) (recordsChecks (sheetOf bytes)) n .1)
 
 module _ (bytes used answers edges : List ℕ) where
@@ -190,8 +190,8 @@ module _ (bytes used answers edges : List ℕ) where
   borrowed = borrowSheet bytes (length used) (length answers) (length edges)
 
   module _ {m : SheetMethod} {scratch : List ℕ} (judges : Judges bytes m scratch) where
-    judged-verdict : m .verdict ≡ verdictOf (unless (sheetChecks bytes) sheet)
-    judged-verdict = ap (λ (x : SheetMethod). x .verdict) (judges .answers) ∙ go (unless (sheetChecks bytes) sheet)
+    judged-verdict : m .verdict ≡ verdictOf (unless (sheetRefusals bytes) sheet)
+    judged-verdict = ap (λ (x : SheetMethod). x .verdict) (judges .answers) ∙ go (unless (sheetRefusals bytes) sheet)
       where
         go : (o : Outcome Records) → methodAnswer o .verdict ≡ verdictOf o
         go (Gives r) = refl
@@ -200,12 +200,12 @@ module _ (bytes used answers edges : List ℕ) where
     pub sheet-unborrowed : {k : Refusal} {r : answer.Borrows} → m .verdict ≡ verdict.Refused k → r ≡ borrowsAnswer (Refuses k) → Gave borrowed used answers edges r used answers edges
     unfolding borrowSheet
     sheet-unborrowed {k} w h =
-        let f = refused-first sheet k (sheetChecks bytes) (sym judged-verdict ∙ w) in
+        let f = refused-first sheet k (sheetRefusals bytes) (sym judged-verdict ∙ w) in
         left-alone (due-refused (sheetBorrows sheet) (first-more _ f)) h
 
     module _ (fine : m .verdict ≡ verdict.Accepted) where
-      sheet-none : NoneDue (sheetChecks bytes)
-      sheet-none = accepted-none sheet (sheetChecks bytes) (sym judged-verdict ∙ fine)
+      sheet-none : NoneDue (sheetRefusals bytes)
+      sheet-none = accepted-none sheet (sheetRefusals bytes) (sym judged-verdict ∙ fine)
 
       is-given : m ≡ methodAnswer (Gives sheet)
       is-given = judges .answers ∙ ap methodAnswer (due-given sheet sheet-none)
@@ -239,10 +239,10 @@ module _ (bytes used answers edges : List ℕ) where
   gave-consistent {r} {used₁} {answers₁} {edges₁} g fine =
       let whole = sheetBorrows sheet in
       let v = created (envOfSheet sheet) (sheet .structs) (sheet .params) (sheet .output) (sheet .force) .visitor in
-      let checks = sheetChecks bytes ++ roomChecks whole (length used) (length answers) (length edges) in
+      let checks = sheetRefusals bytes ++ roomChecks whole (length used) (length answers) (length edges) in
       let n = accepted-none whole checks (sym (verdict-of (unless checks whole)) ∙ sym (ap (λ (x : answer.Borrows). x .verdict) (g .counts)) ∙ fine) in
       let e : borrowed ≡ Gives whole = due-given whole n in
-      let of = params-none (envOfSheet sheet) (sheet .structs) (sheet .params) (sheet .output) (sheet .force) (sheet-method bytes (none-split (sheetChecks bytes) _ n .0)) in
+      let of = params-none (envOfSheet sheet) (sheet .structs) (sheet .params) (sheet .output) (sheet .force) (sheet-method bytes (none-split (sheetRefusals bytes) _ n .0)) in
       let k : r ≡ borrowsAnswer (Gives whole) = g .counts ∙ ap borrowsAnswer e in
       let a : take (r .used) used₁ ≡ whole .used = rw (k, g .used-are, e) (take-append-seam (whole .used) _) in
       let b : take (r .params) answers₁ ≡ whole .answers = rw (k, g .answers-are, e) (take-append-seam (whole .answers) _) in

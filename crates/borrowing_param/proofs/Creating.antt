@@ -19,13 +19,13 @@ use Rattle.lifetimes.specs.declared.env.LifetimeEnv.{LifetimeEnv}
 use Rattle.lifetimes.specs.declared.reach.ReachSets.{ReachSets}
 use Rattle.lifetimes.specs.Numbers.{lifetime}
 use Rattle.lifetimes.specs.Ranges.{ascending}
-use Rattle.lifetimes.specs.Refusals.{Check, check, Outcome, Gives, Refuses, unless, NoneDue}
+use Rattle.lifetimes.specs.Refusals.{Check, check, Outcome, Gives, Refuses, unless, FirstDue, NoneDue}
 use Rattle.lifetimes.specs.Lent.{resultOr}
 use Rattle.lifetimes.specs.Sets.{member}
 use Rattle.lifetimes.specs.Env.{boundsOf, envChecks}
 use Rattle.lifetimes.specs.Walk.{reachSet}
 use Rattle.lifetimes.specs.Reach.{allSets, noSets, reachSets}
-use Rattle.lifetimes.proofs.RefusalLaws.{due-given, given-due, none-first, none-rest, none-split, none-more}
+use Rattle.lifetimes.proofs.RefusalLaws.{due-given, given-due, refused-due, none-first, none-rest, none-split, none-more}
 use Rattle.lifetimes.proofs.SetLaws.{length-ascending}
 use Rattle.hir_types.specs.declared.used.UsedLifetimes.{UsedLifetimes}
 use Rattle.hir_types.specs.declared.used.UsedLifetimes.the-variants as answer
@@ -134,6 +134,14 @@ all-size : (env : LifetimeEnv) → env .count ≤ 64 → length (allSets true en
 unfolding allSets
 all-size env h = let size = places (reachSet true (boundsOf env)) (env .count) in rw (length-append, size, length-replicate) (omega arith)
 
+-- the set of a lifetime stands at its place
+pub set-there : (env : LifetimeEnv) (i : ℕ) → i < env .count → getD (allSets true env) i 0 ≡ reachSet true (boundsOf env) i
+unfolding allSets
+set-there env i below =
+    List·getD-append (map (reachSet true (boundsOf env)) (ascending 0 (env .count))) (replicate (64 - env .count) 0) 0 i (omega (arith, places (reachSet true (boundsOf env)) (env .count)))
+    ∙ at-place (reachSet true (boundsOf env)) 0 (env .count) i below
+    ∙ ap (reachSet true (boundsOf env)) (zero-add i)
+
 pub sets-size : (env : LifetimeEnv) {r : ReachSets} → r ≡ reachSets true env → length (r .sets) ≡ 64
 unfolding reachSets
 sets-size env {r} q = ap (λ (x : ReachSets). length (x .sets)) q ∙ go (unless (envChecks env) (allSets true env)) refl
@@ -151,16 +159,23 @@ set-refused : {r : Refusal} {v : ℕ} {A : Type 0} → answer.Refused r ≡ answ
 set-refused e = let z : _≡_ {A = ℕ} 0 1 = cc in absurd (omega arith)
 
 module _ (env : LifetimeEnv) (structs params output force : List ℕ) {a : UsedLifetimes} (is : a ≡ usedAnswer (usedSet env structs params output force)) where
+  refuses : {r : Refusal} → a ≡ answer.Refused r → usedSet env structs params output force ≡ Refuses r
+  refuses {r} e = go (usedSet env structs params output force) (sym is ∙ e)
+    where
+      go : (o : Outcome ℕ) → usedAnswer o ≡ answer.Refused r → o ≡ Refuses r
+      go (Gives u) q = let z : _≡_ {A = ℕ} 0 1 = cc in absurd (omega arith)
+      go (Refuses x) q = cc
+
+  pub used-refused : {r : Refusal} → a ≡ answer.Refused r → FirstDue r (methodChecks env structs params output force)
+  unfolding usedSet
+  used-refused {r} e = refused-due _ r (methodChecks env structs params output force) (refuses e)
+
   pub new-refused : {r : Refusal} → a ≡ answer.Refused r → record { verdict = Refused r; visitor = noVisitor } ≡ created env structs params output force
   unfolding created
-  new-refused {r} e = go (usedSet env structs params output force) (sym is ∙ e)
-    where
-      go : (o : Outcome ℕ) → usedAnswer o ≡ answer.Refused r → record { verdict = Refused r; visitor = noVisitor } ≡ createdBy (boundsOf env) o
-      go (Gives u) q = let z : _≡_ {A = ℕ} 0 1 = cc in absurd (omega arith)
-      go (Refuses x) q = let same : r ≡ x = cc in rw same
+  new-refused e = rw (refuses e)
 
   module _ {used : ℕ} (e : a ≡ answer.Set used) where
-    gives : usedSet env structs params output force ≡ Gives used
+    pub gives : usedSet env structs params output force ≡ Gives used
     gives = go (usedSet env structs params output force) refl
       where
         go : (o : Outcome ℕ) → usedSet env structs params output force ≡ o → usedSet env structs params output force ≡ Gives used
@@ -173,18 +188,11 @@ module _ (env : LifetimeEnv) (structs params output force : List ℕ) {a : UsedL
 
     -- the sets of the used lifetimes
     kept-set : {sets : List ℕ} → sets ≡ allSets true env → (i : ℕ) → i < 64 → keptAt used sets (replicate 64 0) i ≡ drawsTo used (boundsOf env) i
-    unfolding allSets
     kept-set {sets} q i h = go (member used i) refl
       where
         go : (t : Bool) → member used i ≡ t → cond t (getD sets i 0) (getD (replicate 64 0) i 0) ≡ cond t (reachSet true (boundsOf env) i) 0
         go false m = getD-replicate 64 i 0 0 h
-        go true m =
-            let below = used-below env structs params output force accepted used gives i m in
-            let size = places (reachSet true (boundsOf env)) (env .count) in
-            ap (λ (l : List ℕ). getD l i 0) q
-            ∙ List·getD-append (map (reachSet true (boundsOf env)) (ascending 0 (env .count))) (replicate (64 - env .count) 0) 0 i (omega (arith, size))
-            ∙ at-place (reachSet true (boundsOf env)) 0 (env .count) i below
-            ∙ ap (reachSet true (boundsOf env)) (zero-add i)
+        go true m = ap (λ (l : List ℕ). getD l i 0) q ∙ set-there env i (used-below env structs params output force accepted used gives i m)
 
     pub new-given : {r : ReachSets} → r ≡ reachSets true env → {draws : List ℕ} → draws ≡ keptOf used (r .sets) (replicate 64 0)
         → record { verdict = Accepted; visitor = record { used = used; draws = draws; stored = 0 } } ≡ created env structs params output force

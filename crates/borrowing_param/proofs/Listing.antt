@@ -41,7 +41,7 @@ use Rattle.borrowing_param.specs.Brings.{bring, numberOf}
 use Rattle.borrowing_param.specs.Visit.{usedOf, drawsIn, drawsOf, bringTo, bringAll, holding}
 use Rattle.borrowing_param.specs.BorrowMap.{listedTo, listedEdges, answersFrom, Mapping, mappingOf, borrowMap, mapAnswer, answersIn, edgesIn}
 use Rattle.borrowing_param.specs.Inner.{Inside, typeIn, numberBy, CountsAll, StoresWords, Stores}
-use Rattle.borrowing_param.specs.InnerMap.{Lists, done, more, loweredOf, Params, visitorIn, bringFrom, CountsParams, roomChecks, mapOf, Maps}
+use Rattle.borrowing_param.specs.InnerMap.{Lists, done, more, paramTypes, Params, visitorIn, bringFrom, CountsParams, roomChecks, mapOf, Maps}
 use Rattle.borrowing_param.proofs.Joining.{join-cons, words-many}
 use Rattle.borrowing_param.proofs.Drawing.{bring-few}
 use Rattle.borrowing_param.proofs.Storing.{Storing, storing-start, storing-end, storing-fits, storing-part, usedFrom, used-all, used-end, used-here, used-not}
@@ -63,7 +63,7 @@ all-lists rows number (suc steps) (w ∷ words) =
     holds-onward (λ t rest. readLowered (w ∷ words) ≡ Read t rest) All (known-reads rows (w ∷ words))
     (λ t rest e. holds-onward (λ ts end. Reads (suc number) steps rest ts) All (all-lists rows (suc number) steps rest) (λ ts end h. read (more e (h .0), (h .1 .0, rw (e, h .1 .1)))))
 
-pub types-listed : (rows : ℕ) (params : List ℕ) → paramsInShape rows params ≡ true → Lists params (typesOf rows params) × (loweredOf params ≡ typesOf rows params)
+pub types-listed : (rows : ℕ) (params : List ℕ) → paramsInShape rows params ≡ true → Lists params (typesOf rows params) × (paramTypes params ≡ typesOf rows params)
 unfolding inShape itemsOf
 types-listed rows params shape =
     let r = holds-or (λ ts. Reads 0 (length params) params ts) [] (all-lists rows 0 (length params) params) (right (fewWords params) shape) in
@@ -82,7 +82,7 @@ module _ (structs params : List ℕ) (none : NoneDue (methodChecks (envOf 0 0 []
   pub few-types : length (typesIn structs params) ≤ 16
   few-types = omega (arith, params-few (rowsOf structs) 0 (typesIn structs params) (omega arith) (rows-params (envOf 0 0 []) structs params [] (0 ∷ []) none .1))
 
-  pub types-are : loweredOf params ≡ typesIn structs params
+  pub types-are : paramTypes params ≡ typesIn structs params
   types-are = types-listed (length (rowsOf structs)) params (in-shape (envOf 0 0 []) structs params [] (0 ∷ []) none .1) .1
 
   pub are-params : Params params
@@ -408,6 +408,6 @@ module _ (v : BorrowingParamVisitor) (structs params : List ℕ) (answers edges 
     pub map-none : NoneDue (methodChecks (envOf 0 0 []) structs params [] (0 ∷ []))
     map-none = accepted-none (tt {0}) (methodChecks (envOf 0 0 []) structs params [] (0 ∷ [])) (sym judged ∙ e)
 
-    pub map-given : borrowMap v structs params answers edges ≡ mapOf v (loweredOf params) answers edges
+    pub map-given : borrowMap v structs params answers edges ≡ mapOf v (paramTypes params) answers edges
     unfolding borrowMap
     map-given = rw (types-are structs params map-none) (after-none (mappingOf v (typesIn structs params)) (roomChecks v (typesIn structs params) answers edges) map-none)

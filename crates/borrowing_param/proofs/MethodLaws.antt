@@ -102,26 +102,29 @@ module _ (r : Records) where
 
     -- names, bounds and types
     module _ {a : ast-made.Made} (is : a ≡ ast.made (ast.envOf [] []) (ast.fromMethodItem (r .names) (r .bounds) (r .types))) where
-      pub names-refused : {k : Refusal} {m : Made} → a .verdict ≡ verdict.Refused k → m ≡ made (envOf 0 0 []) (Refuses k) → m ≡ made (envOf 0 0 []) (methodOf r)
+      pub names-first : {k : Refusal} → a .verdict ≡ verdict.Refused k → FirstDue k (recordsChecks r)
       unfolding recordsChecks ast.fromMethodItem
-      names-refused {k} v h =
+      names-first {k} v =
           let d = refused-first (astEnvOf r) k (ast.methodChecks (r .names) (r .bounds) (r .types)) (sym (ap (λ (x : ast-made.Made). x .verdict) is) ∙ v) in
           let s : not (namesInShape (r .names) && (boundsInShape (r .bounds) && typesInShape (r .types))) ≡ false = rw (shapes .0) in
-          refuses (later shape-not (first-more _ (first-behind (next s end) d))) h
+          later shape-not (first-more _ (first-behind (next s end) d))
+
+      pub names-refused : {k : Refusal} {m : Made} → a .verdict ≡ verdict.Refused k → m ≡ made (envOf 0 0 []) (Refuses k) → m ≡ made (envOf 0 0 []) (methodOf r)
+      names-refused v h = refuses (names-first v) h
 
       module _ (fine : a .verdict ≡ verdict.Accepted) where
         ast-none : NoneDue (ast.methodChecks (r .names) (r .bounds) (r .types))
         unfolding ast.fromMethodItem
         ast-none = accepted-none (astEnvOf r) (ast.methodChecks (r .names) (r .bounds) (r .types)) (sym (ap (λ (x : ast-made.Made). x .verdict) is) ∙ fine)
 
-        ast-is : a .env ≡ astEnvOf r
+        pub ast-is : a .env ≡ astEnvOf r
         unfolding ast.fromMethodItem
         ast-is = ap (λ (x : ast-made.Made). x .env) is ∙ ap (resultOr (ast.envOf [] [])) (due-given (astEnvOf r) ast-none)
 
-        placed : NoneDue astPlaces
+        pub placed : NoneDue astPlaces
         placed = none-rest ast-none
 
-        names-are : ast.namesOf (astEnvOf r) ≡ names
+        pub names-are : ast.namesOf (astEnvOf r) ≡ names
         names-are = accepted-names-of (r .names) (r .bounds) (r .types) placed
 
         -- self, steps and returns
@@ -139,56 +142,64 @@ module _ (r : Records) where
           in-shape-not : not (inShapeAll (r .self) (r .steps) (r .returns)) ≡ false
           in-shape-not = rw (shapes .1)
 
-          pub steps-refused : {k : Refusal} {m : Made} → l .verdict ≡ verdict.Refused k → m ≡ made (envOf 0 0 []) (Refuses k) → m ≡ made (envOf 0 0 []) (methodOf r)
+          pub steps-first : {k : Refusal} → l .verdict ≡ verdict.Refused k → FirstDue k (recordsChecks r)
           unfolding recordsChecks measureRecords
-          steps-refused {k} v h =
+          steps-first {k} v =
               let e = astEnvOf r in
               let d = refused-first (recordsOf e (r .self) (r .steps) (r .returns)) k (measureChecks e (r .self) (r .steps) (r .returns)) (sym verdict-is ∙ v) in
               let f = first-behind (accepted-valid (r .names) (r .bounds) (r .types) placed) (first-behind (next in-shape-not end) d) in
               let g : FirstDue k elisionChecks = rw names-are at f in
-              refuses (later shape-not (first-after placed (first-more _ g))) h
+              later shape-not (first-after placed (first-more _ g))
+
+          pub steps-refused : {k : Refusal} {m : Made} → l .verdict ≡ verdict.Refused k → m ≡ made (envOf 0 0 []) (Refuses k) → m ≡ made (envOf 0 0 []) (methodOf r)
+          steps-refused v h = refuses (steps-first v) h
 
           module _ (given : l .verdict ≡ verdict.Accepted) where
-            measure-none : NoneDue (measureChecks (astEnvOf r) (r .self) (r .steps) (r .returns))
+            pub measure-none : NoneDue (measureChecks (astEnvOf r) (r .self) (r .steps) (r .returns))
             unfolding measureRecords
             measure-none = accepted-none (recordsOf (astEnvOf r) (r .self) (r .steps) (r .returns)) (measureChecks (astEnvOf r) (r .self) (r .steps) (r .returns)) (sym verdict-is ∙ given)
 
-            elided : NoneDue elisionChecks
+            pub elided : NoneDue elisionChecks
             elided =
                 let p = none-split (ast.envChecks (astEnvOf r)) _ (none-rest measure-none) in
                 rw names-are at (p .1)
 
-            env-is : l .env ≡ envOfSheet r
+            pub env-is : l .env ≡ envOfSheet r
             unfolding measureRecords
             env-is =
                 ap (λ (x : Lowering). x .env) measured
                 ∙ ap (λ (o : Outcome rfc.Method). answered (astEnvOf r) o .env) (due-given (recordsOf (astEnvOf r) (r .self) (r .steps) (r .returns)) measure-none)
                 ∙ rw names-are
 
+            method-shape-not : not (methodInShape (r .structs) (r .params) (r .output) (r .force)) ≡ false
+            method-shape-not = rw (shapes .2)
+
             -- structs, params, output and force
+            pub method-first : {k : Refusal} → FirstDue k (methodChecks (l .env) (r .structs) (r .params) (r .output) (r .force)) → FirstDue k (recordsChecks r)
+            unfolding recordsChecks
+            method-first {k} first =
+                let d : FirstDue k hirChecks = rw env-is at first in
+                let f = first-behind (limits placed elided .0) (first-behind (next method-shape-not end) d) in
+                let g = first-without hirPlaces (past ∷ []) (limits placed elided .1) f in
+                later shape-not (first-after placed (first-after elided g))
+
+            pub method-none : NoneDue (methodChecks (l .env) (r .structs) (r .params) (r .output) (r .force)) → NoneDue (recordsChecks r)
+            unfolding recordsChecks
+            method-none none =
+                let n : NoneDue hirChecks = rw env-is at none in
+                let p = none-split (take 2 (envChecks (envOfSheet r))) _ (none-rest n) in
+                let q = none-split hirPlaces _ (p .1) in
+                let s = none-split (drop 2 (envChecks (envOfSheet r))) (past ∷ []) (q .1) in
+                next shape-not (none-more placed (none-more elided (none-more (q .0) (s .1))))
+
             module _ {v : Verdict} (judges : v ≡ methodVerdict (l .env) (r .structs) (r .params) (r .output) (r .force)) where
-              judged : v ≡ verdictOf (unless hirChecks (tt {0}))
-              judged = judges ∙ ap (λ (e : LifetimeEnv). methodVerdict e (r .structs) (r .params) (r .output) (r .force)) env-is
-
-              method-shape-not : not (methodInShape (r .structs) (r .params) (r .output) (r .force)) ≡ false
-              method-shape-not = rw (shapes .2)
-
               pub method-refused : {k : Refusal} {m : Made} → v ≡ verdict.Refused k → m ≡ made (envOf 0 0 []) (Refuses k) → m ≡ made (envOf 0 0 []) (methodOf r)
-              unfolding recordsChecks
-              method-refused {k} w h =
-                  let d = refused-first (tt {0}) k hirChecks (sym judged ∙ w) in
-                  let f = first-behind (limits placed elided .0) (first-behind (next method-shape-not end) d) in
-                  let g = first-without hirPlaces (past ∷ []) (limits placed elided .1) f in
-                  refuses (later shape-not (first-after placed (first-after elided g))) h
+              method-refused {k} w h = refuses (method-first (refused-first (tt {0}) k (methodChecks (l .env) (r .structs) (r .params) (r .output) (r .force)) (sym judges ∙ w))) h
 
               pub method-given : v ≡ verdict.Accepted → record { verdict = verdict.Accepted; env = l .env } ≡ made (envOf 0 0 []) (methodOf r)
-              unfolding recordsChecks methodOf
+              unfolding methodOf
               method-given w =
-                  let n = accepted-none (tt {0}) hirChecks (sym judged ∙ w) in
-                  let p = none-split (take 2 (envChecks (envOfSheet r))) _ (none-rest n) in
-                  let q = none-split hirPlaces _ (p .1) in
-                  let s = none-split (drop 2 (envChecks (envOfSheet r))) (past ∷ []) (q .1) in
-                  let due : NoneDue (recordsChecks r) = next shape-not (none-more placed (none-more elided (none-more (q .0) (s .1)))) in
+                  let due = method-none (accepted-none (tt {0}) (methodChecks (l .env) (r .structs) (r .params) (r .output) (r .force)) (sym judges ∙ w)) in
                   rw (due-given (envOfSheet r) due, env-is)
 
   -- T-12b: a method from a sheet is accepted

@@ -29,7 +29,7 @@ use Rattle.sheet.proofs.Answers.{last-end}
 use Rattle.sheet.proofs.Placing.{laid-words, laid-records}
 use Rattle.sheet.proofs.Theorems.{room-for-any-sheet, words-take-two-bytes}
 use Rattle.borrowing_param.specs.declared.method.SheetMethod.{SheetMethod}
-use Rattle.borrowing_param.specs.SheetMethod.{envOfSheet, recordsChecks, sheetChecks, lowerSheet, methodAnswer, sheetWords}
+use Rattle.borrowing_param.specs.SheetMethod.{envOfSheet, recordsChecks, sheetRefusals, lowerSheet, methodAnswer, methodWords}
 use Rattle.borrowing_param.specs.InnerSheet.{records, methodOf, Roomy, Judges}
 
 -- the first due is in the one list or in the other
@@ -69,8 +69,8 @@ module _ (bytes : List ℕ) where
   abbrev shapeCheck : Check
   shapeCheck = check (not (sheetInShape sheet)) Malformed
 
-  read-refused : {k : Refusal} → FirstDue k (shape.sheetChecks bytes) → FirstDue k (sheetChecks bytes)
-  unfolding shape.sheetChecks sheetChecks recordsChecks
+  read-refused : {k : Refusal} → FirstDue k (shape.sheetChecks bytes) → FirstDue k (sheetRefusals bytes)
+  unfolding shape.sheetChecks sheetRefusals recordsChecks
   read-refused {k} f = go (first-either (textChecks bytes) (shapeCheck ∷ []) f)
     where
       go : FirstDue k (textChecks bytes) ⊎ (NoneDue (textChecks bytes) × FirstDue k (shapeCheck ∷ [])) → FirstDue k (textChecks bytes ++ recordsChecks sheet)
@@ -102,28 +102,29 @@ module _ (bytes : List ℕ) where
     unfolding sheetAnswer
     verdict-is = ap (λ (x : Text). x .verdict) read
 
-    pub judge-text : {k : Refusal} {m : SheetMethod} → t .verdict ≡ verdict.Refused k → m ≡ methodAnswer (Refuses k) → Judges bytes m scratch₁
+    pub text-first : {k : Refusal} → t .verdict ≡ verdict.Refused k → FirstDue k (sheetRefusals bytes)
     unfolding sheetEnds
-    judge-text {k} {m} v h = go (first-either (shape.sheetChecks bytes) (roomCheck (length scratch) (wordsOf sheet) ∷ []) (refused-first _ k (callChecks bytes (length scratch)) (sym verdict-is ∙ v)))
+    text-first {k} v = go (first-either (shape.sheetChecks bytes) (roomCheck (length scratch) (wordsOf sheet) ∷ []) (refused-first _ k (callChecks bytes (length scratch)) (sym verdict-is ∙ v)))
       where
-        go : FirstDue k (shape.sheetChecks bytes) ⊎ (NoneDue (shape.sheetChecks bytes) × FirstDue k (roomCheck (length scratch) (wordsOf sheet) ∷ [])) → Judges bytes m scratch₁
-        go (inl f) = record {
-          answers = rw (due-refused sheet (read-refused f)) h;
-          leaves = λ a. refused-accepted (sym (ap (λ (x : SheetMethod). x .verdict) h) ∙ a);
-        }
-        go (inr (n, f)) =
-            let enough = le-ltb (length scratch) (length (wordsOf sheet)) (fits roomy (read-none n .0)) in
-            absurd (none-of f enough)
-          where
-            none-of : FirstDue k (roomCheck (length scratch) (wordsOf sheet) ∷ []) → roomCheck (length scratch) (wordsOf sheet) .due ≡ false → ⊥
-            none-of (here d e) z = let y : _≡_ {A = ℕ} 0 1 = cc in omega arith
+        none-of : FirstDue k (roomCheck (length scratch) (wordsOf sheet) ∷ []) → roomCheck (length scratch) (wordsOf sheet) .due ≡ false → ⊥
+        none-of (here d e) z = let y : _≡_ {A = ℕ} 0 1 = cc in omega arith
+
+        go : FirstDue k (shape.sheetChecks bytes) ⊎ (NoneDue (shape.sheetChecks bytes) × FirstDue k (roomCheck (length scratch) (wordsOf sheet) ∷ [])) → FirstDue k (sheetRefusals bytes)
+        go (inl f) = read-refused f
+        go (inr (n, f)) = absurd (none-of f (le-ltb (length scratch) (length (wordsOf sheet)) (fits roomy (read-none n .0))))
+
+    pub judge-text : {k : Refusal} {m : SheetMethod} → t .verdict ≡ verdict.Refused k → m ≡ methodAnswer (Refuses k) → Judges bytes m scratch₁
+    judge-text v h = record {
+      answers = rw (due-refused sheet (text-first v)) h;
+      leaves = λ a. refused-accepted (sym (ap (λ (x : SheetMethod). x .verdict) h) ∙ a);
+    }
 
     module _ (fine : t .verdict ≡ verdict.Accepted) where
       call-none : NoneDue (callChecks bytes (length scratch))
       unfolding sheetEnds
       call-none = accepted-none _ (callChecks bytes (length scratch)) (sym verdict-is ∙ fine)
 
-      text-none : NoneDue (textChecks bytes) × (sheetInShape sheet ≡ true)
+      pub text-none : NoneDue (textChecks bytes) × (sheetInShape sheet ≡ true)
       text-none = read-none (none-split (shape.sheetChecks bytes) _ call-none .0)
 
       ends-are : t .ends ≡ endsFrom 0 (lists sheet)
@@ -139,7 +140,7 @@ module _ (bytes : List ℕ) where
         placed = ends-are;
       }
 
-      found : recordsAt scratch₁ (t .ends) ≡ sheet
+      pub found : recordsAt scratch₁ (t .ends) ≡ sheet
       unfolding read-laid
       found = laid-records read-laid
 
@@ -154,18 +155,18 @@ module _ (bytes : List ℕ) where
         verdict-of = ap (λ (x : Made). x .verdict) at-sheet
 
         pub judge-refused : {k : Refusal} {m : SheetMethod} → a .verdict ≡ verdict.Refused k → m ≡ methodAnswer (Refuses k) → Judges bytes m scratch₁
-        unfolding methodOf sheetChecks
+        unfolding methodOf sheetRefusals
         judge-refused {k} {m} v h =
             let f = refused-first (envOfSheet sheet) k (recordsChecks sheet) (sym verdict-of ∙ v) in
-            let g : FirstDue k (sheetChecks bytes) = first-after (text-none .0) f in
+            let g : FirstDue k (sheetRefusals bytes) = first-after (text-none .0) f in
             record { answers = rw (due-refused sheet g) h; leaves = λ x. refused-accepted (sym (ap (λ (x : SheetMethod). x .verdict) h) ∙ x) }
 
         pub judge-given : a .verdict ≡ verdict.Accepted → Judges bytes (record { verdict = verdict.Accepted; ends = t .ends; env = a .env }) scratch₁
-        unfolding methodOf sheetChecks read-laid
+        unfolding methodOf sheetRefusals read-laid
         judge-given v =
             let n = accepted-none (envOfSheet sheet) (recordsChecks sheet) (sym verdict-of ∙ v) in
             let e : a .env ≡ envOfSheet sheet = ap (λ (x : Made). x .env) at-sheet ∙ ap (resultOr (envOf 0 0 [])) (due-given (envOfSheet sheet) n) in
-            let g : NoneDue (sheetChecks bytes) = none-more (text-none .0) n in
+            let g : NoneDue (sheetRefusals bytes) = none-more (text-none .0) n in
             record { answers = rw (due-given sheet g, ends-are, e); leaves = λ x. (drop (length (wordsOf sheet)) scratch, read-laid .stored) }
 
   -- `lower_within`: what was judged, and the words
@@ -174,14 +175,14 @@ module _ (bytes : List ℕ) where
     given = lowerSheet bytes (length words)
 
     abbrev Answers : SheetMethod → List ℕ → Type 0
-    Answers x words₁ = (x ≡ methodAnswer given) × (words₁ ≡ written (sheetWords given) words)
+    Answers x words₁ = (x ≡ methodAnswer given) × (words₁ ≡ written (methodWords given) words)
 
-    refused-answers : {k : Refusal} {x : SheetMethod} → x ≡ methodAnswer (Refuses k) → FirstDue k (sheetChecks bytes ++ (roomCheck (length words) (wordsOf sheet) ∷ [])) → Answers x words
+    refused-answers : {k : Refusal} {x : SheetMethod} → x ≡ methodAnswer (Refuses k) → FirstDue k (sheetRefusals bytes ++ (roomCheck (length words) (wordsOf sheet) ∷ [])) → Answers x words
     unfolding lowerSheet
     refused-answers h f = rw (due-refused sheet f) (h, refl)
 
-    judged-verdict : m .verdict ≡ verdictOf (unless (sheetChecks bytes) sheet)
-    judged-verdict = ap (λ (x : SheetMethod). x .verdict) (judges .answers) ∙ go (unless (sheetChecks bytes) sheet)
+    judged-verdict : m .verdict ≡ verdictOf (unless (sheetRefusals bytes) sheet)
+    judged-verdict = ap (λ (x : SheetMethod). x .verdict) (judges .answers) ∙ go (unless (sheetRefusals bytes) sheet)
       where
         go : (o : Outcome Records) → methodAnswer o .verdict ≡ verdictOf o
         go (Gives r) = refl
@@ -189,12 +190,12 @@ module _ (bytes : List ℕ) where
 
     pub within-refused : {k : Refusal} → m .verdict ≡ verdict.Refused k → Answers m words
     within-refused {k} v =
-        let f = refused-first sheet k (sheetChecks bytes) (sym judged-verdict ∙ v) in
+        let f = refused-first sheet k (sheetRefusals bytes) (sym judged-verdict ∙ v) in
         refused-answers (judges .answers ∙ ap methodAnswer (due-refused sheet f)) (first-more _ f)
 
     module _ (fine : m .verdict ≡ verdict.Accepted) where
-      none : NoneDue (sheetChecks bytes)
-      none = accepted-none sheet (sheetChecks bytes) (sym judged-verdict ∙ fine)
+      none : NoneDue (sheetRefusals bytes)
+      none = accepted-none sheet (sheetRefusals bytes) (sym judged-verdict ∙ fine)
 
       is-given : m ≡ methodAnswer (Gives sheet)
       is-given = judges .answers ∙ ap methodAnswer (due-given sheet none)
@@ -214,5 +215,5 @@ module _ (bytes : List ℕ) where
           let p = judges .leaves fine in
           let t : take (getD (m .ends) 9 0) scratch ≡ wordsOf sheet = rw (p .1, total) (take-append-seam (wordsOf sheet) (p .0)) in
           let room : roomCheck (length words) (wordsOf sheet) .due ≡ false = le-ltb (length words) (length (wordsOf sheet)) (omega (arith, total)) in
-          let g : NoneDue (sheetChecks bytes ++ (roomCheck (length words) (wordsOf sheet) ∷ [])) = none-more none (next room end) in
+          let g : NoneDue (sheetRefusals bytes ++ (roomCheck (length words) (wordsOf sheet) ∷ [])) = none-more none (next room end) in
           rw (due-given sheet g) (is-given, e ∙ ap (sets words 0) t ∙ sets-front words (wordsOf sheet) (omega (arith, total)))

@@ -1,21 +1,30 @@
 -- The main theorems, proved: for each statement of specs/Theorems.antt a term of exactly its type.
 use mathlib.Core.Path.{refl}
-use mathlib.Core.List.{flatMap}
+use mathlib.Core.List.{flatMap, flatten}
 use Rattle.lifetimes.specs.Ranges as ranges
 use Rattle.lifetimes.specs.Refusals as refusals
 use Rattle.lifetimes.specs.Sets as sets
 use Rattle.lifetimes.specs.Env as env
 use Rattle.lifetimes.specs.Walk as walk
 use Rattle.records.specs.Reading as reading
+use Rattle.ast_lifetimes.specs.Shapes as shapes
+use Rattle.ast_lifetimes.specs.Types as ast-types
+use Rattle.ast_lifetimes.specs.Env as ast
+use Rattle.elision.specs.Steps as steps
+use Rattle.elision.specs.Rfc as rfc
 use Rattle.lowered_types.specs.LoweredTypes as types
 use Rattle.lowered_types.specs.Rows as rows
 use Rattle.hir_types.specs.Method as method
 use Rattle.hir_types.specs.Used as used
+use Rattle.sheet.specs.Text as text
+use Rattle.sheet.specs.Reading as read
+use Rattle.sheet.specs.Shape as shape
 use Rattle.borrowing_param.specs.Brings as brings
 use Rattle.borrowing_param.specs.Visit as visit
 use Rattle.borrowing_param.specs.VisitParam as visit-param
 use Rattle.borrowing_param.specs.New as new
 use Rattle.borrowing_param.specs.BorrowMap as map
+use Rattle.borrowing_param.specs.SheetMethod as sheets
 use Rattle.borrowing_param.specs.Theorems.{NewVisitor, Condition3, ListingInOrder, ListingIsVisits, SheetsGiveMethods, ExamplesHold}
 use Rattle.borrowing_param.proofs.Forcing.{new-is, all-visits}
 use Rattle.borrowing_param.proofs.Ordering.{listing-consistent}
@@ -39,4 +48,6 @@ sheets-give-methods bytes none = sheet-method bytes none
 
 pub examples-hold : ExamplesHold
 unfolding new.created new.newVisitor map.listedTo map.listedEdges map.answersFrom map.borrowMap visit-param.visitParam visit.visit visit.after brings.bring brings.anyDrawn brings.structEdges brings.notes used.usedSet used.numbersOf used.inTypes used.inRows method.typeChecks method.rowChecks method.paramChecks method.anyPast rows.readKnown rows.readTypes rows.readRow rows.methodInShape types.readOpaque types.readStruct types.readSlice types.readBare types.readLowered reading.readAll reading.inShape reading.itemsOf refusals.unless env.envOf env.allBelow ranges.ascending ranges.select walk.reachSet walk.traversal walk.walk walk.walkFor walk.unpushed walk.neighbours sets.member sets.insert sets.insertAll sets.members flatMap
-examples-hold = (refl, (refl, (refl, (refl, (refl, (refl, (refl, (refl, (refl, (refl, (refl, (refl, (refl, (refl, (refl, tt)))))))))))))))
+    sheets.lowerSheet sheets.sheetRefusals sheets.recordsChecks read.textChecks read.sheetOf read.sheetIn read.linesBehind read.ten read.readLines read.behind read.allShort flatten text.text text.line text.following text.digits text.digitsFor
+    shape.sheetInShape shapes.namesInShape shapes.allNames shapes.boundsInShape shapes.pairsOf ast-types.readType steps.readStep ast.nameChecks ast.allPairChecks ast.has ast.implied ast.allImplied ast.envOf ast.place rfc.throughout rfc.anonymous rfc.hasSelfType rfc.ownFrom
+examples-hold = (refl, (refl, (refl, (refl, (refl, (refl, (refl, (refl, (refl, (refl, (refl, (refl, (refl, (refl, (refl, (refl, (refl, (refl, (refl, (refl, (refl, (refl, (refl, (refl, (refl, (refl, (refl, (refl, (refl, tt)))))))))))))))))))))))))))))

@@ -16,7 +16,7 @@ use Rattle.borrowing_param.specs.Edges.{edgeWords}
 use Rattle.borrowing_param.specs.Visit.{usedOf}
 use Rattle.borrowing_param.specs.New.{created}
 use Rattle.borrowing_param.specs.BorrowMap.{listedEdges, answersFrom}
-use Rattle.borrowing_param.specs.SheetMethod.{envOfSheet, sheetChecks}
+use Rattle.borrowing_param.specs.SheetMethod.{envOfSheet, sheetRefusals}
 
 pub record Borrows : Type 0 where
   pub used : List ℕ
@@ -45,7 +45,7 @@ borrowMethod env structs params output force used answers edges =
 
 -- `borrow_sheet`: refused as the sheet is (10, 1, then 2 to 7 by place, 8), then by 9
 unfoldable pub borrowSheet : List ℕ → ℕ → ℕ → ℕ → Outcome Borrows
-borrowSheet bytes used answers edges = unless (sheetChecks bytes ++ roomChecks (sheetBorrows (sheetOf bytes)) used answers edges) (sheetBorrows (sheetOf bytes))
+borrowSheet bytes used answers edges = unless (sheetRefusals bytes ++ roomChecks (sheetBorrows (sheetOf bytes)) used answers edges) (sheetBorrows (sheetOf bytes))
 
 -- what the calls answer, and what they write
 abbrev pub borrowsAnswer : Outcome Borrows → answer.Borrows

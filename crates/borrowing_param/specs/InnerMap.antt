@@ -23,13 +23,13 @@ pub data Lists : List ℕ → List LoweredType → Type 0 where
   more : {words rest : List ℕ} {t : LoweredType} {ts : List LoweredType} → readLowered words ≡ Read t rest → Lists rest ts → Lists words (t ∷ ts)
 
 -- the types of a record, their rows not looked up
-abbrev pub loweredOf : List ℕ → List LoweredType
-loweredOf words = itemsOf (λ number. readLowered) words
+abbrev pub paramTypes : List ℕ → List LoweredType
+paramTypes words = itemsOf (λ number. readLowered) words
 
 -- the parameters of a method
 pub record Params (words : List ℕ) : Type 0 where
-  pub lists : Lists words (loweredOf words)
-  pub few : length (loweredOf words) ≤ 16
+  pub lists : Lists words (paramTypes words)
+  pub few : length (paramTypes words) ≤ 16
 
 -- a visitor by its sets
 abbrev pub visitorIn : ℕ → List ℕ → BorrowingParamVisitor

@@ -15,7 +15,7 @@ use Rattle.borrowing_param.specs.declared.borrows.Borrows as answer
 use Rattle.borrowing_param.specs.declared.method.SheetMethod.{SheetMethod}
 use Rattle.borrowing_param.specs.declared.visitor.BorrowingParamVisitor.{BorrowingParamVisitor}
 use Rattle.borrowing_param.specs.Borrows.{Borrows, borrowsBy, roomChecks, borrowsAnswer, usedWords, answerWords, edgesWords}
-use Rattle.borrowing_param.specs.SheetMethod.{envOfSheet, recordsChecks, sheetChecks, methodAnswer}
+use Rattle.borrowing_param.specs.SheetMethod.{envOfSheet, recordsChecks, sheetRefusals, methodAnswer}
 
 abbrev pub records : List ℕ → List ℕ → List ℕ → List ℕ → List ℕ → List ℕ → List ℕ → List ℕ → List ℕ → List ℕ → Records
 records names bounds types self steps returns structs params output force =
@@ -31,7 +31,7 @@ Roomy bytes room = (n : ℕ) → n ≤ 10240 → 2 * n ≤ length bytes → n �
 
 -- the answer is the method's or its refusal; with it the words of the records stand in front of the scratch
 pub record Judges (bytes : List ℕ) (m : SheetMethod) (scratch : List ℕ) : Type 0 where
-  pub answers : m ≡ methodAnswer (unless (sheetChecks bytes) (sheetOf bytes))
+  pub answers : m ≡ methodAnswer (unless (sheetRefusals bytes) (sheetOf bytes))
   pub leaves : m .verdict ≡ verdict.Accepted → (rest : List ℕ) × (scratch ≡ wordsOf (sheetOf bytes) ++ rest)
 
 -- all parameters by a visitor of a method: 9 where a slice is too short

@@ -41,18 +41,18 @@ recordsChecks r =
     ++ (check (anyPast (loweredOf r .count) (outputLifetimes (r .structs) (r .output))) OutOfRange ∷ []))))
 
 -- before them the text: 10, then 1 for a record above 1,024 words
-unfoldable pub sheetChecks : List ℕ → List Check
-sheetChecks bytes = textChecks bytes ++ recordsChecks (sheetOf bytes)
+unfoldable pub sheetRefusals : List ℕ → List Check
+sheetRefusals bytes = textChecks bytes ++ recordsChecks (sheetOf bytes)
 
 -- `lower_sheet`: last 9, a slice too short for the words of the records
 unfoldable pub lowerSheet : List ℕ → ℕ → Outcome Records
-lowerSheet bytes room = unless (withRoom (sheetChecks bytes) room (sheetOf bytes)) (sheetOf bytes)
+lowerSheet bytes room = unless (withRoom (sheetRefusals bytes) room (sheetOf bytes)) (sheetOf bytes)
 
 -- what the call answers, and what it writes
 abbrev pub methodAnswer : Outcome Records → SheetMethod
 methodAnswer (Gives r) = record { verdict = verdict.Accepted; ends = endsFrom 0 (lists r); env = envOfSheet r }
 methodAnswer (Refuses k) = record { verdict = verdict.Refused k; ends = replicate 10 0; env = envOf 0 0 [] }
 
-abbrev pub sheetWords : Outcome Records → Outcome (List ℕ)
-sheetWords (Gives r) = Gives (wordsOf r)
-sheetWords (Refuses k) = Refuses k
+abbrev pub methodWords : Outcome Records → Outcome (List ℕ)
+methodWords (Gives r) = Gives (wordsOf r)
+methodWords (Refuses k) = Refuses k

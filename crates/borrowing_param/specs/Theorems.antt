@@ -27,7 +27,7 @@ use Rattle.borrowing_param.specs.New.{created}
 use Rattle.borrowing_param.specs.BorrowMap.{listedTo, listedEdges, answersFrom}
 use Rattle.borrowing_param.specs.Consistent.{Consistent}
 use Rattle.borrowing_param.specs.Condition3.{Above, Param}
-use Rattle.borrowing_param.specs.SheetMethod.{envOfSheet, sheetChecks}
+use Rattle.borrowing_param.specs.SheetMethod.{envOfSheet, sheetRefusals}
 use Rattle.borrowing_param.specs.Examples.{examples, Right}
 
 -- The new visitor of a method on which no refusal is due: the used lifetimes; for each of them exactly the lifetimes that are forced above it draw, for a lifetime that is not used none; no edges
@@ -94,7 +94,7 @@ ListingIsVisits = (env : LifetimeEnv) (structs params output force : List ℕ) �
 
 -- Sheets give accepted methods: on a sheet's method no refusal is due, if none is on the sheet, so that condition 3 and the listing speak of it
 abbrev pub SheetsGiveMethods : Type 0
-SheetsGiveMethods = (bytes : List ℕ) → NoneDue (sheetChecks bytes)
+SheetsGiveMethods = (bytes : List ℕ) → NoneDue (sheetRefusals bytes)
     → NoneDue (methodChecks (envOfSheet (sheetOf bytes)) (sheetOf bytes .structs) (sheetOf bytes .params) (sheetOf bytes .output) (sheetOf bytes .force))
 
 -- The worked methods: among them the starred examples, and an accepted method with an edge of each kind, so that condition 3 speaks of something

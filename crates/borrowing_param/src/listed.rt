@@ -9,7 +9,7 @@ ghost use Rattle.borrowing_param.specs.Edges.{width};
 ghost use Rattle.borrowing_param.specs.Visit.{drawsIn};
 ghost use Rattle.borrowing_param.specs.BorrowMap.{listedEdges, borrowMap, mapAnswer, answersIn, edgesIn};
 ghost use Rattle.borrowing_param.specs.Inner.{Stores, StoresWords};
-ghost use Rattle.borrowing_param.specs.InnerMap.{loweredOf, Params, visitorIn, bringFrom, CountsParams, mapOf, Maps};
+ghost use Rattle.borrowing_param.specs.InnerMap.{paramTypes, Params, visitorIn, bringFrom, CountsParams, mapOf, Maps};
 use super::copy::copy;
 use super::edges::count_all;
 use super::edges::store_for;
@@ -77,7 +77,7 @@ fn map_params(
     edges: &mut [usize],
 ) -> BorrowMap
     requires { ⌜ Params (now params) ⌝ }
-    ensures { λ r. ⌜ Maps (mapOf visitor (loweredOf (now (params .entry))) (length (now (answers .entry))) (length (now (edges .entry)))) (now (answers .entry)) (now (edges .entry)) r (now (answers .exit)) (now (edges .exit)) ⌝ }
+    ensures { λ r. ⌜ Maps (mapOf visitor (paramTypes (now (params .entry))) (length (now (answers .entry))) (length (now (edges .entry)))) (now (answers .entry)) (now (edges .entry)) r (now (answers .exit)) (now (edges .exit)) ⌝ }
 {
     let used = visitor.used;
     let draws = visitor.draws;
@@ -108,7 +108,7 @@ fn count_params(
     numbers: &mut [usize; 16],
 ) -> Counted
     requires { ⌜ Params (now params) × (length (now drawn) ≡ 64) × (length (now numbers) ≡ 16) ⌝ }
-    ensures { λ r. ⌜ CountsParams used (now (drawn .entry)) (loweredOf (now (params .entry))) (now (numbers .entry)) r (now (numbers .exit)) ⌝ }
+    ensures { λ r. ⌜ CountsParams used (now (drawn .entry)) (paramTypes (now (params .entry))) (now (numbers .entry)) r (now (numbers .exit)) ⌝ }
 {
     let mut total = 0;
     let mut param = 0;
@@ -136,8 +136,8 @@ fn count_params(
 
 // Store the edges of all parameters, by used lifetime. Answers how many there are.
 fn store_listed(used: u64, drawn: &[u64; 64], params: &[usize], edges: &mut [usize]) -> usize
-    requires { ⌜ Params (now params) × (length (now drawn) ≡ 64) × (width * length (listedEdges (visitorIn used (now drawn)) (loweredOf (now params))) ≤ length (now edges)) ⌝ }
-    ensures { λ r. ⌜ StoresWords (listedEdges (visitorIn used (now (drawn .entry))) (loweredOf (now (params .entry)))) 0 (now (edges .entry)) r (now (edges .exit)) ⌝ }
+    requires { ⌜ Params (now params) × (length (now drawn) ≡ 64) × (width * length (listedEdges (visitorIn used (now drawn)) (paramTypes (now params))) ≤ length (now edges)) ⌝ }
+    ensures { λ r. ⌜ StoresWords (listedEdges (visitorIn used (now (drawn .entry))) (paramTypes (now (params .entry)))) 0 (now (edges .entry)) r (now (edges .exit)) ⌝ }
 {
     let mut pairs = [0u64; 16];
     let mut next = 0;
@@ -163,8 +163,8 @@ fn store_to(
     pairs: &mut [u64; 16],
 ) -> usize
     requires { ⌜ Params (now params) × (used < 64) × (length (now pairs) ≡ 16) ⌝ }
-    requires { ⌜ width * (stored + length (bringFrom (drawsIn set) used 0 (loweredOf (now params)))) ≤ length (now edges) ⌝ }
-    ensures { λ r. ⌜ Stores (bringFrom (drawsIn set) used 0 (loweredOf (now (params .entry)))) stored (now (pairs .entry)) (now (edges .entry)) r (now (pairs .exit)) (now (edges .exit)) ⌝ }
+    requires { ⌜ width * (stored + length (bringFrom (drawsIn set) used 0 (paramTypes (now params)))) ≤ length (now edges) ⌝ }
+    ensures { λ r. ⌜ Stores (bringFrom (drawsIn set) used 0 (paramTypes (now (params .entry)))) stored (now (pairs .entry)) (now (edges .entry)) r (now (pairs .exit)) (now (edges .exit)) ⌝ }
 {
     let mut next = stored;
     let mut param = 0;

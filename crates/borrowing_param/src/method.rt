@@ -11,7 +11,7 @@ ghost use Rattle.lifetimes.specs.Lent.{written};
 ghost use Rattle.lifetimes.specs.Env.{envOf, made};
 ghost use Rattle.sheet.specs.Shape.{sheetInShape};
 ghost use Rattle.sheet.specs.Inner.{Laid, recordsAt};
-ghost use Rattle.borrowing_param.specs.SheetMethod.{lowerSheet, methodAnswer, sheetWords};
+ghost use Rattle.borrowing_param.specs.SheetMethod.{lowerSheet, methodAnswer, methodWords};
 ghost use Rattle.borrowing_param.specs.InnerSheet.{records, methodOf, Roomy, Judges};
 use super::copy::copy;
 use elision::measure;
@@ -34,7 +34,7 @@ pub struct SheetMethod {
 // Refused in the scope paper's order: 10; 1 over all records; 2 to 7 at the first bad place; 8; then 9 where the slice is too short. 10,240 words are always enough.
 pub fn lower_sheet(sheet: &[u8], words: &mut [usize]) -> SheetMethod
     ensures { λ r. ⌜ r ≡ methodAnswer (lowerSheet (now (sheet .entry)) (length (now (words .entry)))) ⌝ }
-    ensures { λ _. ⌜ now (words .exit) ≡ written (sheetWords (lowerSheet (now (sheet .entry)) (length (now (words .entry))))) (now (words .entry)) ⌝ }
+    ensures { λ _. ⌜ now (words .exit) ≡ written (methodWords (lowerSheet (now (sheet .entry)) (length (now (words .entry))))) (now (words .entry)) ⌝ }
 {
     if sheet.len() <= 1024 {
         return lower_small(sheet, words);
@@ -46,7 +46,7 @@ pub fn lower_sheet(sheet: &[u8], words: &mut [usize]) -> SheetMethod
 fn lower_small(sheet: &[u8], words: &mut [usize]) -> SheetMethod
     requires { ⌜ length (now sheet) ≤ 1024 ⌝ }
     ensures { λ r. ⌜ r ≡ methodAnswer (lowerSheet (now (sheet .entry)) (length (now (words .entry)))) ⌝ }
-    ensures { λ _. ⌜ now (words .exit) ≡ written (sheetWords (lowerSheet (now (sheet .entry)) (length (now (words .entry))))) (now (words .entry)) ⌝ }
+    ensures { λ _. ⌜ now (words .exit) ≡ written (methodWords (lowerSheet (now (sheet .entry)) (length (now (words .entry))))) (now (words .entry)) ⌝ }
 {
     let mut scratch = [0usize; 512];
     lower_within(sheet, &mut scratch, words)
@@ -54,7 +54,7 @@ fn lower_small(sheet: &[u8], words: &mut [usize]) -> SheetMethod
 
 fn lower_large(sheet: &[u8], words: &mut [usize]) -> SheetMethod
     ensures { λ r. ⌜ r ≡ methodAnswer (lowerSheet (now (sheet .entry)) (length (now (words .entry)))) ⌝ }
-    ensures { λ _. ⌜ now (words .exit) ≡ written (sheetWords (lowerSheet (now (sheet .entry)) (length (now (words .entry))))) (now (words .entry)) ⌝ }
+    ensures { λ _. ⌜ now (words .exit) ≡ written (methodWords (lowerSheet (now (sheet .entry)) (length (now (words .entry))))) (now (words .entry)) ⌝ }
 {
     let mut scratch = [0usize; 10240];
     lower_within(sheet, &mut scratch, words)
@@ -64,7 +64,7 @@ fn lower_large(sheet: &[u8], words: &mut [usize]) -> SheetMethod
 fn lower_within(sheet: &[u8], scratch: &mut [usize], words: &mut [usize]) -> SheetMethod
     requires { ⌜ Roomy (now sheet) (length (now scratch)) ⌝ }
     ensures { λ r. ⌜ r ≡ methodAnswer (lowerSheet (now (sheet .entry)) (length (now (words .entry)))) ⌝ }
-    ensures { λ _. ⌜ now (words .exit) ≡ written (sheetWords (lowerSheet (now (sheet .entry)) (length (now (words .entry))))) (now (words .entry)) ⌝ }
+    ensures { λ _. ⌜ now (words .exit) ≡ written (methodWords (lowerSheet (now (sheet .entry)) (length (now (words .entry))))) (now (words .entry)) ⌝ }
 {
     let method = judge_sheet(sheet, scratch);
     let verdict = method.verdict;

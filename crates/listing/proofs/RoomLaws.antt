@@ -108,11 +108,11 @@ below-answers [] h = tt
 below-answers (a ∷ l) h = (omega (arith, h 0 (omega arith)), below-answers l (λ p k. h (suc p) (omega (arith, k))))
 
 module _ (env : LifetimeEnv) (valid : NoneDue (envChecks env)) where
-  lifetimes-few : env .count ≤ 64
+  pub lifetimes-few : env .count ≤ 64
   lifetimes-few = ltb-false 64 (env .count) (none-first valid)
 
-  within : (b : Bound) → List·Memᴰ b (boundsOf env) → b .longer .0 < 64
-  within b m =
+  pub bounds-within : (b : Bound) → List·Memᴰ b (boundsOf env) → b .longer .0 < 64
+  bounds-within b m =
       let declared = ltb-false (env .count) (env .declared) (none-first (none-rest (none-rest valid))) in
       let below = all-below (env .declared) (boundsOf env) (not-false _ (none-first (none-rest (none-rest (none-rest valid))))) b m in
       omega (arith, declared, lifetimes-few, below .0)
@@ -120,9 +120,9 @@ module _ (env : LifetimeEnv) (valid : NoneDue (envChecks env)) where
   longer-short : (l : ℕ) → List·Memᴰ l (ascending 0 (env .count)) → length (longerLine env l) ≤ 196
   longer-short l m =
       let here : l < 64 = omega (arith, (ascending-has 0 (env .count) l) .0 m, lifetimes-few) in
-      let few = traversal-few LastFirst true (boundsOf env) l 64 within here in
+      let few = traversal-few LastFirst true (boundsOf env) l 64 bounds-within here in
       let small = below-from 100 (traversal LastFirst true (boundsOf env) l)
-      (λ y k. let z : y < 64 = traversal-only LastFirst true (boundsOf env) l (λ y. y < 64) (λ b i h. within b i) here y k in omega (arith, z)) in
+      (λ y k. let z : y < 64 = traversal-only LastFirst true (boundsOf env) l (λ y. y < 64) (λ b i h. bounds-within b i) here y k in omega (arith, z)) in
       let short = line-short (l ∷ traversal LastFirst true (boundsOf env) l) (omega (arith, here), small) in
       omega (arith, short, few)
 

@@ -214,3 +214,43 @@ module _ {edges : List ℕ} {count at : ℕ} {out : List ℕ} {next : ℕ} {out�
 
     pub edge-fits : at + length (flatMap edgeLine (edgesIn count edges)) < 2 ^ 64 → next + length (line five) < 2 ^ 64
     edge-fits small = omega (arith, small, left-edge .behind, length-append (line five) later)
+
+-- ---- `put_listing`: five parts, one after another, from the front
+
+module _ (a b c d e : List ℕ) (small : length (a ++ (b ++ (c ++ (d ++ e)))) < 2 ^ 64) where
+  abbrev parts : List ℕ
+  parts = a ++ (b ++ (c ++ (d ++ e)))
+
+  pub first-fits : 0 + length a < 2 ^ 64
+  first-fits = omega (arith, small, length-append a (b ++ (c ++ (d ++ e))))
+
+  module _ {out : List ℕ} {at₁ : ℕ} {out₁ : List ℕ} (first : Prints a 0 out at₁ out₁) where
+    behind-first : Leaves parts 0 out (b ++ (c ++ (d ++ e))) at₁ out₁
+    behind-first = leaves-rest (b ++ (c ++ (d ++ e))) (leaves-all parts 0 out) first
+
+    pub second-fits : at₁ + length b < 2 ^ 64
+    second-fits = omega (arith, small, behind-first .behind, length-append b (c ++ (d ++ e)))
+
+    module _ {at₂ : ℕ} {out₂ : List ℕ} (second : Prints b at₁ out₁ at₂ out₂) where
+      behind-second : Leaves parts 0 out (c ++ (d ++ e)) at₂ out₂
+      behind-second = leaves-rest (c ++ (d ++ e)) behind-first second
+
+      pub third-fits : at₂ + length c < 2 ^ 64
+      third-fits = omega (arith, small, behind-second .behind, length-append c (d ++ e))
+
+      module _ {at₃ : ℕ} {out₃ : List ℕ} (third : Prints c at₂ out₂ at₃ out₃) where
+        behind-third : Leaves parts 0 out (d ++ e) at₃ out₃
+        behind-third = leaves-rest (d ++ e) behind-second third
+
+        pub fourth-fits : at₃ + length d < 2 ^ 64
+        fourth-fits = omega (arith, small, behind-third .behind, length-append d e)
+
+        module _ {at₄ : ℕ} {out₄ : List ℕ} (fourth : Prints d at₃ out₃ at₄ out₄) where
+          behind-fourth : Leaves parts 0 out e at₄ out₄
+          behind-fourth = leaves-rest e behind-third fourth
+
+          pub fifth-fits : at₄ + length e < 2 ^ 64
+          fifth-fits = omega (arith, small, behind-fourth .behind)
+
+          pub all-parts : {at₅ : ℕ} {out₅ : List ℕ} → Prints e at₄ out₄ at₅ out₅ → Prints parts 0 out at₅ out₅
+          all-parts fifth = leaves-none behind-fourth fifth

@@ -3,3 +3,4 @@ pub mod Listing
 -- For private functions only
 pub mod InnerPrint
 pub mod InnerSections
+pub mod InnerListing

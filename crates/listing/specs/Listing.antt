@@ -17,7 +17,7 @@ use Rattle.sheet.specs.Text.{newline, space, line, Records}
 use Rattle.sheet.specs.Reading.{sheetOf}
 use Rattle.borrowing_param.specs.declared.visitor.LifetimeEdge.{LifetimeEdge}
 use Rattle.borrowing_param.specs.Edges.{edgeWords}
-use Rattle.borrowing_param.specs.SheetMethod.{loweredOf, envOfSheet, sheetChecks}
+use Rattle.borrowing_param.specs.SheetMethod.{loweredOf, envOfSheet, sheetRefusals}
 use Rattle.borrowing_param.specs.Borrows.{Borrows, sheetBorrows}
 
 -- "lifetimes used params edges", and how many there are of each
@@ -84,7 +84,7 @@ edgesCheck r = check (ltb mostEdges (length (sheetBorrows r .edges))) NoRoom
 
 -- the refusals of a listing: those of the sheet, then too many edges
 unfoldable pub listingChecks : List ℕ → List Check
-listingChecks bytes = sheetChecks bytes ++ (edgesCheck (sheetOf bytes) ∷ [])
+listingChecks bytes = sheetRefusals bytes ++ (edgesCheck (sheetOf bytes) ∷ [])
 
 -- `listing`: then a slice too short, also 9
 unfoldable pub listing : List ℕ → ℕ → Outcome (List ℕ)

@@ -2,14 +2,14 @@
 use Prim.Native.Nat.{_-_}
 use native.Mathlib.Omega.{arith}
 use lib.ListN.{length}
-use Rattle.borrowing_param.specs.InnerMap.{loweredOf}
+use Rattle.borrowing_param.specs.InnerMap.{paramTypes}
 use Rattle.borrowing_param.proofs.Listing.{CountingParams, params-start, params-end, params-more, one-more, brought-few, passing-missing, passing-next}
 use borrow.Author.Needs.{needs}
 use Rattle.borrowing_param.proofs.listed.count_params.Statement.{statement}
 use Rattle.borrowing_param.proofs.listed.count_params.Tie as tie
 
 abbrev Inv-loop : tie.InvT-loop
-Inv-loop used drawn params numbers₀ total₀ param₀ at₀ numbers total param at = CountingParams used drawn params (loweredOf params) numbers₀ total param at numbers
+Inv-loop used drawn params numbers₀ total₀ param₀ at₀ numbers total param at = CountingParams used drawn params (paramTypes params) numbers₀ total param at numbers
 
 abbrev μ-loop : tie.MeasureT-loop
 μ-loop used drawn params numbers₀ total₀ param₀ at₀ numbers total param at = length params - at

@@ -2,7 +2,7 @@
 use mathlib.Core.Path.{_≡_, refl, sym}
 use native.Mathlib.Omega.{arith}
 use lib.ListN.{length, length-map}
-use Rattle.borrowing_param.specs.InnerMap.{loweredOf}
+use Rattle.borrowing_param.specs.InnerMap.{paramTypes}
 use Rattle.borrowing_param.proofs.Listing.{no-room-answers, no-room-edges, numbers-size, listed-room, mapped}
 use borrow.Author.Needs.{needs}
 use Rattle.borrowing_param.proofs.listed.map_params.Statement.{statement}
@@ -18,22 +18,22 @@ unmapped-requires : tie.Need-unmapped-requires
 unmapped-requires c κs = search needs
 
 returns : tie.Need-returns
-returns c = no-room-answers (c .before .before .before .before .before .before .before .before .before .args .visitor) (loweredOf (c .before .before .before .before .before .before .before .before .before .args .params .now)) (c .before .before .before .before .before .before .before .before .before .args .answers .now) (c .before .before .before .before .before .before .before .before .before .args .edges .now) (c .before .before .count-params .ensures) (c .before .if1 .taken) (c .unmapped .ensures)
+returns c = no-room-answers (c .before .before .before .before .before .before .before .before .before .args .visitor) (paramTypes (c .before .before .before .before .before .before .before .before .before .args .params .now)) (c .before .before .before .before .before .before .before .before .before .args .answers .now) (c .before .before .before .before .before .before .before .before .before .args .edges .now) (c .before .before .count-params .ensures) (c .before .if1 .taken) (c .unmapped .ensures)
 
 unmapped-requires-2 : tie.Need-unmapped-requires-2
 unmapped-requires-2 c κs = search needs
 
 returns-2 : tie.Need-returns-2
-returns-2 c = no-room-edges (c .before .before .before .before .before .before .before .before .before .before .args .visitor) (loweredOf (c .before .before .before .before .before .before .before .before .before .before .args .params .now)) (c .before .before .before .before .before .before .before .before .before .before .args .answers .now) (c .before .before .before .before .before .before .before .before .before .before .args .edges .now) (c .before .before .before .count-params .ensures) (c .before .before .if1 .left) (c .before .if2 .taken) (c .unmapped2 .ensures)
+returns-2 c = no-room-edges (c .before .before .before .before .before .before .before .before .before .before .args .visitor) (paramTypes (c .before .before .before .before .before .before .before .before .before .before .args .params .now)) (c .before .before .before .before .before .before .before .before .before .before .args .answers .now) (c .before .before .before .before .before .before .before .before .before .before .args .edges .now) (c .before .before .before .count-params .ensures) (c .before .before .if1 .left) (c .before .if2 .taken) (c .unmapped2 .ensures)
 
 slice-aggregate-copy : tie.Need-slice-aggregate-copy
-slice-aggregate-copy c = sym (numbers-size (c .before .before .before .before .before .before .before .before .before .before .args .visitor) (loweredOf (c .before .before .before .before .before .before .before .before .before .before .args .params .now)) (c .before .before .before .before .before .before .before .before .before .before .args .answers .now) (c .before .before .before .before .before .before .before .before .before .before .args .edges .now) (c .before .before .before .count-params .ensures) refl)
+slice-aggregate-copy c = sym (numbers-size (c .before .before .before .before .before .before .before .before .before .before .args .visitor) (paramTypes (c .before .before .before .before .before .before .before .before .before .before .args .params .now)) (c .before .before .before .before .before .before .before .before .before .before .args .answers .now) (c .before .before .before .before .before .before .before .before .before .before .args .edges .now) (c .before .before .before .count-params .ensures) refl)
 
 copy-requires : tie.Need-copy-requires
-copy-requires c κs = (omega (arith, c .before .before .before .before .count-params .ensures .params, c .before .before .before .before .before .before .before .before .before .before .before .pre .few, numbers-size (c .before .before .before .before .before .before .before .before .before .before .before .args .visitor) (loweredOf (c .before .before .before .before .before .before .before .before .before .before .before .args .params .now)) (c .before .before .before .before .before .before .before .before .before .before .before .args .answers .now) (c .before .before .before .before .before .before .before .before .before .before .before .args .edges .now) (c .before .before .before .before .count-params .ensures) refl), c .before .before .before .if1 .left)
+copy-requires c κs = (omega (arith, c .before .before .before .before .count-params .ensures .params, c .before .before .before .before .before .before .before .before .before .before .before .pre .few, numbers-size (c .before .before .before .before .before .before .before .before .before .before .before .args .visitor) (paramTypes (c .before .before .before .before .before .before .before .before .before .before .before .args .params .now)) (c .before .before .before .before .before .before .before .before .before .before .before .args .answers .now) (c .before .before .before .before .before .before .before .before .before .before .before .args .edges .now) (c .before .before .before .before .count-params .ensures) refl), c .before .before .before .if1 .left)
 
 store-listed-requires : tie.Need-store-listed-requires
-store-listed-requires c κs = (c .before .before .before .before .before .before .before .before .before .before .before .before .before .before .before .before .pre, full (c .before .before .before .before .before .before .before .before .before .before .before .before .before .before .before .before), listed-room (c .before .before .before .before .before .before .before .before .before .before .before .before .before .before .before .before .args .visitor) (loweredOf (c .before .before .before .before .before .before .before .before .before .before .before .before .before .before .before .before .args .params .now)) (c .before .before .before .before .before .before .before .before .before .before .before .before .before .before .before .before .args .answers .now) (c .before .before .before .before .before .before .before .before .before .before .before .before .before .before .before .before .args .edges .now) (c .before .before .before .before .before .before .before .before .before .count-params .ensures) (c .before .before .before .before .before .before .before .before .if1 .left) (c .before .before .before .before .before .before .before .if2 .left))
+store-listed-requires c κs = (c .before .before .before .before .before .before .before .before .before .before .before .before .before .before .before .before .pre, full (c .before .before .before .before .before .before .before .before .before .before .before .before .before .before .before .before), listed-room (c .before .before .before .before .before .before .before .before .before .before .before .before .before .before .before .before .args .visitor) (paramTypes (c .before .before .before .before .before .before .before .before .before .before .before .before .before .before .before .before .args .params .now)) (c .before .before .before .before .before .before .before .before .before .before .before .before .before .before .before .before .args .answers .now) (c .before .before .before .before .before .before .before .before .before .before .before .before .before .before .before .before .args .edges .now) (c .before .before .before .before .before .before .before .before .before .count-params .ensures) (c .before .before .before .before .before .before .before .before .if1 .left) (c .before .before .before .before .before .before .before .if2 .left))
 
 same-length : tie.Need-same-length
 same-length c = search needs
@@ -42,7 +42,7 @@ same-length-2 : tie.Need-same-length-2
 same-length-2 c = search needs
 
 returns-3 : tie.Need-returns-3
-returns-3 c = mapped (c .before .before .before .before .before .before .before .before .before .before .before .before .before .before .before .before .before .before .before .args .visitor) (loweredOf (c .before .before .before .before .before .before .before .before .before .before .before .before .before .before .before .before .before .before .before .args .params .now)) (c .before .before .before .before .before .before .before .before .before .before .before .before .before .before .before .before .before .before .before .args .answers .now) (c .before .before .before .before .before .before .before .before .before .before .before .before .before .before .before .before .before .before .before .args .edges .now) (c .before .before .before .before .before .before .before .before .before .before .before .before .count-params .ensures) (c .before .before .before .before .before .before .before .before .before .before .before .if1 .left) (c .before .before .before .before .before .before .before .before .before .before .if2 .left) refl (c .before .before .before .before .before .before .before .before .before .before .before .before .before .before .before .before .before .before .before .pre .few) (c .before .before .before .before .before .before .before .copy .ensures) (c .before .before .store-listed .ensures)
+returns-3 c = mapped (c .before .before .before .before .before .before .before .before .before .before .before .before .before .before .before .before .before .before .before .args .visitor) (paramTypes (c .before .before .before .before .before .before .before .before .before .before .before .before .before .before .before .before .before .before .before .args .params .now)) (c .before .before .before .before .before .before .before .before .before .before .before .before .before .before .before .before .before .before .before .args .answers .now) (c .before .before .before .before .before .before .before .before .before .before .before .before .before .before .before .before .before .before .before .args .edges .now) (c .before .before .before .before .before .before .before .before .before .before .before .before .count-params .ensures) (c .before .before .before .before .before .before .before .before .before .before .before .if1 .left) (c .before .before .before .before .before .before .before .before .before .before .if2 .left) refl (c .before .before .before .before .before .before .before .before .before .before .before .before .before .before .before .before .before .before .before .pre .few) (c .before .before .before .before .before .before .before .copy .ensures) (c .before .before .store-listed .ensures)
 
 pub map-params-spec : {M : Type 1} → statement M
 map-params-spec =

@@ -3,14 +3,14 @@ use Prim.Native.Nat.{_-_}
 use native.Mathlib.Omega.{arith}
 use lib.ListN.{length}
 use Rattle.borrowing_param.specs.Visit.{drawsIn}
-use Rattle.borrowing_param.specs.InnerMap.{loweredOf}
+use Rattle.borrowing_param.specs.InnerMap.{paramTypes}
 use Rattle.borrowing_param.proofs.Listing.{StoringTo, to-start, to-end, to-fits, to-more, to-few, passing-missing, passing-next}
 use borrow.Author.Needs.{needs}
 use Rattle.borrowing_param.proofs.listed.store_to.Statement.{statement}
 use Rattle.borrowing_param.proofs.listed.store_to.Tie as tie
 
 abbrev Inv-loop : tie.InvT-loop
-Inv-loop set params used edges₀ stored pairs₀ next₀ param₀ place₀ edges pairs next param place = StoringTo (drawsIn set) used params (loweredOf params) stored pairs₀ edges₀ next param place pairs edges
+Inv-loop set params used edges₀ stored pairs₀ next₀ param₀ place₀ edges pairs next param place = StoringTo (drawsIn set) used params (paramTypes params) stored pairs₀ edges₀ next param place pairs edges
 
 abbrev μ-loop : tie.MeasureT-loop
 μ-loop set params used edges₀ stored pairs₀ next₀ param₀ place₀ edges pairs next param place = length params - place

@@ -1,0 +1,283 @@
+-- An accepted method, listed from what stands in scratch: all lists and sets as `all_lists` leaves them, the answers and edges of `borrow_map`.
+use Prim.Native.Nat.{ℕ, _+_, _*_, _-_, _/_, _≤_, _<_, _^_}
+use mathlib.Core.Bool.{Bool, true, false, cond}
+use mathlib.Core.Path.{_≡_, refl, sym, ap, subst, _∙_}
+use mathlib.Core.List.{List, [], _∷_, _++_, map, flatMap, flatten, List·Memᴰ}
+use native.Mathlib.Nat.{zero-add, sub-zero, div-add-mod', mod-lt}
+use native.Mathlib.Omega.{arith}
+use borrow.Author.Tests.{le-ltb, lt-ltb, ltb-true, ltb-false}
+use lib.Dec.{ltb}
+use lib.ListN.{length, getD, take, drop, length-append, length-map, length-drop}
+use lib.Seq.{take-append-seam}
+use Rattle.lifetimes.specs.declared.answer.Refusal.{Refusal}
+use Rattle.lifetimes.specs.declared.answer.Refusal.the-variants.{NoRoom}
+use Rattle.lifetimes.specs.declared.answer.Listed.the-variants as listed
+use Rattle.lifetimes.specs.declared.answer.Verdict.the-variants as verdict
+use Rattle.lifetimes.specs.declared.env.LifetimeEnv.{LifetimeEnv}
+use Rattle.lifetimes.specs.declared.reach.Lists as reach
+use Rattle.lifetimes.specs.Refusals.{Check, check, Outcome, Gives, Refuses, unless, FirstDue, here, later, NoneDue, next, end}
+use Rattle.lifetimes.specs.Lent.{written, verdictOf, resultOr, roomCheck}
+use Rattle.lifetimes.specs.Ranges.{ascending}
+use Rattle.lifetimes.specs.Sets as sets
+use Rattle.lifetimes.specs.Env.{boundsOf, envOf}
+use Rattle.lifetimes.specs.Walk.{LastFirst, traversal, reachSet}
+use Rattle.lifetimes.specs.Reach.{allSets, noSets, allLists, endsFrom, listsChecks, listWords, listEnds, listsAnswer}
+use Rattle.lifetimes.proofs.RefusalLaws.{due-given, due-refused, refused-first, accepted-none, none-first, none-rest, none-more, none-split, first-behind}
+use Rattle.lifetimes.proofs.SetLaws.{members-has, ascending-has, length-ascending}
+use Rattle.lifetimes.proofs.ReachLaws.{traversal-few}
+use Rattle.lifetimes.proofs.Laying.{length-ends}
+use Rattle.lowered_types.specs.LoweredTypes.{LoweredType}
+use Rattle.hir_types.specs.Method.{typesIn, methodChecks}
+use Rattle.sheet.specs.Text.{line}
+use Rattle.borrowing_param.specs.declared.listed.BorrowMap.{BorrowMap}
+use Rattle.borrowing_param.specs.declared.visitor.LifetimeEdge.{LifetimeEdge}
+use Rattle.borrowing_param.specs.declared.visitor.BorrowingParamVisitor.{BorrowingParamVisitor}
+use Rattle.borrowing_param.specs.Edges.{width, edgeWords, edgesIn}
+use Rattle.borrowing_param.specs.Visit.{usedOf}
+use Rattle.borrowing_param.specs.New.{drawsTo, newVisitor}
+use Rattle.borrowing_param.specs.BorrowMap as spec
+use Rattle.borrowing_param.specs.BorrowMap.{Mapping, mappingOf, mapChecks, borrowMap, mapAnswer, answersIn, answersFrom, listedEdges}
+use Rattle.borrowing_param.specs.Borrows.{Borrows}
+use Rattle.borrowing_param.proofs.Creating.{at-place, set-there}
+use Rattle.borrowing_param.proofs.Joining.{words-many, words-read}
+use Rattle.borrowing_param.proofs.Ordering.{listing-consistent}
+use Rattle.listing.specs.declared.within.Within.{Within}
+use Rattle.listing.specs.declared.within.Within.the-variants as within
+use Rattle.listing.specs.Listing.{countHeading, loweredHeading, longerHeading, longerLine, longerLines, answerLines, edgeLines, mostEdges}
+use Rattle.listing.specs.InnerPrint.{Prints}
+use Rattle.listing.specs.InnerSections.{numbered, cutFrom, Ascend}
+use Rattle.listing.specs.InnerListing.{Lists, ListsWithin, methodBorrows, methodListing, listedMethod, Listable, sections, tooMany}
+use Rattle.listing.proofs.ListingLaws.{cut-lists, ends-ascend, numbered-map, edges-same, answers-same}
+use Rattle.listing.proofs.RoomLaws.{lines-short, lifetimes-few, bounds-within}
+
+flatten-map : {A : Type 0} (f : A → List ℕ) (l : List A) → flatten (map f l) ≡ flatMap f l
+unfolding flatten flatMap
+flatten-map f [] = refl
+flatten-map f (a ∷ l) = ap (λ (m : List ℕ). f a ++ m) (flatten-map f l)
+
+five-same : {a a₁ c c₁ d d₁ e e₁ : List ℕ} (b : List ℕ) → a ≡ a₁ → c ≡ c₁ → d ≡ d₁ → e ≡ e₁ → a ++ (b ++ (c ++ (d ++ e))) ≡ a₁ ++ (b ++ (c₁ ++ (d₁ ++ e₁)))
+five-same b f g h i = rw (f, g, h, i)
+
+module _ (env : LifetimeEnv) (used : ℕ) (structs params own given taken : List ℕ) (can : Listable env used structs params own given taken) where
+  abbrev borrows : Borrows
+  borrows = methodBorrows env used structs params
+
+  abbrev types : List LoweredType
+  types = typesIn structs params
+
+  abbrev new : BorrowingParamVisitor
+  new = newVisitor used (boundsOf env)
+
+  abbrev listing : Outcome (List ℕ)
+  listing = listedMethod env used structs params own given taken
+
+  few : env .count ≤ 64
+  few = lifetimes-few env (can .valid)
+
+  -- ---- the lists
+
+  lists-few : length (flatten (allLists true env)) ≤ 64 * env .count
+  unfolding allLists
+  lists-few =
+      rw (flatten-map (traversal LastFirst true (boundsOf env)) (ascending 0 (env .count)))
+      (omega (
+        arith,
+        length-ascending 0 (env .count),
+        lines-short (traversal LastFirst true (boundsOf env)) 64 (ascending 0 (env .count))
+            (λ l m. traversal-few LastFirst true (boundsOf env) l 64 (bounds-within env (can .valid)) (omega (arith, (ascending-has 0 (env .count) l) .0 m, few))),
+      ))
+
+  lists-many : length (allLists true env) ≡ env .count
+  unfolding allLists
+  lists-many = rw length-map (length-ascending 0 (env .count))
+
+  module _ (lists ends : List ℕ) where
+    pub lists-short : {edges : ℕ} {out : List ℕ} → length lists / 64 < env .count → ListsWithin listing ((4096 ≤ length lists) × (20480 ≤ edges)) out within.Short out
+    lists-short h = (λ a. omega (arith, h, few, a .0, div-add-mod' (length lists) 64, mod-lt (length lists) {m = 64} (omega arith)), refl)
+
+    module _ (places : length ends ≡ 64) (room : env .count ≤ length lists / 64) where
+      lists-fit : length (flatten (allLists true env)) ≤ length lists
+      lists-fit = omega (arith, lists-few, room, div-add-mod' (length lists) 64)
+
+      lists-none : NoneDue (listsChecks true env (length lists) (length ends))
+      lists-none =
+          none-more (can .valid)
+          (next (le-ltb (length ends) (length (endsFrom 0 (allLists true env))) (omega (arith, length-ends 0 (allLists true env), lists-many, few, places)))
+          (next (le-ltb (length lists) (length (flatten (allLists true env))) lists-fit) end))
+
+      module _ {l : reach.Lists} (is : l ≡ listsAnswer true env (length lists) (length ends)) {lists₁ ends₁ : List ℕ}
+          (wrote : lists₁ ≡ written (listWords true env (length lists) (length ends)) lists) (ended : ends₁ ≡ written (listEnds true env (length lists) (length ends)) ends) where
+        sets-are : l .sets ≡ allSets true env
+        unfolding listsAnswer
+        sets-are = ap (λ (x : reach.Lists). x .sets) is ∙ ap (resultOr noSets) (due-given (allSets true env) lists-none)
+
+        abbrev behind : List ℕ
+        behind = drop (length (flatten (allLists true env))) lists
+
+        abbrev past : List ℕ
+        past = drop (length (endsFrom 0 (allLists true env))) ends
+
+        lists-are : lists₁ ≡ flatten (allLists true env) ++ behind
+        unfolding listWords
+        lists-are = wrote ∙ ap (λ (o : Outcome (List ℕ)). written o lists) (due-given (flatten (allLists true env)) lists-none)
+
+        ends-are : ends₁ ≡ endsFrom 0 (allLists true env) ++ past
+        unfolding listEnds
+        ends-are = ended ∙ ap (λ (o : Outcome (List ℕ)). written o ends) (due-given (endsFrom 0 (allLists true env)) lists-none)
+
+        pub lists-ascend : Ascend 0 (length lists₁) ends₁ (env .count)
+        lists-ascend =
+            let k : 0 + length (flatten (allLists true env)) ≤ length lists₁ = rw (lists-are, length-append) (omega arith) in
+            subst (λ (n : ℕ). Ascend 0 (length lists₁) ends₁ n) lists-many (rw ends-are (ends-ascend 0 (length lists₁) (allLists true env) past k))
+
+        lists-cut : cutFrom 0 lists₁ ends₁ (env .count) ≡ allLists true env
+        lists-cut = subst (λ (n : ℕ). cutFrom 0 lists₁ ends₁ n ≡ allLists true env) lists-many (rw (lists-are, ends-are) (cut-lists [] (allLists true env) behind past))
+
+        longer-are : longerHeading ++ numbered 0 (cutFrom 0 lists₁ ends₁ (env .count)) ≡ longerLines env
+        unfolding allLists
+        longer-are = rw lists-cut (ap (λ (t : List ℕ). longerHeading ++ t) (numbered-map (traversal LastFirst true (boundsOf env)) 0 (env .count)))
+
+        -- ---- the answers and the edges
+
+        abbrev visitor : BorrowingParamVisitor
+        visitor = record { used = used; draws = l .sets; stored = 0 }
+
+        same-used : visitor .used ≡ new .used
+        unfolding newVisitor
+        same-used = refl
+
+        same-draws : (x : ℕ) → List·Memᴰ x (usedOf new) → getD (visitor .draws) x 0 ≡ getD (new .draws) x 0
+        unfolding newVisitor
+        same-draws x m =
+            let in-used = (members-has used x) .0 m in
+            let there : getD (new .draws) x 0 ≡ reachSet true (boundsOf env) x =
+            at-place (drawsTo used (boundsOf env)) 0 64 x (in-used .0) ∙ ap (drawsTo used (boundsOf env)) (zero-add x) ∙ rw (in-used .1) in
+            ap (λ (s : List ℕ). getD s x 0) sets-are ∙ set-there env x (can .below x (in-used .1)) ∙ sym there
+
+        edges-are : listedEdges visitor types ≡ borrows .edges
+        edges-are = edges-same visitor new same-used same-draws types
+
+        answers-are : answersFrom visitor 0 types ≡ borrows .answers
+        answers-are = answers-same visitor new same-used same-draws 0 types
+
+        mapping-is : mappingOf visitor types ≡ record { answers = borrows .answers; edges = borrows .edges }
+        mapping-is = rw (edges-are, answers-are)
+
+        few-answers : length (answersFrom visitor 0 types) ≤ 16
+        few-answers = listing-consistent visitor structs params (can .of) .few-params
+
+        module _ (edges answers : List ℕ) (sixteen : length answers ≡ 16) (most : length edges ≤ 20480) {m : BorrowMap}
+            (maps : m ≡ mapAnswer (borrowMap visitor structs params (length answers) (length edges))) where
+          abbrev mapped : Outcome Mapping
+          mapped = borrowMap visitor structs params (length answers) (length edges)
+
+          abbrev answersRoom : Check
+          answersRoom = roomCheck (length answers) (answersFrom visitor 0 types)
+
+          abbrev edgesRoom : Check
+          edgesRoom = roomCheck (length edges) (flatMap edgeWords (listedEdges visitor types))
+
+          verdict-is : m .verdict ≡ verdictOf mapped
+          verdict-is = ap (λ (x : BorrowMap). x .verdict) maps ∙ go mapped
+            where
+              go : (o : Outcome Mapping) → mapAnswer o .verdict ≡ verdictOf o
+              go (Gives x) = refl
+              go (Refuses k) = refl
+
+          answers-fit : answersRoom .due ≡ false
+          answers-fit = le-ltb (length answers) (length (answersFrom visitor 0 types)) (omega (arith, few-answers, sixteen))
+
+          words-are : length (flatMap edgeWords (listedEdges visitor types)) ≡ width * length (borrows .edges)
+          words-are = words-many (listedEdges visitor types) ∙ ap (λ (es : List LifetimeEdge). width * length es) edges-are
+
+          -- more than so many words of edges
+          edges-many : {k : Refusal} → m .verdict ≡ verdict.Refused k → length edges < width * length (borrows .edges)
+          unfolding borrowMap
+          edges-many {k} v =
+              go (first-behind (next answers-fit end) (first-behind (can .of) (refused-first (mappingOf visitor types) k (mapChecks visitor structs params (length answers) (length edges)) (sym verdict-is ∙ v))))
+            where
+              go : FirstDue k (edgesRoom ∷ []) → length edges < width * length (borrows .edges)
+              go (here d e) = omega (arith, ltb-true (length edges) (length (flatMap edgeWords (listedEdges visitor types))) d, words-are)
+
+          pub map-refused : {k : Refusal} (w : Within) (out : List ℕ) {edges₁ : List ℕ} → m .verdict ≡ verdict.Refused k → edges₁ ≡ written (spec.edgesIn mapped) edges → w ≡ tooMany (length edges₁)
+              → ListsWithin listing ((4096 ≤ length lists) × (20480 ≤ length edges)) out w out
+          unfolding listedMethod borrowMap
+          map-refused {k} w out {edges₁} v stored e = rw (e, same) (go (ltb (length edges) 20480) refl)
+            where
+              refuses : mapped ≡ Refuses k
+              refuses = due-refused (mappingOf visitor types) (refused-first (mappingOf visitor types) k (mapChecks visitor structs params (length answers) (length edges)) (sym verdict-is ∙ v))
+
+              same : edges₁ ≡ edges
+              same = stored ∙ ap (λ (o : Outcome Mapping). written (spec.edgesIn o) edges) refuses
+
+              go : (t : Bool) → ltb (length edges) 20480 ≡ t → ListsWithin listing ((4096 ≤ length lists) × (20480 ≤ length edges)) out (cond t within.Short (within.Done (listed.Refused NoRoom))) out
+              go true s = (λ a. omega (arith, ltb-true (length edges) 20480 s, a .1), refl)
+              go false s =
+                  let many : mostEdges < length (borrows .edges) = omega (arith, ltb-false (length edges) 20480 s, edges-many v) in
+                  (due-refused (methodListing env used structs params own given taken) (here (lt-ltb mostEdges (length (borrows .edges)) many) refl), refl)
+
+          module _ (fine : m .verdict ≡ verdict.Accepted) {answers₁ edges₁ : List ℕ} (noted : answers₁ ≡ written (answersIn mapped) answers) (stored : edges₁ ≡ written (spec.edgesIn mapped) edges) where
+            map-none : NoneDue (mapChecks visitor structs params (length answers) (length edges))
+            unfolding borrowMap
+            map-none = accepted-none (mappingOf visitor types) (mapChecks visitor structs params (length answers) (length edges)) (sym verdict-is ∙ fine)
+
+            map-given : mapped ≡ Gives (record { answers = borrows .answers; edges = borrows .edges })
+            unfolding borrowMap
+            map-given = due-given (mappingOf visitor types) map-none ∙ ap Gives mapping-is
+
+            edges-fit : width * length (borrows .edges) ≤ length edges
+            edges-fit =
+                let n = none-split (methodChecks (envOf 0 0 []) structs params [] (0 ∷ [])) (answersRoom ∷ edgesRoom ∷ []) map-none .1 in
+                omega (arith, ltb-false (length edges) (length (flatMap edgeWords (listedEdges visitor types))) (none-first (none-rest n)), words-are)
+
+            map-is : m ≡ mapAnswer (Gives (record { answers = borrows .answers; edges = borrows .edges }))
+            map-is = maps ∙ ap mapAnswer map-given
+
+            answers-stand : answers₁ ≡ borrows .answers ++ drop (length (borrows .answers)) answers
+            answers-stand = noted ∙ ap (λ (o : Outcome Mapping). written (answersIn o) answers) map-given
+
+            edges-stand : edges₁ ≡ flatMap edgeWords (borrows .edges) ++ drop (length (flatMap edgeWords (borrows .edges))) edges
+            edges-stand = stored ∙ ap (λ (o : Outcome Mapping). written (spec.edgesIn o) edges) map-given
+
+            pub params-inside : m .params ≤ length answers₁
+            params-inside = rw (map-is, answers-stand, length-append) (omega arith)
+
+            pub edges-inside : width * m .edges ≤ length edges₁
+            edges-inside = rw (map-is, edges-stand, length-append, words-many (borrows .edges)) (omega arith)
+
+            -- ---- the whole
+
+            abbrev counts : ℕ → List ℕ
+            counts many = env .count ∷ many ∷ m .params ∷ m .edges ∷ []
+
+            abbrev answers₂ : List ℕ
+            answers₂ = take (m .params - 0) (drop 0 answers₁)
+
+            answers₂-are : answers₂ ≡ borrows .answers
+            answers₂-are = rw (sub-zero, map-is, answers-stand) (take-append-seam (borrows .answers) _)
+
+            edges₂-are : edgesIn (m .edges) edges₁ ≡ borrows .edges
+            edges₂-are = rw (map-is, edges-stand) (words-read (borrows .edges) _)
+
+            few-edges : length (borrows .edges) ≤ mostEdges
+            few-edges = omega (arith, edges-fit, most)
+
+            module _ {many : ℕ} (counted : many ≡ sets.count used) where
+              sections-are : sections (counts many) own given taken lists₁ ends₁ answers₂ edges₁ ≡ methodListing env used structs params own given taken
+              unfolding sections methodListing sets.count newVisitor
+              sections-are =
+                  five-same (loweredHeading ++ (line own ++ (line given ++ line taken)))
+                  (ap (λ (ns : List ℕ). countHeading ++ line ns) (rw (counted, map-is)))
+                  longer-are (ap answerLines answers₂-are) (ap edgeLines edges₂-are)
+
+              pub sections-small : length (sections (counts many) own given taken lists₁ ends₁ answers₂ edges₁) < 2 ^ 64
+              sections-small = rw sections-are (omega (arith, can .short few-edges))
+
+              pub method-listed : {n : ℕ} {out out₁ : List ℕ} → Prints (sections (counts many) own given taken lists₁ ends₁ answers₂ edges₁) 0 out n out₁
+                  → ListsWithin listing ((4096 ≤ length lists) × (20480 ≤ length edges)) out (within.Done (listed.Count n)) out₁
+              unfolding listedMethod
+              method-listed p = (
+                methodListing env used structs params own given taken,
+                due-given (methodListing env used structs params own given taken) (next (le-ltb mostEdges (length (borrows .edges)) few-edges) end),
+                rw sections-are at p,
+              )

@@ -1,0 +1,196 @@
+-- Ten records in shape, listed stage by stage: the first refusal due is that of the stage which refuses them; if none is, the method that the stages leave is listed as the records are.
+use Prim.Native.Nat.{ℕ, _-_, _/_, _≤_, _<_}
+use mathlib.Core.Bool.{true}
+use mathlib.Core.Path.{_≡_, refl, sym, ap, subst, _∙_}
+use mathlib.Core.List.{List, [], _∷_, _++_, map, List·Memᴰ·head, List·Memᴰ·tail}
+use native.Mathlib.Nat.{sub-zero, div-add-mod', mod-lt}
+use native.Mathlib.Omega.{arith}
+use borrow.Author.Tests.{le-ltb}
+use lib.Dec.{ltb}
+use lib.ListN.{length, take, drop, length-append, length-map}
+use lib.Seq.{take-append-seam}
+use Rattle.lifetimes.specs.declared.answer.Refusal.{Refusal}
+use Rattle.lifetimes.specs.declared.answer.Refusal.the-variants.{NoRoom}
+use Rattle.lifetimes.specs.declared.answer.Listed.the-variants as listed
+use Rattle.lifetimes.specs.declared.answer.Verdict.the-variants as verdict
+use Rattle.lifetimes.specs.declared.env.LifetimeEnv.{LifetimeEnv}
+use Rattle.lifetimes.specs.Refusals.{Check, check, Outcome, Gives, Refuses, unless, FirstDue, NoneDue, next, end}
+use Rattle.lifetimes.specs.Lent.{written}
+use Rattle.lifetimes.specs.LoweredWords.{wordOf}
+use Rattle.lifetimes.specs.Env.{boundsOf}
+use Rattle.lifetimes.proofs.RefusalLaws.{due-given, due-refused, first-more}
+use Rattle.records.proofs.VerdictLaws.{unless-after}
+use Rattle.ast_lifetimes.specs.declared.env.LifetimeEnv as ast-env
+use Rattle.ast_lifetimes.specs.declared.env.Made as ast-made
+use Rattle.ast_lifetimes.specs.Env as ast
+use Rattle.elision.specs.declared.method.Lowering.{Lowering}
+use Rattle.elision.specs.Steps.{receiverOf, stepsOf}
+use Rattle.elision.specs.Rfc as rfc
+use Rattle.elision.specs.Lowering.{words, recordsOf, measureChecks, roomChecks, measureRecords, lowerRecords, answered, ownWords, stepWords, returnWords}
+use Rattle.elision.proofs.SizeLaws.{lowered-self, lowered-steps, lowered-returns}
+use Rattle.hir_types.specs.declared.used.UsedLifetimes.{UsedLifetimes}
+use Rattle.hir_types.specs.declared.used.UsedLifetimes.the-variants as answer
+use Rattle.hir_types.specs.Used.{usedSet, usedAnswer}
+use Rattle.sheet.specs.Text.{line, Records}
+use Rattle.sheet.specs.Shape.{sheetInShape}
+use Rattle.sheet.proofs.Theorems.{shapes-are-short}
+use Rattle.borrowing_param.specs.New.{newVisitor, created, createdBy}
+use Rattle.borrowing_param.specs.SheetMethod.{loweredOf, astEnvOf, envOfSheet, recordsChecks}
+use Rattle.borrowing_param.specs.Borrows.{Borrows, borrowsBy, sheetBorrows}
+use Rattle.borrowing_param.proofs.Creating.{used-refused, gives, accepted, used-below, env-none}
+use Rattle.borrowing_param.proofs.Forcing.{params-none}
+use Rattle.borrowing_param.proofs.MethodLaws.{names-first, ast-is, names-are, steps-first, env-is, measure-none, method-first, method-none}
+use Rattle.listing.specs.declared.within.Within.{Within}
+use Rattle.listing.specs.declared.within.Within.the-variants as within
+use Rattle.listing.specs.Listing.{countLines, loweredHeading, longerLines, answerLines, edgeLines, mostEdges, edgesCheck, listingOf}
+use Rattle.listing.specs.InnerListing.{Lists, ListsWithin, Ample, listedRecords, methodBorrows, methodListing, listedMethod, Listable}
+use Rattle.listing.proofs.RoomLaws.{listing-short}
+
+-- checks at the end of which none is due
+unless-before : {A : Type 0} (a : A) (checks : List Check) {more : List Check} → NoneDue more → unless (checks ++ more) a ≡ unless checks a
+unfolding unless
+unless-before a [] n = due-given a n
+unless-before a (c ∷ cs) n = rw (unless-before a cs n)
+
+abbrev textBy : LifetimeEnv → Borrows → List ℕ → List ℕ → List ℕ → List ℕ
+textBy env b own given taken =
+    countLines (env .count) b
+    ++ ((loweredHeading ++ (line own ++ (line given ++ line taken)))
+    ++ (longerLines env
+    ++ (answerLines (b .answers)
+    ++ edgeLines (b .edges))))
+
+module _ (r : Records) (shape : sheetInShape r ≡ true) (given taken lists edges : ℕ) where
+  abbrev Ampl : Type 0
+  Ampl = Ample given taken lists edges
+
+  abbrev Answers : List ℕ → Within → List ℕ → Type 0
+  Answers out w out₁ = ListsWithin (listedRecords r) Ampl out w out₁
+
+  -- scratch for the lowered words
+  steps-long : length (r .steps) ≤ 1024
+  steps-long = shapes-are-short r shape (r .steps) (List·Memᴰ·tail (List·Memᴰ·tail (List·Memᴰ·tail (List·Memᴰ·tail (List·Memᴰ·head refl)))))
+
+  returns-long : length (r .returns) ≤ 1024
+  returns-long = shapes-are-short r shape (r .returns) (List·Memᴰ·tail (List·Memᴰ·tail (List·Memᴰ·tail (List·Memᴰ·tail (List·Memᴰ·tail (List·Memᴰ·head refl))))))
+
+  eighth : {room n : ℕ} → room / 8 < n → n ≤ 1024 → 8192 ≤ room → ⊥
+  eighth {room} {n} h k a = omega (arith, h, k, a, div-add-mod' room 8, mod-lt room {m = 8} (omega arith))
+
+  pub steps-short : {out : List ℕ} → given / 8 < length (r .steps) → Answers out within.Short out
+  steps-short h = (λ a. eighth h steps-long (a .0), refl)
+
+  pub returns-short : {out : List ℕ} → taken / 8 < length (r .returns) → Answers out within.Short out
+  returns-short h = (λ a. eighth h returns-long (a .1), refl)
+
+  refuses : {k : Refusal} {out : List ℕ} → FirstDue k (recordsChecks r) → Answers out (within.Done (listed.Refused k)) out
+  refuses f = (due-refused (listingOf r) (first-more (edgesCheck r ∷ []) f), refl)
+
+  module _ (steps-room : length (r .steps) ≤ given / 8) (returns-room : length (r .returns) ≤ taken / 8)
+      {a : ast-made.Made} (is : a ≡ ast.made (ast.envOf [] []) (ast.fromMethodItem (r .names) (r .bounds) (r .types))) where
+    pub names-listed : {k : Refusal} {out : List ℕ} → a .verdict ≡ verdict.Refused k → Answers out (within.Done (listed.Refused k)) out
+    names-listed v = refuses (names-first r shape is v)
+
+    -- with so much room `lower` refuses as `measure` does
+    room-none : (e : ast-env.LifetimeEnv) → NoneDue (roomChecks (recordsOf e (r .self) (r .steps) (r .returns)) 1 given taken)
+    room-none e =
+        let m = recordsOf e (r .self) (r .steps) (r .returns) in
+        let names = ast.namesOf e in
+        let self = receiverOf (r .self) in
+        next (le-ltb 1 (length (words (m .self))) (omega (arith, lowered-self names self, length-map (m .self) wordOf)))
+        (next (le-ltb given (length (words (m .steps))) (omega (arith, lowered-steps names self (r .steps), length-map (m .steps) wordOf, steps-room, div-add-mod' given 8)))
+        (next (le-ltb taken (length (words (m .returns))) (omega (arith, lowered-returns names self (r .steps) (r .returns), length-map (m .returns) wordOf, returns-room, div-add-mod' taken 8))) end))
+
+    abbrev lowered : Outcome rfc.Method
+    lowered = lowerRecords (a .env) (r .self) (r .steps) (r .returns) 1 given taken
+
+    lower-measures : lowered ≡ measureRecords (a .env) (r .self) (r .steps) (r .returns)
+    unfolding lowerRecords measureRecords
+    lower-measures = unless-before (recordsOf (a .env) (r .self) (r .steps) (r .returns)) (measureChecks (a .env) (r .self) (r .steps) (r .returns)) (room-none (a .env))
+
+    module _ (fine : a .verdict ≡ verdict.Accepted) {l : Lowering} (lowers : l ≡ answered (a .env) lowered) where
+      measures : l ≡ answered (a .env) (measureRecords (a .env) (r .self) (r .steps) (r .returns))
+      measures = lowers ∙ ap (answered (a .env)) lower-measures
+
+      pub steps-listed : {k : Refusal} {out : List ℕ} → l .verdict ≡ verdict.Refused k → Answers out (within.Done (listed.Refused k)) out
+      steps-listed v = refuses (steps-first r shape is fine measures v)
+
+      module _ (elides : l .verdict ≡ verdict.Accepted) where
+        -- what stands in the scratch
+        lowered-is : lowered ≡ Gives (loweredOf r)
+        unfolding measureRecords
+        lowered-is =
+            lower-measures
+            ∙ ap (λ (e : ast-env.LifetimeEnv). measureRecords e (r .self) (r .steps) (r .returns)) (ast-is r shape is fine)
+            ∙ due-given (recordsOf (astEnvOf r) (r .self) (r .steps) (r .returns)) (measure-none r shape is fine measures elides)
+            ∙ rw (names-are r shape is fine)
+
+        answer-is : l ≡ answered (a .env) (Gives (loweredOf r))
+        answer-is = lowers ∙ ap (answered (a .env)) lowered-is
+
+        stands : (f : Outcome rfc.Method → Outcome (List ℕ)) (ws : List ℕ) → f (Gives (loweredOf r)) ≡ Gives ws → {n : ℕ} → n ≡ length ws → (slice : List ℕ) {slice₁ : List ℕ} → slice₁ ≡ written (f lowered) slice
+            → (n ≤ length slice₁) × (take (n - 0) (drop 0 slice₁) ≡ ws)
+        stands f ws e {n} size slice {slice₁} wrote =
+            let is-there : slice₁ ≡ ws ++ drop (length ws) slice = wrote ∙ ap (λ (o : Outcome rfc.Method). written (f o) slice) lowered-is ∙ ap (λ (o : Outcome (List ℕ)). written o slice) e in
+            (rw (size, is-there, length-append) (omega arith), rw (sub-zero, size, is-there) (take-append-seam ws (drop (length ws) slice)))
+
+        pub own-stands : (own : List ℕ) {own₁ : List ℕ} → own₁ ≡ written (ownWords lowered) own → (l .selves ≤ length own₁) × (take (l .selves - 0) (drop 0 own₁) ≡ words (loweredOf r .self))
+        own-stands = stands ownWords (words (loweredOf r .self)) refl (ap (λ (x : Lowering). x .selves) answer-is)
+
+        pub steps-stand : (slice : List ℕ) {slice₁ : List ℕ} → slice₁ ≡ written (stepWords lowered) slice → (l .steps ≤ length slice₁) × (take (l .steps - 0) (drop 0 slice₁) ≡ words (loweredOf r .steps))
+        steps-stand = stands stepWords (words (loweredOf r .steps)) refl (ap (λ (x : Lowering). x .steps) answer-is)
+
+        pub returns-stand : (slice : List ℕ) {slice₁ : List ℕ} → slice₁ ≡ written (returnWords lowered) slice → (l .returns ≤ length slice₁) × (take (l .returns - 0) (drop 0 slice₁) ≡ words (loweredOf r .returns))
+        returns-stand = stands returnWords (words (loweredOf r .returns)) refl (ap (λ (x : Lowering). x .returns) answer-is)
+
+        -- the used lifetimes
+        module _ {u : UsedLifetimes} (uses : u ≡ usedAnswer (usedSet (l .env) (r .structs) (r .params) (r .output) (r .force))) where
+          pub used-listed : {k : Refusal} {out : List ℕ} → u ≡ answer.Refused k → Answers out (within.Done (listed.Refused k)) out
+          used-listed e = refuses (method-first r shape is fine measures elides (used-refused (l .env) (r .structs) (r .params) (r .output) (r .force) uses e))
+
+          module _ {used : ℕ} (e : u ≡ answer.Set used) where
+            none : NoneDue (recordsChecks r)
+            none = method-none r shape is fine measures elides (accepted (l .env) (r .structs) (r .params) (r .output) (r .force) uses e)
+
+            the-env : l .env ≡ envOfSheet r
+            the-env = env-is r shape is fine measures elides
+
+            borrows-are : sheetBorrows r ≡ methodBorrows (l .env) used (r .structs) (r .params)
+            unfolding created
+            borrows-are =
+                let g : usedSet (envOfSheet r) (r .structs) (r .params) (r .output) (r .force) ≡ Gives used = rw (← the-env) (gives (l .env) (r .structs) (r .params) (r .output) (r .force) uses e) in
+                rw (g, the-env)
+
+            module _ {own steps returns : List ℕ} (own-are : own ≡ words (loweredOf r .self)) (steps-are : steps ≡ words (loweredOf r .steps)) (returns-are : returns ≡ words (loweredOf r .returns)) where
+              text-is : listingOf r ≡ methodListing (l .env) used (r .structs) (r .params) own steps returns
+              unfolding listingOf methodListing
+              text-is =
+                  ap (λ (b : Borrows). textBy (envOfSheet r) b (words (loweredOf r .self)) (words (loweredOf r .steps)) (words (loweredOf r .returns))) borrows-are
+                  ∙ ap (λ (x : LifetimeEnv). textBy x (methodBorrows (l .env) used (r .structs) (r .params)) (words (loweredOf r .self)) (words (loweredOf r .steps)) (words (loweredOf r .returns))) (sym the-env)
+                  ∙ rw (own-are, steps-are, returns-are)
+
+              pub listable : Listable (l .env) used (r .structs) (r .params) own steps returns
+              listable =
+                  let n = accepted (l .env) (r .structs) (r .params) (r .output) (r .force) uses e in
+                  let g = gives (l .env) (r .structs) (r .params) (r .output) (r .force) uses e in
+                  record {
+                    valid = env-none (l .env) (r .structs) (r .params) (r .output) (r .force) n;
+                    of = params-none (l .env) (r .structs) (r .params) (r .output) (r .force) n;
+                    below = used-below (l .env) (r .structs) (r .params) (r .output) (r .force) n used g;
+                    short = λ h. subst (λ (t : List ℕ). length t ≤ 131072) text-is (listing-short r none (subst (λ (b : Borrows). length (b .edges) ≤ mostEdges) (sym borrows-are) h));
+                  }
+
+              pub records-listed : (w : Within) (out out₁ : List ℕ)
+                  → ListsWithin (listedMethod (l .env) used (r .structs) (r .params) own steps returns) ((4096 ≤ lists) × (20480 ≤ edges)) out w out₁ → Answers out w out₁
+              unfolding listedMethod
+              records-listed w out out₁ h = go w h
+                where
+                  same : listedMethod (l .env) used (r .structs) (r .params) own steps returns ≡ listedRecords r
+                  same =
+                      ap (λ (b : Borrows). unless (check (ltb mostEdges (length (b .edges))) NoRoom ∷ []) (methodListing (l .env) used (r .structs) (r .params) own steps returns)) (sym borrows-are)
+                      ∙ ap (λ (t : List ℕ). unless (edgesCheck r ∷ []) t) (sym text-is)
+                      ∙ sym (unless-after (listingOf r) (edgesCheck r ∷ []) none)
+
+                  go : (w : Within) → ListsWithin (listedMethod (l .env) used (r .structs) (r .params) own steps returns) ((4096 ≤ lists) × (20480 ≤ edges)) out w out₁ → Answers out w out₁
+                  go (within.Done x) h = subst (λ (o : Outcome (List ℕ)). Lists o out x out₁) same h
+                  go within.Short h = (λ a. h .0 (a .2, a .3), h .1)

@@ -1,0 +1,60 @@
+-- `list_large` meets its contract: such scratch is ample.
+use native.Mathlib.Omega.{arith}
+use Rattle.listing.specs.InnerListing.{Ample}
+use Rattle.listing.proofs.SheetListing.{large-room, never-short, tried-done}
+use borrow.Author.Needs.{needs}
+use Rattle.listing.proofs.calls.list_large.Statement.{statement}
+use Rattle.listing.proofs.calls.list_large.Tie as tie
+
+slice-aggregate-list-within : tie.Need-slice-aggregate-list-within
+slice-aggregate-list-within c = search needs
+
+slice-aggregate-list-within-2 : tie.Need-slice-aggregate-list-within-2
+slice-aggregate-list-within-2 c = search needs
+
+slice-aggregate-list-within-3 : tie.Need-slice-aggregate-list-within-3
+slice-aggregate-list-within-3 c = search needs
+
+slice-aggregate-list-within-4 : tie.Need-slice-aggregate-list-within-4
+slice-aggregate-list-within-4 c = search needs
+
+slice-aggregate-list-within-5 : tie.Need-slice-aggregate-list-within-5
+slice-aggregate-list-within-5 c = search needs
+
+list-within-requires : tie.Need-list-within-requires
+list-within-requires c κs = (large-room (c .before .before .before .before .before .before .before .before .args .sheet .now), omega arith)
+
+enum-known-listed : tie.Need-enum-known-listed
+enum-known-listed c = search needs
+
+enum-told : tie.Need-enum-told
+enum-told c = search needs
+
+same-length : tie.Need-same-length
+same-length c = search needs
+
+returns : tie.Need-returns
+returns c = never-short (c .before .before .before .before .before .before .before .before .before .before .before .before .before .before .before .before .before .before .args .sheet .now) (c .before .before .before .before .before .before .before .before .before .list-within .result) (c .before .before .before .before .before .before .before .before .before .before .before .before .before .before .before .before .before .before .args .out .now) (c .before .before .before .before .before .before .before .before .before .list-within .last .1 .1 .1 .1 .1 .1 .0) (c .before .before .before .before .before .before .before .before .before .list-within .ensures) (c .enum-told .given .1)
+
+same-length-2 : tie.Need-same-length-2
+same-length-2 c = search needs
+
+returns-2 : tie.Need-returns-2
+returns-2 c = tried-done (c .before .before .before .before .before .before .before .before .before .before .before .before .before .before .before .before .before .before .before .args .sheet .now) (Ample 8192 8192 4096 20480) (c .before .before .before .before .before .before .before .before .before .before .list-within .result) _ (c .before .before .before .before .before .before .before .before .before .before .before .before .before .before .before .before .before .before .before .args .out .now) (c .before .before .before .before .before .before .before .before .before .before .list-within .last .1 .1 .1 .1 .1 .1 .0) (c .before .before .before .before .before .before .before .before .before .before .list-within .ensures) (c .before .listed .given .1)
+
+pub list-large-spec : {M : Type 1} → statement M
+list-large-spec =
+    tie.close
+    (tie.spec
+    slice-aggregate-list-within
+    slice-aggregate-list-within-2
+    slice-aggregate-list-within-3
+    slice-aggregate-list-within-4
+    slice-aggregate-list-within-5
+    list-within-requires
+    enum-known-listed
+    enum-told
+    same-length
+    returns
+    same-length-2
+    returns-2)

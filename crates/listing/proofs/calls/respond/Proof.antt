@@ -1,0 +1,47 @@
+-- `respond` meets its contract: a listing or a refusal, and both fit.
+use mathlib.Core.Path.{_≡_}
+use lib.ListN.{length}
+use Rattle.listing.proofs.SheetListing.{respond-listed, refusal-fits, respond-refused}
+use borrow.Author.Needs.{needs}
+use Rattle.listing.proofs.calls.respond.Statement.{statement}
+use Rattle.listing.proofs.calls.respond.Tie as tie
+
+full : (c : tie.After-list-sheet-arg) → length (c .before .before .args .out .now) ≡ 131072
+full c = search needs
+
+list-sheet-requires : tie.Need-list-sheet-requires
+list-sheet-requires c κs = search needs
+
+enum-known-answer : tie.Need-enum-known-answer
+enum-known-answer c = search needs
+
+enum-known-answer-2 : tie.Need-enum-known-answer-2
+enum-known-answer-2 c = search needs
+
+number-requires : tie.Need-number-requires
+number-requires c κs = search needs
+
+slice-aggregate-put-refusal : tie.Need-slice-aggregate-put-refusal
+slice-aggregate-put-refusal c = search needs
+
+put-refusal-requires : tie.Need-put-refusal-requires
+put-refusal-requires c κs = refusal-fits (c .before .before .before .before .answer2 .given .0 .0) (c .before .before .number .ensures)
+
+returns : tie.Need-returns
+returns c = respond-listed (c .before .before .before .before .before .before .args .sheet .now) (c .before .before .before .before .before .before .args .out .now) (c .before .before .before .list-sheet .result) (c .before .before .before .list-sheet .last .1 .0) (full (c .before .before .before .before)) (c .before .before .before .list-sheet .ensures) (c .before .answer .given .1)
+
+returns-2 : tie.Need-returns-2
+returns-2 c = respond-refused (c .before .before .before .before .before .answer2 .given .0 .0) (c .before .before .before .number .ensures) (c .before .before .before .before .before .before .before .before .before .before .args .sheet .now) (c .before .before .before .before .before .before .before .before .before .before .args .out .now) (c .before .before .before .before .before .before .before .list-sheet .result) (c .before .before .before .before .before .before .before .list-sheet .last .1 .0) (full (c .before .before .before .before .before .before .before .before)) (c .before .before .before .before .before .before .before .list-sheet .ensures) (c .before .before .before .before .before .answer2 .given .1) (c .put-refusal .ensures)
+
+pub respond-spec : {M : Type 1} → statement M
+respond-spec =
+    tie.close
+    (tie.spec
+    list-sheet-requires
+    enum-known-answer
+    enum-known-answer-2
+    number-requires
+    slice-aggregate-put-refusal
+    put-refusal-requires
+    returns
+    returns-2)

@@ -1,0 +1,84 @@
+-- `list_laid` meets its contract: the ten slices are the records.
+use mathlib.Core.Bool.{true}
+use mathlib.Core.Path.{_≡_, sym, subst}
+use lib.ListN.{length}
+use Rattle.sheet.specs.Text.{Records}
+use Rattle.sheet.specs.Shape.{sheetInShape}
+use Rattle.borrowing_param.proofs.SheetLaws.{ten-found}
+use Rattle.listing.specs.InnerListing.{listedRecords, ListsWithin, Ample}
+use borrow.Author.Needs.{needs}
+use Rattle.listing.proofs.within.list_laid.Statement.{statement}
+use Rattle.listing.proofs.within.list_laid.Tie as tie
+
+record-words-requires : tie.Need-record-words-requires
+record-words-requires c κs = search needs
+
+record-words-requires-2 : tie.Need-record-words-requires-2
+record-words-requires-2 c κs = search needs
+
+record-words-requires-3 : tie.Need-record-words-requires-3
+record-words-requires-3 c κs = search needs
+
+record-words-requires-4 : tie.Need-record-words-requires-4
+record-words-requires-4 c κs = search needs
+
+record-words-requires-5 : tie.Need-record-words-requires-5
+record-words-requires-5 c κs = search needs
+
+record-words-requires-6 : tie.Need-record-words-requires-6
+record-words-requires-6 c κs = search needs
+
+record-words-requires-7 : tie.Need-record-words-requires-7
+record-words-requires-7 c κs = search needs
+
+record-words-requires-8 : tie.Need-record-words-requires-8
+record-words-requires-8 c κs = search needs
+
+record-words-requires-9 : tie.Need-record-words-requires-9
+record-words-requires-9 c κs = search needs
+
+record-words-requires-10 : tie.Need-record-words-requires-10
+record-words-requires-10 c κs = search needs
+
+list-records-requires : tie.Need-list-records-requires
+list-records-requires c κs = (subst (λ (r : Records). sheetInShape r ≡ true) (sym (ten-found (c .before .before .before .before .before .before .before .before .before .before .before .before .before .before .before .before .before .before .before .before .before .pre .0) (c .before .before .before .before .before .before .before .before .before .before .before .before .before .before .record-words .ensures) (c .before .before .before .before .before .before .before .before .before .before .before .before .before .record-words2 .ensures) (c .before .before .before .before .before .before .before .before .before .before .before .before .record-words3 .ensures) (c .before .before .before .before .before .before .before .before .before .before .before .record-words4 .ensures) (c .before .before .before .before .before .before .before .before .before .before .record-words5 .ensures) (c .before .before .before .before .before .before .before .before .before .record-words6 .ensures) (c .before .before .before .before .before .before .before .before .record-words7 .ensures) (c .before .before .before .before .before .before .before .record-words8 .ensures) (c .before .before .before .before .before .before .record-words9 .ensures) (c .before .before .before .before .before .record-words10 .ensures))) (c .before .before .before .before .before .before .before .before .before .before .before .before .before .before .before .before .before .before .before .before .before .pre .1), c .before .before .before .before .before .before .before .before .before .before .before .before .before .before .before .before .before .before .before .before .before .pre .2)
+
+same-length : tie.Need-same-length
+same-length c = search needs
+
+same-length-2 : tie.Need-same-length-2
+same-length-2 c = search needs
+
+same-length-3 : tie.Need-same-length-3
+same-length-3 c = search needs
+
+same-length-4 : tie.Need-same-length-4
+same-length-4 c = search needs
+
+same-length-5 : tie.Need-same-length-5
+same-length-5 c = search needs
+
+returns : tie.Need-returns
+returns c = subst (λ (r : Records). ListsWithin (listedRecords r) (Ample (length (c .before .before .before .before .before .before .before .before .before .before .before .before .before .before .before .before .before .before .before .before .before .before .before .before .before .before .before .before .before .before .before .before .args .given .now)) (length (c .before .before .before .before .before .before .before .before .before .before .before .before .before .before .before .before .before .before .before .before .before .before .before .before .before .before .before .before .before .before .before .before .args .taken .now)) (length (c .before .before .before .before .before .before .before .before .before .before .before .before .before .before .before .before .before .before .before .before .before .before .before .before .before .before .before .before .before .before .before .before .args .lists .now)) (length (c .before .before .before .before .before .before .before .before .before .before .before .before .before .before .before .before .before .before .before .before .before .before .before .before .before .before .before .before .before .before .before .before .args .edges .now))) (c .before .before .before .before .before .before .before .before .before .before .before .before .before .before .before .before .before .before .before .before .before .before .before .before .before .before .before .before .before .before .before .before .args .out .now) (c .before .before .before .before .before .before .before .before .before .before .list-records .result) (c .before .before .before .before .before .before .before .before .before .before .list-records .last .1 .1 .1 .1 .1 .1 .1 .1 .1 .1 .1 .1 .1 .1 .0)) (ten-found (c .before .before .before .before .before .before .before .before .before .before .before .before .before .before .before .before .before .before .before .before .before .before .before .before .before .before .before .before .before .before .before .before .pre .0) (c .before .before .before .before .before .before .before .before .before .before .before .before .before .before .before .before .before .before .before .before .before .before .before .before .before .record-words .ensures) (c .before .before .before .before .before .before .before .before .before .before .before .before .before .before .before .before .before .before .before .before .before .before .before .before .record-words2 .ensures) (c .before .before .before .before .before .before .before .before .before .before .before .before .before .before .before .before .before .before .before .before .before .before .before .record-words3 .ensures) (c .before .before .before .before .before .before .before .before .before .before .before .before .before .before .before .before .before .before .before .before .before .before .record-words4 .ensures) (c .before .before .before .before .before .before .before .before .before .before .before .before .before .before .before .before .before .before .before .before .before .record-words5 .ensures) (c .before .before .before .before .before .before .before .before .before .before .before .before .before .before .before .before .before .before .before .before .record-words6 .ensures) (c .before .before .before .before .before .before .before .before .before .before .before .before .before .before .before .before .before .before .before .record-words7 .ensures) (c .before .before .before .before .before .before .before .before .before .before .before .before .before .before .before .before .before .before .record-words8 .ensures) (c .before .before .before .before .before .before .before .before .before .before .before .before .before .before .before .before .before .record-words9 .ensures) (c .before .before .before .before .before .before .before .before .before .before .before .before .before .before .before .before .record-words10 .ensures)) (c .before .before .before .before .before .before .before .before .before .before .list-records .ensures)
+
+pub list-laid-spec : {M : Type 1} → statement M
+list-laid-spec =
+    tie.close
+    (tie.spec
+    record-words-requires
+    record-words-requires-2
+    record-words-requires-3
+    record-words-requires-4
+    record-words-requires-5
+    record-words-requires-6
+    record-words-requires-7
+    record-words-requires-8
+    record-words-requires-9
+    record-words-requires-10
+    list-records-requires
+    same-length
+    same-length-2
+    same-length-3
+    same-length-4
+    same-length-5
+    returns)

@@ -1,0 +1,83 @@
+-- For private functions only: a listing made in lent scratch. No public contract cites this file.
+use Prim.Native.Nat.{ℕ, _≤_, _<_}
+use mathlib.Core.Bool.{true, cond}
+use mathlib.Core.Path.{_≡_}
+use mathlib.Core.List.{List, [], _∷_, _++_}
+use lib.Dec.{ltb}
+use lib.ListN.{length, getD}
+use Rattle.lifetimes.specs.declared.answer.Refusal.the-variants.{NoRoom}
+use Rattle.lifetimes.specs.declared.answer.Listed.{Listed}
+use Rattle.lifetimes.specs.declared.answer.Listed.the-variants as listed
+use Rattle.lifetimes.specs.declared.env.LifetimeEnv.{LifetimeEnv}
+use Rattle.lifetimes.specs.Refusals.{check, Outcome, Gives, Refuses, unless, NoneDue}
+use Rattle.lifetimes.specs.Sets.{member}
+use Rattle.lifetimes.specs.Env.{boundsOf, envChecks}
+use Rattle.sheet.specs.Text.{line, Records}
+use Rattle.sheet.specs.Reading.{sheetOf}
+use Rattle.borrowing_param.specs.Edges.{edgesIn}
+use Rattle.borrowing_param.specs.New.{newVisitor}
+use Rattle.borrowing_param.specs.SheetMethod.{recordsChecks}
+use Rattle.borrowing_param.specs.Borrows.{Borrows, borrowsBy}
+use Rattle.borrowing_param.specs.InnerSheet.{OfMethod}
+use Rattle.listing.specs.declared.within.Within.{Within}
+use Rattle.listing.specs.declared.within.Within.the-variants as within
+use Rattle.listing.specs.Listing.{countHeading, countLines, loweredHeading, longerHeading, longerLines, answerLines, edgeLines, mostEdges, edgesCheck, listingOf, listingChecks}
+use Rattle.listing.specs.InnerPrint.{Prints}
+use Rattle.listing.specs.InnerSections.{numbered, cutFrom}
+
+-- what is listed, or why not
+abbrev pub listed-of : List ℕ → Outcome (List ℕ)
+listed-of bytes = unless (listingChecks bytes) (listingOf (sheetOf bytes))
+
+-- and of records that are in shape
+abbrev pub listedRecords : Records → Outcome (List ℕ)
+listedRecords r = unless (recordsChecks r ++ (edgesCheck r ∷ [])) (listingOf r)
+
+-- what a function answers and leaves that lists into a slice: the text's length, and the text stored from the front as far as the slice goes; or a refusal, and the slice as it was
+abbrev pub Lists : Outcome (List ℕ) → List ℕ → Listed → List ℕ → Type 0
+Lists o out (listed.Count n) out₁ = (text : List ℕ) × (o ≡ Gives text) × Prints text 0 out n out₁
+Lists o out (listed.Refused k) out₁ = (o ≡ Refuses k) × (out₁ ≡ out)
+
+-- scratch of these sizes is enough for any sheet
+abbrev pub Ample : ℕ → ℕ → ℕ → ℕ → Type 0
+Ample given taken lists edges = (8192 ≤ given) × (8192 ≤ taken) × (4096 ≤ lists) × (20480 ≤ edges)
+
+-- the same in scratch that may be too short; only where it is not ample
+abbrev pub ListsWithin : Outcome (List ℕ) → Type 0 → List ℕ → Within → List ℕ → Type 0
+ListsWithin o ample out (within.Done answer) out₁ = Lists o out answer out₁
+ListsWithin o ample out within.Short out₁ = (ample → ⊥) × (out₁ ≡ out)
+
+-- an accepted method: its environment, used lifetimes, structs and params, and the lowered words of its records
+abbrev pub methodBorrows : LifetimeEnv → ℕ → List ℕ → List ℕ → Borrows
+methodBorrows env used structs params = borrowsBy (newVisitor used (boundsOf env)) structs params
+
+unfoldable pub methodListing : LifetimeEnv → ℕ → List ℕ → List ℕ → List ℕ → List ℕ → List ℕ → List ℕ
+methodListing env used structs params own given taken =
+    countLines (env .count) (methodBorrows env used structs params)
+    ++ ((loweredHeading ++ (line own ++ (line given ++ line taken)))
+    ++ (longerLines env
+    ++ (answerLines (methodBorrows env used structs params .answers)
+    ++ edgeLines (methodBorrows env used structs params .edges))))
+
+unfoldable pub listedMethod : LifetimeEnv → ℕ → List ℕ → List ℕ → List ℕ → List ℕ → List ℕ → Outcome (List ℕ)
+listedMethod env used structs params own given taken =
+    unless (check (ltb mostEdges (length (methodBorrows env used structs params .edges))) NoRoom ∷ []) (methodListing env used structs params own given taken)
+
+pub record Listable (env : LifetimeEnv) (used : ℕ) (structs params own given taken : List ℕ) : Type 0 where
+  pub valid : NoneDue (envChecks env)
+  pub of : OfMethod structs params
+  pub below : (k : ℕ) → member used k ≡ true → k < env .count
+  pub short : length (methodBorrows env used structs params .edges) ≤ mostEdges → length (methodListing env used structs params own given taken) ≤ 131072
+
+-- the sections by what stands in slices: counts of lifetimes, used lifetimes, parameters and edges; lowered words; longer lists by their ends; answers; edges
+unfoldable pub sections : List ℕ → List ℕ → List ℕ → List ℕ → List ℕ → List ℕ → List ℕ → List ℕ → List ℕ
+sections counts own given taken lists ends answers edges =
+    (countHeading ++ line counts)
+    ++ ((loweredHeading ++ (line own ++ (line given ++ line taken)))
+    ++ ((longerHeading ++ numbered 0 (cutFrom 0 lists ends (getD counts 0 0)))
+    ++ (answerLines answers
+    ++ edgeLines (edgesIn (getD counts 3 0) edges))))
+
+-- the edges do not fit so many words
+abbrev pub tooMany : ℕ → Within
+tooMany room = cond (ltb room 20480) within.Short (within.Done (listed.Refused NoRoom))

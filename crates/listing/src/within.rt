@@ -1,0 +1,201 @@
+// A listing made in lent scratch: where it is too short, and only then, the answer says so.
+ghost use Prim.Native.Nat.{_≤_};
+ghost use mathlib.Core.Bool.{true};
+ghost use mathlib.Core.Path.{_≡_};
+ghost use lib.ListN.{length};
+ghost use Rattle.sheet.specs.Shape.{sheetInShape};
+ghost use Rattle.sheet.specs.Inner.{Laid, recordsAt};
+ghost use Rattle.borrowing_param.specs.InnerSheet.{records, Roomy};
+ghost use Rattle.listing.specs.InnerListing.{listed-of, listedRecords, Ample, ListsWithin, listedMethod, Listable, tooMany};
+use super::whole::put_listing;
+use borrowing_param::BorrowingParamVisitor;
+use elision::lower;
+use hir_types::UsedLifetimes;
+use hir_types::used_method_lifetimes;
+use lifetimes::LifetimeEnv;
+use lifetimes::Listed;
+use lifetimes::Refusal;
+use lifetimes::Verdict;
+use lifetimes::set;
+use sheet::read_sheet;
+use sheet::record_words;
+
+// The answer, or that the scratch is too short.
+pub(crate) enum Within {
+    Done(Listed),
+    Short,
+}
+
+// List a sheet. `words` takes the words of any sheet of so many bytes; `given` and `taken` are for the lowered words of steps and returns, `lists` for the longer lists, `edges` for the edges.
+pub(crate) fn list_within(
+    sheet: &[u8],
+    words: &mut [usize],
+    given: &mut [usize],
+    taken: &mut [usize],
+    lists: &mut [usize],
+    edges: &mut [usize],
+    out: &mut [u8],
+) -> Within
+    requires { ⌜ Roomy (now sheet) (length (now words)) × (length (now edges) ≤ 20480) ⌝ }
+    ensures { λ r. ⌜ ListsWithin (listed-of (now (sheet .entry))) (Ample (length (now (given .entry))) (length (now (taken .entry))) (length (now (lists .entry))) (length (now (edges .entry)))) (now (out .entry)) r (now (out .exit)) ⌝ }
+{
+    let text = read_sheet(sheet, words);
+    let verdict = text.verdict;
+    if let Verdict::Refused(refusal) = verdict {
+        return Within::Done(Listed::Refused(refusal));
+    }
+    let ends = text.ends;
+    list_laid(words, ends, given, taken, lists, edges, out)
+}
+
+// List records in shape whose words stand one record after another.
+fn list_laid(
+    words: &[usize],
+    ends: [usize; 10],
+    given: &mut [usize],
+    taken: &mut [usize],
+    lists: &mut [usize],
+    edges: &mut [usize],
+    out: &mut [u8],
+) -> Within
+    requires { ⌜ Laid (now words) ends × (sheetInShape (recordsAt (now words) ends) ≡ true) × (length (now edges) ≤ 20480) ⌝ }
+    ensures { λ r. ⌜ ListsWithin (listedRecords (recordsAt (now (words .entry)) ends)) (Ample (length (now (given .entry))) (length (now (taken .entry))) (length (now (lists .entry))) (length (now (edges .entry)))) (now (out .entry)) r (now (out .exit)) ⌝ }
+{
+    list_records(
+        record_words(words, ends, 0),
+        record_words(words, ends, 1),
+        record_words(words, ends, 2),
+        record_words(words, ends, 3),
+        record_words(words, ends, 4),
+        record_words(words, ends, 5),
+        record_words(words, ends, 6),
+        record_words(words, ends, 7),
+        record_words(words, ends, 8),
+        record_words(words, ends, 9),
+        given,
+        taken,
+        lists,
+        edges,
+        out,
+    )
+}
+
+// The same of ten records, each in a slice.
+fn list_records(
+    names: &[usize],
+    bounds: &[usize],
+    types: &[usize],
+    receiver: &[usize],
+    steps: &[usize],
+    returns: &[usize],
+    structs: &[usize],
+    params: &[usize],
+    output: &[usize],
+    force: &[usize],
+    given: &mut [usize],
+    taken: &mut [usize],
+    lists: &mut [usize],
+    edges: &mut [usize],
+    out: &mut [u8],
+) -> Within
+    requires { ⌜ (sheetInShape (records (now names) (now bounds) (now types) (now receiver) (now steps) (now returns) (now structs) (now params) (now output) (now force)) ≡ true) × (length (now edges) ≤ 20480) ⌝ }
+    ensures { λ r. ⌜ ListsWithin (listedRecords (records (now (names .entry)) (now (bounds .entry)) (now (types .entry)) (now (receiver .entry)) (now (steps .entry)) (now (returns .entry)) (now (structs .entry)) (now (params .entry)) (now (output .entry)) (now (force .entry)))) (Ample (length (now (given .entry))) (length (now (taken .entry))) (length (now (lists .entry))) (length (now (edges .entry)))) (now (out .entry)) r (now (out .exit)) ⌝ }
+{
+    if given.len() / 8 < steps.len() {
+        return Within::Short;
+    }
+    if taken.len() / 8 < returns.len() {
+        return Within::Short;
+    }
+    let ast = ast_lifetimes::LifetimeEnv::from_method_item(names, bounds, types);
+    let declared = ast.verdict;
+    if let Verdict::Refused(refusal) = declared {
+        return Within::Done(Listed::Refused(refusal));
+    }
+    let mut own = [0usize; 1];
+    let lowered = lower(ast.env, receiver, steps, returns, &mut own, given, taken);
+    let elided = lowered.verdict;
+    if let Verdict::Refused(refusal) = elided {
+        return Within::Done(Listed::Refused(refusal));
+    }
+    let env = lowered.env;
+    let selves = lowered.selves;
+    let stepped = lowered.steps;
+    let returned = lowered.returns;
+    let used = used_method_lifetimes(env, structs, params, output, force);
+    match used {
+        UsedLifetimes::Refused(refusal) => Within::Done(Listed::Refused(refusal)),
+        UsedLifetimes::Set(members) => list_method(
+            env,
+            members,
+            structs,
+            params,
+            &own[0..selves],
+            &given[0..stepped],
+            &taken[0..returned],
+            lists,
+            edges,
+            out,
+        ),
+    }
+}
+
+// List an accepted method.
+fn list_method(
+    env: LifetimeEnv,
+    used: u64,
+    structs: &[usize],
+    params: &[usize],
+    own: &[usize],
+    given: &[usize],
+    taken: &[usize],
+    lists: &mut [usize],
+    edges: &mut [usize],
+    out: &mut [u8],
+) -> Within
+    requires { ⌜ Listable env used (now structs) (now params) (now own) (now given) (now taken) × (length (now edges) ≤ 20480) ⌝ }
+    ensures { λ r. ⌜ ListsWithin (listedMethod env used (now (structs .entry)) (now (params .entry)) (now (own .entry)) (now (given .entry)) (now (taken .entry))) ((4096 ≤ length (now (lists .entry))) × (20480 ≤ length (now (edges .entry)))) (now (out .entry)) r (now (out .exit)) ⌝ }
+{
+    let count = env.count;
+    if lists.len() / 64 < count {
+        return Within::Short;
+    }
+    let mut ends = [0usize; 64];
+    let longer = env.all_lists(true, lists, &mut ends);
+    let draws = longer.sets;
+    let visitor = BorrowingParamVisitor {
+        used,
+        draws,
+        stored: 0,
+    };
+    let mut answers = [0usize; 16];
+    let map = visitor.borrow_map(structs, params, &mut answers, edges);
+    let verdict = map.verdict;
+    if let Verdict::Refused(_) = verdict {
+        return too_many(edges.len());
+    }
+    let params = map.params;
+    let counts = [count, set::count(used), params, map.edges];
+    let length = put_listing(
+        out,
+        &counts,
+        own,
+        given,
+        taken,
+        lists,
+        &ends,
+        &answers[0..params],
+        edges,
+    );
+    Within::Done(Listed::Count(length))
+}
+
+// More edges than so many words take: the scratch is too short, or they are more than a listing has.
+fn too_many(room: usize) -> Within
+    ensures { λ r. ⌜ r ≡ tooMany room ⌝ }
+{
+    if room < 20480 {
+        return Within::Short;
+    }
+    Within::Done(Listed::Refused(Refusal::NoRoom))
+}
