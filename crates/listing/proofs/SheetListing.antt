@@ -89,7 +89,7 @@ module _ (bytes : List ℕ) where
   given-none {text} e = given-due whole text (listingChecks bytes) e
 
   -- any listing has room in 131,072 bytes
-  fits-room : NoneDue (listingChecks bytes) → length whole ≤ 131072
+  pub fits-room : NoneDue (listingChecks bytes) → length whole ≤ 131072
   unfolding listingChecks sheetRefusals
   fits-room n =
       let p = none-split (sheetRefusals bytes) (edgesCheck sheet ∷ []) n in
@@ -168,7 +168,7 @@ module _ (bytes : List ℕ) where
             let g = given-none e in
             responds n text out₁ (ap said e) (omega (arith, h, fits-room (g .0), ap length (g .1))) p
 
-refusal-short : (k : Refusal) → length (refusalHeading ++ line (numberOf k ∷ [])) ≤ 12
+pub refusal-short : (k : Refusal) → length (refusalHeading ++ line (numberOf k ∷ [])) ≤ 12
 refusal-short k = rw length-append (omega (arith, line-short (numberOf k ∷ []) (below k, tt)))
   where
     below : (k : Refusal) → numberOf k < 100

@@ -1,5 +1,7 @@
 -- Definitions that the contracts cite, and the statements of the main theorems.
 pub mod Listing
+pub mod Examples
+pub mod Theorems
 -- For private functions only
 pub mod InnerPrint
 pub mod InnerSections

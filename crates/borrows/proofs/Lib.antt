@@ -1,0 +1,2 @@
+-- Laws: the whole answer stands in the room for it.
+pub mod AnswerLaws
