@@ -32,7 +32,7 @@ use Rattle.hir_types.specs.declared.used.UsedLifetimes.the-variants as answer
 use Rattle.hir_types.specs.Method.{outputLifetimes, isPast, anyPast, placeChecks, methodChecks}
 use Rattle.hir_types.specs.Used.{usedSet, usedAnswer}
 use Rattle.hir_types.proofs.Theorems.{used-lifetimes-are}
-use Rattle.borrowing_param.specs.New.{drawsTo, newVisitor, noVisitor, createdBy, created}
+use Rattle.borrowing_param.specs.New.{drawsTo, newVisitor, noVisitor, created}
 use Rattle.borrowing_param.specs.Inner.{keptAt, keptOf}
 
 -- ---- a list made place by place

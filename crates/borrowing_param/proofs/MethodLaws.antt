@@ -12,7 +12,7 @@ use Rattle.lifetimes.specs.declared.answer.Verdict.{Verdict}
 use Rattle.lifetimes.specs.declared.answer.Verdict.the-variants as verdict
 use Rattle.lifetimes.specs.declared.env.LifetimeEnv.{LifetimeEnv}
 use Rattle.lifetimes.specs.declared.env.Made.{Made}
-use Rattle.lifetimes.specs.Refusals.{Check, check, Outcome, Gives, Refuses, unless, FirstDue, here, later, NoneDue, next, end}
+use Rattle.lifetimes.specs.Refusals.{Check, check, Outcome, Gives, Refuses, FirstDue, here, later, NoneDue, next, end}
 use Rattle.lifetimes.specs.Lent.{verdictOf, resultOr}
 use Rattle.lifetimes.specs.Env.{envChecks, envOf, made}
 use Rattle.lifetimes.proofs.RefusalLaws.{due-given, due-refused, none-first, none-rest, none-split, none-more, first-more, first-after, first-behind, refused-first, accepted-none}

@@ -1,21 +1,18 @@
 -- What stands in the scratch is what the listing lists: lists by their ends, numbered; and the edges by sets of all lifetimes, also of those that are not used.
-use Prim.Native.Nat.{ℕ, zero, suc, _+_, _-_, _≤_, _<_}
-use mathlib.Core.Bool.{true}
+use Prim.Native.Nat.{ℕ, zero, suc, _+_, _≤_}
 use mathlib.Core.Path.{_≡_, refl, sym, ap, _∙_}
-use mathlib.Core.List.{List, [], _∷_, _++_, map, flatMap, flatten, append-assoc, append-nil, List·Memᴰ, List·Memᴰ·head, List·Memᴰ·tail}
-use native.Mathlib.Nat.{zero-add, add-zero}
+use mathlib.Core.List.{List, [], _∷_, _++_, map, flatMap, flatten, append-assoc, List·Memᴰ, List·Memᴰ·head, List·Memᴰ·tail}
+use native.Mathlib.Nat.{zero-add}
 use native.Mathlib.Omega.{arith}
-use lib.ListN.{length, getD, take, drop, length-append}
+use lib.ListN.{length, getD, length-append}
 use lib.Seq.{slice}
 use Rattle.lifetimes.specs.Ranges.{ascending}
 use Rattle.lifetimes.specs.Reach.{endsFrom}
 use Rattle.lifetimes.specs.Sets.{members}
 use Rattle.lowered_types.specs.LoweredTypes.{LoweredType}
 use Rattle.sheet.specs.Text.{line}
-use Rattle.sheet.proofs.Placing.{part-is}
-use Rattle.borrowing_param.specs.declared.visitor.LifetimeEdge.{LifetimeEdge}
 use Rattle.borrowing_param.specs.declared.visitor.BorrowingParamVisitor.{BorrowingParamVisitor}
-use Rattle.borrowing_param.specs.Brings.{bring, numberOf}
+use Rattle.borrowing_param.specs.Brings.{bring}
 use Rattle.borrowing_param.specs.Visit.{usedOf, drawsIn, bringTo, bringAll}
 use Rattle.borrowing_param.specs.BorrowMap.{listedTo, listedEdges, answersFrom}
 use Rattle.listing.specs.InnerSections.{numbered, cutFrom, Ascend}

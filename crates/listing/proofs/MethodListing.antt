@@ -7,7 +7,7 @@ use native.Mathlib.Nat.{zero-add, sub-zero, div-add-mod', mod-lt}
 use native.Mathlib.Omega.{arith}
 use borrow.Author.Tests.{le-ltb, lt-ltb, ltb-true, ltb-false}
 use lib.Dec.{ltb}
-use lib.ListN.{length, getD, take, drop, length-append, length-map, length-drop}
+use lib.ListN.{length, getD, take, drop, length-append, length-map}
 use lib.Seq.{take-append-seam}
 use Rattle.lifetimes.specs.declared.answer.Refusal.{Refusal}
 use Rattle.lifetimes.specs.declared.answer.Refusal.the-variants.{NoRoom}
@@ -15,7 +15,7 @@ use Rattle.lifetimes.specs.declared.answer.Listed.the-variants as listed
 use Rattle.lifetimes.specs.declared.answer.Verdict.the-variants as verdict
 use Rattle.lifetimes.specs.declared.env.LifetimeEnv.{LifetimeEnv}
 use Rattle.lifetimes.specs.declared.reach.Lists as reach
-use Rattle.lifetimes.specs.Refusals.{Check, check, Outcome, Gives, Refuses, unless, FirstDue, here, later, NoneDue, next, end}
+use Rattle.lifetimes.specs.Refusals.{Check, Outcome, Gives, Refuses, FirstDue, here, NoneDue, next, end}
 use Rattle.lifetimes.specs.Lent.{written, verdictOf, resultOr, roomCheck}
 use Rattle.lifetimes.specs.Ranges.{ascending}
 use Rattle.lifetimes.specs.Sets as sets
@@ -43,7 +43,7 @@ use Rattle.borrowing_param.proofs.Joining.{words-many, words-read}
 use Rattle.borrowing_param.proofs.Ordering.{listing-consistent}
 use Rattle.listing.specs.declared.within.Within.{Within}
 use Rattle.listing.specs.declared.within.Within.the-variants as within
-use Rattle.listing.specs.Listing.{countHeading, loweredHeading, longerHeading, longerLine, longerLines, answerLines, edgeLines, mostEdges}
+use Rattle.listing.specs.Listing.{countHeading, loweredHeading, longerHeading, longerLines, answerLines, edgeLines, mostEdges}
 use Rattle.listing.specs.InnerPrint.{Prints}
 use Rattle.listing.specs.InnerSections.{numbered, cutFrom, Ascend}
 use Rattle.listing.specs.InnerListing.{Lists, ListsWithin, methodBorrows, methodListing, listedMethod, Listable, sections, tooMany}

@@ -2,7 +2,7 @@
 use Prim.Native.Nat.{ℕ, _-_, _/_, _≤_, _<_}
 use mathlib.Core.Bool.{true}
 use mathlib.Core.Path.{_≡_, refl, sym, ap, subst, _∙_}
-use mathlib.Core.List.{List, [], _∷_, _++_, map, List·Memᴰ·head, List·Memᴰ·tail}
+use mathlib.Core.List.{List, [], _∷_, _++_, List·Memᴰ·head, List·Memᴰ·tail}
 use native.Mathlib.Nat.{sub-zero, div-add-mod', mod-lt}
 use native.Mathlib.Omega.{arith}
 use borrow.Author.Tests.{le-ltb}
@@ -14,17 +14,16 @@ use Rattle.lifetimes.specs.declared.answer.Refusal.the-variants.{NoRoom}
 use Rattle.lifetimes.specs.declared.answer.Listed.the-variants as listed
 use Rattle.lifetimes.specs.declared.answer.Verdict.the-variants as verdict
 use Rattle.lifetimes.specs.declared.env.LifetimeEnv.{LifetimeEnv}
-use Rattle.lifetimes.specs.Refusals.{Check, check, Outcome, Gives, Refuses, unless, FirstDue, NoneDue, next, end}
+use Rattle.lifetimes.specs.Refusals.{Check, check, Outcome, Gives, unless, FirstDue, NoneDue, next, end}
 use Rattle.lifetimes.specs.Lent.{written}
 use Rattle.lifetimes.specs.LoweredWords.{wordOf}
-use Rattle.lifetimes.specs.Env.{boundsOf}
 use Rattle.lifetimes.proofs.RefusalLaws.{due-given, due-refused, first-more}
 use Rattle.records.proofs.VerdictLaws.{unless-after}
 use Rattle.ast_lifetimes.specs.declared.env.LifetimeEnv as ast-env
 use Rattle.ast_lifetimes.specs.declared.env.Made as ast-made
 use Rattle.ast_lifetimes.specs.Env as ast
 use Rattle.elision.specs.declared.method.Lowering.{Lowering}
-use Rattle.elision.specs.Steps.{receiverOf, stepsOf}
+use Rattle.elision.specs.Steps.{receiverOf}
 use Rattle.elision.specs.Rfc as rfc
 use Rattle.elision.specs.Lowering.{words, recordsOf, measureChecks, roomChecks, measureRecords, lowerRecords, answered, ownWords, stepWords, returnWords}
 use Rattle.elision.proofs.SizeLaws.{lowered-self, lowered-steps, lowered-returns}
@@ -34,9 +33,9 @@ use Rattle.hir_types.specs.Used.{usedSet, usedAnswer}
 use Rattle.sheet.specs.Text.{line, Records}
 use Rattle.sheet.specs.Shape.{sheetInShape}
 use Rattle.sheet.proofs.Theorems.{shapes-are-short}
-use Rattle.borrowing_param.specs.New.{newVisitor, created, createdBy}
+use Rattle.borrowing_param.specs.New.{created}
 use Rattle.borrowing_param.specs.SheetMethod.{loweredOf, astEnvOf, envOfSheet, recordsChecks}
-use Rattle.borrowing_param.specs.Borrows.{Borrows, borrowsBy, sheetBorrows}
+use Rattle.borrowing_param.specs.Borrows.{Borrows, sheetBorrows}
 use Rattle.borrowing_param.proofs.Creating.{used-refused, gives, accepted, used-below, env-none}
 use Rattle.borrowing_param.proofs.Forcing.{params-none}
 use Rattle.borrowing_param.proofs.MethodLaws.{names-first, ast-is, names-are, steps-first, env-is, measure-none, method-first, method-none}

@@ -1,8 +1,7 @@
 -- A sheet listed in scratch: what reading it says, and what the calls answer and write.
 use Prim.Native.Nat.{ℕ, _+_, _≤_, _<_, _^_}
-use mathlib.Core.Bool.{true}
 use mathlib.Core.Path.{_≡_, refl, sym, ap, subst, _∙_}
-use mathlib.Core.List.{List, [], _∷_, _++_}
+use mathlib.Core.List.{List, [], _∷_, _++_, append-assoc}
 use native.Mathlib.Nat.{zero-add}
 use native.Mathlib.Omega.{arith}
 use borrow.Author.Tests.{le-ltb, lt-ltb, ltb-false}
@@ -13,7 +12,7 @@ use Rattle.lifetimes.specs.declared.answer.Refusal.the-variants.{Malformed, Dup
 use Rattle.lifetimes.specs.declared.answer.Listed.{Listed}
 use Rattle.lifetimes.specs.declared.answer.Listed.the-variants as listed
 use Rattle.lifetimes.specs.declared.answer.Verdict.the-variants as verdict
-use Rattle.lifetimes.specs.Refusals.{Outcome, Gives, Refuses, unless, numberOf, FirstDue, here, NoneDue, next, end}
+use Rattle.lifetimes.specs.Refusals.{Check, Outcome, Gives, Refuses, unless, numberOf, FirstDue, here, NoneDue, next, end}
 use Rattle.lifetimes.specs.Lent.{counted, written, roomCheck}
 use Rattle.lifetimes.proofs.Copying.{sets-front}
 use Rattle.lifetimes.proofs.RefusalLaws.{due-given, due-refused, refused-due, given-due, none-first, none-split, none-more, first-more, first-after}
@@ -22,44 +21,41 @@ use Rattle.sheet.specs.declared.text.Text.{Text}
 use Rattle.sheet.specs.Text.{line, Records}
 use Rattle.sheet.specs.Reading.{sheetOf, textChecks}
 use Rattle.sheet.specs.Shape as shape
-use Rattle.sheet.specs.Shape.{sheetInShape, sheetAnswer}
-use Rattle.sheet.specs.Inner.{recordsAt, Laid}
+use Rattle.sheet.specs.Shape.{sheetAnswer}
+use Rattle.sheet.specs.Inner.{recordsAt}
 use Rattle.borrowing_param.specs.SheetMethod.{recordsChecks, sheetRefusals}
 use Rattle.borrowing_param.specs.Borrows.{sheetBorrows}
 use Rattle.borrowing_param.specs.InnerSheet.{Roomy}
-use Rattle.borrowing_param.proofs.SheetLaws.{text-first, text-none, found, judge-shape}
+use Rattle.borrowing_param.proofs.SheetLaws.{text-first, text-none, found}
 use Rattle.listing.specs.declared.within.Within.{Within}
 use Rattle.listing.specs.declared.within.Within.the-variants as within
 use Rattle.listing.specs.Listing as spec
 use Rattle.listing.specs.Listing.{mostEdges, edgesCheck, listingOf, listingChecks, refusalHeading, said, response}
 use Rattle.listing.specs.InnerPrint.{Prints}
-use Rattle.listing.specs.InnerListing.{listed-of, listedRecords, Lists, ListsWithin, Ample}
+use Rattle.listing.specs.InnerListing.{listedSheet, listedRecords, Lists, ListsWithin, Ample}
 use Rattle.listing.proofs.RoomLaws.{line-short, listing-short}
 
 module _ (bytes : List ℕ) where
   abbrev sheet : Records
   sheet = sheetOf bytes
 
-  abbrev edgesDue : Outcome (List ℕ)
-  edgesDue = listed-of bytes
-
   -- ---- read
 
   module _ (scratch : List ℕ) (roomy : Roomy bytes (length scratch)) {t : Text} (read : t ≡ sheetAnswer bytes (length scratch)) {scratch₁ : List ℕ}
       (wrote : scratch₁ ≡ written (shape.sheetWords bytes (length scratch)) scratch) where
-    pub text-refused : {k : Refusal} {out : List ℕ} → t .verdict ≡ verdict.Refused k → Lists (listed-of bytes) out (listed.Refused k) out
+    pub text-refused : {k : Refusal} {out : List ℕ} → t .verdict ≡ verdict.Refused k → Lists (listedSheet bytes) out (listed.Refused k) out
     unfolding listingChecks
     text-refused v = (due-refused (listingOf sheet) (first-more (edgesCheck sheet ∷ []) (text-first bytes scratch roomy read wrote v)), refl)
 
     module _ (fine : t .verdict ≡ verdict.Accepted) where
-      records-same : listedRecords (recordsAt scratch₁ (t .ends)) ≡ listed-of bytes
+      records-same : listedRecords (recordsAt scratch₁ (t .ends)) ≡ listedSheet bytes
       unfolding listingChecks sheetRefusals
       records-same =
           ap listedRecords (found bytes scratch roomy read wrote fine)
           ∙ sym (unless-after (listingOf sheet) (recordsChecks sheet ++ (edgesCheck sheet ∷ [])) (text-none bytes scratch roomy read wrote fine .0))
-          ∙ ap (λ cs. unless cs (listingOf sheet)) (sym (mathlib.Core.List.append-assoc (textChecks bytes) (recordsChecks sheet) (edgesCheck sheet ∷ [])))
+          ∙ ap (λ (cs : List Check). unless cs (listingOf sheet)) (sym (append-assoc (textChecks bytes) (recordsChecks sheet) (edgesCheck sheet ∷ [])))
 
-      pub text-listed : (A : Type 0) (w : Within) (out out₁ : List ℕ) → ListsWithin (listedRecords (recordsAt scratch₁ (t .ends))) A out w out₁ → ListsWithin (listed-of bytes) A out w out₁
+      pub text-listed : (A : Type 0) (w : Within) (out out₁ : List ℕ) → ListsWithin (listedRecords (recordsAt scratch₁ (t .ends))) A out w out₁ → ListsWithin (listedSheet bytes) A out w out₁
       text-listed A (within.Done x) out out₁ h = subst (λ (o : Outcome (List ℕ)). Lists o out x out₁) records-same h
       text-listed A within.Short out out₁ h = h
 
@@ -68,24 +64,24 @@ module _ (bytes : List ℕ) where
   pub large-room : Roomy bytes 10240
   large-room n few half = few
 
-  pub never-short : {B : Type 0} (w : Within) (out out₁ : List ℕ) → ListsWithin (listed-of bytes) (Ample 8192 8192 4096 20480) out w out₁ → w ≡ within.Short → B
-  never-short w out out₁ h e = absurd (subst (λ (y : Within). ListsWithin (listed-of bytes) (Ample 8192 8192 4096 20480) out y out₁) e h .0 (omega arith, omega arith, omega arith, omega arith))
+  pub never-short : {B : Type 0} (w : Within) (out out₁ : List ℕ) → ListsWithin (listedSheet bytes) (Ample 8192 8192 4096 20480) out w out₁ → w ≡ within.Short → B
+  never-short w out out₁ h e = absurd (subst (λ (y : Within). ListsWithin (listedSheet bytes) (Ample 8192 8192 4096 20480) out y out₁) e h .0 (omega arith, omega arith, omega arith, omega arith))
 
   -- what was found in some scratch is found
-  pub tried-done : (A : Type 0) (w : Within) (x : Listed) (out out₁ : List ℕ) → ListsWithin (listed-of bytes) A out w out₁ → w ≡ within.Done x → Lists (listed-of bytes) out x out₁
-  tried-done A w x out out₁ h e = subst (λ (y : Within). ListsWithin (listed-of bytes) A out y out₁) e h
+  pub tried-done : (A : Type 0) (w : Within) (x : Listed) (out out₁ : List ℕ) → ListsWithin (listedSheet bytes) A out w out₁ → w ≡ within.Done x → Lists (listedSheet bytes) out x out₁
+  tried-done A w x out out₁ h e = subst (λ (y : Within). ListsWithin (listedSheet bytes) A out y out₁) e h
 
-  pub tried-again : (A : Type 0) (w : Within) (r : Listed) (out out₁ out₂ : List ℕ) → ListsWithin (listed-of bytes) A out w out₁ → w ≡ within.Short → Lists (listed-of bytes) out₁ r out₂ → Lists (listed-of bytes) out r out₂
+  pub tried-again : (A : Type 0) (w : Within) (r : Listed) (out out₁ out₂ : List ℕ) → ListsWithin (listedSheet bytes) A out w out₁ → w ≡ within.Short → Lists (listedSheet bytes) out₁ r out₂ → Lists (listedSheet bytes) out r out₂
   tried-again A w r out out₁ out₂ h e l =
-      let same = subst (λ (y : Within). ListsWithin (listed-of bytes) A out y out₁) e h .1 in
-      subst (λ (o : List ℕ). Lists (listed-of bytes) o r out₂) same l
+      let same = subst (λ (y : Within). ListsWithin (listedSheet bytes) A out y out₁) e h .1 in
+      subst (λ (o : List ℕ). Lists (listedSheet bytes) o r out₂) same l
 
   -- ---- `listing`
 
   abbrev whole : List ℕ
   whole = listingOf sheet
 
-  given-none : {text : List ℕ} → listed-of bytes ≡ Gives text → NoneDue (listingChecks bytes) × (whole ≡ text)
+  given-none : {text : List ℕ} → listedSheet bytes ≡ Gives text → NoneDue (listingChecks bytes) × (whole ≡ text)
   given-none {text} e = given-due whole text (listingChecks bytes) e
 
   -- any listing has room in 131,072 bytes
@@ -108,23 +104,23 @@ module _ (bytes : List ℕ) where
     listing-refused f = rw (due-refused whole f) (refl, refl)
 
     -- refused by the sheet or by its edges
-    pub refused-so : {k : Refusal} → listed-of bytes ≡ Refuses k → Answers (listed.Refused k) out
+    pub refused-so : {k : Refusal} → listedSheet bytes ≡ Refuses k → Answers (listed.Refused k) out
     refused-so {k} e = listing-refused (first-more (roomCheck (length out) whole ∷ []) (refused-due whole k (listingChecks bytes) e))
 
     -- measured, and too long
-    pub too-long : {n : ℕ} (m : Listed) (none none₁ : List ℕ) → Lists (listed-of bytes) none m none₁ → m ≡ listed.Count n → length out < n → Answers (listed.Refused NoRoom) out
-    too-long {n} m none none₁ l counts h = go (subst (λ (x : Listed). Lists (listed-of bytes) none x none₁) counts l)
+    pub too-long : {n : ℕ} (m : Listed) (none none₁ : List ℕ) → Lists (listedSheet bytes) none m none₁ → m ≡ listed.Count n → length out < n → Answers (listed.Refused NoRoom) out
+    too-long {n} m none none₁ l counts h = go (subst (λ (x : Listed). Lists (listedSheet bytes) none x none₁) counts l)
       where
-        go : Lists (listed-of bytes) none (listed.Count n) none₁ → Answers (listed.Refused NoRoom) out
+        go : Lists (listedSheet bytes) none (listed.Count n) none₁ → Answers (listed.Refused NoRoom) out
         go (text, e, p) =
             let g = given-none e in
             let size : length whole ≡ length text = ap length (g .1) in
             listing-refused (first-after (g .0) (here (lt-ltb (length out) (length whole) (omega (arith, size, p .behind, h))) refl))
 
-    pub measured-refused : {k : Refusal} (m : Listed) (none none₁ : List ℕ) → Lists (listed-of bytes) none m none₁ → m ≡ listed.Refused k → Answers m out
-    measured-refused {k} m none none₁ l refuses = rw refuses (refused-so (subst (λ (x : Listed). Lists (listed-of bytes) none x none₁) refuses l .0))
+    pub measured-refused : {k : Refusal} (m : Listed) (none none₁ : List ℕ) → Lists (listedSheet bytes) none m none₁ → m ≡ listed.Refused k → Answers m out
+    measured-refused {k} m none none₁ l refuses = rw refuses (refused-so (subst (λ (x : Listed). Lists (listedSheet bytes) none x none₁) refuses l .0))
 
-    listing-written : {text : List ℕ} {n : ℕ} {out₁ : List ℕ} → listed-of bytes ≡ Gives text → Prints text 0 out n out₁ → length whole ≤ length out → Answers (listed.Count n) out₁
+    listing-written : {text : List ℕ} {n : ℕ} {out₁ : List ℕ} → listedSheet bytes ≡ Gives text → Prints text 0 out n out₁ → length whole ≤ length out → Answers (listed.Count n) out₁
     unfolding spec.listing
     listing-written {text} {n} {out₁} e p fits =
         let g = given-none e in
@@ -135,17 +131,17 @@ module _ (bytes : List ℕ) where
         rw (due-given whole none) (ap listed.Count size, stands)
 
     -- where the slice is long enough
-    pub listed-so : (r : Listed) (out₁ : List ℕ) → Lists (listed-of bytes) out r out₁ → (NoneDue (listingChecks bytes) → length whole ≤ length out) → Answers r out₁
+    pub listed-so : (r : Listed) (out₁ : List ℕ) → Lists (listedSheet bytes) out r out₁ → (NoneDue (listingChecks bytes) → length whole ≤ length out) → Answers r out₁
     listed-so (listed.Count n) out₁ (text, e, p) enough = listing-written e p (enough (given-none e .0))
     listed-so (listed.Refused k) out₁ (e, same) enough = rw same (refused-so e)
 
     pub wide-enough : 131072 ≤ length out → NoneDue (listingChecks bytes) → length whole ≤ length out
     wide-enough h n = omega (arith, h, fits-room n)
 
-    pub measured-enough : {n : ℕ} (m : Listed) (none none₁ : List ℕ) → Lists (listed-of bytes) none m none₁ → m ≡ listed.Count n → n ≤ length out → NoneDue (listingChecks bytes) → length whole ≤ length out
-    measured-enough {n} m none none₁ l counts h due = go (subst (λ (x : Listed). Lists (listed-of bytes) none x none₁) counts l)
+    pub measured-enough : {n : ℕ} (m : Listed) (none none₁ : List ℕ) → Lists (listedSheet bytes) none m none₁ → m ≡ listed.Count n → n ≤ length out → NoneDue (listingChecks bytes) → length whole ≤ length out
+    measured-enough {n} m none none₁ l counts h due = go (subst (λ (x : Listed). Lists (listedSheet bytes) none x none₁) counts l)
       where
-        go : Lists (listed-of bytes) none (listed.Count n) none₁ → length whole ≤ length out
+        go : Lists (listedSheet bytes) none (listed.Count n) none₁ → length whole ≤ length out
         go (text, e, p) = omega (arith, h, p .behind, ap length (given-none e .1))
 
     -- ---- `respond`
@@ -159,11 +155,11 @@ module _ (bytes : List ℕ) where
       p .stored ∙ sets-front out text fits ∙ ap (λ (t : List ℕ). t ++ drop (length t) out) (sym e),
     )
 
-    pub respond-listed : {n : ℕ} (m : Listed) (out₁ : List ℕ) → length out ≡ 131072 → Lists (listed-of bytes) out m out₁ → m ≡ listed.Count n → Responds n out₁
+    pub respond-listed : {n : ℕ} (m : Listed) (out₁ : List ℕ) → length out ≡ 131072 → Lists (listedSheet bytes) out m out₁ → m ≡ listed.Count n → Responds n out₁
     unfolding response
-    respond-listed {n} m out₁ h l counts = go (subst (λ (x : Listed). Lists (listed-of bytes) out x out₁) counts l)
+    respond-listed {n} m out₁ h l counts = go (subst (λ (x : Listed). Lists (listedSheet bytes) out x out₁) counts l)
       where
-        go : Lists (listed-of bytes) out (listed.Count n) out₁ → Responds n out₁
+        go : Lists (listedSheet bytes) out (listed.Count n) out₁ → Responds n out₁
         go (text, e, p) =
             let g = given-none e in
             responds n text out₁ (ap said e) (omega (arith, h, fits-room (g .0), ap length (g .1))) p
@@ -187,10 +183,10 @@ module _ (k : Refusal) {number : ℕ} (is : number ≡ numberOf k) where
   pub refusal-fits : 0 + length (refusalHeading ++ line (number ∷ [])) < 2 ^ 64
   refusal-fits = rw is (omega (arith, refusal-short k))
 
-  pub respond-refused : (bytes out : List ℕ) {n : ℕ} (m : Listed) (out₁ : List ℕ) {out₂ : List ℕ} → length out ≡ 131072 → Lists (listed-of bytes) out m out₁ → m ≡ listed.Refused k
+  pub respond-refused : (bytes out : List ℕ) {n : ℕ} (m : Listed) (out₁ : List ℕ) {out₂ : List ℕ} → length out ≡ 131072 → Lists (listedSheet bytes) out m out₁ → m ≡ listed.Refused k
       → Prints (refusalHeading ++ line (number ∷ [])) 0 out₁ n out₂ → Responds bytes out n out₂
   unfolding response
-  respond-refused bytes out {n} m out₁ {out₂} h l refuses p = go (subst (λ (x : Listed). Lists (listed-of bytes) out x out₁) refuses l)
+  respond-refused bytes out {n} m out₁ {out₂} h l refuses p = go (subst (λ (x : Listed). Lists (listedSheet bytes) out x out₁) refuses l)
     where
-      go : Lists (listed-of bytes) out (listed.Refused k) out₁ → Responds bytes out n out₂
+      go : Lists (listedSheet bytes) out (listed.Refused k) out₁ → Responds bytes out n out₂
       go (e, same) = responds bytes out n (refusalHeading ++ line (number ∷ [])) out₂ (ap said e ∙ rw is) (rw is (omega (arith, h, refusal-short k))) (rw same at p)

@@ -42,7 +42,7 @@ use Rattle.borrowing_param.proofs.Theorems as visits-proofs
 use Rattle.listing.specs.Listing as listings
 use Rattle.listing.specs.Listing.{said, response, listingOf, listingChecks, listing}
 use Rattle.listing.specs.Examples.{Example, reachExample, astExample, elisionExample, visitsExample, programExamples, Right, Reached, Declared, Elided, Visited}
-use Rattle.listing.specs.Theorems.{Answered, ProgramAnswers, ToldApart, ExamplesHold}
+use Rattle.listing.specs.Theorems.{ProgramAnswers, ToldApart, ExamplesHold}
 use Rattle.listing.proofs.SheetListing.{fits-room, refusal-short}
 
 module _ (bytes : List ℕ) where

@@ -26,8 +26,8 @@ use Rattle.listing.specs.InnerPrint.{Prints}
 use Rattle.listing.specs.InnerSections.{numbered, cutFrom}
 
 -- what is listed, or why not
-abbrev pub listed-of : List ℕ → Outcome (List ℕ)
-listed-of bytes = unless (listingChecks bytes) (listingOf (sheetOf bytes))
+abbrev pub listedSheet : List ℕ → Outcome (List ℕ)
+listedSheet bytes = unless (listingChecks bytes) (listingOf (sheetOf bytes))
 
 -- and of records that are in shape
 abbrev pub listedRecords : Records → Outcome (List ℕ)

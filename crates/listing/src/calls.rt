@@ -8,7 +8,7 @@ ghost use mathlib.Core.List.{_++_};
 ghost use lib.ListN.{length, drop};
 ghost use Rattle.lifetimes.specs.Lent.{counted, written};
 ghost use Rattle.listing.specs.Listing as spec;
-ghost use Rattle.listing.specs.InnerListing.{listed-of, Lists, ListsWithin, Ample};
+ghost use Rattle.listing.specs.InnerListing.{listedSheet, Lists, ListsWithin, Ample};
 use super::sections::put_refusal;
 use super::within::Within;
 use super::within::list_within;
@@ -63,7 +63,7 @@ pub fn respond(sheet: &[u8], out: &mut [u8; ROOM]) -> usize
 
 // List a sheet, as far as the slice goes.
 fn list_sheet(sheet: &[u8], out: &mut [u8]) -> Listed
-    ensures { λ r. ⌜ Lists (listed-of (now (sheet .entry))) (now (out .entry)) r (now (out .exit)) ⌝ }
+    ensures { λ r. ⌜ Lists (listedSheet (now (sheet .entry))) (now (out .entry)) r (now (out .exit)) ⌝ }
 {
     if sheet.len() <= 1024 {
         return list_short(sheet, out);
@@ -74,7 +74,7 @@ fn list_sheet(sheet: &[u8], out: &mut [u8]) -> Listed
 // A short sheet: in small scratch, and where that is too short, in scratch for any.
 fn list_short(sheet: &[u8], out: &mut [u8]) -> Listed
     requires { ⌜ length (now sheet) ≤ 1024 ⌝ }
-    ensures { λ r. ⌜ Lists (listed-of (now (sheet .entry))) (now (out .entry)) r (now (out .exit)) ⌝ }
+    ensures { λ r. ⌜ Lists (listedSheet (now (sheet .entry))) (now (out .entry)) r (now (out .exit)) ⌝ }
 {
     let tried = list_small(sheet, out);
     match tried {
@@ -86,7 +86,7 @@ fn list_short(sheet: &[u8], out: &mut [u8]) -> Listed
 // In scratch for a small sheet: 64 lowered words, 16 lifetimes, 64 edges at least.
 fn list_small(sheet: &[u8], out: &mut [u8]) -> Within
     requires { ⌜ length (now sheet) ≤ 1024 ⌝ }
-    ensures { λ r. ⌜ ListsWithin (listed-of (now (sheet .entry))) (Ample 512 512 1024 320) (now (out .entry)) r (now (out .exit)) ⌝ }
+    ensures { λ r. ⌜ ListsWithin (listedSheet (now (sheet .entry))) (Ample 512 512 1024 320) (now (out .entry)) r (now (out .exit)) ⌝ }
 {
     let mut words = [0usize; 512];
     let mut given = [0usize; 512];
@@ -106,7 +106,7 @@ fn list_small(sheet: &[u8], out: &mut [u8]) -> Within
 
 // In scratch for any sheet.
 fn list_large(sheet: &[u8], out: &mut [u8]) -> Listed
-    ensures { λ r. ⌜ Lists (listed-of (now (sheet .entry))) (now (out .entry)) r (now (out .exit)) ⌝ }
+    ensures { λ r. ⌜ Lists (listedSheet (now (sheet .entry))) (now (out .entry)) r (now (out .exit)) ⌝ }
 {
     let mut words = [0usize; 10240];
     let mut given = [0usize; 8192];

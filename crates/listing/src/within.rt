@@ -6,7 +6,7 @@ ghost use lib.ListN.{length};
 ghost use Rattle.sheet.specs.Shape.{sheetInShape};
 ghost use Rattle.sheet.specs.Inner.{Laid, recordsAt};
 ghost use Rattle.borrowing_param.specs.InnerSheet.{records, Roomy};
-ghost use Rattle.listing.specs.InnerListing.{listed-of, listedRecords, Ample, ListsWithin, listedMethod, Listable, tooMany};
+ghost use Rattle.listing.specs.InnerListing.{listedSheet, listedRecords, Ample, ListsWithin, listedMethod, Listable, tooMany};
 use super::whole::put_listing;
 use borrowing_param::BorrowingParamVisitor;
 use elision::lower;
@@ -37,7 +37,7 @@ pub(crate) fn list_within(
     out: &mut [u8],
 ) -> Within
     requires { ⌜ Roomy (now sheet) (length (now words)) × (length (now edges) ≤ 20480) ⌝ }
-    ensures { λ r. ⌜ ListsWithin (listed-of (now (sheet .entry))) (Ample (length (now (given .entry))) (length (now (taken .entry))) (length (now (lists .entry))) (length (now (edges .entry)))) (now (out .entry)) r (now (out .exit)) ⌝ }
+    ensures { λ r. ⌜ ListsWithin (listedSheet (now (sheet .entry))) (Ample (length (now (given .entry))) (length (now (taken .entry))) (length (now (lists .entry))) (length (now (edges .entry)))) (now (out .entry)) r (now (out .exit)) ⌝ }
 {
     let text = read_sheet(sheet, words);
     let verdict = text.verdict;
