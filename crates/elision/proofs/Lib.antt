@@ -10,9 +10,10 @@ pub mod ReadingLaws
 pub mod Filling
 pub mod Running
 pub mod Stepping
--- The whole records: storing words, taking a step, one record, three records, every lifetime has a word, the answers.
+-- The whole records: storing words, taking a step, a step by its words, one record, three records, every lifetime has a word, the answers.
 pub mod Storing
 pub mod Taking
+pub mod Wording
 pub mod Recording
 pub mod MethodLaws
 pub mod SmallLaws

@@ -1,4 +1,4 @@
--- What `lower_step` answers of the step that stands at a place; what is read fits.
+-- What `lower_step_at` answers of the step that stands at a place; what is read fits.
 use Prim.Native.Nat.{ℕ, _-_, _≤_}
 use mathlib.Core.Bool.{Bool, true, false, _&&_}
 use mathlib.Core.Path.{_≡_, refl, subst}

@@ -21,7 +21,9 @@ use Rattle.elision.specs.declared.lowerer.Lifetimes.{Lifetimes}
 use Rattle.elision.specs.declared.lowerer.Seen.{Seen}
 use Rattle.elision.specs.declared.lowerer.Lowerer.{Lowerer}
 use Rattle.elision.specs.declared.lowerer.Stepped.{Stepped}
-use Rattle.elision.specs.Steps.{Step, Lifetime, Generics, SelfType, Receiver, NoSelf, SelfRef}
+use Rattle.elision.specs.declared.step.StepAnswer.{StepAnswer}
+use Rattle.records.specs.Reading.{Reading, Read, Fails}
+use Rattle.elision.specs.Steps.{Step, Lifetime, Generics, SelfType, Receiver, NoSelf, SelfRef, readStep}
 use Rattle.elision.specs.Rfc.{padded, standingIn, Method}
 
 -- the source after one more input position
@@ -141,6 +143,25 @@ lowerSelf names (SelfRef word) = selfRef names word
 abbrev pub stepped : Lowerer → Outcome (Answer Lowerer) → Stepped
 stepped s (Gives a) = record { verdict = verdict.Accepted; lowerer = a .left; lifetimes = laid (a .given) }
 stepped s (Refuses r) = record { verdict = verdict.Refused r; lowerer = s; lifetimes = laid [] }
+
+-- One step by its words, as they stand in a record: exactly one step, else 1
+abbrev pub wholeStep : Reading Step → Outcome Step
+wholeStep (Read step []) = Gives step
+wholeStep (Read step (word ∷ words)) = Refuses Malformed
+wholeStep Fails = Refuses Malformed
+
+unfoldable pub wordedStep : List ℕ → Bool → List ℕ → Lowerer → Outcome (Answer Lowerer)
+wordedStep names out words s = after (wholeStep (readStep words)) (λ step. oneStep names out step s)
+
+-- what is answered where the lowerer is lent
+abbrev pub stepAnswer : Stepped → StepAnswer
+stepAnswer d = record { verdict = d .verdict; lifetimes = d .lifetimes }
+
+-- a step of a parameter, then one of the output, from the lowerer that the first left
+abbrev pub inputThenOutput : List ℕ → List ℕ → List ℕ → Lowerer → Stepped
+inputThenOutput names input output s =
+    let behind = stepped s (wordedStep names false input s) .lowerer in
+    stepped behind (wordedStep names true output behind)
 
 -- Whole records
 

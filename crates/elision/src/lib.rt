@@ -4,10 +4,12 @@
 // environment. The scope paper ("01") decides what is right; a refused call answers one of its numbers and leaves every lent slice as it was, and a lowerer comes
 // back as it was given.
 //
-// What is here: the source of elision (`source`), the shape of the records (`steps`), the lowerer and its steps, by value (`lowerer`), and the whole records (`method`).
+// What is here: the source of elision (`source`), the shape of the records (`steps`), the lowerer and its steps, by value (`lowerer`), one
+// step by its words, by value or on a lowerer that is lent (`step`), and the whole records (`method`).
 mod lowerer;
 mod method;
 mod source;
+mod step;
 mod steps;
 
 pub use lowerer::Lifetimes;
@@ -21,5 +23,7 @@ pub use method::finish;
 pub use method::lower;
 pub use method::measure;
 pub use source::ElisionSource;
+pub use step::StepAnswer;
+pub use step::input_then_output;
 pub use steps::self_shape;
 pub use steps::steps_shape;

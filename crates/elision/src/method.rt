@@ -359,7 +359,7 @@ fn lower_record(
                 n: 0,
             };
         };
-        let done = lower_step(here, names, words, at, output);
+        let done = lower_step_at(here, names, words, at, output);
         let ran = finish_step(done, n, out);
         let verdict = ran.verdict;
         if let Verdict::Refused(refusal) = verdict {
@@ -381,7 +381,7 @@ fn lower_record(
 }
 
 // Lower the step that stands at a place.
-fn lower_step(
+pub(crate) fn lower_step_at(
     lowerer: Lowerer,
     names: &[usize],
     words: &[usize],

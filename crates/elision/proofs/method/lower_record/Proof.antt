@@ -39,8 +39,8 @@ returns : tie.Need-returns Inv-loop μ-loop
 returns c = recording-missing (c .before .before .before .before .loop .inv) (c .before .before .before .loop-test .taken) (ends-told (c .before .before .step-end .ensures) (c .enum-told .given .1))
 
 -- src/method.rt:267:13
-lower-step-requires : tie.Need-lower-step-requires Inv-loop μ-loop
-lower-step-requires c κs = search needs
+lower-step-at-requires : tie.Need-lower-step-at-requires Inv-loop μ-loop
+lower-step-at-requires c κs = search needs
 
 -- src/method.rt:268:13
 finish-step-requires : tie.Need-finish-step-requires Inv-loop μ-loop
@@ -52,11 +52,11 @@ enum-known-verdict c = search needs
 
 -- src/method.rt:271:13
 same-length-2 : tie.Need-same-length-2 Inv-loop μ-loop
-same-length-2 c = recording-size (c .before .before .before .before .before .before .before .before .before .before .before .before .before .loop .inv) (c .before .before .before .before .before .before .before .before .before .before .before .before .loop-test .taken) (c .before .before .before .before .before .before .before .lower-step .ensures) (c .before .before .before .before .before .finish-step .ensures)
+same-length-2 c = recording-size (c .before .before .before .before .before .before .before .before .before .before .before .before .before .loop .inv) (c .before .before .before .before .before .before .before .before .before .before .before .before .loop-test .taken) (c .before .before .before .before .before .before .before .lower-step-at .ensures) (c .before .before .before .before .before .finish-step .ensures)
 
 -- src/method.rt:271:13
 returns-2 : tie.Need-returns-2 Inv-loop μ-loop
-returns-2 c = recording-refused (c .before .before .before .before .before .before .before .before .before .before .before .before .before .loop .inv) (c .before .before .before .before .before .before .before .before .before .before .before .before .loop-test .taken) (c .before .before .before .before .before .before .before .lower-step .ensures) (c .before .before .before .before .before .finish-step .ensures) (c .before .verdict .given .1)
+returns-2 c = recording-refused (c .before .before .before .before .before .before .before .before .before .before .before .before .before .loop .inv) (c .before .before .before .before .before .before .before .before .before .before .before .before .loop-test .taken) (c .before .before .before .before .before .before .before .lower-step-at .ensures) (c .before .before .before .before .before .finish-step .ensures) (c .before .verdict .given .1)
 
 enum-told-2 : tie.Need-enum-told-2 Inv-loop μ-loop
 enum-told-2 c = search needs
@@ -67,7 +67,7 @@ loop-less c = let p = ends-order (ends-told (c .before .before .before .before .
 
 -- src/method.rt:258:5
 loop-again : tie.Need-loop-again Inv-loop μ-loop
-loop-again c = recording-more (c .before .before .before .before .before .before .before .before .before .before .before .before .before .loop .inv) (c .before .before .before .before .before .before .before .before .before .before .before .before .loop-test .taken) (c .before .before .before .before .before .before .before .lower-step .ensures) (c .before .before .before .before .before .finish-step .ensures) (ends-told (c .before .before .before .before .before .before .before .before .before .before .before .step-end .ensures) (c .before .before .before .before .before .before .before .before .before .end .given .1)) (c .before .enum-told2 .given .1)
+loop-again c = recording-more (c .before .before .before .before .before .before .before .before .before .before .before .before .before .loop .inv) (c .before .before .before .before .before .before .before .before .before .before .before .before .loop-test .taken) (c .before .before .before .before .before .before .before .lower-step-at .ensures) (c .before .before .before .before .before .finish-step .ensures) (ends-told (c .before .before .before .before .before .before .before .before .before .before .before .step-end .ensures) (c .before .before .before .before .before .before .before .before .before .end .given .1)) (c .before .enum-told2 .given .1)
 
 -- src/method.rt:251:1
 same-length-3 : tie.Need-same-length-3 Inv-loop μ-loop
@@ -89,7 +89,7 @@ lower-record-spec =
     enum-told
     same-length
     returns
-    lower-step-requires
+    lower-step-at-requires
     finish-step-requires
     enum-known-verdict
     same-length-2

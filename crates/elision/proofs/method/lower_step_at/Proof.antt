@@ -1,9 +1,9 @@
--- `lower_step` meets its contract: each arm is one law of proofs/Taking.antt.
+-- `lower_step_at` meets its contract: each arm is one law of proofs/Taking.antt.
 use native.Mathlib.Omega.{arith}
 use Rattle.elision.proofs.Taking.{part-generics, part-self, takes-lifetime, takes-generics, takes-self, takes-missing}
 use borrow.Author.Needs.{needs}
-use Rattle.elision.proofs.method.lower_step.Statement.{statement}
-use Rattle.elision.proofs.method.lower_step.Tie as tie
+use Rattle.elision.proofs.method.lower_step_at.Statement.{statement}
+use Rattle.elision.proofs.method.lower_step_at.Tie as tie
 
 -- src/method.rt:292:9
 read-step-requires : tie.Need-read-step-requires
@@ -89,8 +89,8 @@ returns-3 c = takes-self (c .before .before .before .before .before .read-step .
 returns-4 : tie.Need-returns-4
 returns-4 c = takes-missing (c .before .before .before .read-step .ensures) (c .before .before .before .before .before .before .args .names .now) (c .before .before .before .before .before .before .args .output) (c .before .before .before .before .before .before .args .lowerer) (c .before .enum-told .given .1) (c .refused .ensures)
 
-pub lower-step-spec : {M : Type 1} → statement M
-lower-step-spec =
+pub lower-step-at-spec : {M : Type 1} → statement M
+lower-step-at-spec =
     tie.close
     (tie.spec
     read-step-requires
