@@ -3,9 +3,10 @@ pub mod ListLaws
 pub mod NameLaws
 pub mod StepLaws
 pub mod ShapeLaws
--- The lowerer's steps give what RFC 141 says, and what that says.
+-- The lowerer's steps give what RFC 141 says, what that says, and the steps of a record by their words.
 pub mod RfcLaws
 pub mod ReadingLaws
+pub mod Lending
 -- The steps by value: lists of lifetimes, the words of a step, the answers.
 pub mod Filling
 pub mod Running

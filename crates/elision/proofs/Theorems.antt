@@ -9,9 +9,10 @@ use Rattle.ast_lifetimes.specs.Env as env
 use Rattle.elision.specs.Steps as steps
 use Rattle.elision.specs.Rfc as rfc
 use Rattle.elision.specs.Lowering as lowering
-use Rattle.elision.specs.Theorems.{ElisionIsRfc141, Rfc141Says, StepsOneByOne, ExamplesHold}
+use Rattle.elision.specs.Theorems.{ElisionIsRfc141, Rfc141Says, StepsOneByOne, LentSteps, ExamplesHold}
 use Rattle.elision.proofs.RfcLaws.{method-said}
 use Rattle.elision.proofs.ReadingLaws as laws
+use Rattle.elision.proofs.Lending.{steps-whole, steps-together}
 
 pub elision-is-rfc141 : ElisionIsRfc141
 elision-is-rfc141 = method-said
@@ -35,6 +36,13 @@ rfc141-says names self steps returns = record {
 
 pub steps-one-by-one : StepsOneByOne
 steps-one-by-one = laws.steps-one-by-one
+
+pub lent-steps : LentSteps
+lent-steps names out words s = record {
+  whole = steps-whole words;
+  together = steps-together names out words s;
+  kept = λ r e. rw e;
+}
 
 pub examples-hold : ExamplesHold
 unfolding lowering.lowerRecords env.envOf env.place hir.allBelow refusals.unless rfc.throughout rfc.anonymous rfc.hasSelfType rfc.ownFrom steps.readStep reading.readAll reading.inShape reading.itemsOf

@@ -1,7 +1,7 @@
 -- The records `self`, `steps` and `returns`: their shape (refusal 1, 01's "torn"), and what they say. One shape for steps and returns.
 use Prim.Native.Nat.{ℕ}
 use mathlib.Core.Bool.{Bool, cond}
-use mathlib.Core.List.{List, [], _∷_}
+use mathlib.Core.List.{List, [], _∷_, _++_}
 use lib.Dec.{eqb, leb}
 use lib.ListN.{length}
 use Rattle.records.specs.Reading.{Reading, Read, Fails, onward, readWord, readLifetimes, inShape, itemsOf}
@@ -25,6 +25,16 @@ readStep (kind ∷ words) =
     (cond (eqb kind 1) (onward (readGenerics words) (λ g rest. onward (readLifetimes rest) (λ ls behind. Read (Generics g ls) behind)))
     (cond (eqb kind 2) (onward (readLifetimes words) (λ ls rest. Read (SelfType ls) rest))
     Fails))
+
+-- the words of a step as they stand in a record, and those of several
+abbrev pub wordsOf : Step → List ℕ
+wordsOf (Lifetime l) = 0 ∷ l ∷ []
+wordsOf (Generics g ls) = 1 ∷ g ∷ length ls ∷ ls
+wordsOf (SelfType ls) = 2 ∷ length ls ∷ ls
+
+unfoldable pub allWords : List Step → List ℕ
+allWords [] = []
+allWords (step ∷ steps) = wordsOf step ++ allWords steps
 
 -- one step after another, to the end of the record
 abbrev pub stepsInShape : List ℕ → Bool

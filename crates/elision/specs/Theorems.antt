@@ -3,7 +3,7 @@ use Prim.Native.Nat.{ℕ, _+_, _≤_, _<_}
 use mathlib.Core.Bool.{Bool, true}
 use mathlib.Core.Path.{_≡_}
 use mathlib.Core.Logic.{_↔_}
-use mathlib.Core.List.{List, [], _∷_, _++_}
+use mathlib.Core.List.{List, [], _∷_, _++_, map}
 use lib.ListN.{length}
 use Rattle.lifetimes.specs.declared.answer.Refusal.{Refusal}
 use Rattle.lifetimes.specs.declared.maybe_static.MaybeStatic.{MaybeStatic}
@@ -14,9 +14,9 @@ use Rattle.ast_lifetimes.specs.Env.{place}
 use Rattle.elision.specs.declared.lowerer.Standing.{Standing}
 use Rattle.elision.specs.declared.lowerer.Standing.the-variants.{Output}
 use Rattle.elision.specs.declared.lowerer.Lowerer.{Lowerer}
-use Rattle.elision.specs.Steps.{Step, Receiver, stepsOf}
+use Rattle.elision.specs.Steps.{Step, Receiver, wordsOf, allWords, stepsInShape, stepsOf}
 use Rattle.elision.specs.Rfc.{Occurrence, occurs, makes, isNew, anonymous, countOf, sourceAt, valueAt, checksAt, Item, isSelfType, hasSelfType, occurrencesAt, occurrences, ownFrom, loweredAt, inputs, outputs, Method, methodChecks, methodOf, rfc141}
-use Rattle.elision.specs.Machine.{inTurn, oneStep, runSteps, runMethod}
+use Rattle.elision.specs.Machine.{inTurn, oneStep, stepped, wordedStep, runSteps, runMethod}
 use Rattle.elision.specs.Examples.{examples, Right}
 
 -- The lowerer's steps, one after another from the new lowerer over self, steps and returns, give exactly what RFC 141 says: every lifetime, how many there are, and every refusal.
@@ -49,6 +49,16 @@ Rfc141Says = (names : List ℕ) (self : Receiver) (steps returns : List Step) �
 -- Lowering a record is lowering its steps one by one, as the single calls answer them, each from the lowerer that the one before left.
 abbrev pub StepsOneByOne : Type 0
 StepsOneByOne = (names : List ℕ) (out : Bool) (words : List ℕ) (s : Lowerer) → runSteps names out (stepsOf words) s ≡ inTurn (oneStep names out) (stepsOf words) s
+
+-- 01: "each later step finds the lowerer as the step before left it". The words of a record are those of its steps, one step after another; its steps by their words, each as `step` takes it
+-- on the lowerer that the one before left, give what the whole record gives; and a refused step leaves the lowerer as it was.
+pub record Lends (names : List ℕ) (out : Bool) (words : List ℕ) (s : Lowerer) : Type 0 where
+  pub whole : stepsInShape words ≡ true → allWords (stepsOf words) ≡ words
+  pub together : inTurn (wordedStep names out) (map wordsOf (stepsOf words)) s ≡ runSteps names out (stepsOf words) s
+  pub kept : (r : Refusal) → wordedStep names out words s ≡ Refuses r → stepped s (wordedStep names out words s) .lowerer ≡ s
+
+abbrev pub LentSteps : Type 0
+LentSteps = (names : List ℕ) (out : Bool) (words : List ℕ) (s : Lowerer) → Lends names out words s
 
 -- The starred examples
 abbrev pub ExamplesHold : Type 0
