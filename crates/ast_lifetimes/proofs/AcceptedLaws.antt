@@ -36,7 +36,7 @@ pairs-few names pushed (p ∷ ps) n h =
 under-below : {n : ℕ} (bs : List Bound) → Under n bs → allBelow n bs ≡ true
 unfolding allBelow
 under-below [] none = refl
-under-below {n} (b ∷ bs) (more l s u) = rw (lt-ltb (b .longer .0) n l, lt-ltb (b .shorter .0) n s, under-below bs u)
+under-below {n} (b ∷ bs) (more l s u) = rw (lt-ltb (b .longer) n l, lt-ltb (b .shorter) n s, under-below bs u)
 
 module _ (names bounds types : List ℕ) (n : NoneDue (placeChecks names bounds types)) where
   abbrev impls : ℕ

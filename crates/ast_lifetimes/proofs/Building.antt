@@ -137,7 +137,7 @@ shaped names bounds types h = record { in-names = names-say names (h .0); in-bou
 
 pub data Under (n : ℕ) : List Bound → Type 0 where
   none : Under n []
-  more : {b : Bound} {bs : List Bound} → b .longer .0 < n → b .shorter .0 < n → Under n bs → Under n (b ∷ bs)
+  more : {b : Bound} {bs : List Bound} → b .longer < n → b .shorter < n → Under n bs → Under n (b ∷ bs)
 
 pub under-append : {n : ℕ} {bs cs : List Bound} → Under n bs → Under n cs → Under n (bs ++ cs)
 under-append none v = v

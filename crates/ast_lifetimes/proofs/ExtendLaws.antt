@@ -44,7 +44,7 @@ unfolding ranges.ascending
 splitting-start e longs shorts a b = record { here = omega arith; size-longs = a; size-shorts = b; sides = refl }
 
 module _ {e : LifetimeEnv} {longs shorts : List ℕ} {i : ℕ} (inv : Splitting e longs shorts i) where
-  pub splitting-more : length (e .bounds) ≡ 256 → e .pushed ≤ 256 → i < e .pushed → {l s : ℕ} → l ≡ getD (e .bounds) i (above 0 0) .longer .0 → s ≡ getD (e .bounds) i (above 0 0) .shorter .0
+  pub splitting-more : length (e .bounds) ≡ 256 → e .pushed ≤ 256 → i < e .pushed → {l s : ℕ} → l ≡ getD (e .bounds) i (above 0 0) .longer → s ≡ getD (e .bounds) i (above 0 0) .shorter
       → Splitting e (set longs i l) (set shorts i s) (i + 1)
   splitting-more full few h {l} {s} a b = record {
     here = omega arith;
@@ -64,7 +64,7 @@ unfolding hir.allBelow
 under-all n [] h = none
 under-all n (b ∷ bs) h =
     let both = (and-eq-true-iff (bothBelow n b) (hir.allBelow n bs)) .0 h in
-    let sides = (and-eq-true-iff (ltb (b .longer .0) n) (ltb (b .shorter .0) n)) .0 (both .0) in
+    let sides = (and-eq-true-iff (ltb (b .longer) n) (ltb (b .shorter) n)) .0 (both .0) in
     more (ltb-true _ _ (sides .0)) (ltb-true _ _ (sides .1)) (under-all n bs (both .1))
 
 module _ (e : LifetimeEnv) (valid : NoneDue (envChecks e)) where

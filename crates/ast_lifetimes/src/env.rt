@@ -118,10 +118,10 @@ impl LifetimeEnv {
         let mut i = 0;
         while i < pushed {
             let b = self.bounds[i];
-            if named <= b.longer.index() {
+            if named <= b.longer as usize {
                 return Verdict::Refused(Refusal::OutOfRange);
             }
-            if named <= b.shorter.index() {
+            if named <= b.shorter as usize {
                 return Verdict::Refused(Refusal::OutOfRange);
             }
             i += 1;
@@ -215,8 +215,8 @@ fn split(env: LifetimeEnv, longs: &mut [usize; 256], shorts: &mut [usize; 256])
     let mut i = 0;
     while i < pushed {
         let b = env.bounds[i];
-        longs[i] = b.longer.index();
-        shorts[i] = b.shorter.index();
+        longs[i] = b.longer as usize;
+        shorts[i] = b.shorter as usize;
         i += 1;
     }
 }
@@ -312,8 +312,8 @@ fn refused(verdict: Verdict) -> Made
 {
     let names = [0usize; LifetimeEnv::MAX_NAMES];
     let none = Bound {
-        longer: Lifetime::new(0),
-        shorter: Lifetime::new(0),
+        longer: 0,
+        shorter: 0,
     };
     let bounds = [none; LifetimeEnv::MAX_BOUNDS];
     Made {
@@ -340,15 +340,16 @@ fn assembled(
     ensures { λ r. ⌜ r ≡ envOf (take named (now (declared .entry))) (sidesOf pushed (now (longs .entry)) (now (shorts .entry))) ⌝ }
 {
     let none = Bound {
-        longer: Lifetime::new(0),
-        shorter: Lifetime::new(0),
+        longer: 0,
+        shorter: 0,
     };
     let mut bounds = [none; LifetimeEnv::MAX_BOUNDS];
     let mut i = 0;
     while i < pushed {
-        let longer = Lifetime::new(longs[i]);
-        let shorter = Lifetime::new(shorts[i]);
-        bounds[i] = Bound { longer, shorter };
+        bounds[i] = Bound {
+            longer: longs[i] as u8,
+            shorter: shorts[i] as u8,
+        };
         i += 1;
     }
     let mut names = [0usize; LifetimeEnv::MAX_NAMES];

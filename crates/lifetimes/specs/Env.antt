@@ -10,13 +10,12 @@ use Rattle.lifetimes.specs.declared.lifetime.Lifetime.{Lifetime}
 use Rattle.lifetimes.specs.declared.env.Bound.{Bound}
 use Rattle.lifetimes.specs.declared.env.LifetimeEnv.{LifetimeEnv}
 use Rattle.lifetimes.specs.declared.env.Made.{Made}
-use Rattle.lifetimes.specs.Numbers.{lifetime}
 use Rattle.lifetimes.specs.Refusals.{Check, check, Outcome, unless}
 use Rattle.lifetimes.specs.Lent.{verdictOf, resultOr}
 
 -- l lasts at least as long as s
 abbrev pub above : ℕ → ℕ → Bound
-above l s = record { longer = lifetime l; shorter = lifetime s }
+above l s = record { longer = l; shorter = s }
 
 -- the bounds, in push order
 abbrev pub boundsOf : LifetimeEnv → List Bound
@@ -24,7 +23,7 @@ boundsOf e = take (e .pushed) (e .bounds)
 
 -- both sides of a bound, of each bound, are numbered below n
 abbrev pub bothBelow : ℕ → Bound → Bool
-bothBelow n b = ltb (b .longer .0) n && ltb (b .shorter .0) n
+bothBelow n b = ltb (b .longer) n && ltb (b .shorter) n
 
 unfoldable pub allBelow : ℕ → List Bound → Bool
 allBelow n [] = true
