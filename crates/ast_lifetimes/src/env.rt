@@ -7,6 +7,7 @@ ghost use lib.ListN.{length, take};
 ghost use lib.Seq.{sets};
 ghost use Rattle.lifetimes.specs.Refusals.{NoneDue, unless};
 ghost use Rattle.lifetimes.specs.Lent.{counted, written, verdictOf};
+ghost use Rattle.lifetimes.specs.Env.{allBelow};
 ghost use mathlib.Core.Bool.{_&&_};
 ghost use Rattle.records.specs.Reading.{shapeVerdict};
 ghost use Rattle.ast_lifetimes.specs.Shapes.{namesInShape, boundsInShape};
@@ -337,6 +338,7 @@ fn assembled(
 ) -> LifetimeEnv
     requires { ⌜ (named ≤ 32) × (pushed ≤ 256) ⌝ }
     requires { ⌜ (length (now declared) ≡ 32) × (length (now longs) ≡ 256) × (length (now shorts) ≡ 256) ⌝ }
+    requires { ⌜ allBelow 255 (sidesOf pushed (now longs) (now shorts)) ≡ true ⌝ }
     ensures { λ r. ⌜ r ≡ envOf (take named (now (declared .entry))) (sidesOf pushed (now (longs .entry)) (now (shorts .entry))) ⌝ }
 {
     let none = Bound {
@@ -346,10 +348,7 @@ fn assembled(
     let mut bounds = [none; LifetimeEnv::MAX_BOUNDS];
     let mut i = 0;
     while i < pushed {
-        bounds[i] = Bound {
-            longer: longs[i] as u8,
-            shorter: shorts[i] as u8,
-        };
+        bounds[i] = Bound::new(Lifetime::new(longs[i]), Lifetime::new(shorts[i]));
         i += 1;
     }
     let mut names = [0usize; LifetimeEnv::MAX_NAMES];

@@ -1,7 +1,7 @@
 -- The environment (01: "Declared lifetimes, total count (at most 64), bounds in push order (at most 256)") and its refusals.
 -- A caller can make any value of it, so every call that takes one checks it.
 use Prim.Native.Nat.{ℕ, _+_, _-_, _/_, _%_}
-use mathlib.Core.Bool.{Bool, true, _&&_, not}
+use mathlib.Core.Bool.{Bool, true, cond, _&&_, not}
 use mathlib.Core.List.{List, [], _∷_, _++_}
 use lib.Dec.{eqb, leb, ltb}
 use lib.ListN.{length, take, set, replicate}
@@ -16,6 +16,10 @@ use Rattle.lifetimes.specs.Lent.{verdictOf, resultOr}
 -- l lasts at least as long as s
 abbrev pub above : ℕ → ℕ → Bound
 above l s = record { longer = l; shorter = s }
+
+-- a number as a bound keeps it, in a byte: 255 for all above 254
+abbrev pub byteOf : ℕ → ℕ
+byteOf n = cond (ltb n 255) n 255
 
 -- the bounds, in push order
 abbrev pub boundsOf : LifetimeEnv → List Bound

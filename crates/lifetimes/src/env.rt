@@ -6,7 +6,7 @@ ghost use Prim.Native.Nat.{_+_, _*_, _/_, _%_, _≤_, _<_};
 ghost use lib.ListN.{length};
 ghost use Rattle.lifetimes.specs.Refusals.{unless};
 ghost use Rattle.lifetimes.specs.Lent.{verdictOf};
-ghost use Rattle.lifetimes.specs.Env.{above, bothBelow, allBelow, envChecks, isDeclared, pairsOf, envOf, newEnv, pushBound, made};
+ghost use Rattle.lifetimes.specs.Env.{above, byteOf, bothBelow, allBelow, envChecks, isDeclared, pairsOf, envOf, newEnv, pushBound, made};
 ghost use Rattle.lifetimes.specs.Walk.{near, far};
 use super::answer::Refusal;
 use super::answer::Verdict;
@@ -20,6 +20,13 @@ pub struct Bound {
 }
 
 impl Bound {
+    // The bound of two lifetimes. Every number above 254 is kept as 255, which is past all lifetimes of any environment.
+    pub fn new(longer: Lifetime, shorter: Lifetime) -> Bound
+        ensures { λ r. ⌜ r ≡ above (byteOf (longer .0)) (byteOf (shorter .0)) ⌝ }
+    {
+        bound_of(byte_of(longer.index()), byte_of(shorter.index()))
+    }
+
     // Whether both sides are numbered below a limit.
     pub(crate) fn both_below(self, limit: usize) -> bool
         ensures { λ r. ⌜ r ≡ bothBelow limit self ⌝ }
@@ -169,6 +176,16 @@ fn numbers_below(longer: usize, shorter: usize, limit: usize) -> bool
     ensures { λ r. ⌜ r ≡ bothBelow limit (above longer shorter) ⌝ }
 {
     longer < limit && shorter < limit
+}
+
+// A number as a byte keeps it.
+fn byte_of(number: usize) -> usize
+    ensures { λ r. ⌜ (r ≡ byteOf number) × (r < 256) ⌝ }
+{
+    if number < 255 {
+        return number;
+    }
+    255
 }
 
 // The bound of two lifetimes, by their numbers.
