@@ -52,7 +52,9 @@ impl Bench {
 
     fn library(&mut self, sheet: &[u8]) -> u64 {
         self.text.clear();
-        self.oracle.list_timed(black_box(sheet), &mut self.text).library
+        self.oracle
+            .list_timed(black_box(sheet), &mut self.text)
+            .library
     }
 
     /// Both listings are the same bytes; else the bench ends here.
@@ -62,7 +64,10 @@ impl Bench {
             Err(refusal) => panic!("{name}: ours refuses it, {refusal}"),
         };
         self.rust(sheet);
-        assert!(self.text == self.out[..length], "{name}: the listings differ");
+        assert!(
+            self.text == self.out[..length],
+            "{name}: the listings differ"
+        );
         length
     }
 
@@ -142,12 +147,23 @@ fn everything() {
     println!("\nsummary");
     let whole: Vec<f64> = all.iter().map(|(_, t)| t.ours / t.rust).collect();
     let part: Vec<f64> = all.iter().map(|(_, t)| t.ours / t.library).collect();
-    println!("sheets above: ours / rust {:.3}, ours / library {:.3} (geometric means)", geometric(&whole), geometric(&part));
+    println!(
+        "sheets above: ours / rust {:.3}, ours / library {:.3} (geometric means)",
+        geometric(&whole),
+        geometric(&part)
+    );
     let worst = |f: fn(&Times) -> f64| {
-        let (name, t) = all.iter().max_by(|a, b| f(&a.1).total_cmp(&f(&b.1))).unwrap();
+        let (name, t) = all
+            .iter()
+            .max_by(|a, b| f(&a.1).total_cmp(&f(&b.1)))
+            .unwrap();
         format!("{name} {:.3}", f(t))
     };
-    println!("worst of them: ours / rust {}; ours / library {}", worst(|t| t.ours / t.rust), worst(|t| t.ours / t.library));
+    println!(
+        "worst of them: ours / rust {}; ours / library {}",
+        worst(|t| t.ours / t.rust),
+        worst(|t| t.ours / t.library)
+    );
     let whole: Vec<f64> = times.iter().map(|t| t.ours / t.rust).collect();
     let part: Vec<f64> = times.iter().map(|t| t.ours / t.library).collect();
     println!(
@@ -164,7 +180,13 @@ fn everything() {
     let mut grow = |what: &str, much: usize, sheet: Vec<u8>| {
         let length = bench.same(what, &sheet);
         let t = bench.measure(&sheet, 21, 5e5);
-        println!("{what} {much} {} {length} {:.0} {:.0} {:.0}", sheet.len(), t.ours, t.rust, t.library);
+        println!(
+            "{what} {much} {} {length} {:.0} {:.0} {:.0}",
+            sheet.len(),
+            t.ours,
+            t.rust,
+            t.library
+        );
     };
     for words in [0, 125, 250, 500, 1000] {
         grow("types-words", words, sheets::types(words));

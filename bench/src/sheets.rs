@@ -229,7 +229,8 @@ fn largest() -> Vec<u8> {
     }
     for p in 0..16 {
         r.params.extend([4]);
-        r.params.extend(record(p, (0..16).map(|i| 1 + (p + 2 * i) % 32)));
+        r.params
+            .extend(record(p, (0..16).map(|i| 1 + (p + 2 * i) % 32)));
     }
     r.output = opaque(1..9);
     r.output.extend(opaque(33..41));
@@ -242,7 +243,10 @@ pub fn named() -> Vec<(&'static str, Vec<u8>)> {
     let example = b"0 7 9\n0\n2 7 1 1 9\n\n0 7 0 9 0 1\n0 7\n\n1 0 1 2 1 1 3 1 3\n1 0 1 1 0\n0\n";
     vec![
         ("example-of-01", [NAMES.as_bytes(), example].concat()),
-        ("example-of-readme", include_bytes!("../../crates/borrows/stdin").to_vec()),
+        (
+            "example-of-readme",
+            include_bytes!("../../crates/borrows/stdin").to_vec(),
+        ),
         ("smallest", declared(0).bytes()),
         ("chain-64-256", sixty_four(along(32, 256, false))),
         ("circle-64-256", sixty_four(along(32, 256, true))),

@@ -15,7 +15,7 @@
 //! assert_eq!(dovrelka::listing(b""), Err(dovrelka::Refusal::Unreadable));
 //! ```
 //!
-//! A call takes up to half a megabyte of stack; a thread of Rust's own has two.
+//! A call takes about half a megabyte of stack, whatever the sheet; a thread that Rust starts has two megabytes.
 
 use std::fmt;
 

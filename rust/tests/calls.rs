@@ -2,8 +2,7 @@
 
 use dovrelka::{borrows, borrows_into, listing, listing_into, Answer, Edge, Kind, Refusal};
 
-const NAMES: &str =
-    "names bounds types self steps returns structs params output force";
+const NAMES: &str = "names bounds types self steps returns structs params output force";
 
 /// A sheet's bytes from its ten records.
 fn sheet(records: [&str; 10]) -> Vec<u8> {
@@ -19,7 +18,16 @@ fn sheet(records: [&str; 10]) -> Vec<u8> {
 /// 01's example.
 fn example() -> Vec<u8> {
     sheet([
-        "0 7 9", "0", "2 7 1 1 9", "", "0 7 0 9 0 1", "0 7", "", "1 0 1 2 1 1 3 1 3", "1 0 1 1 0", "0",
+        "0 7 9",
+        "0",
+        "2 7 1 1 9",
+        "",
+        "0 7 0 9 0 1",
+        "0 7",
+        "",
+        "1 0 1 2 1 1 3 1 3",
+        "1 0 1 1 0",
+        "0",
     ])
 }
 
@@ -29,10 +37,16 @@ fn circle(structs: usize) -> Vec<u8> {
         numbers.map(|n| n.to_string()).collect::<Vec<_>>().join(" ")
     };
     let names = words(&mut std::iter::once(0).chain(2..34));
-    let bounds = words(&mut std::iter::once(0).chain((2..34).flat_map(|n| [n, if n == 33 { 2 } else { n + 1 }])));
+    let bounds = words(
+        &mut std::iter::once(0).chain((2..34).flat_map(|n| [n, if n == 33 { 2 } else { n + 1 }])),
+    );
     let row = "16 0".to_string();
     let param = format!("2 0 16 {}", words(&mut (1..17)));
-    let output = format!("1 0 16 {} 0 1 0 16 {} 0", words(&mut (1..17)), words(&mut (17..33)));
+    let output = format!(
+        "1 0 16 {} 0 1 0 16 {} 0",
+        words(&mut (1..17)),
+        words(&mut (17..33))
+    );
     let params = vec![param; structs].join(" ");
     sheet([&names, &bounds, "", "", "", "", &row, &params, &output, "0"])
 }
@@ -44,10 +58,19 @@ fn the_example_of_the_paper() {
     assert_eq!(listing(&example()).unwrap(), text.as_bytes());
     let found = borrows(&example()).unwrap();
     assert_eq!(found.used, [0]);
-    assert_eq!(found.answers, [Answer::BorrowedOpaque, Answer::TemporarySlice]);
+    assert_eq!(
+        found.answers,
+        [Answer::BorrowedOpaque, Answer::TemporarySlice]
+    );
     assert_eq!(
         found.edges,
-        [Edge { used: 0, param: 0, kind: Kind::Opaque, def: 0, option: false }]
+        [Edge {
+            used: 0,
+            param: 0,
+            kind: Kind::Opaque,
+            def: 0,
+            option: false
+        }]
     );
 }
 
@@ -61,10 +84,22 @@ fn the_example_of_the_readme() {
     let lines: String = found
         .edges
         .iter()
-        .map(|e| format!("{} {} {} {} {}\n", e.used, e.param, e.kind as usize, e.def, usize::from(e.option)))
+        .map(|e| {
+            format!(
+                "{} {} {} {} {}\n",
+                e.used,
+                e.param,
+                e.kind as usize,
+                e.def,
+                usize::from(e.option)
+            )
+        })
         .collect();
     assert!(text.ends_with(lines.as_bytes()));
-    assert_eq!((found.used.len(), found.answers.len(), found.edges.len()), (3, 8, 27));
+    assert_eq!(
+        (found.used.len(), found.answers.len(), found.edges.len()),
+        (3, 8, 27)
+    );
 }
 
 #[test]
@@ -72,14 +107,38 @@ fn each_refusal() {
     let many: Vec<String> = (2..35).map(|n| n.to_string()).collect();
     let many = format!("0 {}", many.join(" "));
     let cases = [
-        (Refusal::Torn, sheet(["1", "0", "", "", "", "", "", "", "", "0"])),
-        (Refusal::Twice, sheet(["0 7 7", "0", "", "", "", "", "", "", "", "0"])),
-        (Refusal::Stranger, sheet(["0 7", "0 7 9", "", "", "", "", "", "", "", "0"])),
-        (Refusal::Full, sheet([&many, "0", "", "", "", "", "", "", "", "0"])),
-        (Refusal::NoSource, sheet(["0", "0", "", "", "", "0 1", "", "", "", "0"])),
-        (Refusal::Ambiguous, sheet(["0 7", "0", "", "", "0 7 0 7", "0 1", "", "", "", "0"])),
-        (Refusal::Misfit, sheet(["0 7", "0", "", "", "", "", "2 0", "2 0 1 1", "", "0"])),
-        (Refusal::Outside, sheet(["0", "0", "", "", "", "", "", "", "3 2", "0"])),
+        (
+            Refusal::Torn,
+            sheet(["1", "0", "", "", "", "", "", "", "", "0"]),
+        ),
+        (
+            Refusal::Twice,
+            sheet(["0 7 7", "0", "", "", "", "", "", "", "", "0"]),
+        ),
+        (
+            Refusal::Stranger,
+            sheet(["0 7", "0 7 9", "", "", "", "", "", "", "", "0"]),
+        ),
+        (
+            Refusal::Full,
+            sheet([&many, "0", "", "", "", "", "", "", "", "0"]),
+        ),
+        (
+            Refusal::NoSource,
+            sheet(["0", "0", "", "", "", "0 1", "", "", "", "0"]),
+        ),
+        (
+            Refusal::Ambiguous,
+            sheet(["0 7", "0", "", "", "0 7 0 7", "0 1", "", "", "", "0"]),
+        ),
+        (
+            Refusal::Misfit,
+            sheet(["0 7", "0", "", "", "", "", "2 0", "2 0 1 1", "", "0"]),
+        ),
+        (
+            Refusal::Outside,
+            sheet(["0", "0", "", "", "", "", "", "", "3 2", "0"]),
+        ),
         (Refusal::Unreadable, Vec::new()),
         (Refusal::Unreadable, b"names\n".to_vec()),
     ];
@@ -126,7 +185,9 @@ fn short_words_are_left_as_they_were() {
             .enumerate()
             .map(|(i, &n)| vec![77; if i == short { n - 1 } else { n }])
             .collect();
-        let [used, answers, edges, counts] = &mut slices[..] else { unreachable!() };
+        let [used, answers, edges, counts] = &mut slices[..] else {
+            unreachable!()
+        };
         let answer = borrows_into(bytes, used, answers, edges, counts);
         if short < 4 {
             assert_eq!(answer, Err(Refusal::Short));
@@ -138,6 +199,9 @@ fn short_words_are_left_as_they_were() {
     }
     // a sheet's own refusal comes first
     let torn = sheet(["1", "0", "", "", "", "", "", "", "", "0"]);
-    assert_eq!(borrows_into(&torn, &mut [], &mut [], &mut [], &mut []), Err(Refusal::Torn));
+    assert_eq!(
+        borrows_into(&torn, &mut [], &mut [], &mut [], &mut []),
+        Err(Refusal::Torn)
+    );
     assert_eq!(listing_into(&torn, &mut []), Err(Refusal::Torn));
 }

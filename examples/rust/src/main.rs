@@ -28,7 +28,10 @@ fn main() -> std::io::Result<()> {
         if kept.is_empty() {
             eprintln!("parameter {param}: need not be kept");
         } else {
-            let kept: String = kept.iter().map(|lifetime| format!(" '{lifetime}")).collect();
+            let kept: String = kept
+                .iter()
+                .map(|lifetime| format!(" '{lifetime}"))
+                .collect();
             eprintln!("parameter {param}: kept for{kept}");
         }
     }
