@@ -71,7 +71,8 @@ impl Bench {
         length
     }
 
-    /// Rounds of ours, theirs and the parts of theirs, in turns; the median of each. A turn takes about `turn` ns.
+    /// Rounds of ours, theirs and the parts of theirs, in turns; the median of each. A turn takes about `turn` ns: short, so
+    /// that few turns are interrupted where other work runs beside.
     fn measure(&mut self, sheet: &[u8], rounds: usize, turn: f64) -> Times {
         let start = Instant::now();
         for _ in 0..3 {
@@ -117,7 +118,7 @@ fn everything() {
     let mut all = Vec::new();
     for (name, sheet) in sheets::named() {
         bench.same(name, &sheet);
-        let t = bench.measure(&sheet, 41, 1e6);
+        let t = bench.measure(&sheet, 201, 1e5);
         line(name, t);
         all.push((name, t));
     }
@@ -134,7 +135,7 @@ fn everything() {
         }
         bench.same("random", &sheet);
         bytes += sheet.len();
-        times.push(bench.measure(&sheet, 11, 1e5));
+        times.push(bench.measure(&sheet, 21, 3e4));
     }
     let of = |f: fn(&Times) -> f64| median(times.iter().map(f).collect());
     let middle = Times {
@@ -179,7 +180,7 @@ fn everything() {
     println!("\ngrowing sheets: what grows, how far, bytes of the sheet, bytes of the listing, ours-ns, rust-ns, library-ns");
     let mut grow = |what: &str, much: usize, sheet: Vec<u8>| {
         let length = bench.same(what, &sheet);
-        let t = bench.measure(&sheet, 21, 5e5);
+        let t = bench.measure(&sheet, 101, 1e5);
         println!(
             "{what} {much} {} {length} {:.0} {:.0} {:.0}",
             sheet.len(),
@@ -188,14 +189,14 @@ fn everything() {
             t.library
         );
     };
-    for words in [0, 125, 250, 500, 1000] {
+    for words in [320, 500, 680, 860, 1020] {
         grow("types-words", words, sheets::types(words));
     }
     for count in [32, 64, 128, 192, 256] {
         grow("bounds", count, sheets::bounds(count));
     }
-    for structs in [0, 2, 4, 8, 16] {
-        grow("edges", 256 * structs, sheets::edges(16, structs));
+    for used in [1, 2, 4, 8, 16] {
+        grow("edges", 256 * used, sheets::edges(used, 16));
     }
 }
 
