@@ -48,7 +48,7 @@ enum {
     /* A sheet with more bytes is refused (10). */
     BORROWS_SHEET_BYTES = 65536,
 
-    /* So much takes every answer, whatever the sheet. */
+    /* So much takes every answer, whatever the sheet (proved: BytesEnough and WordsEnough of crates/exports/specs/Theorems.antt). */
     BORROWS_LISTING_BYTES = 131072,
     BORROWS_LISTING_WORDS = 1,
     BORROWS_USED = 64,

@@ -218,6 +218,17 @@ fn main() {
     match words[..] {
         [] => everything(),
         ["sheet", name] => std::io::stdout().write_all(&find(name)).unwrap(),
+        ["random", seed, count] => {
+            let mut random = sheets::Random(seed.parse().unwrap());
+            let mut left: usize = count.parse().unwrap();
+            while left > 0 {
+                let sheet = sheets::random(&mut random);
+                if dovrelka::listing(&sheet).is_ok() {
+                    std::io::stdout().write_all(&sheet).unwrap();
+                    left -= 1;
+                }
+            }
+        }
         ["ours", name, times] => {
             let sheet = find(name);
             let mut bench = Bench::new();
@@ -226,7 +237,7 @@ fn main() {
             }
         }
         _ => {
-            eprintln!("usage: bench/run [sheet NAME | ours NAME N]");
+            eprintln!("usage: bench/run [sheet NAME | random SEED N | ours NAME N]");
             std::process::exit(2)
         }
     }
