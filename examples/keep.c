@@ -25,11 +25,11 @@ int main(void)
     /* Memory that is too short is refused, and left alone. */
     uint8_t one = 'x';
     size_t nothing = 77;
-    if (borrows_listing(sheet, length, &one, 1, &nothing, 1) != BORROWS_SHORT || one != 'x' || nothing != 77) {
+    if (borrows_listing(sheet, length, &one, 1, &nothing, 1) != BORROWS_NO_ROOM || one != 'x' || nothing != 77) {
         fprintf(stderr, "a refusal wrote something\n");
         return 1;
     }
-    if (borrows_listing(sheet, length, listing, sizeof listing, &nothing, 0) != BORROWS_SHORT || nothing != 77) {
+    if (borrows_listing(sheet, length, listing, sizeof listing, &nothing, 0) != BORROWS_NO_ROOM || nothing != 77) {
         fprintf(stderr, "a refusal wrote something\n");
         return 1;
     }

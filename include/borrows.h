@@ -32,15 +32,15 @@ typedef size_t borrows_status;
 
 enum {
     BORROWS_OK = 0,
-    BORROWS_TORN = 1,        /* a record that is not in its shape */
-    BORROWS_TWICE = 2,       /* a name declared again */
-    BORROWS_STRANGER = 3,    /* an undeclared name where one is looked up */
+    BORROWS_MALFORMED = 1,   /* a record that is not in its shape */
+    BORROWS_DUPLICATE = 2,   /* a name declared again */
+    BORROWS_UNDECLARED = 3,  /* an undeclared name where one is looked up */
     BORROWS_FULL = 4,        /* a 33rd name, 65th lifetime, 257th bound, 33rd row or 17th parameter */
     BORROWS_NO_SOURCE = 5,   /* an elided lifetime in the output, and no input to take it from */
     BORROWS_AMBIGUOUS = 6,   /* the same, and several inputs */
-    BORROWS_MISFIT = 7,      /* not as many lifetimes as the struct has */
-    BORROWS_OUTSIDE = 8,     /* a lifetime past those that there are */
-    BORROWS_SHORT = 9,       /* lent memory too short, or, for a listing, more than 4,096 edges */
+    BORROWS_MISMATCH = 7,    /* not as many lifetimes as the struct has */
+    BORROWS_OUT_OF_RANGE = 8, /* a lifetime past those that there are */
+    BORROWS_NO_ROOM = 9,     /* lent memory too short, or, for a listing, more than 4,096 edges */
     BORROWS_UNREADABLE = 10  /* bytes that are not the text of a sheet */
 };
 
@@ -68,7 +68,7 @@ enum {
  * out, out_len          takes the listing's bytes, from the front
  * written, written_len  written[0] takes how many they are
  *
- * BORROWS_SHORT, after all refusals of the sheet itself, if there are more than 4,096 edges, out is too short, or written has
+ * BORROWS_NO_ROOM, after all refusals of the sheet itself, if there are more than 4,096 edges, out is too short, or written has
  * no word. With less than BORROWS_LISTING_BYTES in out the listing is measured before it is written, which doubles the time.
  */
 borrows_status borrows_listing(const uint8_t *sheet, size_t sheet_len,
@@ -87,7 +87,7 @@ borrows_status borrows_listing(const uint8_t *sheet, size_t sheet_len,
  *                       absent. def and option are 0 but for kind 3. The lengths are in words, not edges.
  * counts, counts_len    takes three words: how many lifetimes are used, how many parameters and how many edges there are
  *
- * BORROWS_SHORT, after all refusals of the sheet itself, if one of the four is too short.
+ * BORROWS_NO_ROOM, after all refusals of the sheet itself, if one of the four is too short.
  */
 borrows_status borrows_sheet(const uint8_t *sheet, size_t sheet_len,
                              size_t *used, size_t used_len,

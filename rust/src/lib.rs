@@ -59,11 +59,11 @@ extern "C" {
 #[derive(Clone, Copy, Debug, PartialEq, Eq, Hash, PartialOrd, Ord)]
 pub enum Refusal {
     /// a record that is not in its shape
-    Torn = 1,
+    Malformed = 1,
     /// a name declared again
-    Twice = 2,
+    Duplicate = 2,
     /// an undeclared name where one is looked up
-    Stranger = 3,
+    Undeclared = 3,
     /// one more than a limit takes
     Full = 4,
     /// an elided lifetime in the output, and no input to take it from
@@ -71,11 +71,11 @@ pub enum Refusal {
     /// the same, and several inputs
     Ambiguous = 6,
     /// not as many lifetimes as the struct has
-    Misfit = 7,
+    Mismatch = 7,
     /// a lifetime past those that there are
-    Outside = 8,
+    OutOfRange = 8,
     /// more answers than fit: lent memory too short, or more than 4,096 edges in a listing
-    Short = 9,
+    NoRoom = 9,
     /// bytes that are not the text of a sheet
     Unreadable = 10,
 }
@@ -88,15 +88,15 @@ impl Refusal {
     fn of(status: usize) -> Result<(), Refusal> {
         Err(match status {
             0 => return Ok(()),
-            1 => Refusal::Torn,
-            2 => Refusal::Twice,
-            3 => Refusal::Stranger,
+            1 => Refusal::Malformed,
+            2 => Refusal::Duplicate,
+            3 => Refusal::Undeclared,
             4 => Refusal::Full,
             5 => Refusal::NoSource,
             6 => Refusal::Ambiguous,
-            7 => Refusal::Misfit,
-            8 => Refusal::Outside,
-            9 => Refusal::Short,
+            7 => Refusal::Mismatch,
+            8 => Refusal::OutOfRange,
+            9 => Refusal::NoRoom,
             10 => Refusal::Unreadable,
             other => unreachable!("status {other}: the contract has 0 to 10"),
         })
@@ -107,15 +107,15 @@ impl fmt::Display for Refusal {
     fn fmt(&self, f: &mut fmt::Formatter<'_>) -> fmt::Result {
         write!(f, "refusal {}: ", self.number())?;
         f.write_str(match self {
-            Refusal::Torn => "a record is not in its shape",
-            Refusal::Twice => "a name is declared again",
-            Refusal::Stranger => "an undeclared name is looked up",
+            Refusal::Malformed => "a record is not in its shape",
+            Refusal::Duplicate => "a name is declared again",
+            Refusal::Undeclared => "an undeclared name is looked up",
             Refusal::Full => "a limit is exceeded",
             Refusal::NoSource => "an elided lifetime has no source",
             Refusal::Ambiguous => "an elided lifetime has several sources",
-            Refusal::Misfit => "a struct is given another number of lifetimes than it has",
-            Refusal::Outside => "a lifetime is past those that there are",
-            Refusal::Short => "more answers than fit",
+            Refusal::Mismatch => "a struct is given another number of lifetimes than it has",
+            Refusal::OutOfRange => "a lifetime is past those that there are",
+            Refusal::NoRoom => "more answers than fit",
             Refusal::Unreadable => "not the text of a sheet",
         })
     }

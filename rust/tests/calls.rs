@@ -108,15 +108,15 @@ fn each_refusal() {
     let many = format!("0 {}", many.join(" "));
     let cases = [
         (
-            Refusal::Torn,
+            Refusal::Malformed,
             sheet(["1", "0", "", "", "", "", "", "", "", "0"]),
         ),
         (
-            Refusal::Twice,
+            Refusal::Duplicate,
             sheet(["0 7 7", "0", "", "", "", "", "", "", "", "0"]),
         ),
         (
-            Refusal::Stranger,
+            Refusal::Undeclared,
             sheet(["0 7", "0 7 9", "", "", "", "", "", "", "", "0"]),
         ),
         (
@@ -132,11 +132,11 @@ fn each_refusal() {
             sheet(["0 7", "0", "", "", "0 7 0 7", "0 1", "", "", "", "0"]),
         ),
         (
-            Refusal::Misfit,
+            Refusal::Mismatch,
             sheet(["0 7", "0", "", "", "", "", "2 0", "2 0 1 1", "", "0"]),
         ),
         (
-            Refusal::Outside,
+            Refusal::OutOfRange,
             sheet(["0", "0", "", "", "", "", "", "", "3 2", "0"]),
         ),
         (Refusal::Unreadable, Vec::new()),
@@ -154,7 +154,7 @@ fn a_listing_has_4096_edges_at_most() {
     let text = listing(&circle(8)).unwrap();
     assert!(text.starts_with(b"lifetimes used params edges\n32 32 8 4096\n"));
     assert_eq!(borrows(&circle(9)).unwrap().edges.len(), 4608);
-    assert_eq!(listing(&circle(9)), Err(Refusal::Short));
+    assert_eq!(listing(&circle(9)), Err(Refusal::NoRoom));
     assert_eq!(borrows(&circle(16)).unwrap().edges.len(), 8192);
 }
 
@@ -164,7 +164,7 @@ fn a_short_slice_is_left_as_it_was() {
     let text = include_bytes!("../../crates/borrows/stdout");
     for room in [0, 1, text.len() - 1] {
         let mut out = vec![b'x'; room];
-        assert_eq!(listing_into(bytes, &mut out), Err(Refusal::Short));
+        assert_eq!(listing_into(bytes, &mut out), Err(Refusal::NoRoom));
         assert!(out.iter().all(|&b| b == b'x'));
     }
     // just enough, and a byte behind it
@@ -190,7 +190,7 @@ fn short_words_are_left_as_they_were() {
         };
         let answer = borrows_into(bytes, used, answers, edges, counts);
         if short < 4 {
-            assert_eq!(answer, Err(Refusal::Short));
+            assert_eq!(answer, Err(Refusal::NoRoom));
             assert!(slices.iter().flatten().all(|&w| w == 77));
         } else {
             assert_eq!(answer, Ok(()));
@@ -201,7 +201,7 @@ fn short_words_are_left_as_they_were() {
     let torn = sheet(["1", "0", "", "", "", "", "", "", "", "0"]);
     assert_eq!(
         borrows_into(&torn, &mut [], &mut [], &mut [], &mut []),
-        Err(Refusal::Torn)
+        Err(Refusal::Malformed)
     );
-    assert_eq!(listing_into(&torn, &mut []), Err(Refusal::Torn));
+    assert_eq!(listing_into(&torn, &mut []), Err(Refusal::Malformed));
 }
