@@ -142,7 +142,7 @@ def ordinary(rng, large=False):
     return {
         "names": [impls] + names,
         "bounds": [len(impl_pairs) // 2] + impl_pairs + method_pairs,
-        "types": flat(type_words(rng, names * 5 + [0, 1] or [0, 1], rng.choice([2, 3, 4, 8])) for _ in range(rng.choice([0, 1, 2, 3, 4]))),
+        "types": flat(type_words(rng, names * 5 + [0, 1], rng.choice([2, 3, 4, 8])) for _ in range(rng.choice([0, 1, 2, 3, 4]))),
         "self": own,
         "steps": given,
         "returns": returned,
@@ -320,7 +320,7 @@ def largest_word(rng, sheet, more):
     return changed(sheet, params=[3, 1, 65535 + more] + sheet["params"])
 
 
-# what is at its limit; the maker; the answer at the limit (and one below), and one past it
+# what is at its limit; the maker; the answer at the limit, and one past it. One below it the answer is 0 too, or left to chance where the limit itself is refused
 LIMITS = [
     ("32 names", names_limit, 0, 4),
     ("64 lifetimes by a step", by_step, 0, 4),
@@ -682,8 +682,9 @@ def drawn(rng, pool):
         return "fault: " + name, number, make(rng, base, count)
     if form < 0.7:
         name, make, at, past = rng.choice(LIMITS)
-        more = rng.choice([-1, 0, 1])
-        return PAST[more] + name, None if more == -1 and at else past if more == 1 else at, make(rng, base, more)
+        more = rng.choice(list(PAST))
+        number = past if more == 1 else None if more == -1 and at else at
+        return PAST[more] + name, number, make(rng, base, more)
     if form < 0.76:
         name, make = rng.choice(SPECIAL)
         return "special: " + name, 0, make(rng, base, count)
