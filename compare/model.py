@@ -6,12 +6,10 @@ sys.path.insert(0, str(pathlib.Path(__file__).resolve().parent.parent / "tests")
 import readings
 import vectors
 
-HEADINGS = ("lifetimes used params edges", "lowered", "lifetime longer", "param answer", "used param kind def option")
-
 
 class Answer:
     """The refusal's number or 0, and the program's response. Of an accepted sheet also: `records`, all ten; `env`, the environment as declared, count, pushed, bounds; `rows`, `params`, `outputs`;
-    `used`. `ways` is how often the Rust's search under force enters a row: it searches a row anew at each use. A sheet that is refused by 8 or 9 has them too, but for `used`."""
+    `used`. `ways` is how often the Rust's search under force enters a row: it searches a row anew at each use."""
 
     def __init__(self, data):
         self.refusal, self.count, self.ways = 0, 0, 0
