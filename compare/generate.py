@@ -429,12 +429,12 @@ def strange_bound(rng, sheet, count):
     return changed(sheet, bounds=sheet["bounds"] + rng.sample(pair, 2))
 
 
-def impl_bound_of_the_method(rng, sheet, count):
+def strange_impl_bound(rng, sheet, count):
+    """A bound of the impl's over a name of the method's, or over one that is none."""
     impls, *names = sheet["names"]
-    if impls == len(names):
-        return None
     first, *rest = sheet["bounds"]
-    return changed(sheet, bounds=[first + 1, rng.choice(names), rng.choice(names[impls:])] + rest)
+    pair = [rng.choice(names[:impls] or [0]), rng.choice([0, 1, stranger(rng, sheet)] + names[impls:])]
+    return changed(sheet, bounds=[first + 1] + rng.sample(pair, 2) + rest)
 
 
 def strange_type(rng, sheet, count):
@@ -573,7 +573,7 @@ FAULTS = [
     ("a row that ends too early", lambda rng, sheet, count: changed(sheet, structs=sheet["structs"] + rng.choice([[1], [1, 1], [0, 2, 0]])), 1),
     ("a name declared twice", twice, 2),
     ("a stranger in bounds", strange_bound, 3),
-    ("an impl bound over a method's name", impl_bound_of_the_method, 3),
+    ("a stranger in an impl's bounds", strange_impl_bound, 3),
     ("a stranger in types", strange_type, 3),
     ("a stranger in self", strange_self, 3),
     ("a stranger in a step", strange_step, 3),
@@ -632,6 +632,17 @@ SPECIAL = [
 ]
 
 
+# ---- sheets with two faults, of which the first one due counts
+
+FAULTY = [make for _, make, number in FAULTS if 1 < number < 10] + [lambda rng, sheet, count, make=make: make(rng, sheet, 1) for _, make, _, past in LIMITS if past in (4, 9)]
+
+
+def two_faults(rng, sheet, count):
+    first, second = rng.sample(FAULTY, 2)
+    made = first(rng, sheet, count)
+    return made and second(rng, made, count)
+
+
 # ---- sheets changed at random
 
 
@@ -662,7 +673,7 @@ def other_bytes(rng, sheet):
 
 PAST = {-1: "one less: ", 0: "", 1: "one more: "}
 KINDS = (
-    ["ordinary", "large", "words changed", "bytes changed"]
+    ["ordinary", "large", "two faults", "words changed", "bytes changed"]
     + [PAST[more] + name for name, *_ in LIMITS for more in PAST]
     + ["fault: " + name for name, *_ in FAULTS]
     + ["special: " + name for name, _ in SPECIAL]
@@ -676,19 +687,21 @@ def drawn(rng, pool):
         return "large" if large else "ordinary", None, ordinary(rng, large)
     base, count = rng.choice(pool)
     form = rng.random()
-    if form < 0.4:
+    if form < 0.37:
         wanted = rng.choice([1, 2, 3, 5, 6, 7, 8, 9, 10])
         name, make, number = rng.choice([fault for fault in FAULTS if fault[2] == wanted])
         return "fault: " + name, number, make(rng, base, count)
-    if form < 0.7:
+    if form < 0.65:
         name, make, at, past = rng.choice(LIMITS)
         more = rng.choice(list(PAST))
         number = past if more == 1 else None if more == -1 and at else at
         return PAST[more] + name, number, make(rng, base, more)
-    if form < 0.76:
+    if form < 0.7:
         name, make = rng.choice(SPECIAL)
         return "special: " + name, 0, make(rng, base, count)
-    if form < 0.9:
+    if form < 0.8:
+        return "two faults", None, two_faults(rng, base, count)
+    if form < 0.92:
         return "words changed", None, other_words(rng, base)
     return "bytes changed", None, other_bytes(rng, base)
 
