@@ -1,17 +1,24 @@
 -- Which lifetimes of a parameter draw: the first one, how many, and how many edges that makes.
--- In order: one lifetime; the words that are left to a loop over path words; the first that draws; how many draw; edges counted.
+-- In order: one lifetime; the words that are left to a loop over path words; the first that draws; the path words of a struct, linked; how many draw; edges counted.
 use Prim.Native.Nat.{ℕ, zero, suc, _+_, _-_, _≤_, _<_}
 use mathlib.Core.Bool.{Bool, true, false, cond}
 use mathlib.Core.Path.{_≡_, refl, sym, ap, _∙_}
+use mathlib.Core.Logic.{_⊎_}
 use mathlib.Core.List.{List, [], _∷_, _++_, map}
 use native.Mathlib.Nat.{sub-zero, add-zero, zero-add}
 use native.Mathlib.Numerals.{add-one}
 use native.Mathlib.Omega.{arith}
 use borrow.Author.Tests.{lt-ltb, le-ltb}
 use lib.ListN.{length, getD, take, drop, length-drop, length-map}
-use lib.Seq.{drop-cons, length-take-le}
+use lib.Seq.{drop-cons, getD-take, getD-drop, length-take-le}
 use Rattle.lifetimes.specs.declared.answer.Refusal.{Refusal}
 use Rattle.lifetimes.specs.declared.maybe_static.MaybeStatic.{MaybeStatic}
+use Rattle.lifetimes.specs.declared.def_lifetime.DefLifetime.{DefLifetime}
+use Rattle.lifetimes.specs.declared.linked.LinkedWord.{LinkedWord}
+use Rattle.lifetimes.specs.declared.linked.LinkedWord.the-variants.{Word}
+use Rattle.lifetimes.specs.Numbers.{defLifetime}
+use Rattle.lifetimes.specs.Linked.{linkedWord, linkedAnswer}
+use Rattle.lifetimes.proofs.LinkedLaws.{word-only, word-told}
 use Rattle.lifetimes.specs.LoweredWords.{fromWord}
 use Rattle.lifetimes.specs.Sets.{member}
 use Rattle.lowered_types.specs.declared.types.Kind.{Kind}
@@ -188,6 +195,26 @@ none-any draws i (m ∷ ms) e = go (drawn draws m) (none-any draws (suc i) ms) e
     go : (t : Bool) → (Absent ≡ firstFrom draws (suc i) ms → anyDrawn draws ms ≡ false) → Absent ≡ cond t (At i) (firstFrom draws (suc i) ms) → cond t true (anyDrawn draws ms) ≡ false
     go true r e = let z : _≡_ {A = ℕ} 0 1 = cc in absurd (omega arith)
     go false r e = r e
+
+-- ---- a struct's path words, lent by themselves: as many as it has, each the word in place
+
+module _ (words path : List ℕ) (from count : ℕ) (part : path ≡ take count (drop from words)) where
+  pub part-many : Inside words from count → length path ≡ count
+  part-many fits = ap length part ∙ taken-many words from count fits
+
+  pub part-word : {i : ℕ} → i < count → {m : MaybeStatic} → m ≡ fromWord (getD path i 0) → m ≡ fromWord (getD words (from + i) 0)
+  part-word {i} h e = e ∙ rw (part, getD-take count (drop from words) i 0 h, getD-drop from words i 0)
+
+-- what their link with as many lifetimes of a definition answers: the word at the place
+module _ (path : List ℕ) (count : ℕ) {def : ℕ} (same : length path ≡ count) (h : def < count) {d : DefLifetime} (is : d ≡ defLifetime def) {r : LinkedWord} (e : r ≡ linkedAnswer (linkedWord path count d)) where
+  asked : r ≡ linkedAnswer (linkedWord path count (defLifetime def))
+  asked = e ∙ ap (λ (x : DefLifetime). linkedAnswer (linkedWord path count x)) is
+
+  pub link-only : {B : Type 0} (tag : LinkedWord → ℕ) → tag (Word (getD path def 0)) ≡ 0 → (tag r ≡ 1) ⊎ (tag r ≡ 2) → B
+  link-only tag z later = word-only path count same def h asked tag z later
+
+  pub link-told : {word : ℕ} → r ≡ Word word → {m : MaybeStatic} → m ≡ fromWord word → m ≡ fromWord (getD path def 0)
+  link-told t q = q ∙ ap fromWord (word-told path count same def h asked t)
 
 -- ---- how many draw
 

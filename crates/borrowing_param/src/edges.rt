@@ -4,7 +4,7 @@
 ghost use mathlib.Core.Path.{_≡_};
 ghost use mathlib.Core.List.{[], _∷_, map};
 ghost use Prim.Native.Nat.{_+_, _*_, _≤_, _<_};
-ghost use lib.ListN.{length, take, drop};
+ghost use lib.ListN.{length, getD, take, drop};
 ghost use lib.Seq.{sets};
 ghost use Rattle.lifetimes.specs.LoweredWords.{fromWord};
 ghost use Rattle.borrowing_param.specs.Edges.{width, edgeWords};
@@ -14,12 +14,16 @@ ghost use Rattle.borrowing_param.specs.Visit.{drawsIn};
 ghost use Rattle.borrowing_param.specs.Inner.{Inside, typeIn, firstFrom, FirstDrawn, countDrawn, oneIf, CountsFor, CountsAll, structOf, allIn, Stores, StoresWords};
 use super::visitor::BorrowingParamVisitor;
 use super::visitor::LifetimeEdge;
+use lifetimes::DefLifetime;
 use lifetimes::Lifetime;
+use lifetimes::LinkedWord;
 use lifetimes::MaybeStatic;
+use lifetimes::linked_word;
 use lifetimes::set;
 use lowered_types::Kind;
 use lowered_types::LifetimeAt;
 use lowered_types::Parts;
+use lowered_types::path_words;
 
 // The first lifetime of a type that draws, by its index.
 pub(crate) enum First {
@@ -91,15 +95,29 @@ fn first_own(set: u64, lifetime: MaybeStatic, index: usize) -> First
     First::Absent
 }
 
-// How many of some lowered words draw.
+// The method's lifetime at the use of a struct for a lifetime of its definition, by the struct's path words. The definition's count is how many they are: the check of the records has
+// refused by 7 where its row says another, so that a visit does not look the row up.
+fn linked_lifetime(path: &[usize], count: usize, def: usize) -> MaybeStatic
+    requires { ⌜ (length (now path) ≡ count) × (def < count) ⌝ }
+    ensures { λ r. ⌜ r ≡ fromWord (getD (now (path .entry)) def 0) ⌝ }
+{
+    let linked = linked_word(path, count, DefLifetime::new(def));
+    let LinkedWord::Word(word) = linked else {
+        return MaybeStatic::Static;
+    };
+    MaybeStatic::from_word(word)
+}
+
+// How many of a struct's lowered words draw.
 fn count_words(set: u64, words: &[usize], from: usize, count: usize) -> usize
     requires { ⌜ Inside (now words) from count ⌝ }
     ensures { λ r. ⌜ r ≡ countDrawn (drawsIn set) (map fromWord (take count (drop from (now (words .entry))))) ⌝ }
 {
+    let path = path_words(words, from, count);
     let mut n = 0;
     let mut i = 0;
     while i < count {
-        if draws(set, MaybeStatic::from_word(words[from + i])) {
+        if draws(set, linked_lifetime(path, count, i)) {
             n += 1;
         }
         i += 1;
@@ -180,12 +198,13 @@ fn store_struct(
     let from = parts.from;
     let count = parts.count;
     let option = option_number(parts.option);
+    let path = path_words(words, from, count);
     let mut next = at;
     let mut i = 0;
     'lifetimes: while i < count {
         let def = i;
         i += 1;
-        if !draws(set, MaybeStatic::from_word(words[from + def])) {
+        if !draws(set, linked_lifetime(path, count, def)) {
             continue 'lifetimes;
         }
         let edge = LifetimeEdge {

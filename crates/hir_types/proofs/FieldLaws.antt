@@ -6,10 +6,10 @@ use mathlib.Core.List.{List, [], _∷_, _++_}
 use native.Mathlib.Nat.{zero-add, sub-zero, zero-sub, suc-sub-suc}
 use native.Mathlib.Numerals.{add-one}
 use native.Mathlib.Omega.{arith}
-use lib.Dec.{ltb}
-use lib.ListN.{length, getD, take, drop, set, replicate, length-take, length-drop, length-append, length-set, length-replicate, drop-of-length-le, List·getD-eq-default}
-use lib.Seq.{sets, sets-eq, drop-cons, getD-take, getD-drop}
-use borrow.Author.Tests.{lt-ltb, le-ltb, ltb-true, ltb-false}
+use lib.Dec.{eqb, ltb}
+use lib.ListN.{length, getD, take, drop, set, replicate, length-append, length-set, length-replicate, drop-of-length-le, List·getD-eq-default}
+use lib.Seq.{sets, sets-eq, drop-cons}
+use borrow.Author.Tests.{lt-ltb, le-ltb, ltb-true, ltb-false, eqb-true, not-false}
 use Rattle.records.proofs.ReadingLaws.{passed}
 use Rattle.lifetimes.specs.declared.answer.Refusal.{Refusal}
 use Rattle.lifetimes.specs.declared.answer.Refusal.the-variants.{Malformed}
@@ -18,26 +18,32 @@ use Rattle.lifetimes.specs.declared.answer.Listed.the-variants as listed
 use Rattle.lifetimes.specs.declared.answer.Verdict.{Verdict}
 use Rattle.lifetimes.specs.declared.answer.Verdict.the-variants.{Accepted, Refused}
 use Rattle.lifetimes.specs.declared.def_lifetime.DefLifetime.{DefLifetime}
+use Rattle.lifetimes.specs.declared.linked.LinkedPair.{LinkedPair}
+use Rattle.lifetimes.specs.declared.linked.LinkedPair.the-variants.{Pair}
 use Rattle.lifetimes.specs.declared.maybe_static.MaybeStaticDef.{MaybeStaticDef}
 use Rattle.lifetimes.specs.declared.maybe_static.MaybeStaticDef.the-variants.{Static, NonStatic}
 use Rattle.lifetimes.specs.Numbers.{defLifetime}
 use Rattle.lifetimes.specs.LoweredWords.{defFromWord}
-use Rattle.lifetimes.specs.Refusals.{unless, FirstDue, NoneDue, later, next}
-use Rattle.lifetimes.proofs.RefusalLaws.{due-given, due-refused, refused-first, accepted-none}
+use Rattle.lifetimes.specs.Refusals.{unless, FirstDue, NoneDue, later, end, next}
+use Rattle.lifetimes.specs.Linked.{linkedPair, pairAnswer}
+use Rattle.lifetimes.proofs.RefusalLaws.{due-given, due-refused, refused-first, accepted-none, none-first, none-rest, none-split}
+use Rattle.lifetimes.proofs.LinkedLaws.{pair-told}
 use Rattle.records.specs.Reading.{Read, Fails}
 use Rattle.lowered_types.specs.declared.types.Parts.{Parts}
-use Rattle.lowered_types.specs.declared.types.Located.{Located}
-use Rattle.lowered_types.specs.declared.types.Located.the-variants.{At, Missing}
+use Rattle.lowered_types.specs.declared.types.Kind.the-variants.{Struct}
 use Rattle.lowered_types.specs.LoweredTypes.{LoweredType, readLowered}
-use Rattle.lowered_types.specs.Rows.{rowWith, readKnown, readTypes, readRow, rowsOf, structsInShape, howMany}
+use Rattle.lowered_types.specs.Rows.{Row, rowWith, readKnown, readTypes, readRow, rowsOf, structsInShape, howMany}
 use Rattle.lowered_types.proofs.FoundLaws.{Found}
 use Rattle.lowered_types.proofs.ShapeLaws.{counted-shape, refused-shape}
+use Rattle.hir_types.specs.declared.fields.Field.{Field}
+use Rattle.hir_types.specs.declared.fields.Field.the-variants.{Missing}
+use Rattle.hir_types.specs.declared.fields.Field.the-variants as aField
 use Rattle.hir_types.specs.declared.fields.FieldPair.{FieldPair}
 use Rattle.hir_types.specs.declared.fields.FieldLifetimes.{FieldLifetimes}
 use Rattle.hir_types.specs.declared.fields.FieldAnswer.the-variants as answer
-use Rattle.hir_types.specs.Method.{rowAt, rowChecks}
+use Rattle.hir_types.specs.Method.{rowAt, misfits, typeChecks, rowChecks}
 use Rattle.hir_types.specs.Fields.{fieldIn, fieldAt, isStruct, fieldPair, filledBy, pairsFrom, fieldChecks, fieldPairs, placed, givenPairs, fieldAnswer}
-use Rattle.hir_types.specs.Inner.{RowStands, Indexes, TypesSkip, FieldIs, struct, other, PathThere}
+use Rattle.hir_types.specs.Inner.{RowStands, Indexes, TypesSkip, FieldIs, struct, other}
 use Rattle.hir_types.proofs.PassLaws.{known-read, same-found, fails-read, types-next, types-none, types-length, Items, items-start, NextItem, items-next, RowParts, row-parts}
 
 -- ---- `skip_types`
@@ -157,8 +163,11 @@ module _ (structs : List ℕ) (row field : ℕ) where
         pub field-other : isStruct (p .kind) ≡ false → FieldIs structs row field Missing
         field-other e = let t = (same-found g row (there .1)) .stands in other (rw (← t .kind) e)
 
-        pub field-struct : isStruct (p .kind) ≡ true → FieldIs structs row field (At p)
-        field-struct e = let t = (same-found g row (there .1)) .stands in struct (rw (← t .kind) e) (t .count) (t .few) (t .path)
+        pub field-struct : {inner : ℕ} → p .kind ≡ Struct inner → FieldIs structs row field (aField.Struct inner (p .from) (p .count))
+        field-struct {inner} e =
+            let f = same-found g row (there .1) in
+            let few : length (fieldAt (rowsOf structs) row field .path) ≤ 16 = omega (arith, f .stands .count, f .stands .few) in
+            struct (sym (f .stands .kind) ∙ e) (ltb-true inner row (rw e at (f .known))) few (f .stands .path)
 
 -- ---- `pairs_of`
 
@@ -248,36 +257,49 @@ module _ {path : List ℕ} {declared : ℕ} {pairs : List FieldPair} {n i : ℕ}
         go [] k q = absurd (e k)
         go (p ∷ l) k q = rw (k, q)
 
--- the same where the path words are read in place
-path-size : (words : List ℕ) (from count : ℕ) → PathThere (length words) from count → length (take count (drop from words)) ≡ count
-path-size words from zero there = refl
-path-size words from (suc n) there = let last = there n (omega arith) in simp (length-take, length-drop) (omega arith)
+-- the same where the words are linked with the lifetimes of the field's definition, as many as they are
+module _ (path : List ℕ) (count : ℕ) (same : length path ≡ count) {declared : ℕ} {pairs : List FieldPair} {n i : ℕ} (inv : Pairing path declared pairs n i) where
+  module _ (h : i < count) {linked : LinkedPair} (e : linked ≡ pairAnswer (linkedPair path count i)) {word : ℕ} {def : DefLifetime} (t : linked ≡ Pair word def) {m : MaybeStaticDef} (q : m ≡ defFromWord word) where
+    inside : i < length path
+    inside = omega arith
 
-module _ (words : List ℕ) (from count : ℕ) (there : PathThere (length words) from count) {declared : ℕ} {pairs : List FieldPair} {n i : ℕ}
-    (inv : Pairing (take count (drop from words)) declared pairs n i) where
-  module _ (h : i < count) {m : MaybeStaticDef} (q : m ≡ defFromWord (getD words (from + i) 0)) where
-    inside : i < length (take count (drop from words))
-    inside = rw (path-size words from count there) h
+    found : m ≡ defFromWord (getD path i 0)
+    found = q ∙ rw (pair-told path count same i h e t .0)
 
-    word : m ≡ defFromWord (getD (take count (drop from words)) i 0)
-    word = q ∙ rw (getD-take count (drop from words) i 0 h, getD-drop from words i 0)
+    pub linking-static : m ≡ Static → Pairing path declared pairs n (i + 1)
+    linking-static k = pairing-static inv inside found k
 
-    pub taking-static : m ≡ Static → Pairing (take count (drop from words)) declared pairs n (i + 1)
-    taking-static e = pairing-static inv inside word e
+    pub linking-past : {outer : DefLifetime} → m ≡ NonStatic outer → declared ≤ outer .0 → Pairing path declared pairs n (i + 1)
+    linking-past k l = pairing-past inv inside found k l
 
-    pub taking-past : {outer : DefLifetime} → m ≡ NonStatic outer → declared ≤ outer .0 → Pairing (take count (drop from words)) declared pairs n (i + 1)
-    taking-past e l = pairing-past inv inside word e l
-
-    pub taking-more : {outer : DefLifetime} → m ≡ NonStatic outer → outer .0 < declared → {def : DefLifetime} → def ≡ defLifetime i
-        → Pairing (take count (drop from words)) declared (set pairs n (record { def = def; outer = outer })) (n + 1) (i + 1)
-    taking-more e l d = pairing-more inv inside word e l d
+    pub linking-more : {outer : DefLifetime} → m ≡ NonStatic outer → outer .0 < declared → Pairing path declared (set pairs n (record { def = def; outer = outer })) (n + 1) (i + 1)
+    linking-more k l = pairing-more inv inside found k l (pair-told path count same i h e t .1)
 
   module _ (few : count ≤ 16) (h : count ≤ i) where
-    pub taking-none : n ≡ 0 → record { answer = answer.Absent; pairs = pairs } ≡ givenPairs (pairsFrom declared 0 (take count (drop from words)))
-    taking-none e = let s = path-size words from count there in pairing-none inv (omega arith) (omega arith) e
+    pub linking-none : n ≡ 0 → record { answer = answer.Absent; pairs = pairs } ≡ givenPairs (pairsFrom declared 0 path)
+    linking-none e = pairing-none inv (omega arith) (omega arith) e
 
-    pub taking-some : (n ≡ 0 → ⊥) → record { answer = answer.Pairs n; pairs = pairs } ≡ givenPairs (pairsFrom declared 0 (take count (drop from words)))
-    taking-some e = let s = path-size words from count there in pairing-some inv (omega arith) (omega arith) e
+    pub linking-some : (n ≡ 0 → ⊥) → record { answer = answer.Pairs n; pairs = pairs } ≡ givenPairs (pairsFrom declared 0 path)
+    linking-some e = pairing-some inv (omega arith) (omega arith) e
+
+-- ---- a field of rows that were accepted: its words are as many as the lifetimes of its definition
+
+type-linked : (rows : List Row) (types : List LoweredType) (j : ℕ) → NoneDue (typeChecks rows types) → misfits rows (fieldIn types j) ≡ false
+unfolding typeChecks
+type-linked rows [] j n = refl
+type-linked rows (t ∷ types) zero n = none-first n
+type-linked rows (t ∷ types) (suc j) n = type-linked rows types j (none-rest n)
+
+row-linked : (rows : List Row) (number : ℕ) (more : List Row) (k : ℕ) → NoneDue (rowChecks rows number more) → NoneDue (typeChecks rows (rowAt more k .fields))
+unfolding rowChecks typeChecks
+row-linked rows number [] k n = end
+row-linked rows number (row ∷ more) zero n = none-split (typeChecks rows (row .fields)) (rowChecks rows (suc number) more) (none-rest n) .0
+row-linked rows number (row ∷ more) (suc k) n = row-linked rows (suc number) more k (none-split (typeChecks rows (row .fields)) (rowChecks rows (suc number) more) (none-rest n) .1)
+
+fits-linked : (rows : List Row) (t : LoweredType) {inner : ℕ} → t .kind ≡ Struct inner → misfits rows t ≡ false → length (t .path) ≡ rowAt rows inner .lifetimes
+fits-linked rows t {inner} e h =
+    let m : not (eqb (length (t .path)) (rowAt rows inner .lifetimes)) ≡ false = rw e at h in
+    eqb-true (length (t .path)) (rowAt rows inner .lifetimes) (not-false (eqb (length (t .path)) (rowAt rows inner .lifetimes)) m)
 
 -- ---- the ways out
 
@@ -290,7 +312,7 @@ module _ (structs : List ℕ) (row field : ℕ) {sh : Listed} (q : sh ≡ howMan
     pub in-order : (structsInShape structs ≡ true) × (length (rowsOf structs) ≡ rows)
     in-order = counted-shape (structsInShape structs) (rowsOf structs) q e
 
-    module _ {r : Located} (f : FieldIs structs row field r) where
+    module _ {r : Field} (f : FieldIs structs row field r) where
       pub compute-other : r ≡ Missing → record { answer = answer.Refused Malformed; pairs = placed [] } ≡ fieldAnswer (fieldPairs structs row field)
       unfolding fieldPairs unless
       compute-other k = rw (in-order .0, go (subst (FieldIs structs row field) k f))
@@ -298,43 +320,56 @@ module _ (structs : List ℕ) (row field : ℕ) {sh : Listed} (q : sh ≡ howMan
           go : FieldIs structs row field Missing → isStruct (fieldAt (rowsOf structs) row field .kind) ≡ false
           go (other h) = h
 
-      module _ {p : Parts} (k : r ≡ At p) where
-        pub asked : (isStruct (fieldAt (rowsOf structs) row field .kind) ≡ true) × (p .count ≡ length (fieldAt (rowsOf structs) row field .path)) × (p .count ≤ 16)
-            × (take (p .count) (drop (p .from) structs) ≡ fieldAt (rowsOf structs) row field .path)
+      module _ {inner from count : ℕ} (k : r ≡ aField.Struct inner from count) where
+        asked : (fieldAt (rowsOf structs) row field .kind ≡ Struct inner) × (inner < row) × (length (fieldAt (rowsOf structs) row field .path) ≤ 16)
+            × (take count (drop from structs) ≡ fieldAt (rowsOf structs) row field .path)
         asked = go (subst (FieldIs structs row field) k f)
           where
-            go : FieldIs structs row field (At p) → (isStruct (fieldAt (rowsOf structs) row field .kind) ≡ true) × (p .count ≡ length (fieldAt (rowsOf structs) row field .path)) × (p .count ≤ 16)
-                × (take (p .count) (drop (p .from) structs) ≡ fieldAt (rowsOf structs) row field .path)
+            go : FieldIs structs row field (aField.Struct inner from count)
+                → (fieldAt (rowsOf structs) row field .kind ≡ Struct inner) × (inner < row) × (length (fieldAt (rowsOf structs) row field .path) ≤ 16)
+                × (take count (drop from structs) ≡ fieldAt (rowsOf structs) row field .path)
             go (struct a b c d) = (a, b, c, d)
 
-        -- the words stand there, and there are rows as far as the one asked for
-        pub asked-there : PathThere (length structs) (p .from) (p .count)
-        asked-there i h = let n = simp (length-take, length-drop) at (ap length (asked .3)) in omega (arith, asked .1)
-
-        pub asked-row : row < length (rowsOf structs)
+        -- there are rows as far as the one asked for
+        asked-row : row < length (rowsOf structs)
         asked-row = go (ltb row (length (rowsOf structs))) refl
           where
             go : (b : Bool) → ltb row (length (rowsOf structs)) ≡ b → row < length (rowsOf structs)
             go true b = ltb-true row (length (rowsOf structs)) b
             go false b =
                 let d : rowAt (rowsOf structs) row ≡ rowWith 0 [] = List·getD-eq-default (rowsOf structs) (rowWith 0 []) (ltb-false row (length (rowsOf structs)) b) in
-                passed (rw d at (asked .0))
+                let plain : isStruct (fieldAt (rowsOf structs) row field .kind) ≡ false = rw d in
+                let is : isStruct (fieldAt (rowsOf structs) row field .kind) ≡ true = rw (asked .0) in
+                passed (sym plain ∙ is)
+
+        fine : not (structsInShape structs && isStruct (fieldAt (rowsOf structs) row field .kind)) ≡ false
+        fine = rw (in-order .0, asked .0)
 
         module _ {lifetimes places : List ℕ} {v : Verdict} (x : Indexes structs lifetimes places v) where
           pub compute-refused : {s : Refusal} → v ≡ Refused s → record { answer = answer.Refused s; pairs = placed [] } ≡ fieldAnswer (fieldPairs structs row field)
           unfolding fieldPairs
           compute-refused {s} z =
-              let fine : not (structsInShape structs && isStruct (fieldAt (rowsOf structs) row field .kind)) ≡ false = rw (in-order .0, asked .0) in
               let due : FirstDue s (fieldChecks structs row field) = later fine (refused-first (tt {0}) s (rowChecks (rowsOf structs) 0 (rowsOf structs)) (sym (x .verdict) ∙ z)) in
               rw (due-refused (pairsFrom (rowAt (rowsOf structs) row .lifetimes) 0 (fieldAt (rowsOf structs) row field .path)) due)
 
           module _ (z : v ≡ Accepted) where
-            pub few-rows : row < 32
-            few-rows = omega (arith, asked-row, x .few z)
+            pub few-rows : (row < 32) × (inner < 32)
+            few-rows = (omega (arith, asked-row, x .few z), omega (arith, asked-row, asked .1, x .few z))
 
-            pub compute-given : {l : FieldLifetimes} → l ≡ givenPairs (pairsFrom (getD lifetimes row 0) 0 (take (p .count) (drop (p .from) structs))) → l ≡ fieldAnswer (fieldPairs structs row field)
-            unfolding fieldPairs
-            compute-given g =
-                let fine : not (structsInShape structs && isStruct (fieldAt (rowsOf structs) row field .kind)) ≡ false = rw (in-order .0, asked .0) in
-                let none : NoneDue (fieldChecks structs row field) = next fine (accepted-none (tt {0}) (rowChecks (rowsOf structs) 0 (rowsOf structs)) (sym (x .verdict) ∙ z)) in
-                g ∙ rw (due-given (pairsFrom (rowAt (rowsOf structs) row .lifetimes) 0 (fieldAt (rowsOf structs) row field .path)) none, ← x .holding z row asked-row, asked .3)
+            rows-none : NoneDue (rowChecks (rowsOf structs) 0 (rowsOf structs))
+            rows-none = accepted-none (tt {0}) (rowChecks (rowsOf structs) 0 (rowsOf structs)) (sym (x .verdict) ∙ z)
+
+            module _ {path : List ℕ} (p : path ≡ take count (drop from structs)) where
+              pub path-linked : (length path ≡ getD lifetimes inner 0) × (getD lifetimes inner 0 ≤ 16)
+              path-linked =
+                  let l : length (fieldAt (rowsOf structs) row field .path) ≡ rowAt (rowsOf structs) inner .lifetimes =
+                  fits-linked (rowsOf structs) (fieldAt (rowsOf structs) row field) (asked .0)
+                  (type-linked (rowsOf structs) (rowAt (rowsOf structs) row .fields) field (row-linked (rowsOf structs) 0 (rowsOf structs) row rows-none)) in
+                  let d : getD lifetimes inner 0 ≡ rowAt (rowsOf structs) inner .lifetimes = x .holding z inner (omega (arith, asked-row, asked .1)) in
+                  (ap length (p ∙ asked .3) ∙ l ∙ sym d, omega (arith, asked .2))
+
+              pub compute-given : {l : FieldLifetimes} → l ≡ givenPairs (pairsFrom (getD lifetimes row 0) 0 path) → l ≡ fieldAnswer (fieldPairs structs row field)
+              unfolding fieldPairs
+              compute-given g =
+                  let none : NoneDue (fieldChecks structs row field) = next fine rows-none in
+                  g ∙ rw (due-given (pairsFrom (rowAt (rowsOf structs) row .lifetimes) 0 (fieldAt (rowsOf structs) row field .path)) none, ← x .holding z row asked-row, p, asked .3)

@@ -12,9 +12,6 @@ use Rattle.records.specs.Reading.{Read}
 use Rattle.records.specs.Ends.{judged}
 use Rattle.lowered_types.specs.declared.types.Kind.{Kind}
 use Rattle.lowered_types.specs.declared.types.Kind.the-variants.{Plain, Opaque, Struct, Slice}
-use Rattle.lowered_types.specs.declared.types.Parts.{Parts}
-use Rattle.lowered_types.specs.declared.types.Located.{Located}
-use Rattle.lowered_types.specs.declared.types.Located.the-variants.{At, Missing}
 use Rattle.lowered_types.specs.LoweredTypes.{LoweredType, lifetimesOf}
 use Rattle.lowered_types.specs.Rows.{Row, readKnown, readTypes, readRow, rowsOf, structsInShape, paramsInShape, methodInShape}
 use Rattle.hir_types.specs.declared.fits.Fit.{Fit}
@@ -29,6 +26,8 @@ use Rattle.hir_types.specs.Method.{rowAt, typeChecks, rowChecks, paramCh
 use Rattle.hir_types.specs.Fields.{fieldAt, isStruct}
 use Rattle.hir_types.specs.Used.{numbersOf, outputNumbers, inType, inTypes, inRows}
 use Rattle.hir_types.specs.declared.force.Step.{Step}
+use Rattle.hir_types.specs.declared.fields.Field.{Field}
+use Rattle.hir_types.specs.declared.fields.Field.the-variants as aField
 
 -- the lifetimes of the first rows, by number
 abbrev pub Holding : List Row → ℕ → List ℕ → Type 0
@@ -169,8 +168,8 @@ pub record ParamsThere (structs params : List ℕ) (rows count : ℕ) : Type 0 w
 abbrev pub TypesSkip : List ℕ → ℕ → ℕ → ℕ → Type 0
 TypesSkip words from count r = (n : ℕ) (types : List LoweredType) (rest : List ℕ) → readTypes n count (drop from words) ≡ Read types rest → drop r words ≡ rest
 
--- the field asked for: it is a struct and its words stand there; or it is none
-pub data FieldIs (structs : List ℕ) (row field : ℕ) : Located → Type 0 where
-  struct : {p : Parts} → isStruct (fieldAt (rowsOf structs) row field .kind) ≡ true → p .count ≡ length (fieldAt (rowsOf structs) row field .path)
-      → p .count ≤ 16 → take (p .count) (drop (p .from) structs) ≡ fieldAt (rowsOf structs) row field .path → FieldIs structs row field (At p)
-  other : isStruct (fieldAt (rowsOf structs) row field .kind) ≡ false → FieldIs structs row field Missing
+-- the field asked for: it is a struct, its row stands before the row asked for, and its words stand there; or it is none
+pub data FieldIs (structs : List ℕ) (row field : ℕ) : Field → Type 0 where
+  struct : {inner from count : ℕ} → fieldAt (rowsOf structs) row field .kind ≡ Struct inner → inner < row → length (fieldAt (rowsOf structs) row field .path) ≤ 16
+      → take count (drop from structs) ≡ fieldAt (rowsOf structs) row field .path → FieldIs structs row field (aField.Struct inner from count)
+  other : isStruct (fieldAt (rowsOf structs) row field .kind) ≡ false → FieldIs structs row field aField.Missing

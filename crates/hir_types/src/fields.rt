@@ -3,18 +3,21 @@ ghost use mathlib.Core.Path.{_≡_};
 ghost use mathlib.Core.Bool.{true};
 ghost use mathlib.Core.List.{[]};
 ghost use Prim.Native.Nat.{_≤_, _<_};
-ghost use lib.ListN.{length, take, drop};
+ghost use lib.ListN.{length};
 ghost use Rattle.lowered_types.specs.Rows.{rowsOf, structsInShape};
-ghost use Rattle.hir_types.specs.Fields.{isStruct, pairsFrom, placed, givenPairs, fieldPairs, fieldAnswer};
-ghost use Rattle.hir_types.specs.Inner.{RowStands, TypesSkip, FieldIs, PathThere};
+ghost use Rattle.hir_types.specs.Fields.{pairsFrom, placed, givenPairs, fieldPairs, fieldAnswer};
+ghost use Rattle.hir_types.specs.Inner.{RowStands, TypesSkip, FieldIs};
 use super::fits::index_rows;
 use lifetimes::DefLifetime;
+use lifetimes::LinkedPair;
 use lifetimes::Listed;
 use lifetimes::MaybeStaticDef;
 use lifetimes::Refusal;
 use lifetimes::Verdict;
+use lifetimes::linked_pair;
 use lowered_types::Kind;
 use lowered_types::Located;
+use lowered_types::path_words;
 use lowered_types::structs_shape;
 use lowered_types::type_at;
 
@@ -37,6 +40,16 @@ pub struct FieldLifetimes {
     pub pairs: [FieldPair; 16],
 }
 
+// A struct-typed field: the row that it names, and where its path words start and how many they are. Missing where there is no such field.
+enum Field {
+    Struct {
+        row: usize,
+        from: usize,
+        count: usize,
+    },
+    Missing,
+}
+
 // The pairs of one struct-typed field of a row, under an option or not. Refused by 1 over the record, for a row or field that is not there and for a field of another type; then by 4 and 7
 // as the rows are. Reads the record three times.
 pub fn compute_for_struct_field(structs: &[usize], row: usize, field: usize) -> FieldLifetimes
@@ -47,11 +60,14 @@ pub fn compute_for_struct_field(structs: &[usize], row: usize, field: usize) -> 
         return refused(Refusal::Malformed);
     };
     let found = field_at(structs, rows, row, field);
-    let Located::At(parts) = found else {
+    let Field::Struct {
+        row: inner,
+        from,
+        count,
+    } = found
+    else {
         return refused(Refusal::Malformed);
     };
-    let from = parts.from;
-    let count = parts.count;
     let mut lifetimes = [0usize; 32];
     let mut places = [0usize; 32];
     let verdict = index_rows(structs, rows, &mut lifetimes, &mut places);
@@ -59,15 +75,17 @@ pub fn compute_for_struct_field(structs: &[usize], row: usize, field: usize) -> 
         Verdict::Refused(refusal) => refused(refusal),
         Verdict::Accepted => {
             let declared = lifetimes[row];
-            pairs_of(structs, from, count, declared)
+            let linked = lifetimes[inner];
+            let path = path_words(structs, from, count);
+            pairs_of(path, linked, declared)
         }
     }
 }
 
-// The pairs of so many path words.
-fn pairs_of(words: &[usize], from: usize, count: usize, declared: usize) -> FieldLifetimes
-    requires { ⌜ (count ≤ 16) × PathThere (length (now words)) from count ⌝ }
-    ensures { λ r. ⌜ r ≡ givenPairs (pairsFrom declared 0 (take count (drop from (now (words .entry))))) ⌝ }
+// The pairs of a field's path words, which are as many as the lifetimes of the field's own definition: so they link.
+fn pairs_of(path: &[usize], count: usize, declared: usize) -> FieldLifetimes
+    requires { ⌜ (length (now path) ≡ count) × (count ≤ 16) ⌝ }
+    ensures { λ r. ⌜ r ≡ givenPairs (pairsFrom declared 0 (now (path .entry))) ⌝ }
 {
     let none = FieldPair {
         def: DefLifetime::new(0),
@@ -79,14 +97,17 @@ fn pairs_of(words: &[usize], from: usize, count: usize, declared: usize) -> Fiel
     while i < count {
         let at = i;
         i += 1;
-        let lifetime = MaybeStaticDef::from_word(words[from + at]);
+        let linked = linked_pair(path, count, at);
+        let LinkedPair::Pair(word, def) = linked else {
+            continue;
+        };
+        let lifetime = MaybeStaticDef::from_word(word);
         let MaybeStaticDef::NonStatic(outer) = lifetime else {
             continue;
         };
         if declared <= outer.index() {
             continue;
         }
-        let def = DefLifetime::new(at);
         pairs[n] = FieldPair { def, outer };
         n += 1;
     }
@@ -118,39 +139,33 @@ fn refused(refusal: Refusal) -> FieldLifetimes
 }
 
 // The field with a number of the row with a number, if it is there and is a struct.
-fn field_at(structs: &[usize], rows: usize, row: usize, field: usize) -> Located
+fn field_at(structs: &[usize], rows: usize, row: usize, field: usize) -> Field
     requires { ⌜ (structsInShape (now structs) ≡ true) × (length (rowsOf (now structs)) ≡ rows) ⌝ }
     ensures { λ r. ⌜ FieldIs (now (structs .entry)) row field r ⌝ }
 {
     if rows <= row {
-        return Located::Missing;
+        return Field::Missing;
     }
     let place = row_place(structs, row);
     let count = structs[place + 1];
     if count <= field {
-        return Located::Missing;
+        return Field::Missing;
     }
     let at = skip_types(structs, place + 2, field);
     let found = type_at(structs, at);
     let Located::At(parts) = found else {
-        return Located::Missing;
+        return Field::Missing;
     };
     let kind = parts.kind;
-    if !is_struct(kind) {
-        return Located::Missing;
-    }
-    Located::At(parts)
-}
-
-// Whether a type is a struct.
-fn is_struct(kind: Kind) -> bool
-    ensures { λ r. ⌜ r ≡ isStruct kind ⌝ }
-{
     match kind {
-        Kind::Plain => false,
-        Kind::Opaque => false,
-        Kind::Struct(_) => true,
-        Kind::Slice => false,
+        Kind::Struct(inner) => Field::Struct {
+            row: inner,
+            from: parts.from,
+            count: parts.count,
+        },
+        Kind::Plain => Field::Missing,
+        Kind::Opaque => Field::Missing,
+        Kind::Slice => Field::Missing,
     }
 }
 

@@ -13,6 +13,7 @@ pub mod ReachLaws
 pub mod IntegerLaws
 pub mod ChainLaws
 pub mod IndexLaws
+pub mod LinkedLaws
 -- The main theorems:
 pub mod Theorems
 -- Of loops:
@@ -24,5 +25,7 @@ pub mod Skipping
 pub mod Walking
 pub mod Copying
 pub mod Laying
+-- Of walks by hand:
+pub mod LinkedView
 -- Answers:
 pub mod Traversing

@@ -11,10 +11,11 @@ use Rattle.lifetimes.specs.Sets.{member, insert}
 use Rattle.lifetimes.specs.Env.{boundsOf, allBelow, envOf}
 use Rattle.lifetimes.specs.Walk.{Order, LastFirst, neighbours, unpushed, walkFor, walk, traversal, reachSet}
 use Rattle.lifetimes.specs.Reach.{listReach}
-use Rattle.lifetimes.specs.Theorems.{RefusedIfFirstDue, TraversalOrder, ReachIsOutlives, OutlivesIsForced, ExamplesHold}
+use Rattle.lifetimes.specs.Theorems.{RefusedIfFirstDue, TraversalOrder, ReachIsOutlives, OutlivesIsForced, LinkedByPlace, ExamplesHold}
 use Rattle.lifetimes.proofs.SetLaws.{setOf-has}
 use Rattle.lifetimes.proofs.RefusalLaws.{due-given, due-refused, refused-due, given-due}
 use Rattle.lifetimes.proofs.EnvLaws.{valid, near-declared, far-declared}
+use Rattle.lifetimes.proofs.LinkedLaws.{word-there, word-past, pairs-there, pair-past, word-unlike, pair-unlike}
 use Rattle.lifetimes.proofs.IntegerLaws.{≤ℤ-trans, zero-one, not-one-zero}
 use Rattle.lifetimes.proofs.WalkLaws.{walk-nil, walk-seen, walk-new, pending-few}
 use Rattle.lifetimes.proofs.ReachLaws.{listed-toward, traversal-only, traversal-first, traversal-once, traversal-alone, outlives-forces, forced-outlives}
@@ -62,6 +63,17 @@ outlives-is-forced bs a b = (
     outlives-forces ℤ _≤ℤ_ ≤ℤ-refl ≤ℤ-trans (pos 0) (pos 1) zero-one not-one-zero bs,
     forced-outlives ℤ _≤ℤ_ ≤ℤ-refl ≤ℤ-trans (pos 0) (pos 1) zero-one not-one-zero bs a b,
   ),
+)
+
+pub linked-by-place : LinkedByPlace
+linked-by-place words count = (
+  λ same. record {
+    word = word-there words count same;
+    no-word = word-past words count same;
+    pairs = pairs-there words count same;
+    no-pair = pair-past words count same;
+  },
+  λ other j. (word-unlike words count other j, pair-unlike words count other j),
 )
 
 pub examples-hold : ExamplesHold

@@ -3,16 +3,22 @@ use Prim.Native.Nat.{ℕ, _+_, _≤_, _<_}
 use mathlib.Core.Bool.{Bool, true, false}
 use mathlib.Core.Path.{_≡_}
 use mathlib.Core.Logic.{_↔_}
-use mathlib.Core.List.{List, [], _∷_, List·Memᴰ, List·Nodup}
-use lib.ListN.{length}
+use mathlib.Core.List.{List, [], _∷_, map, List·Memᴰ, List·Nodup}
+use lib.ListN.{length, getD}
 use Rattle.lifetimes.specs.declared.answer.Refusal.{Refusal}
+use Rattle.lifetimes.specs.declared.answer.Refusal.the-variants.{Mismatch}
 use Rattle.lifetimes.specs.declared.env.Bound.{Bound}
 use Rattle.lifetimes.specs.declared.env.LifetimeEnv.{LifetimeEnv}
+use Rattle.lifetimes.specs.declared.linked.LinkedWord.the-variants.{Word, Absent}
+use Rattle.lifetimes.specs.declared.linked.LinkedPair.the-variants as pair
+use Rattle.lifetimes.specs.Ranges.{ascending}
+use Rattle.lifetimes.specs.Numbers.{defLifetime}
 use Rattle.lifetimes.specs.Refusals.{Check, Gives, Refuses, unless, FirstDue, NoneDue}
 use Rattle.lifetimes.specs.Sets.{empty, member, insert}
 use Rattle.lifetimes.specs.Env.{boundsOf, envChecks}
 use Rattle.lifetimes.specs.Walk.{neighbours, Order, push, walk, traversal, reachSet, Pending}
 use Rattle.lifetimes.specs.Outlives.{Outlives, Toward, Forced, Forcedℤ}
+use Rattle.lifetimes.specs.Linked.{linkedWord, linkedPair, pairsWithPlaces}
 use Rattle.lifetimes.specs.Examples.{examples, Right}
 
 -- Refusals ("Each is given in its condition only"): a call answers a refusal exactly if it is the first due in the call's order, and gives its result exactly if none is due.
@@ -51,6 +57,19 @@ ReachIsOutlives = (o : Order) (d : Bool) (e : LifetimeEnv) → NoneDue (envCheck
 -- Outlives is *forced above*: b outlives a exactly if every numbering that respects the bounds puts b at a's number or higher; by natural numbers and by integers. For all bounds.
 abbrev pub OutlivesIsForced : Type 0
 OutlivesIsForced = (bs : List Bound) (a b : ℕ) → (Outlives bs b a ↔ Forced bs a b) × (Outlives bs b a ↔ Forcedℤ bs a b)
+
+-- Links (01: "`LinkedLifetimes` pairs the caller's list .. with the definition's lifetimes by place"): of as many words as the definition has lifetimes each lifetime has the word at its place, the pairs in
+-- order are the words with their places, and from the count on there is nothing; where they are not as many, both readers are refused by 7. For all words.
+pub record LinksByPlace (words : List ℕ) (count : ℕ) : Type 0 where
+  pub word : (j : ℕ) → j < count → linkedWord words count (defLifetime j) ≡ Gives (Word (getD words j 0))
+  pub no-word : (j : ℕ) → count ≤ j → linkedWord words count (defLifetime j) ≡ Gives Absent
+  pub pairs : map (linkedPair words count) (ascending 0 count) ≡ pairsWithPlaces 0 words
+  pub no-pair : (j : ℕ) → count ≤ j → linkedPair words count j ≡ Gives pair.Absent
+
+abbrev pub LinkedByPlace : Type 0
+LinkedByPlace =
+    (words : List ℕ) (count : ℕ) → (length words ≡ count → LinksByPlace words count)
+    × ((length words ≡ count → ⊥) → (j : ℕ) → (linkedWord words count (defLifetime j) ≡ Refuses Mismatch) × (linkedPair words count j ≡ Refuses Mismatch))
 
 -- The starred examples
 abbrev pub ExamplesHold : Type 0

@@ -1,13 +1,13 @@
 -- Where a list of lifetimes stands, and a flag; what is said of a type whose path words stand there.
 use Prim.Native.Nat.{ℕ, zero, suc, _+_, _-_, _≤_, _<_}
 use mathlib.Core.Bool.{Bool, true, false, cond, _&&_}
-use mathlib.Core.Path.{_≡_, refl, ap, _∙_}
+use mathlib.Core.Path.{_≡_, refl, sym, ap, _∙_}
 use mathlib.Core.List.{List, [], _∷_, _++_}
 use native.Mathlib.Numerals.{add-one}
 use native.Mathlib.Omega.{arith}
 use lib.Dec.{leb}
-use lib.ListN.{length, getD, take, drop, length-drop, length-append}
-use lib.Seq.{drop-cons, take-at}
+use lib.ListN.{length, getD, take, drop, length-drop, length-append, drop-of-length-le}
+use lib.Seq.{drop-cons, take-at, take-all, take-nil}
 use borrow.Author.Tests.{ne-eqb, leb-true}
 use Rattle.records.specs.declared.End.{End}
 use Rattle.records.specs.declared.End.the-variants.{At, Missing}
@@ -27,6 +27,18 @@ word-here words at h = rw add-one (drop-cons words at 0 h)
 
 pub word-behind : (words : List ℕ) (at : ℕ) → at + 1 < length words → drop (at + 1) words ≡ getD words (at + 1) 0 ∷ drop (at + 2) words
 word-behind words at h = let e : at + 2 ≡ suc (at + 1) = omega arith in rw e (drop-cons words (at + 1) 0 h)
+
+-- ---- some words in a row, as `path_words` lends them
+
+module _ (words : List ℕ) (from count : ℕ) where
+  pub lent-none : length words ≤ from → take (0 - 0) (drop 0 words) ≡ take count (drop from words)
+  lent-none h = rw (drop-of-length-le words {i = from} h, take-nil count)
+
+  pub lent-fewer : length words - from < count → take (length words - from) (drop from words) ≡ take count (drop from words)
+  lent-fewer h = take-all (length words - from) (drop from words) (simp length-drop (omega arith)) ∙ sym (take-all count (drop from words) (simp length-drop (omega arith)))
+
+  pub lent-all : take (from + count - from) (drop from words) ≡ take count (drop from words)
+  lent-all = let e : from + count - from ≡ count = omega arith in rw e
 
 -- ---- what a reading leaves
 

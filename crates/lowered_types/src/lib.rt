@@ -18,5 +18,6 @@ pub use types::LifetimeAt;
 pub use types::Located;
 pub use types::Own;
 pub use types::Parts;
+pub use types::path_words;
 pub use types::type_at;
 pub use types::type_lifetimes;

@@ -1,7 +1,7 @@
 // One lowered type: where its parts stand, and its lifetimes.
 ghost use mathlib.Core.Path.{_≡_};
 ghost use Prim.Native.Nat.{_+_, _<_};
-ghost use lib.ListN.{length, drop};
+ghost use lib.ListN.{length, take, drop};
 ghost use Rattle.lowered_types.specs.LoweredTypes.{readOpaque, readStruct, readSlice, readBare, readLowered, located, knows, entryAt, ownLifetimes, typeLifetimes, lifetimeAnswer};
 ghost use Rattle.lowered_types.specs.Places.{Locates};
 ghost use Rattle.lowered_types.specs.Inner.{LocatesBare};
@@ -102,6 +102,22 @@ pub fn type_lifetimes(words: &[usize], index: usize) -> LifetimeAt
         return own.lifetime();
     }
     LifetimeAt::Absent
+}
+
+// Some words in a row, lent on: those of a type's path, by where they start and how many they are. A type without path words may say a place past the
+// end; whatever is not there is left out.
+pub fn path_words(words: &[usize], from: usize, count: usize) -> &[usize]
+    ensures { λ r. ⌜ now r ≡ take count (drop from (now (words .entry))) ⌝ }
+{
+    let n = words.len();
+    if n <= from {
+        return &words[0..0];
+    }
+    let left = n - from;
+    if left < count {
+        return &words[from..n];
+    }
+    &words[from..from + count]
 }
 
 // The type that stands at a place, its row not looked up. Reads only the words that say where its parts are.

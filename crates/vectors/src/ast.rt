@@ -226,17 +226,11 @@ fn print_lists(env: LifetimeEnv, n: usize)
     }
 }
 
-// One list of a name, its length in front.
+// One list of a name.
 fn print_list(env: LifetimeEnv, name: usize, longer: bool) {
     let mut out = [0usize; 32];
     let listed = list(env, name, longer, &mut out);
-    match listed {
-        Listed::Count(count) => {
-            print::next(count);
-            print::some(&out, count);
-        }
-        Listed::Refused(refusal) => print::next(refusal.number()),
-    }
+    print::listed(listed, &out);
 }
 
 // What a call answers, and all words of the slice that it was lent.

@@ -1,6 +1,7 @@
-// Questions and answers replayed: what the crates answer, beside what the scope paper ("01") and the Rust say.
+// The probe: a program that answers questions about the library's calls. The gate replays questions whose answers the scope paper ("01") and the Rust gave; compare/run asks it for what the
+// program `borrows` does not list.
 //
-// Standard input holds numbers, at most 131,072 bytes of them. A question is its kind and what the kind asks for; a record in it is the number of its words, then they.
+// Standard input holds numbers, at most 262,144 bytes of them. A question is its kind and what the kind asks for; a record in it is the number of its words, then they.
 // Each answer is a line of numbers on standard output. The files stdin and stdout beside src/ are made by tests/vectors.py.
 //
 // To add a kind: a function in the module of its crate that reads the question at a place, prints one line, and answers the place behind the question; a line in
@@ -9,6 +10,7 @@ mod ast;
 mod lowerer;
 mod lowering;
 mod print;
+mod reach;
 mod scan;
 mod types;
 mod visits;
@@ -38,6 +40,7 @@ fn answer(kind: usize, words: &[usize], at: usize) -> usize
         13 => visits::visit_params(words, at),
         14 => lowerer::step(words, at),
         15 => lowerer::finish(words, at),
+        16 => reach::all_lists(words, at),
         _ => words.len(),
     }
 }
@@ -51,17 +54,17 @@ fn answer_all(words: &[usize]) {
 }
 
 // Room for the bytes that are read.
-fn room_for_bytes() -> [u8; 131072]
-    ensures { λ r. ⌜ 131072 ≡ length r ⌝ }
+fn room_for_bytes() -> [u8; 262144]
+    ensures { λ r. ⌜ 262144 ≡ length r ⌝ }
 {
-    [0; 131072]
+    [0; 262144]
 }
 
 // Room for their numbers: every other byte may be one.
-fn room_for_numbers() -> [usize; 65536]
-    ensures { λ r. ⌜ 65536 ≡ length r ⌝ }
+fn room_for_numbers() -> [usize; 131072]
+    ensures { λ r. ⌜ 131072 ≡ length r ⌝ }
 {
-    [0; 65536]
+    [0; 131072]
 }
 
 fn main() {

@@ -1,5 +1,6 @@
 // Writing: a line of numbers, one blank between.
 use super::scan;
+use lifetimes::Listed;
 use lifetimes::Verdict;
 
 // The first number of a line.
@@ -20,6 +21,17 @@ pub(crate) fn some(words: &[usize], n: usize) {
     while i < count {
         next(words[i]);
         i += 1;
+    }
+}
+
+// What a call wrote to a slice, its length in front; or the refusal's number.
+pub(crate) fn listed(listed: Listed, out: &[usize]) {
+    match listed {
+        Listed::Count(count) => {
+            next(count);
+            some(out, count);
+        }
+        Listed::Refused(refusal) => next(refusal.number()),
     }
 }
 

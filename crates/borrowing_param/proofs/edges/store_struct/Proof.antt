@@ -8,43 +8,37 @@ use lib.ListN.{length}
 use Rattle.borrowing_param.specs.Edges.{edge, width}
 use Rattle.borrowing_param.specs.Brings.{structEdges}
 use Rattle.borrowing_param.specs.Visit.{drawsIn}
-use Rattle.borrowing_param.proofs.Drawing.{allPath}
+use Rattle.borrowing_param.proofs.Drawing.{allPath, part-many, part-word}
 use Rattle.borrowing_param.proofs.Storing.{Storing, storing-start, storing-fits, storing-part, storing-none, storing-end, leftEdges, edges-all, edges-none, edges-one, edges-skip}
 use borrow.Author.Needs.{needs}
 use Rattle.borrowing_param.proofs.edges.store_struct.Statement.{statement}
 use Rattle.borrowing_param.proofs.edges.store_struct.Tie as tie
 
 abbrev Inv-lifetimes : tie.InvT-lifetimes
-Inv-lifetimes set words used param edges₀ at pairs₀ from count option next₀ i₀ edges pairs next i = (i ≤ count) × Storing (structEdges (drawsIn set) used param option 0 (allPath words from count)) (leftEdges (drawsIn set) used param option words from count i) at pairs₀ edges₀ next pairs edges
+Inv-lifetimes set words used param edges₀ at pairs₀ from count option path next₀ i₀ edges pairs next i = (i ≤ count) × Storing (structEdges (drawsIn set) used param option 0 (allPath words from count)) (leftEdges (drawsIn set) used param option words from count i) at pairs₀ edges₀ next pairs edges
 
 abbrev μ-lifetimes : tie.MeasureT-lifetimes
-μ-lifetimes set words used param edges₀ at pairs₀ from count option next₀ i₀ edges pairs next i = count - i
+μ-lifetimes set words used param edges₀ at pairs₀ from count option path next₀ i₀ edges pairs next i = count - i
 
 option-number-requires : tie.Need-option-number-requires Inv-lifetimes μ-lifetimes
 option-number-requires c κs = search needs
 
+path-words-requires : tie.Need-path-words-requires Inv-lifetimes μ-lifetimes
+path-words-requires c κs = search needs
+
 lifetimes-holds : tie.Need-lifetimes-holds Inv-lifetimes μ-lifetimes
 lifetimes-holds c =
-    let s = c .before .before .before in
+    let s = c .before .before .before .before in
     let a = s .args in
-    let all = structEdges (drawsIn (a .set)) (a .used) (a .param) (c .option-number .result) 0 (allPath (a .words .now) (a .parts .from) (a .parts .count)) in
-    let room : width * (a .at + length all) ≤ length (a .edges .now) = rw (c .option-number .ensures) (s .pre .1) in
-    (omega arith, storing-none (storing-start all (a .at) (a .pairs .now) (a .edges .now) (s .pre .0 .3) room) (edges-all (drawsIn (a .set)) (a .used) (a .param) (c .option-number .result) (a .words .now) (a .parts .from) (a .parts .count)))
+    let all = structEdges (drawsIn (a .set)) (a .used) (a .param) (c .before .option-number .result) 0 (allPath (a .words .now) (a .parts .from) (a .parts .count)) in
+    let room : width * (a .at + length all) ≤ length (a .edges .now) = rw (c .before .option-number .ensures) (s .pre .1) in
+    (omega arith, storing-none (storing-start all (a .at) (a .pairs .now) (a .edges .now) (s .pre .0 .3) room) (edges-all (drawsIn (a .set)) (a .used) (a .param) (c .before .option-number .result) (a .words .now) (a .parts .from) (a .parts .count)))
 
 add-i : tie.Need-add-i Inv-lifetimes μ-lifetimes
 add-i c = search needs
 
-add-from-word : tie.Need-add-from-word Inv-lifetimes μ-lifetimes
-add-from-word c = omega (arith, c .before .before .before .before .before .pre .0 .0 (c .before .lifetimes .i) (c .lifetimes-test .taken), c .before .before .before .before .before .fits)
-
-mul-from-word : tie.Need-mul-from-word Inv-lifetimes μ-lifetimes
-mul-from-word c = omega (arith, c .before .before .before .before .before .pre .0 .0 (c .before .lifetimes .i) (c .lifetimes-test .taken), c .before .before .before .before .before .fits)
-
-shared-slice-read-from-word : tie.Need-shared-slice-read-from-word Inv-lifetimes μ-lifetimes
-shared-slice-read-from-word c = c .before .before .before .before .before .before .pre .0 .0 (c .before .before .lifetimes .i) (c .before .lifetimes-test .taken)
-
-from-word-requires : tie.Need-from-word-requires Inv-lifetimes μ-lifetimes
-from-word-requires c κs = search needs
+linked-lifetime-requires : tie.Need-linked-lifetime-requires Inv-lifetimes μ-lifetimes
+linked-lifetime-requires c κs = (part-many (c .before .before .before .before .before .before .args .words .now) (c .before .before .path-words .result .now) (c .before .before .before .before .before .before .args .parts .from) (c .before .before .before .before .before .before .args .parts .count) (c .before .before .path-words .ensures) (c .before .before .before .before .before .before .pre .0 .0), c .lifetimes-test .taken)
 
 draws-requires : tie.Need-draws-requires Inv-lifetimes μ-lifetimes
 draws-requires c κs = search needs
@@ -53,21 +47,21 @@ lifetimes-less : tie.Need-lifetimes-less Inv-lifetimes μ-lifetimes
 lifetimes-less c = search needs
 
 lifetimes-again : tie.Need-lifetimes-again Inv-lifetimes μ-lifetimes
-lifetimes-again c = (omega (arith, c .before .before .before .before .lifetimes-test .taken), storing-none (c .before .before .before .before .before .lifetimes .inv .1) (edges-skip (drawsIn (c .before .before .before .before .before .before .before .before .before .args .set)) (c .before .before .before .before .before .before .before .before .before .args .used) (c .before .before .before .before .before .before .before .before .before .args .param) (c .before .before .before .before .before .before .option-number .result) (c .before .before .before .before .before .before .before .before .before .args .words .now) (c .before .before .before .before .before .before .before .before .before .args .parts .from) (c .before .before .before .before .before .before .before .before .before .args .parts .count) (c .before .before .before .before .before .before .before .before .before .pre .0 .0) (c .before .before .before .before .before .lifetimes .i) (c .before .before .before .before .lifetimes-test .taken) (c .before .before .from-word .ensures) (sym (not-true _ (c .if1 .taken)) ∙ c .before .draws .ensures)))
+lifetimes-again c = (omega (arith, c .before .before .before .lifetimes-test .taken), storing-none (c .before .before .before .before .lifetimes .inv .1) (edges-skip (drawsIn (c .before .before .before .before .before .before .before .before .before .args .set)) (c .before .before .before .before .before .before .before .before .before .args .used) (c .before .before .before .before .before .before .before .before .before .args .param) (c .before .before .before .before .before .before .option-number .result) (c .before .before .before .before .before .before .before .before .before .args .words .now) (c .before .before .before .before .before .before .before .before .before .args .parts .from) (c .before .before .before .before .before .before .before .before .before .args .parts .count) (c .before .before .before .before .before .before .before .before .before .pre .0 .0) (c .before .before .before .before .lifetimes .i) (c .before .before .before .lifetimes-test .taken) (part-word (c .before .before .before .before .before .before .before .before .before .args .words .now) (c .before .before .before .before .before .path-words .result .now) (c .before .before .before .before .before .before .before .before .before .args .parts .from) (c .before .before .before .before .before .before .before .before .before .args .parts .count) (c .before .before .before .before .before .path-words .ensures) (c .before .before .before .lifetimes-test .taken) (c .before .before .linked-lifetime .ensures)) (sym (not-true _ (c .if1 .taken)) ∙ c .before .draws .ensures)))
 
 store-pair-requires : tie.Need-store-pair-requires Inv-lifetimes μ-lifetimes
 store-pair-requires c κs =
     let s = c .before .before .before .before .before .before .before .before .before .before .before in
-    let split = edges-one (drawsIn (c .before .before .before .before .before .before .before .before .before .before .before .args .set)) (c .before .before .before .before .before .before .before .before .before .before .before .args .used) (c .before .before .before .before .before .before .before .before .before .before .before .args .param) (c .before .before .before .before .before .before .before .before .option-number .result) (c .before .before .before .before .before .before .before .before .before .before .before .args .words .now) (c .before .before .before .before .before .before .before .before .before .before .before .args .parts .from) (c .before .before .before .before .before .before .before .before .before .before .before .args .parts .count) (c .before .before .before .before .before .before .before .before .before .before .before .pre .0 .0) (c .before .before .before .before .before .before .before .lifetimes .i) (c .before .before .before .before .before .before .lifetimes-test .taken) (c .before .before .before .before .from-word .ensures) (sym (not-false _ (c .before .before .if1 .left)) ∙ c .before .before .before .draws .ensures) in
-    (refl, omega (arith, s .pre .0 .1, c .before .before .before .before .before .before .lifetimes-test .taken), s .pre .0 .2, c .before .before .before .before .before .before .before .lifetimes .inv .1 .sets16, storing-fits (c .before .before .before .before .before .before .before .lifetimes .inv .1) (edge (c .before .before .before .before .before .before .before .before .before .before .before .args .used) (c .before .before .before .before .before .before .before .before .before .before .before .args .param) 3 (c .before .before .before .before .before .before .before .lifetimes .i) (c .before .before .before .before .before .before .before .before .option-number .result) ∷ []) (leftEdges (drawsIn (c .before .before .before .before .before .before .before .before .before .before .before .args .set)) (c .before .before .before .before .before .before .before .before .before .before .before .args .used) (c .before .before .before .before .before .before .before .before .before .before .before .args .param) (c .before .before .before .before .before .before .before .before .option-number .result) (c .before .before .before .before .before .before .before .before .before .before .before .args .words .now) (c .before .before .before .before .before .before .before .before .before .before .before .args .parts .from) (c .before .before .before .before .before .before .before .before .before .before .before .args .parts .count) (c .before .before .before .before .before .before .before .lifetimes .i + 1)) split)
+    let split = edges-one (drawsIn (c .before .before .before .before .before .before .before .before .before .before .before .args .set)) (c .before .before .before .before .before .before .before .before .before .before .before .args .used) (c .before .before .before .before .before .before .before .before .before .before .before .args .param) (c .before .before .before .before .before .before .before .before .option-number .result) (c .before .before .before .before .before .before .before .before .before .before .before .args .words .now) (c .before .before .before .before .before .before .before .before .before .before .before .args .parts .from) (c .before .before .before .before .before .before .before .before .before .before .before .args .parts .count) (c .before .before .before .before .before .before .before .before .before .before .before .pre .0 .0) (c .before .before .before .before .before .before .lifetimes .i) (c .before .before .before .before .before .lifetimes-test .taken) (part-word (c .before .before .before .before .before .before .before .before .before .before .before .args .words .now) (c .before .before .before .before .before .before .before .path-words .result .now) (c .before .before .before .before .before .before .before .before .before .before .before .args .parts .from) (c .before .before .before .before .before .before .before .before .before .before .before .args .parts .count) (c .before .before .before .before .before .before .before .path-words .ensures) (c .before .before .before .before .before .lifetimes-test .taken) (c .before .before .before .before .linked-lifetime .ensures)) (sym (not-false _ (c .before .before .if1 .left)) ∙ c .before .before .before .draws .ensures) in
+    (refl, omega (arith, s .pre .0 .1, c .before .before .before .before .before .lifetimes-test .taken), s .pre .0 .2, c .before .before .before .before .before .before .lifetimes .inv .1 .sets16, storing-fits (c .before .before .before .before .before .before .lifetimes .inv .1) (edge (c .before .before .before .before .before .before .before .before .before .before .before .args .used) (c .before .before .before .before .before .before .before .before .before .before .before .args .param) 3 (c .before .before .before .before .before .before .lifetimes .i) (c .before .before .before .before .before .before .before .before .option-number .result) ∷ []) (leftEdges (drawsIn (c .before .before .before .before .before .before .before .before .before .before .before .args .set)) (c .before .before .before .before .before .before .before .before .before .before .before .args .used) (c .before .before .before .before .before .before .before .before .before .before .before .args .param) (c .before .before .before .before .before .before .before .before .option-number .result) (c .before .before .before .before .before .before .before .before .before .before .before .args .words .now) (c .before .before .before .before .before .before .before .before .before .before .before .args .parts .from) (c .before .before .before .before .before .before .before .before .before .before .before .args .parts .count) (c .before .before .before .before .before .before .lifetimes .i + 1)) split)
 
 lifetimes-less-2 : tie.Need-lifetimes-less-2 Inv-lifetimes μ-lifetimes
 lifetimes-less-2 c = search needs
 
 lifetimes-again-2 : tie.Need-lifetimes-again-2 Inv-lifetimes μ-lifetimes
 lifetimes-again-2 c =
-    let split = edges-one (drawsIn (c .before .before .before .before .before .before .before .before .before .before .before .before .before .before .args .set)) (c .before .before .before .before .before .before .before .before .before .before .before .before .before .before .args .used) (c .before .before .before .before .before .before .before .before .before .before .before .before .before .before .args .param) (c .before .before .before .before .before .before .before .before .before .before .before .option-number .result) (c .before .before .before .before .before .before .before .before .before .before .before .before .before .before .args .words .now) (c .before .before .before .before .before .before .before .before .before .before .before .before .before .before .args .parts .from) (c .before .before .before .before .before .before .before .before .before .before .before .before .before .before .args .parts .count) (c .before .before .before .before .before .before .before .before .before .before .before .before .before .before .pre .0 .0) (c .before .before .before .before .before .before .before .before .before .before .lifetimes .i) (c .before .before .before .before .before .before .before .before .before .lifetimes-test .taken) (c .before .before .before .before .before .before .before .from-word .ensures) (sym (not-false _ (c .before .before .before .before .before .if1 .left)) ∙ c .before .before .before .before .before .before .draws .ensures) in
-    (omega (arith, c .before .before .before .before .before .before .before .before .before .lifetimes-test .taken), storing-part (c .before .before .before .before .before .before .before .before .before .before .lifetimes .inv .1) (edge (c .before .before .before .before .before .before .before .before .before .before .before .before .before .before .args .used) (c .before .before .before .before .before .before .before .before .before .before .before .before .before .before .args .param) 3 (c .before .before .before .before .before .before .before .before .before .before .lifetimes .i) (c .before .before .before .before .before .before .before .before .before .before .before .option-number .result) ∷ []) (leftEdges (drawsIn (c .before .before .before .before .before .before .before .before .before .before .before .before .before .before .args .set)) (c .before .before .before .before .before .before .before .before .before .before .before .before .before .before .args .used) (c .before .before .before .before .before .before .before .before .before .before .before .before .before .before .args .param) (c .before .before .before .before .before .before .before .before .before .before .before .option-number .result) (c .before .before .before .before .before .before .before .before .before .before .before .before .before .before .args .words .now) (c .before .before .before .before .before .before .before .before .before .before .before .before .before .before .args .parts .from) (c .before .before .before .before .before .before .before .before .before .before .before .before .before .before .args .parts .count) (c .before .before .before .before .before .before .before .before .before .before .lifetimes .i + 1)) split (c .before .before .store-pair .ensures))
+    let split = edges-one (drawsIn (c .before .before .before .before .before .before .before .before .before .before .before .before .before .before .args .set)) (c .before .before .before .before .before .before .before .before .before .before .before .before .before .before .args .used) (c .before .before .before .before .before .before .before .before .before .before .before .before .before .before .args .param) (c .before .before .before .before .before .before .before .before .before .before .before .option-number .result) (c .before .before .before .before .before .before .before .before .before .before .before .before .before .before .args .words .now) (c .before .before .before .before .before .before .before .before .before .before .before .before .before .before .args .parts .from) (c .before .before .before .before .before .before .before .before .before .before .before .before .before .before .args .parts .count) (c .before .before .before .before .before .before .before .before .before .before .before .before .before .before .pre .0 .0) (c .before .before .before .before .before .before .before .before .before .lifetimes .i) (c .before .before .before .before .before .before .before .before .lifetimes-test .taken) (part-word (c .before .before .before .before .before .before .before .before .before .before .before .before .before .before .args .words .now) (c .before .before .before .before .before .before .before .before .before .before .path-words .result .now) (c .before .before .before .before .before .before .before .before .before .before .before .before .before .before .args .parts .from) (c .before .before .before .before .before .before .before .before .before .before .before .before .before .before .args .parts .count) (c .before .before .before .before .before .before .before .before .before .before .path-words .ensures) (c .before .before .before .before .before .before .before .before .lifetimes-test .taken) (c .before .before .before .before .before .before .before .linked-lifetime .ensures)) (sym (not-false _ (c .before .before .before .before .before .if1 .left)) ∙ c .before .before .before .before .before .before .draws .ensures) in
+    (omega (arith, c .before .before .before .before .before .before .before .before .lifetimes-test .taken), storing-part (c .before .before .before .before .before .before .before .before .before .lifetimes .inv .1) (edge (c .before .before .before .before .before .before .before .before .before .before .before .before .before .before .args .used) (c .before .before .before .before .before .before .before .before .before .before .before .before .before .before .args .param) 3 (c .before .before .before .before .before .before .before .before .before .lifetimes .i) (c .before .before .before .before .before .before .before .before .before .before .before .option-number .result) ∷ []) (leftEdges (drawsIn (c .before .before .before .before .before .before .before .before .before .before .before .before .before .before .args .set)) (c .before .before .before .before .before .before .before .before .before .before .before .before .before .before .args .used) (c .before .before .before .before .before .before .before .before .before .before .before .before .before .before .args .param) (c .before .before .before .before .before .before .before .before .before .before .before .option-number .result) (c .before .before .before .before .before .before .before .before .before .before .before .before .before .before .args .words .now) (c .before .before .before .before .before .before .before .before .before .before .before .before .before .before .args .parts .from) (c .before .before .before .before .before .before .before .before .before .before .before .before .before .before .args .parts .count) (c .before .before .before .before .before .before .before .before .before .lifetimes .i + 1)) split (c .before .before .store-pair .ensures))
 
 same-length : tie.Need-same-length Inv-lifetimes μ-lifetimes
 same-length c = c .before .lifetimes .inv .1 .size
@@ -75,7 +69,7 @@ same-length c = c .before .lifetimes .inv .1 .size
 returns : tie.Need-returns Inv-lifetimes μ-lifetimes
 returns c =
     let l = c .before .lifetimes in
-    rw (c .before .before .option-number .ensures) at (storing-end (l .inv .1) (edges-none _ _ _ _ _ _ _ (l .i) (c .lifetimes-test .left)))
+    rw (c .before .before .before .option-number .ensures) at (storing-end (l .inv .1) (edges-none _ _ _ _ _ _ _ (l .i) (c .lifetimes-test .left)))
 
 pub store-struct-spec : {M : Type 1} → statement M
 store-struct-spec =
@@ -84,12 +78,10 @@ store-struct-spec =
     Inv-lifetimes
     μ-lifetimes
     option-number-requires
+    path-words-requires
     lifetimes-holds
     add-i
-    add-from-word
-    mul-from-word
-    shared-slice-read-from-word
-    from-word-requires
+    linked-lifetime-requires
     draws-requires
     lifetimes-less
     lifetimes-again

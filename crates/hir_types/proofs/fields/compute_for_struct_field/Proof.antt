@@ -1,8 +1,8 @@
 -- `compute_for_struct_field` meets its contract: refused by the shape, for the field, at a row, or given.
 use mathlib.Core.Path.{refl, _∙_}
 use native.Mathlib.Omega.{arith}
-use Rattle.hir_types.proofs.FieldLaws.{compute-torn, in-order, compute-other, asked, asked-there, few-rows, compute-refused, compute-given}
 use borrow.Author.Needs.{needs}
+use Rattle.hir_types.proofs.FieldLaws.{compute-torn, in-order, compute-other, few-rows, path-linked, compute-refused, compute-given}
 use Rattle.hir_types.proofs.fields.compute_for_struct_field.Statement.{statement}
 use Rattle.hir_types.proofs.fields.compute_for_struct_field.Tie as tie
 
@@ -19,10 +19,12 @@ refused-requires : tie.Need-refused-requires
 refused-requires c κs = search needs
 
 returns : tie.Need-returns
-returns c = c .refused .ensures ∙ compute-torn (c .before .before .before .before .before .args .structs .now) (c .before .before .before .before .before .args .row) (c .before .before .before .before .before .args .field) (c .before .before .before .structs-shape .ensures) (c .before .enum-told .given .1)
+returns c =
+    c .refused .ensures ∙ compute-torn (c .before .before .before .before .before .args .structs .now) (c .before .before .before .before .before .args .row) (c .before .before .before .before .before .args .field) (c .before .before .before .structs-shape .ensures) (c .before .enum-told .given .1)
 
 field-at-requires : tie.Need-field-at-requires
-field-at-requires c κs = in-order (c .before .before .before .before .before .args .structs .now) (c .before .before .before .before .before .args .row) (c .before .before .before .before .before .args .field) (c .before .before .before .structs-shape .ensures) (c .before .shape .given .1)
+field-at-requires c κs =
+    in-order (c .before .before .before .before .before .args .structs .now) (c .before .before .before .before .before .args .row) (c .before .before .before .before .before .args .field) (c .before .before .before .structs-shape .ensures) (c .before .shape .given .1)
 
 enum-known-found : tie.Need-enum-known-found
 enum-known-found c = search needs
@@ -34,10 +36,12 @@ refused-requires-2 : tie.Need-refused-requires-2
 refused-requires-2 c κs = search needs
 
 returns-2 : tie.Need-returns-2
-returns-2 c = c .refused2 .ensures ∙ compute-other (c .before .before .before .before .before .before .before .before .before .args .structs .now) (c .before .before .before .before .before .before .before .before .before .args .row) (c .before .before .before .before .before .before .before .before .before .args .field) (c .before .before .before .before .before .before .before .structs-shape .ensures) (c .before .before .before .before .before .shape .given .1) (c .before .before .before .field-at .ensures) (c .before .enum-told2 .given .1)
+returns-2 c =
+    c .refused2 .ensures ∙ compute-other (c .before .before .before .before .before .before .before .before .before .args .structs .now) (c .before .before .before .before .before .before .before .before .before .args .row) (c .before .before .before .before .before .before .before .before .before .args .field) (c .before .before .before .before .before .before .before .structs-shape .ensures) (c .before .before .before .before .before .shape .given .1) (c .before .before .before .field-at .ensures) (c .before .enum-told2 .given .1)
 
 index-rows-requires : tie.Need-index-rows-requires
-index-rows-requires c κs = (in-order (c .before .before .before .before .before .before .before .before .before .before .before .args .structs .now) (c .before .before .before .before .before .before .before .before .before .before .before .args .row) (c .before .before .before .before .before .before .before .before .before .before .before .args .field) (c .before .before .before .before .before .before .before .before .before .structs-shape .ensures) (c .before .before .before .before .before .before .before .shape .given .1), (refl, refl))
+index-rows-requires c κs =
+    (in-order (c .before .before .before .before .before .before .before .before .before .before .before .args .structs .now) (c .before .before .before .before .before .before .before .before .before .before .before .args .row) (c .before .before .before .before .before .before .before .before .before .before .before .args .field) (c .before .before .before .before .before .before .before .before .before .structs-shape .ensures) (c .before .before .before .before .before .before .before .shape .given .1), (refl, refl))
 
 enum-known-verdict : tie.Need-enum-known-verdict
 enum-known-verdict c = search needs
@@ -49,19 +53,35 @@ enum-told-3 : tie.Need-enum-told-3
 enum-told-3 c = search needs
 
 mul-declared : tie.Need-mul-declared
-mul-declared c = omega (arith, few-rows (c .before .before .before .before .before .before .before .before .before .before .before .before .before .before .args .structs .now) (c .before .before .before .before .before .before .before .before .before .before .before .before .before .before .args .row) (c .before .before .before .before .before .before .before .before .before .before .before .before .before .before .args .field) (c .before .before .before .before .before .before .before .before .before .before .before .before .structs-shape .ensures) (c .before .before .before .before .before .before .before .before .before .before .shape .given .1) (c .before .before .before .before .before .before .before .before .field-at .ensures) (c .before .before .before .before .before .before .found .given .1) (c .before .before .index-rows .ensures) (c .enum-told3 .given .1))
+mul-declared c =
+    omega (arith, few-rows (c .before .before .before .before .before .before .before .before .before .before .before .before .before .before .args .structs .now) (c .before .before .before .before .before .before .before .before .before .before .before .before .before .before .args .row) (c .before .before .before .before .before .before .before .before .before .before .before .before .before .before .args .field) (c .before .before .before .before .before .before .before .before .before .before .before .before .structs-shape .ensures) (c .before .before .before .before .before .before .before .before .before .before .shape .given .1) (c .before .before .before .before .before .before .before .before .field-at .ensures) (c .before .before .before .before .before .before .found .given .1) (c .before .before .index-rows .ensures) (c .enum-told3 .given .1) .0)
 
 array-read-declared : tie.Need-array-read-declared
-array-read-declared c = few-rows (c .before .before .before .before .before .before .before .before .before .before .before .before .before .before .args .structs .now) (c .before .before .before .before .before .before .before .before .before .before .before .before .before .before .args .row) (c .before .before .before .before .before .before .before .before .before .before .before .before .before .before .args .field) (c .before .before .before .before .before .before .before .before .before .before .before .before .structs-shape .ensures) (c .before .before .before .before .before .before .before .before .before .before .shape .given .1) (c .before .before .before .before .before .before .before .before .field-at .ensures) (c .before .before .before .before .before .before .found .given .1) (c .before .before .index-rows .ensures) (c .enum-told3 .given .1)
+array-read-declared c =
+    few-rows (c .before .before .before .before .before .before .before .before .before .before .before .before .before .before .args .structs .now) (c .before .before .before .before .before .before .before .before .before .before .before .before .before .before .args .row) (c .before .before .before .before .before .before .before .before .before .before .before .before .before .before .args .field) (c .before .before .before .before .before .before .before .before .before .before .before .before .structs-shape .ensures) (c .before .before .before .before .before .before .before .before .before .before .shape .given .1) (c .before .before .before .before .before .before .before .before .field-at .ensures) (c .before .before .before .before .before .before .found .given .1) (c .before .before .index-rows .ensures) (c .enum-told3 .given .1) .0
+
+mul-linked : tie.Need-mul-linked
+mul-linked c =
+    omega (arith, few-rows (c .before .before .before .before .before .before .before .before .before .before .before .before .before .before .args .structs .now) (c .before .before .before .before .before .before .before .before .before .before .before .before .before .before .args .row) (c .before .before .before .before .before .before .before .before .before .before .before .before .before .before .args .field) (c .before .before .before .before .before .before .before .before .before .before .before .before .structs-shape .ensures) (c .before .before .before .before .before .before .before .before .before .before .shape .given .1) (c .before .before .before .before .before .before .before .before .field-at .ensures) (c .before .before .before .before .before .before .found .given .1) (c .before .before .index-rows .ensures) (c .enum-told3 .given .1) .1)
+
+array-read-linked : tie.Need-array-read-linked
+array-read-linked c =
+    few-rows (c .before .before .before .before .before .before .before .before .before .before .before .before .before .before .args .structs .now) (c .before .before .before .before .before .before .before .before .before .before .before .before .before .before .args .row) (c .before .before .before .before .before .before .before .before .before .before .before .before .before .before .args .field) (c .before .before .before .before .before .before .before .before .before .before .before .before .structs-shape .ensures) (c .before .before .before .before .before .before .before .before .before .before .shape .given .1) (c .before .before .before .before .before .before .before .before .field-at .ensures) (c .before .before .before .before .before .before .found .given .1) (c .before .before .index-rows .ensures) (c .enum-told3 .given .1) .1
+
+path-words-requires : tie.Need-path-words-requires
+path-words-requires c κs = search needs
 
 pairs-of-requires : tie.Need-pairs-of-requires
-pairs-of-requires c κs = ((asked (c .before .before .before .before .before .before .before .before .before .before .before .before .before .before .args .structs .now) (c .before .before .before .before .before .before .before .before .before .before .before .before .before .before .args .row) (c .before .before .before .before .before .before .before .before .before .before .before .before .before .before .args .field) (c .before .before .before .before .before .before .before .before .before .before .before .before .structs-shape .ensures) (c .before .before .before .before .before .before .before .before .before .before .shape .given .1) (c .before .before .before .before .before .before .before .before .field-at .ensures) (c .before .before .before .before .before .before .found .given .1)) .2, asked-there (c .before .before .before .before .before .before .before .before .before .before .before .before .before .before .args .structs .now) (c .before .before .before .before .before .before .before .before .before .before .before .before .before .before .args .row) (c .before .before .before .before .before .before .before .before .before .before .before .before .before .before .args .field) (c .before .before .before .before .before .before .before .before .before .before .before .before .structs-shape .ensures) (c .before .before .before .before .before .before .before .before .before .before .shape .given .1) (c .before .before .before .before .before .before .before .before .field-at .ensures) (c .before .before .before .before .before .before .found .given .1))
+pairs-of-requires c κs =
+    path-linked (c .before .before .before .before .before .before .before .before .before .before .before .before .before .before .before .args .structs .now) (c .before .before .before .before .before .before .before .before .before .before .before .before .before .before .before .args .row) (c .before .before .before .before .before .before .before .before .before .before .before .before .before .before .before .args .field) (c .before .before .before .before .before .before .before .before .before .before .before .before .before .structs-shape .ensures) (c .before .before .before .before .before .before .before .before .before .before .before .shape .given .1) (c .before .before .before .before .before .before .before .before .before .field-at .ensures) (c .before .before .before .before .before .before .before .found .given .1) (c .before .before .before .index-rows .ensures) (c .before .enum-told3 .given .1) (c .path-words .ensures)
 
 returns-3 : tie.Need-returns-3
-returns-3 c = c .refused3 .ensures ∙ compute-refused (c .before .before .before .before .before .before .before .before .before .before .before .before .before .before .before .before .args .structs .now) (c .before .before .before .before .before .before .before .before .before .before .before .before .before .before .before .before .args .row) (c .before .before .before .before .before .before .before .before .before .before .before .before .before .before .before .before .args .field) (c .before .before .before .before .before .before .before .before .before .before .before .before .before .before .structs-shape .ensures) (c .before .before .before .before .before .before .before .before .before .before .before .before .shape .given .1) (c .before .before .before .before .before .before .before .before .before .before .field-at .ensures) (c .before .before .before .before .before .before .before .before .found .given .1) (c .before .before .before .before .index-rows .ensures) (c .before .before .verdict .given .1)
+returns-3 c =
+    c .refused3 .ensures ∙ compute-refused (c .before .before .before .before .before .before .before .before .before .before .before .before .before .before .before .before .args .structs .now) (c .before .before .before .before .before .before .before .before .before .before .before .before .before .before .before .before .args .row) (c .before .before .before .before .before .before .before .before .before .before .before .before .before .before .before .before .args .field) (c .before .before .before .before .before .before .before .before .before .before .before .before .before .before .structs-shape .ensures) (c .before .before .before .before .before .before .before .before .before .before .before .before .shape .given .1) (c .before .before .before .before .before .before .before .before .before .before .field-at .ensures) (c .before .before .before .before .before .before .before .before .found .given .1) (c .before .before .before .before .index-rows .ensures) (c .before .before .verdict .given .1)
 
 returns-4 : tie.Need-returns-4
-returns-4 c = compute-given (c .before .before .before .before .before .before .before .before .before .before .before .before .before .before .before .args .structs .now) (c .before .before .before .before .before .before .before .before .before .before .before .before .before .before .before .args .row) (c .before .before .before .before .before .before .before .before .before .before .before .before .before .before .before .args .field) (c .before .before .before .before .before .before .before .before .before .before .before .before .before .structs-shape .ensures) (c .before .before .before .before .before .before .before .before .before .before .before .shape .given .1) (c .before .before .before .before .before .before .before .before .before .field-at .ensures) (c .before .before .before .before .before .before .before .found .given .1) (c .before .before .before .index-rows .ensures) (c .before .enum-told3 .given .1) (c .pairs-of .ensures)
+returns-4 c =
+    compute-given (c .before .before .before .before .before .before .before .before .before .before .before .before .before .before .before .before .args .structs .now) (c .before .before .before .before .before .before .before .before .before .before .before .before .before .before .before .before .args .row) (c .before .before .before .before .before .before .before .before .before .before .before .before .before .before .before .before .args .field) (c .before .before .before .before .before .before .before .before .before .before .before .before .before .before .structs-shape .ensures) (c .before .before .before .before .before .before .before .before .before .before .before .before .shape .given .1) (c .before .before .before .before .before .before .before .before .before .before .field-at .ensures) (c .before .before .before .before .before .before .before .before .found .given .1) (c .before .before .before .before .index-rows .ensures) (c .before .before .enum-told3 .given .1) (c .before .path-words .ensures) (c .pairs-of .ensures)
 
 pub compute-for-struct-field-spec : {M : Type 1} → statement M
 compute-for-struct-field-spec =
@@ -83,6 +103,9 @@ compute-for-struct-field-spec =
     enum-told-3
     mul-declared
     array-read-declared
+    mul-linked
+    array-read-linked
+    path-words-requires
     pairs-of-requires
     returns-3
     returns-4)

@@ -1,15 +1,16 @@
 -- `field_at` meets its contract: each way out is one law of proofs/FieldLaws.antt.
-use mathlib.Core.Path.{sym, _∙_}
-use borrow.Author.Tests.{not-true, not-false}
+use mathlib.Core.Path.{ap}
 use native.Mathlib.Omega.{arith}
-use Rattle.lowered_types.proofs.FoundLaws.{found-told, missing-told}
-use Rattle.hir_types.proofs.FieldLaws.{field-no-row, field-past, field-lost, field-other, field-struct}
 use borrow.Author.Needs.{needs}
+use Rattle.lowered_types.proofs.FoundLaws.{found-told, missing-told}
+use Rattle.hir_types.specs.Fields.{isStruct}
+use Rattle.hir_types.proofs.FieldLaws.{field-no-row, field-past, field-lost, field-other, field-struct}
 use Rattle.hir_types.proofs.fields.field_at.Statement.{statement}
 use Rattle.hir_types.proofs.fields.field_at.Tie as tie
 
 returns : tie.Need-returns
-returns c = field-no-row (c .before .before .args .structs .now) (c .before .before .args .row) (c .before .before .args .field) (omega (arith, c .before .before .pre .1))
+returns c =
+    field-no-row (c .before .before .args .structs .now) (c .before .before .args .row) (c .before .before .args .field) (omega (arith, c .before .before .pre .1))
 
 row-place-requires : tie.Need-row-place-requires
 row-place-requires c κs = search needs
@@ -24,7 +25,8 @@ shared-slice-read-count : tie.Need-shared-slice-read-count
 shared-slice-read-count c = search needs
 
 returns-2 : tie.Need-returns-2
-returns-2 c = field-past (c .before .before .before .before .before .args .structs .now) (c .before .before .before .before .before .args .row) (c .before .before .before .before .before .args .field) (c .before .before .row-place .ensures) (c .if2 .taken)
+returns-2 c =
+    field-past (c .before .before .before .before .before .args .structs .now) (c .before .before .before .before .before .args .row) (c .before .before .before .before .before .args .field) (c .before .before .row-place .ensures) (c .if2 .taken)
 
 add-skip-types : tie.Need-add-skip-types
 add-skip-types c = search needs
@@ -42,16 +44,36 @@ enum-told : tie.Need-enum-told
 enum-told c = search needs
 
 returns-3 : tie.Need-returns-3
-returns-3 c = field-lost (c .before .before .before .before .before .before .before .before .before .args .structs .now) (c .before .before .before .before .before .before .before .before .before .args .row) (c .before .before .before .before .before .before .before .before .before .args .field) (c .before .before .before .before .before .before .row-place .ensures) (c .before .before .before .before .if2 .left) (c .before .before .before .skip-types .result) (c .before .before .before .skip-types .ensures) (missing-told (c .before .before .type-at .ensures .1) (c .enum-told .given .1))
+returns-3 c =
+    field-lost (c .before .before .before .before .before .before .before .before .before .args .structs .now) (c .before .before .before .before .before .before .before .before .before .args .row) (c .before .before .before .before .before .before .before .before .before .args .field) (c .before .before .before .before .before .before .row-place .ensures) (c .before .before .before .before .if2 .left) (c .before .before .before .skip-types .result) (c .before .before .before .skip-types .ensures) (missing-told (c .before .before .type-at .ensures .1) (c .enum-told .given .1))
 
-is-struct-requires : tie.Need-is-struct-requires
-is-struct-requires c κs = search needs
+enum-known-kind : tie.Need-enum-known-kind
+enum-known-kind c = search needs
+
+enum-told-2 : tie.Need-enum-told-2
+enum-told-2 c = search needs
+
+enum-told-3 : tie.Need-enum-told-3
+enum-told-3 c = search needs
+
+enum-told-4 : tie.Need-enum-told-4
+enum-told-4 c = search needs
 
 returns-4 : tie.Need-returns-4
-returns-4 c = field-other (c .before .before .before .before .before .before .before .before .before .before .before .before .args .structs .now) (c .before .before .before .before .before .before .before .before .before .before .before .before .args .row) (c .before .before .before .before .before .before .before .before .before .before .before .before .args .field) (c .before .before .before .before .before .before .before .before .before .row-place .ensures) (c .before .before .before .before .before .before .before .if2 .left) (c .before .before .before .before .before .before .skip-types .result) (c .before .before .before .before .before .before .skip-types .ensures) (found-told (c .before .before .before .before .before .type-at .ensures .1) (c .before .before .before .found .given .1)) (sym (c .before .is-struct .ensures) ∙ not-true _ (c .if3 .taken))
+returns-4 c =
+    field-struct (c .before .before .before .before .before .before .before .before .before .before .before .before .before .args .structs .now) (c .before .before .before .before .before .before .before .before .before .before .before .before .before .args .row) (c .before .before .before .before .before .before .before .before .before .before .before .before .before .args .field) (c .before .before .before .before .before .before .before .before .before .before .row-place .ensures) (c .before .before .before .before .before .before .before .before .if2 .left) (c .before .before .before .before .before .before .before .skip-types .result) (c .before .before .before .before .before .before .before .skip-types .ensures) (found-told (c .before .before .before .before .before .before .type-at .ensures .1) (c .before .before .before .before .found .given .1)) (c .before .kind .given .1)
 
 returns-5 : tie.Need-returns-5
-returns-5 c = field-struct (c .before .before .before .before .before .before .before .before .before .before .before .before .args .structs .now) (c .before .before .before .before .before .before .before .before .before .before .before .before .args .row) (c .before .before .before .before .before .before .before .before .before .before .before .before .args .field) (c .before .before .before .before .before .before .before .before .before .row-place .ensures) (c .before .before .before .before .before .before .before .if2 .left) (c .before .before .before .before .before .before .skip-types .result) (c .before .before .before .before .before .before .skip-types .ensures) (found-told (c .before .before .before .before .before .type-at .ensures .1) (c .before .before .before .found .given .1)) (sym (c .before .is-struct .ensures) ∙ not-false _ (c .if3 .left))
+returns-5 c =
+    field-other (c .before .before .before .before .before .before .before .before .before .before .before .before .args .structs .now) (c .before .before .before .before .before .before .before .before .before .before .before .before .args .row) (c .before .before .before .before .before .before .before .before .before .before .before .before .args .field) (c .before .before .before .before .before .before .before .before .before .row-place .ensures) (c .before .before .before .before .before .before .before .if2 .left) (c .before .before .before .before .before .before .skip-types .result) (c .before .before .before .before .before .before .skip-types .ensures) (found-told (c .before .before .before .before .before .type-at .ensures .1) (c .before .before .before .found .given .1)) (ap isStruct (c .enum-told2 .given .1))
+
+returns-6 : tie.Need-returns-6
+returns-6 c =
+    field-other (c .before .before .before .before .before .before .before .before .before .before .before .before .args .structs .now) (c .before .before .before .before .before .before .before .before .before .before .before .before .args .row) (c .before .before .before .before .before .before .before .before .before .before .before .before .args .field) (c .before .before .before .before .before .before .before .before .before .row-place .ensures) (c .before .before .before .before .before .before .before .if2 .left) (c .before .before .before .before .before .before .skip-types .result) (c .before .before .before .before .before .before .skip-types .ensures) (found-told (c .before .before .before .before .before .type-at .ensures .1) (c .before .before .before .found .given .1)) (ap isStruct (c .enum-told3 .given .1))
+
+returns-7 : tie.Need-returns-7
+returns-7 c =
+    field-other (c .before .before .before .before .before .before .before .before .before .before .before .before .args .structs .now) (c .before .before .before .before .before .before .before .before .before .before .before .before .args .row) (c .before .before .before .before .before .before .before .before .before .before .before .before .args .field) (c .before .before .before .before .before .before .before .before .before .row-place .ensures) (c .before .before .before .before .before .before .before .if2 .left) (c .before .before .before .before .before .before .skip-types .result) (c .before .before .before .before .before .before .skip-types .ensures) (found-told (c .before .before .before .before .before .type-at .ensures .1) (c .before .before .before .found .given .1)) (ap isStruct (c .enum-told4 .given .1))
 
 pub field-at-spec : {M : Type 1} → statement M
 field-at-spec =
@@ -69,6 +91,11 @@ field-at-spec =
     enum-known-found
     enum-told
     returns-3
-    is-struct-requires
+    enum-known-kind
+    enum-told-2
+    enum-told-3
+    enum-told-4
     returns-4
-    returns-5)
+    returns-5
+    returns-6
+    returns-7)

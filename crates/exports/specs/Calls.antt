@@ -1,0 +1,48 @@
+-- The exported calls: what each gives, its status, and the words beside the answer. What a sheet gives is said by the crates below; here there is one slice more, which may be too short (9), and a
+-- status in place of an answer of many cases.
+use Prim.Native.Nat.{ℕ}
+use mathlib.Core.List.{List, [], _∷_, _++_}
+use lib.ListN.{length}
+use Rattle.lifetimes.specs.Refusals.{Outcome, Gives, Refuses, unless, numberOf}
+use Rattle.lifetimes.specs.Lent.{roomCheck}
+use Rattle.sheet.specs.Reading.{sheetOf}
+use Rattle.borrowing_param.specs.SheetMethod.{sheetRefusals}
+use Rattle.borrowing_param.specs.Borrows.{Borrows, sheetBorrows, roomChecks}
+use Rattle.listing.specs.Listing.{listingOf, listingChecks}
+
+-- 0, or 01's number of the refusal
+abbrev pub statusOf : {A : Type 0} → Outcome A → ℕ
+statusOf (Gives a) = 0
+statusOf (Refuses r) = numberOf r
+
+-- ---- `borrows_listing`
+
+-- the word beside a listing: how many bytes it has
+abbrev pub lengthWord : List ℕ → List ℕ
+lengthWord text = length text ∷ []
+
+-- refused as the sheet is, then by too many edges (9), then where one of the two slices is too short (9)
+unfoldable pub listingTo : List ℕ → ℕ → ℕ → Outcome (List ℕ)
+listingTo bytes room words =
+    unless (listingChecks bytes ++ (roomCheck room (listingOf (sheetOf bytes)) ∷ roomCheck words (lengthWord (listingOf (sheetOf bytes))) ∷ [])) (listingOf (sheetOf bytes))
+
+abbrev pub lengthOf : Outcome (List ℕ) → Outcome (List ℕ)
+lengthOf (Gives text) = Gives (lengthWord text)
+lengthOf (Refuses r) = Refuses r
+
+-- ---- `borrows_sheet`
+
+-- the words beside the three lists: how many used lifetimes, parameters and edges there are
+abbrev pub countWords : Borrows → List ℕ
+countWords b = length (b .used) ∷ length (b .answers) ∷ length (b .edges) ∷ []
+
+-- refused as the sheet is, then where one of the four slices is too short (9)
+unfoldable pub sheetTo : List ℕ → ℕ → ℕ → ℕ → ℕ → Outcome Borrows
+sheetTo bytes used answers edges counts =
+    unless
+    (sheetRefusals bytes ++ (roomChecks (sheetBorrows (sheetOf bytes)) used answers edges ++ (roomCheck counts (countWords (sheetBorrows (sheetOf bytes))) ∷ [])))
+    (sheetBorrows (sheetOf bytes))
+
+abbrev pub countsOf : Outcome Borrows → Outcome (List ℕ)
+countsOf (Gives b) = Gives (countWords b)
+countsOf (Refuses r) = Refuses r

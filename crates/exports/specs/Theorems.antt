@@ -1,0 +1,24 @@
+-- The main theorems, stated. Their proofs are the terms of these types in proofs/Theorems.antt.
+use Prim.Native.Nat.{ℕ, _≤_}
+use mathlib.Core.Path.{_≡_}
+use mathlib.Core.List.{List}
+use Rattle.lifetimes.specs.declared.answer.Refusal.{Refusal}
+use Rattle.lifetimes.specs.Refusals.{unless, numberOf}
+use Rattle.sheet.specs.Reading.{sheetOf}
+use Rattle.borrowing_param.specs.SheetMethod.{sheetRefusals}
+use Rattle.borrowing_param.specs.Borrows.{sheetBorrows}
+use Rattle.listing.specs.Listing.{listingOf, listingChecks}
+use Rattle.exports.specs.Calls.{listingTo, sheetTo}
+
+-- The sizes that include/borrows.h names are always enough. With them, or more, no refusal comes from what is lent: a listing's 9 is that of too many edges,
+abbrev pub BytesEnough : Type 0
+BytesEnough = (bytes : List ℕ) (room words : ℕ) → 131072 ≤ room → 1 ≤ words → listingTo bytes room words ≡ unless (listingChecks bytes) (listingOf (sheetOf bytes))
+
+-- and the other call has no 9
+abbrev pub WordsEnough : Type 0
+WordsEnough = (bytes : List ℕ) (used answers edges counts : ℕ) → 64 ≤ used → 16 ≤ answers → 81920 ≤ edges → 3 ≤ counts
+    → sheetTo bytes used answers edges counts ≡ unless (sheetRefusals bytes) (sheetBorrows (sheetOf bytes))
+
+-- A status of 0 is never that of a refusal, and none is above 10
+abbrev pub StatusTells : Type 0
+StatusTells = (r : Refusal) → (1 ≤ numberOf r) × (numberOf r ≤ 10)

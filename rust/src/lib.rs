@@ -1,0 +1,265 @@
+//! Which arguments a method's result has to keep alive, from a method sheet.
+//!
+//! The work is done by a static library every function of which is proved to meet its contract
+//! (`crates/exports` of the repository); here it gets Rust types and memory. What is unproved is this file: it lends
+//! slices, and names the numbers that come back.
+//!
+//! ```
+//! let sheet = b"names bounds types self steps returns structs params output force\n\
+//!               0 7 9\n0\n2 7 1 1 9\n\n0 7 0 9 0 1\n0 7\n\n1 0 1 2 1 1 3 1 3\n1 0 1 1 0\n0\n";
+//! let borrows = dovrelka::borrows(sheet).unwrap();
+//! assert_eq!(borrows.used, [0]);
+//! // the first parameter is kept, the second need not be
+//! assert_eq!(borrows.answers, [dovrelka::Answer::BorrowedOpaque, dovrelka::Answer::TemporarySlice]);
+//! assert_eq!(borrows.edges[0].param, 0);
+//! assert_eq!(dovrelka::listing(b""), Err(dovrelka::Refusal::Unreadable));
+//! ```
+//!
+//! A call takes about half a megabyte of stack, whatever the sheet; a thread that Rust starts has two megabytes.
+
+use std::fmt;
+
+/// So many bytes take any listing.
+pub const LISTING_BYTES: usize = 131_072;
+/// So many words take the used lifetimes of any sheet,
+pub const USED: usize = 64;
+/// the answers of its parameters,
+pub const ANSWERS: usize = 16;
+/// and its edges, each of `EDGE_WORDS` words.
+pub const EDGES: usize = 16_384;
+pub const EDGE_WORDS: usize = 5;
+/// Used lifetimes, parameters, edges.
+pub const COUNTS: usize = 3;
+
+// As crates/exports/src declares them: a slice is a pointer, then a length.
+extern "C" {
+    fn borrows_listing(
+        sheet: *const u8,
+        sheet_len: usize,
+        out: *mut u8,
+        out_len: usize,
+        written: *mut usize,
+        written_len: usize,
+    ) -> usize;
+    fn borrows_sheet(
+        sheet: *const u8,
+        sheet_len: usize,
+        used: *mut usize,
+        used_len: usize,
+        answers: *mut usize,
+        answers_len: usize,
+        edges: *mut usize,
+        edges_len: usize,
+        counts: *mut usize,
+        counts_len: usize,
+    ) -> usize;
+}
+
+/// Why a sheet is refused. The numbers are those of the scope paper.
+#[derive(Clone, Copy, Debug, PartialEq, Eq, Hash, PartialOrd, Ord)]
+pub enum Refusal {
+    /// a record that is not in its shape
+    Malformed = 1,
+    /// a name declared again
+    Duplicate = 2,
+    /// an undeclared name where one is looked up
+    Undeclared = 3,
+    /// one more than a limit takes
+    Full = 4,
+    /// an elided lifetime in the output, and no input to take it from
+    NoSource = 5,
+    /// the same, and several inputs
+    Ambiguous = 6,
+    /// not as many lifetimes as the struct has
+    Mismatch = 7,
+    /// a lifetime past those that there are
+    OutOfRange = 8,
+    /// more answers than fit: lent memory too short, or more than 4,096 edges in a listing
+    NoRoom = 9,
+    /// bytes that are not the text of a sheet
+    Unreadable = 10,
+}
+
+impl Refusal {
+    pub fn number(self) -> usize {
+        self as usize
+    }
+
+    fn of(status: usize) -> Result<(), Refusal> {
+        Err(match status {
+            0 => return Ok(()),
+            1 => Refusal::Malformed,
+            2 => Refusal::Duplicate,
+            3 => Refusal::Undeclared,
+            4 => Refusal::Full,
+            5 => Refusal::NoSource,
+            6 => Refusal::Ambiguous,
+            7 => Refusal::Mismatch,
+            8 => Refusal::OutOfRange,
+            9 => Refusal::NoRoom,
+            10 => Refusal::Unreadable,
+            other => unreachable!("status {other}: the contract has 0 to 10"),
+        })
+    }
+}
+
+impl fmt::Display for Refusal {
+    fn fmt(&self, f: &mut fmt::Formatter<'_>) -> fmt::Result {
+        write!(f, "refusal {}: ", self.number())?;
+        f.write_str(match self {
+            Refusal::Malformed => "a record is not in its shape",
+            Refusal::Duplicate => "a name is declared again",
+            Refusal::Undeclared => "an undeclared name is looked up",
+            Refusal::Full => "a limit is exceeded",
+            Refusal::NoSource => "an elided lifetime has no source",
+            Refusal::Ambiguous => "an elided lifetime has several sources",
+            Refusal::Mismatch => "a struct is given another number of lifetimes than it has",
+            Refusal::OutOfRange => "a lifetime is past those that there are",
+            Refusal::NoRoom => "more answers than fit",
+            Refusal::Unreadable => "not the text of a sheet",
+        })
+    }
+}
+
+impl std::error::Error for Refusal {}
+
+/// What a parameter's visit answers.
+#[derive(Clone, Copy, Debug, PartialEq, Eq, Hash)]
+pub enum Answer {
+    NotBorrowed = 0,
+    /// a slice that need not be kept after the call
+    TemporarySlice = 1,
+    BorrowedSlice = 2,
+    Struct = 3,
+    BorrowedOpaque = 4,
+}
+
+/// What an edge leads to.
+#[derive(Clone, Copy, Debug, PartialEq, Eq, Hash)]
+pub enum Kind {
+    Opaque = 1,
+    Slice = 2,
+    Struct = 3,
+}
+
+/// For `used`, the result has to hold on to this.
+#[derive(Clone, Copy, Debug, PartialEq, Eq, Hash)]
+pub struct Edge {
+    pub used: usize,
+    pub param: usize,
+    pub kind: Kind,
+    /// of a struct, which of its own lifetimes; else 0
+    pub def: usize,
+    /// whether the struct may be absent
+    pub option: bool,
+}
+
+/// What the wrapper of a sheet's method has to hold on to.
+#[derive(Clone, Debug, PartialEq, Eq)]
+pub struct Borrows {
+    /// the lifetimes that the output uses, ascending
+    pub used: Vec<usize>,
+    /// by parameter
+    pub answers: Vec<Answer>,
+    /// by used lifetime, parameter, def
+    pub edges: Vec<Edge>,
+}
+
+/// The listing of a sheet.
+pub fn listing(sheet: &[u8]) -> Result<Vec<u8>, Refusal> {
+    let mut out = vec![0; LISTING_BYTES];
+    let length = listing_into(sheet, &mut out)?;
+    out.truncate(length);
+    Ok(out)
+}
+
+/// The listing of a sheet, to the front of a slice; the answer is its length. Refused, the slice is as it was. With
+/// fewer than `LISTING_BYTES` the listing is measured first.
+pub fn listing_into(sheet: &[u8], out: &mut [u8]) -> Result<usize, Refusal> {
+    let mut written = [0];
+    // SAFETY: each pointer is that of a slice, with its length; the two that are written are borrowed exclusively, so
+    // nothing overlaps.
+    let status = unsafe {
+        borrows_listing(
+            sheet.as_ptr(),
+            sheet.len(),
+            out.as_mut_ptr(),
+            out.len(),
+            written.as_mut_ptr(),
+            written.len(),
+        )
+    };
+    Refusal::of(status)?;
+    Ok(written[0])
+}
+
+/// Used lifetimes, answers and edges of a sheet.
+pub fn borrows(sheet: &[u8]) -> Result<Borrows, Refusal> {
+    let mut used = vec![0; USED];
+    let mut answers = [0; ANSWERS];
+    let mut edges = vec![0; EDGES * EDGE_WORDS];
+    let mut counts = [0; COUNTS];
+    borrows_into(sheet, &mut used, &mut answers, &mut edges, &mut counts)?;
+    used.truncate(counts[0]);
+    Ok(Borrows {
+        used,
+        answers: answers[..counts[1]].iter().map(|&a| answer(a)).collect(),
+        edges: edges[..counts[2] * EDGE_WORDS]
+            .chunks_exact(EDGE_WORDS)
+            .map(edge)
+            .collect(),
+    })
+}
+
+/// The same as words: used lifetimes, answers, edges of five words each, and how many of each there are. Refused, all
+/// four slices are as they were.
+pub fn borrows_into(
+    sheet: &[u8],
+    used: &mut [usize],
+    answers: &mut [usize],
+    edges: &mut [usize],
+    counts: &mut [usize],
+) -> Result<(), Refusal> {
+    // SAFETY: as in `listing_into`.
+    let status = unsafe {
+        borrows_sheet(
+            sheet.as_ptr(),
+            sheet.len(),
+            used.as_mut_ptr(),
+            used.len(),
+            answers.as_mut_ptr(),
+            answers.len(),
+            edges.as_mut_ptr(),
+            edges.len(),
+            counts.as_mut_ptr(),
+            counts.len(),
+        )
+    };
+    Refusal::of(status)
+}
+
+fn answer(word: usize) -> Answer {
+    match word {
+        0 => Answer::NotBorrowed,
+        1 => Answer::TemporarySlice,
+        2 => Answer::BorrowedSlice,
+        3 => Answer::Struct,
+        4 => Answer::BorrowedOpaque,
+        other => unreachable!("answer {other}: the contract has 0 to 4"),
+    }
+}
+
+fn edge(words: &[usize]) -> Edge {
+    Edge {
+        used: words[0],
+        param: words[1],
+        kind: match words[2] {
+            1 => Kind::Opaque,
+            2 => Kind::Slice,
+            3 => Kind::Struct,
+            other => unreachable!("kind {other}: the contract has 1 to 3"),
+        },
+        def: words[3],
+        option: words[4] != 0,
+    }
+}
