@@ -154,10 +154,7 @@ pub(crate) fn bounds_of(pairs: &[usize]) -> [Bound; 256] {
     let n = scan::least(pairs.len() / 2, 256);
     let mut i = 0;
     while i < n {
-        bounds[i] = Bound::new(
-            Lifetime::new(pairs[2 * i]),
-            Lifetime::new(pairs[2 * i + 1]),
-        );
+        bounds[i] = Bound::new(Lifetime::new(pairs[2 * i]), Lifetime::new(pairs[2 * i + 1]));
         i += 1;
     }
     bounds
