@@ -1,7 +1,7 @@
 -- What `from_method_item` gives is an environment on which nothing is due: the names are at most 32, the bounds at most 256, each between names.
 use Prim.Native.Nat.{ℕ, suc, _+_, _≤_}
 use mathlib.Core.Bool.{true, not}
-use mathlib.Core.Path.{_≡_, refl}
+use mathlib.Core.Path.{_≡_, refl, sym, _∙_}
 use mathlib.Core.List.{List, [], _∷_, _++_}
 use native.Mathlib.Omega.{arith}
 use borrow.Author.Tests.{leb-false, le-ltb, lt-ltb}
@@ -11,10 +11,13 @@ use Rattle.lifetimes.specs.declared.answer.Refusal.the-variants.{OutOfRange}
 use Rattle.lifetimes.specs.declared.env.Bound.{Bound}
 use Rattle.lifetimes.specs.Refusals.{check, NoneDue, next, end}
 use Rattle.lifetimes.specs.Env.{allBelow}
-use Rattle.lifetimes.proofs.RefusalLaws.{none-first, none-rest, none-split}
+use Rattle.lifetimes.proofs.RefusalLaws.{accepted-none, none-first, none-rest, none-split}
+use Rattle.lifetimes.specs.declared.answer.Verdict.the-variants.{Accepted}
+use Rattle.ast_lifetimes.specs.declared.env.Counts.{Counts}
+use Rattle.ast_lifetimes.specs.Inner.{sidesOf, Built}
 use Rattle.ast_lifetimes.specs.Shapes.{implNames, methodNames, Pair, implPairs, methodPairs}
 use Rattle.ast_lifetimes.specs.Env.{nameChecks, allPairChecks, namesOf, boundsOf, envOf, envChecks, allNamesOf, impliedPairs, placeChecks, methodBounds}
-use Rattle.ast_lifetimes.proofs.Building.{Under, none, more, under-append, under-wider, pairs-under}
+use Rattle.ast_lifetimes.proofs.Building.{Under, under-below, under-append, under-wider, pairs-under}
 
 names-few : (before names : List ℕ) → NoneDue (nameChecks before names) → length before ≤ 32 → length before + length names ≤ 32
 unfolding nameChecks
@@ -32,11 +35,6 @@ pairs-few names pushed (p ∷ ps) n h =
     let k = leb-false 256 pushed (none-first (none-rest (none-rest n))) in
     let m = pairs-few names (suc pushed) ps (none-rest (none-rest (none-rest n))) (omega (arith, k)) in
     omega (arith, m)
-
-under-below : {n : ℕ} (bs : List Bound) → Under n bs → allBelow n bs ≡ true
-unfolding allBelow
-under-below [] none = refl
-under-below {n} (b ∷ bs) (more l s u) = rw (lt-ltb (b .longer .0) n l, lt-ltb (b .shorter .0) n s, under-below bs u)
 
 module _ (names bounds types : List ℕ) (n : NoneDue (placeChecks names bounds types)) where
   abbrev impls : ℕ
@@ -78,6 +76,9 @@ module _ (names bounds types : List ℕ) (n : NoneDue (placeChecks names bounds 
       (pairs-under (allNamesOf names) impls (methodPairs bounds) (parts .3)))
       (pairs-under (allNamesOf names) (impls + owns) (impliedPairs names bounds types) (parts .4))
 
+  pub accepted-small : allBelow 255 (methodBounds names bounds types) ≡ true
+  accepted-small = under-below _ (under-wider (omega (arith, accepted-names)) accepted-under)
+
   pub accepted-names-of : namesOf (envOf (allNamesOf names) (methodBounds names bounds types)) ≡ allNamesOf names
   unfolding envOf
   accepted-names-of = take-append-seam (allNamesOf names) _
@@ -94,3 +95,9 @@ module _ (names bounds types : List ℕ) (n : NoneDue (placeChecks names bounds 
       next (le-ltb 32 (length (allNamesOf names)) accepted-names)
       (next (le-ltb 256 (length (methodBounds names bounds types)) accepted-pushed)
       (next {c = check (not (allBelow (length (allNamesOf names)) (boundsOf (envOf (allNamesOf names) (methodBounds names bounds types))))) OutOfRange} (rw below) end))
+
+-- the sides that `build` leaves in its arrays
+pub built-small : {names bounds types declared longs shorts : List ℕ} {r : Counts} → Built names bounds types declared longs shorts r → r .verdict ≡ Accepted
+    → allBelow 255 (sidesOf (r .pushed) longs shorts) ≡ true
+built-small {names} {bounds} {types} b e =
+    rw (b .bounded e) (accepted-small names bounds types (accepted-none (tt {0}) (placeChecks names bounds types) (sym (b .verdict) ∙ e)))

@@ -1,6 +1,8 @@
 -- An environment from arrays: the loop of `copy_names`, the loop of `assembled` over the sides of bounds, and the environment that they make.
 use Prim.Native.Nat.{ℕ, zero, suc, _+_, _-_, _≤_, _<_}
+use mathlib.Core.Bool.{true}
 use mathlib.Core.Path.{_≡_, _∙_}
+use borrow.Author.Tests.{lt-ltb}
 use mathlib.Core.List.{List, _++_, map}
 use native.Mathlib.Nat.{zero-add, sub-zero, zero-sub, suc-sub-suc}
 use native.Mathlib.Numerals.{add-one}
@@ -11,11 +13,12 @@ use Rattle.lifetimes.specs.declared.lifetime.Lifetime.{Lifetime}
 use Rattle.lifetimes.specs.declared.env.Bound.{Bound}
 use Rattle.lifetimes.specs.Numbers.{lifetime}
 use Rattle.lifetimes.specs.Ranges.{ascending}
-use Rattle.lifetimes.specs.Env.{above}
+use Rattle.lifetimes.specs.Env.{above, byteOf, allBelow}
 use Rattle.lifetimes.proofs.SetLaws.{length-ascending}
 use Rattle.lifetimes.proofs.Copying.{Copying, copying-more}
 use Rattle.ast_lifetimes.specs.Env.{envOf}
 use Rattle.ast_lifetimes.specs.Inner.{sidesOf}
+use Rattle.ast_lifetimes.proofs.Building.{Under, below-under, under-sides}
 
 -- ---- `copy_names`
 
@@ -44,19 +47,21 @@ length-sides n longs shorts = rw (length-map, length-ascending 0 n)
 -- what is left to store, stored from here, gives what all sides give from the array's start
 pub record Storing (longs shorts : List ℕ) (pushed : ℕ) (bounds : List Bound) (i : ℕ) : Type 0 where
   pub here : i ≤ pushed
+  pub small : Under 255 (sidesOf pushed longs shorts)
   pub stored : sets bounds i (map (side longs shorts) (ascending i (pushed - i))) ≡ sets (replicate 256 (above 0 0)) 0 (sidesOf pushed longs shorts)
 
-pub storing-start : (longs shorts : List ℕ) (pushed : ℕ) {a b : Lifetime} → a ≡ lifetime 0 → b ≡ lifetime 0
-    → Storing longs shorts pushed (replicate 256 (record { longer = a; shorter = b })) 0
-storing-start longs shorts pushed ea eb = record { here = omega arith; stored = rw (ea, eb, sub-zero) }
+pub storing-start : (longs shorts : List ℕ) (pushed : ℕ) → allBelow 255 (sidesOf pushed longs shorts) ≡ true → Storing longs shorts pushed (replicate 256 (above 0 0)) 0
+storing-start longs shorts pushed small = record { here = omega arith; small = below-under (sidesOf pushed longs shorts) small; stored = rw sub-zero }
 
 module _ {longs shorts : List ℕ} {pushed : ℕ} {bounds : List Bound} {i : ℕ} (inv : Storing longs shorts pushed bounds i) where
-  pub storing-more : i < pushed → {a b : Lifetime} → a ≡ lifetime (getD longs i 0) → b ≡ lifetime (getD shorts i 0)
-      → Storing longs shorts pushed (set bounds i (record { longer = a; shorter = b })) (i + 1)
+  pub storing-more : i < pushed → {l s : Lifetime} → l ≡ lifetime (getD longs i 0) → s ≡ lifetime (getD shorts i 0) → {b : Bound} → b ≡ above (byteOf (l .0)) (byteOf (s .0))
+      → Storing longs shorts pushed (set bounds i b) (i + 1)
   unfolding ascending
-  storing-more h ea eb =
+  storing-more h {l} {s} el es {b} eb =
       let one : pushed - i ≡ suc (pushed - suc i) = omega arith in
-      record { here = omega arith; stored = rw (add-one i, ea, eb) (rw one at (inv .stored)) }
+      let k = under-sides 255 0 pushed longs shorts (inv .small) i (omega arith) (omega arith) in
+      let e : b ≡ side longs shorts i = eb ∙ rw (el, es, lt-ltb (getD longs i 0) 255 (k .0), lt-ltb (getD shorts i 0) 255 (k .1)) in
+      record { here = omega arith; small = inv .small; stored = rw (add-one i, e) (rw one at (inv .stored)) }
 
   all-stored : pushed ≤ 256 → pushed ≤ i → bounds ≡ sidesOf pushed longs shorts ++ replicate (256 - length (sidesOf pushed longs shorts)) (above 0 0)
   unfolding ascending

@@ -86,11 +86,11 @@ module _ {e : LifetimeEnv} {i : ℕ} (inv : Checking e i) where
     unfolding unless allBelow
     outside f = rw (inv .left, bound-read e i full (inv .few) h, f)
 
-    module _ {l : ℕ} (a : l ≡ getD (e .bounds) i (above 0 0) .longer .0) where
+    module _ {l : ℕ} (a : l ≡ getD (e .bounds) i (above 0 0) .longer) where
       pub checking-longer : e .named ≤ l → Refused OutOfRange ≡ verdictOf (unless (envChecks e) e)
       checking-longer k = outside (rw (← a, le-ltb l (e .named) k))
 
-      module _ (inside : l < e .named) {s : ℕ} (b : s ≡ getD (e .bounds) i (above 0 0) .shorter .0) where
+      module _ (inside : l < e .named) {s : ℕ} (b : s ≡ getD (e .bounds) i (above 0 0) .shorter) where
         pub checking-shorter : e .named ≤ s → Refused OutOfRange ≡ verdictOf (unless (envChecks e) e)
         checking-shorter k = outside (rw (← a, ← b, lt-ltb l (e .named) inside, le-ltb s (e .named) k))
 

@@ -1,13 +1,13 @@
 -- `build` stage by stage: what records in shape say, what stands in the arrays after each stage and which checks are left then; and the answers of `from_method_item`.
 use Prim.Native.Nat.{ℕ, zero, suc, _+_, _-_, _*_, _/_, _%_, _≤_, _<_}
-use mathlib.Core.Bool.{Bool, true, false, _&&_}
+use mathlib.Core.Bool.{Bool, true, false, _&&_, and-eq-true-iff}
 use mathlib.Core.Path.{_≡_, refl, sym, ap, _∙_}
 use mathlib.Core.List.{List, [], _∷_, _++_, map}
 use native.Mathlib.Decide.{ℕ-discrete}
 use native.Mathlib.Nat.{zero-add}
 use native.Mathlib.Omega.{arith}
-use borrow.Author.Tests.{eqb-true, leb-true, ltb-true, not-false}
-use lib.Dec.{eqb, leb}
+use borrow.Author.Tests.{eqb-true, leb-true, lt-ltb, ltb-true, not-false}
+use lib.Dec.{eqb, leb, ltb}
 use lib.ListN.{length, getD, take, drop, length-append, length-drop}
 use lib.Seq.{slice, take-length, take-nil, drop-nil, length-take-le}
 use Rattle.lifetimes.specs.declared.answer.Refusal.{Refusal}
@@ -17,7 +17,7 @@ use Rattle.lifetimes.specs.declared.answer.Verdict.the-variants.{Accepted, Refu
 use Rattle.lifetimes.specs.declared.env.Bound.{Bound}
 use Rattle.lifetimes.specs.Ranges.{ascending}
 use Rattle.lifetimes.specs.Refusals.{Check, unless, FirstDue, NoneDue, next}
-use Rattle.lifetimes.specs.Env.{above}
+use Rattle.lifetimes.specs.Env.{above, bothBelow, allBelow}
 use Rattle.lifetimes.proofs.RefusalLaws.{due-given, due-refused, refused-first, accepted-none}
 use Rattle.ast_lifetimes.specs.declared.implied.Implied.{Implied}
 use Rattle.ast_lifetimes.specs.declared.env.Counts.{Counts}
@@ -137,7 +137,20 @@ shaped names bounds types h = record { in-names = names-say names (h .0); in-bou
 
 pub data Under (n : ℕ) : List Bound → Type 0 where
   none : Under n []
-  more : {b : Bound} {bs : List Bound} → b .longer .0 < n → b .shorter .0 < n → Under n bs → Under n (b ∷ bs)
+  more : {b : Bound} {bs : List Bound} → b .longer < n → b .shorter < n → Under n bs → Under n (b ∷ bs)
+
+pub below-under : {n : ℕ} (bs : List Bound) → allBelow n bs ≡ true → Under n bs
+unfolding allBelow
+below-under [] e = none
+below-under {n} (b ∷ bs) e =
+    let both = (and-eq-true-iff (bothBelow n b) (allBelow n bs)) .0 e in
+    let sides = (and-eq-true-iff (ltb (b .longer) n) (ltb (b .shorter) n)) .0 (both .0) in
+    more (ltb-true (b .longer) n (sides .0)) (ltb-true (b .shorter) n (sides .1)) (below-under bs (both .1))
+
+pub under-below : {n : ℕ} (bs : List Bound) → Under n bs → allBelow n bs ≡ true
+unfolding allBelow
+under-below [] none = refl
+under-below {n} (b ∷ bs) (more l s u) = rw (lt-ltb (b .longer) n l, lt-ltb (b .shorter) n s, under-below bs u)
 
 pub under-append : {n : ℕ} {bs cs : List Bound} → Under n bs → Under n cs → Under n (bs ++ cs)
 under-append none v = v

@@ -7,7 +7,7 @@ use native.Mathlib.Omega.{arith}
 use native.Mathlib.Numerals.{add-one}
 use borrow.Author.Tests.{ltb-true, ltb-false, not-false}
 use lib.Dec.{ltb}
-use lib.ListN.{length, getD, take, set, length-set}
+use lib.ListN.{length, getD, take, set, length-set, length-take}
 use lib.Seq.{take-suc, length-take-le}
 use Rattle.lifetimes.specs.declared.answer.Refusal.{Refusal}
 use Rattle.lifetimes.specs.declared.answer.Refusal.the-variants.{Malformed}
@@ -30,7 +30,7 @@ use Rattle.records.specs.Ends.{judged}
 use Rattle.ast_lifetimes.specs.Inner.{sidesOf, Below, Splits, Extends}
 use Rattle.records.proofs.VerdictLaws.{refused-accepted, unless-after}
 use Rattle.ast_lifetimes.proofs.PairLaws.{sides-more}
-use Rattle.ast_lifetimes.proofs.Building.{Under, none, more, under-sides}
+use Rattle.ast_lifetimes.proofs.Building.{Under, below-under, under-below, under-append, under-wider, pairs-under, under-sides}
 
 -- the loop of `split`
 pub record Splitting (e : LifetimeEnv) (longs shorts : List ℕ) (i : ℕ) : Type 0 where
@@ -44,7 +44,7 @@ unfolding ranges.ascending
 splitting-start e longs shorts a b = record { here = omega arith; size-longs = a; size-shorts = b; sides = refl }
 
 module _ {e : LifetimeEnv} {longs shorts : List ℕ} {i : ℕ} (inv : Splitting e longs shorts i) where
-  pub splitting-more : length (e .bounds) ≡ 256 → e .pushed ≤ 256 → i < e .pushed → {l s : ℕ} → l ≡ getD (e .bounds) i (above 0 0) .longer .0 → s ≡ getD (e .bounds) i (above 0 0) .shorter .0
+  pub splitting-more : length (e .bounds) ≡ 256 → e .pushed ≤ 256 → i < e .pushed → {l s : ℕ} → l ≡ getD (e .bounds) i (above 0 0) .longer → s ≡ getD (e .bounds) i (above 0 0) .shorter
       → Splitting e (set longs i l) (set shorts i s) (i + 1)
   splitting-more full few h {l} {s} a b = record {
     here = omega arith;
@@ -59,14 +59,6 @@ module _ {e : LifetimeEnv} {longs shorts : List ℕ} {i : ℕ} (inv : Splitting 
       record { size-longs = inv .size-longs; size-shorts = inv .size-shorts; sides = rw e at (inv .sides) }
 
 -- the sides of an environment that was checked are names' numbers
-under-all : (n : ℕ) (bs : List Bound) → hir.allBelow n bs ≡ true → Under n bs
-unfolding hir.allBelow
-under-all n [] h = none
-under-all n (b ∷ bs) h =
-    let both = (and-eq-true-iff (bothBelow n b) (hir.allBelow n bs)) .0 h in
-    let sides = (and-eq-true-iff (ltb (b .longer .0) n) (ltb (b .shorter .0) n)) .0 (both .0) in
-    more (ltb-true _ _ (sides .0)) (ltb-true _ _ (sides .1)) (under-all n bs (both .1))
-
 module _ (e : LifetimeEnv) (valid : NoneDue (envChecks e)) where
   pub valid-named : e .named ≤ 32
   valid-named = ltb-false 32 (e .named) (none-first valid)
@@ -74,9 +66,12 @@ module _ (e : LifetimeEnv) (valid : NoneDue (envChecks e)) where
   pub valid-pushed : e .pushed ≤ 256
   valid-pushed = ltb-false 256 (e .pushed) (none-first (none-rest valid))
 
+  valid-under : Under (e .named) (boundsOf e)
+  valid-under = below-under (boundsOf e) (not-false _ (none-first (none-rest (none-rest valid))))
+
   pub split-below : {longs shorts : List ℕ} → Splits e longs shorts → Below (e .named) (e .pushed) longs shorts
   split-below {longs} {shorts} splits i h =
-      let u : Under (e .named) (sidesOf (e .pushed) longs shorts) = rw (splits .sides) (under-all (e .named) (boundsOf e) (not-false _ (none-first (none-rest (none-rest valid))))) in
+      let u : Under (e .named) (sidesOf (e .pushed) longs shorts) = rw (splits .sides) valid-under in
       under-sides (e .named) 0 (e .pushed) longs shorts u i (omega arith) (omega arith)
 
 -- an environment that was checked
@@ -98,12 +93,22 @@ module _ (e : LifetimeEnv) (types : List ℕ) {longs shorts longs₁ shorts₁ r
   pub extended-few : r .verdict ≡ Accepted → (r .pushed ≤ 256) × (length longs₁ ≡ 256) × (length shorts₁ ≡ 256)
   extended-few a = (rw (ext .pushed a) (ext .pushes .few a), ext .pushes .size-longs, ext .pushes .size-shorts)
 
+  extended-sides : r .verdict ≡ Accepted → sidesOf (r .pushed) longs₁ shorts₁ ≡ boundsOf e ++ boundsFor (namesOf e) (impliedOn e types)
+  extended-sides a = rw (ext .pushed a, ext .pushes .bounds a, splits .sides)
+
+  extended-free : r .verdict ≡ Accepted → NoneDue (allPairChecks (namesOf e) (e .pushed) (impliedOn e types))
+  extended-free a = accepted-none (tt {0}) _ (sym (ext .pushes .verdict) ∙ a)
+
+  pub extended-small : r .verdict ≡ Accepted → NoneDue (envChecks e) → hir.allBelow 255 (sidesOf (r .pushed) longs₁ shorts₁) ≡ true
+  extended-small a v =
+      let few = valid-named e v in
+      let names : length (namesOf e) ≤ 255 = rw length-take (omega (arith, few)) in
+      rw (extended-sides a) (under-below _ (under-append (under-wider (omega (arith, few)) (valid-under e v)) (under-wider names (pairs-under (namesOf e) (e .pushed) (impliedOn e types) (extended-free a)))))
+
   pub extended-given : r .verdict ≡ Accepted → {env : LifetimeEnv} → env ≡ envOf (namesOf e) (sidesOf (r .pushed) longs₁ shorts₁)
       → record { verdict = Accepted; env = env } ≡ made e (unless (allPairChecks (namesOf e) (e .pushed) (impliedOn e types)) (extendedWith e types))
   extended-given a {env} is =
-      let free : NoneDue (allPairChecks (namesOf e) (e .pushed) (impliedOn e types)) = accepted-none (tt {0}) _ (sym (ext .pushes .verdict) ∙ a) in
-      let bounds : sidesOf (r .pushed) longs₁ shorts₁ ≡ boundsOf e ++ boundsFor (namesOf e) (impliedOn e types) = rw (ext .pushed a, ext .pushes .bounds a, splits .sides) in
-      rw (due-given (extendedWith e types) free, is, bounds)
+      rw (due-given (extendedWith e types) (extended-free a), is, extended-sides a)
 
 -- the answers of `extend_implicit_lifetime_bounds`
 module _ (e : LifetimeEnv) (types : List ℕ) {v : Verdict} (shape : v ≡ shapeVerdict (typesInShape types)) where

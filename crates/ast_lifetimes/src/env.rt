@@ -7,6 +7,7 @@ ghost use lib.ListN.{length, take};
 ghost use lib.Seq.{sets};
 ghost use Rattle.lifetimes.specs.Refusals.{NoneDue, unless};
 ghost use Rattle.lifetimes.specs.Lent.{counted, written, verdictOf};
+ghost use Rattle.lifetimes.specs.Env.{allBelow};
 ghost use mathlib.Core.Bool.{_&&_};
 ghost use Rattle.records.specs.Reading.{shapeVerdict};
 ghost use Rattle.ast_lifetimes.specs.Shapes.{namesInShape, boundsInShape};
@@ -118,10 +119,10 @@ impl LifetimeEnv {
         let mut i = 0;
         while i < pushed {
             let b = self.bounds[i];
-            if named <= b.longer.index() {
+            if named <= b.longer as usize {
                 return Verdict::Refused(Refusal::OutOfRange);
             }
-            if named <= b.shorter.index() {
+            if named <= b.shorter as usize {
                 return Verdict::Refused(Refusal::OutOfRange);
             }
             i += 1;
@@ -215,8 +216,8 @@ fn split(env: LifetimeEnv, longs: &mut [usize; 256], shorts: &mut [usize; 256])
     let mut i = 0;
     while i < pushed {
         let b = env.bounds[i];
-        longs[i] = b.longer.index();
-        shorts[i] = b.shorter.index();
+        longs[i] = b.longer as usize;
+        shorts[i] = b.shorter as usize;
         i += 1;
     }
 }
@@ -312,8 +313,8 @@ fn refused(verdict: Verdict) -> Made
 {
     let names = [0usize; LifetimeEnv::MAX_NAMES];
     let none = Bound {
-        longer: Lifetime::new(0),
-        shorter: Lifetime::new(0),
+        longer: 0,
+        shorter: 0,
     };
     let bounds = [none; LifetimeEnv::MAX_BOUNDS];
     Made {
@@ -337,18 +338,17 @@ fn assembled(
 ) -> LifetimeEnv
     requires { ⌜ (named ≤ 32) × (pushed ≤ 256) ⌝ }
     requires { ⌜ (length (now declared) ≡ 32) × (length (now longs) ≡ 256) × (length (now shorts) ≡ 256) ⌝ }
+    requires { ⌜ allBelow 255 (sidesOf pushed (now longs) (now shorts)) ≡ true ⌝ }
     ensures { λ r. ⌜ r ≡ envOf (take named (now (declared .entry))) (sidesOf pushed (now (longs .entry)) (now (shorts .entry))) ⌝ }
 {
     let none = Bound {
-        longer: Lifetime::new(0),
-        shorter: Lifetime::new(0),
+        longer: 0,
+        shorter: 0,
     };
     let mut bounds = [none; LifetimeEnv::MAX_BOUNDS];
     let mut i = 0;
     while i < pushed {
-        let longer = Lifetime::new(longs[i]);
-        let shorter = Lifetime::new(shorts[i]);
-        bounds[i] = Bound { longer, shorter };
+        bounds[i] = Bound::new(Lifetime::new(longs[i]), Lifetime::new(shorts[i]));
         i += 1;
     }
     let mut names = [0usize; LifetimeEnv::MAX_NAMES];

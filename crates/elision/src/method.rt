@@ -23,7 +23,6 @@ use super::steps::self_shape;
 use super::steps::step_end;
 use super::steps::steps_shape;
 use lifetimes::Bound;
-use lifetimes::Lifetime;
 use lifetimes::LoweredWord;
 use lifetimes::MaybeStatic;
 use lifetimes::Refusal;
@@ -176,8 +175,8 @@ fn refused_env(refusal: Refusal) -> lifetimes::Made
     ensures { λ r. ⌜ r ≡ record { verdict = Verdict.Refused refusal; env = envOf 0 0 [] } ⌝ }
 {
     let none = Bound {
-        longer: Lifetime::new(0),
-        shorter: Lifetime::new(0),
+        longer: 0,
+        shorter: 0,
     };
     let bounds = [none; lifetimes::LifetimeEnv::MAX_BOUNDS];
     lifetimes::Made {
@@ -270,8 +269,8 @@ fn refused_lowering(refusal: Refusal) -> Lowering
     ensures { λ r. ⌜ r ≡ record { verdict = Verdict.Refused refusal; selves = 0; steps = 0; returns = 0; env = envOf 0 0 [] } ⌝ }
 {
     let none = Bound {
-        longer: Lifetime::new(0),
-        shorter: Lifetime::new(0),
+        longer: 0,
+        shorter: 0,
     };
     let bounds = [none; lifetimes::LifetimeEnv::MAX_BOUNDS];
     Lowering {

@@ -18,20 +18,20 @@ use Rattle.lifetimes.specs.Env.{above, boundsOf, bothBelow, allBelow, li
 use Rattle.lifetimes.specs.Walk.{near, far}
 use Rattle.lifetimes.proofs.RefusalLaws.{given-due, none-first, none-rest}
 
-pub all-below : (n : ℕ) (bs : List Bound) → allBelow n bs ≡ true → (b : Bound) → List·Memᴰ b bs → (b .longer .0 < n) × (b .shorter .0 < n)
+pub all-below : (n : ℕ) (bs : List Bound) → allBelow n bs ≡ true → (b : Bound) → List·Memᴰ b bs → (b .longer < n) × (b .shorter < n)
 unfolding allBelow
 all-below n [] h b k = absurd (List·Memᴰ·not-nil k)
 all-below n (a ∷ bs) h b k =
     let both = (and-eq-true-iff (bothBelow n a) (allBelow n bs)) .0 h in
-    let here = (and-eq-true-iff (ltb (a .longer .0) n) (ltb (a .shorter .0) n)) .0 (both .0) in
-    ⊎-elim (λ e. rw e (ltb-true (a .longer .0) n (here .0), ltb-true (a .shorter .0) n (here .1))) (all-below n bs (both .1) b) (List·Memᴰ·cases-cons k)
+    let here = (and-eq-true-iff (ltb (a .longer) n) (ltb (a .shorter) n)) .0 (both .0) in
+    ⊎-elim (λ e. rw e (ltb-true (a .longer) n (here .0), ltb-true (a .shorter) n (here .1))) (all-below n bs (both .1) b) (List·Memᴰ·cases-cons k)
 
 -- what holds of an environment on which no refusal is due
 pub record Valid (e : LifetimeEnv) : Type 0 where
   pub counted : e .count ≤ 64
   pub few : e .pushed ≤ 256
   pub declares : e .declared ≤ e .count
-  pub below : (b : Bound) → List·Memᴰ b (boundsOf e) → (b .longer .0 < e .declared) × (b .shorter .0 < e .declared)
+  pub below : (b : Bound) → List·Memᴰ b (boundsOf e) → (b .longer < e .declared) × (b .shorter < e .declared)
 
 pub valid : (e : LifetimeEnv) → NoneDue (envChecks e) → Valid e
 valid e n = record {

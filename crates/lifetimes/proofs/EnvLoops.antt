@@ -1,13 +1,14 @@
 -- The loop of `LifetimeEnv::check`: the bounds that were read are within the limit, so the check of what is left gives what all checks give.
 -- Then the answers of `push_bound`.
 use Prim.Native.Nat.{ℕ, _+_, _≤_, _<_}
-use mathlib.Core.Bool.{true, false, not}
+use mathlib.Core.Bool.{true, false, not, and-eq-true-iff}
 use mathlib.Core.Path.{_≡_, refl, sym, ap, _∙_}
 use mathlib.Core.List.{List, [], _∷_, _++_}
 use native.Mathlib.Decide.{decLt}
 use native.Mathlib.Numerals.{add-one}
 use native.Mathlib.Omega.{arith}
-use borrow.Author.Tests.{lt-ltb, le-ltb, le-leb, lt-leb}
+use borrow.Author.Tests.{lt-ltb, le-ltb, le-leb, lt-leb, ltb-true}
+use lib.Dec.{ltb}
 use lib.ListN.{length, getD, drop, length-take, drop-of-length-le}
 use lib.Seq.{getD-take, drop-cons}
 use Rattle.lifetimes.specs.declared.answer.Refusal.{Refusal}
@@ -19,6 +20,7 @@ use Rattle.lifetimes.specs.declared.env.LifetimeEnv.{LifetimeEnv}
 use Rattle.lifetimes.specs.Refusals.{Check, check, unless, FirstDue, here, later, NoneDue, end, next}
 use Rattle.lifetimes.specs.Lent.{verdictOf}
 use Rattle.lifetimes.specs.Env.{above, boundsOf, bothBelow, allBelow, envChecks, pushChecks, withBound, pushBound, made}
+use Rattle.lifetimes.proofs.EnvLaws.{valid}
 use Rattle.lifetimes.proofs.RefusalLaws.{due-given, due-refused, refused-first, accepted-none, first-more, first-after, none-more}
 
 -- ---- reading the bounds, from the first to the last
@@ -90,6 +92,13 @@ module _ (e : LifetimeEnv) (b : Bound) where
     push-outside k f =
         let due : FirstDue OutOfRange (envChecks e ++ last) = first-after (accepted-none e (envChecks e) (sym checked ∙ k)) (here (ap not f) refl) in
         rw (checks, due-refused (withBound e b) due)
+
+    -- a bound that is taken has numbers that fit a byte
+    pub push-small : v ≡ Accepted → bothBelow (e .declared) b ≡ true → (b .longer < 256) × (b .shorter < 256)
+    push-small k t =
+        let fine = valid e (accepted-none e (envChecks e) (sym checked ∙ k)) in
+        let sides = (and-eq-true-iff (ltb (b .longer) (e .declared)) (ltb (b .shorter) (e .declared))) .0 t in
+        (omega (arith, ltb-true (b .longer) (e .declared) (sides .0), fine .counted, fine .declares), omega (arith, ltb-true (b .shorter) (e .declared) (sides .1), fine .counted, fine .declares))
 
     pub push-given : v ≡ Accepted → bothBelow (e .declared) b ≡ true → record { verdict = Accepted; env = withBound e b } ≡ made e (pushBound e b)
     unfolding pushBound

@@ -11,7 +11,7 @@ use Rattle.lifetimes.specs.Outlives.{Outlives, itself, by-bound, through
 
 -- every reflexive, transitive relation that has the bounds holds where outlives does
 pub least : (bs : List Bound) (R : ℕ → ℕ → Type 0) → ((x : ℕ) → R x x) → ((x y z : ℕ) → R x y → R y z → R x z)
-    → ((b : Bound) → List·Memᴰ b bs → R (b .longer .0) (b .shorter .0)) → {x y : ℕ} → Outlives bs x y → R x y
+    → ((b : Bound) → List·Memᴰ b bs → R (b .longer) (b .shorter)) → {x y : ℕ} → Outlives bs x y → R x y
 least bs R r t h (itself {x}) = r x
 least bs R r t h (by-bound {b} k) = h b k
 least bs R r t h (through {x} {y} {z} p q) = t x y z (least bs R r t h p) (least bs R r t h q)
@@ -41,7 +41,7 @@ outlives-turned bs x y = (λ h. subst (λ (cs : List Bound). Outlives cs y x) (t
 -- one bound added: what outlived still does; else it goes once over the new bound
 module _ (bs : List Bound) (b : Bound) where
   Added : ℕ → ℕ → Type 0
-  Added x y = Outlives bs x y ⊎ (Outlives bs (b .shorter .0) y × Outlives bs x (b .longer .0))
+  Added x y = Outlives bs x y ⊎ (Outlives bs (b .shorter) y × Outlives bs x (b .longer))
 
   added-trans : (x y z : ℕ) → Added x y → Added y z → Added x z
   unfolding Added
@@ -50,7 +50,7 @@ module _ (bs : List Bound) (b : Bound) where
   added-trans x y z (inr p) (inl q) = inr (through (p .0) q, p .1)
   added-trans x y z (inr p) (inr q) = inr (q .0, p .1)
 
-  added-bound : (a : Bound) → List·Memᴰ a (bs ++ (b ∷ [])) → Added (a .longer .0) (a .shorter .0)
+  added-bound : (a : Bound) → List·Memᴰ a (bs ++ (b ∷ [])) → Added (a .longer) (a .shorter)
   unfolding Added
   added-bound a m = ⊎-elim (λ k. inl (by-bound k)) (λ k. let e = List·Memᴰ·eq-of-singleton k in inr (rw e itself, rw e itself)) (List·Memᴰ·append-cases bs m)
 
@@ -62,14 +62,14 @@ module _ (bs : List Bound) (b : Bound) where
   append-last [] = List·Memᴰ·head refl
   append-last (c ∷ cs) = List·Memᴰ·tail (append-last cs)
 
-  pub outlives-added : (x y : ℕ) → Outlives (bs ++ (b ∷ [])) x y ↔ (Outlives bs x y ⊎ (Outlives bs (b .shorter .0) y × Outlives bs x (b .longer .0)))
+  pub outlives-added : (x y : ℕ) → Outlives (bs ++ (b ∷ [])) x y ↔ (Outlives bs x y ⊎ (Outlives bs (b .shorter) y × Outlives bs x (b .longer)))
   unfolding Added
   outlives-added x y = (least (bs ++ (b ∷ [])) Added (λ z. inl itself) added-trans added-bound, back)
     where
       old : {u v : ℕ} → Outlives bs u v → Outlives (bs ++ (b ∷ [])) u v
       old = outlives-more bs (bs ++ (b ∷ [])) (append-left bs (b ∷ []))
 
-      back : Outlives bs x y ⊎ (Outlives bs (b .shorter .0) y × Outlives bs x (b .longer .0)) → Outlives (bs ++ (b ∷ [])) x y
+      back : Outlives bs x y ⊎ (Outlives bs (b .shorter) y × Outlives bs x (b .longer)) → Outlives (bs ++ (b ∷ [])) x y
       back (inl h) = old h
       back (inr h) = through (old (h .1)) (through (by-bound (append-last bs)) (old (h .0)))
 

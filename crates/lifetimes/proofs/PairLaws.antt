@@ -1,22 +1,21 @@
 -- Pairs longer, shorter as words: how a loop reads them, and the loops of `pairs_below` and `filled`. Then the answers of `LifetimeEnv::new`.
 use Prim.Native.Nat.{ℕ, zero, suc, _+_, _-_, _/_, _%_, _≤_, _<_}
-use mathlib.Core.Bool.{true, false}
+use mathlib.Core.Bool.{true, false, and-eq-true-iff}
 use mathlib.Core.Path.{_≡_, refl, ap, _∙_}
 use mathlib.Core.List.{List, [], _∷_, _++_}
 use native.Mathlib.Nat.{zero-add, sub-zero, zero-sub, suc-sub-suc}
 use native.Mathlib.Numerals.{add-one}
 use native.Mathlib.Omega.{arith}
-use borrow.Author.Tests.{eq-eqb, ne-eqb}
+use borrow.Author.Tests.{eq-eqb, ne-eqb, lt-ltb, ltb-true}
+use lib.Dec.{ltb}
 use lib.ListN.{length, getD, drop, set, replicate, drop-of-length-le}
 use lib.Seq.{drop-cons, sets, sets-eq}
 use Rattle.lifetimes.specs.declared.answer.Refusal.{Refusal}
 use Rattle.lifetimes.specs.declared.answer.Refusal.the-variants.{Malformed}
 use Rattle.lifetimes.specs.declared.answer.Verdict.the-variants.{Accepted, Refused}
-use Rattle.lifetimes.specs.declared.lifetime.Lifetime.{Lifetime}
 use Rattle.lifetimes.specs.declared.env.Bound.{Bound}
 use Rattle.lifetimes.specs.declared.env.LifetimeEnv.{LifetimeEnv}
 use Rattle.lifetimes.specs.declared.env.Made.{Made}
-use Rattle.lifetimes.specs.Numbers.{lifetime}
 use Rattle.lifetimes.specs.Refusals.{FirstDue, here, later, NoneDue, next}
 use Rattle.lifetimes.specs.Env.{above, bothBelow, allBelow, limitChecks, pairsOf, newChecks, envOf, newEnv, made}
 use Rattle.lifetimes.proofs.RefusalLaws.{due-given, due-refused}
@@ -48,13 +47,12 @@ module _ {words : List ℕ} {i : ℕ} (at : AtPair words i) (h : i < length word
   pair-next : AtPair words (i + 2)
   pair-next = record { even = omega (arith, at .even) }
 
-  module _ {a b : Lifetime} (ea : a ≡ lifetime (getD words i 0)) (eb : b ≡ lifetime (getD words (i + 1) 0)) where
-    pair-read : pairsOf (drop i words) ≡ record { longer = a; shorter = b } ∷ pairsOf (drop (i + 2) words)
-    unfolding pairsOf
-    pair-read =
-        let two : i + 2 ≡ suc (suc i) = omega arith in
-        let k : suc i < length words = omega (arith, pair-second) in
-        rw (ea, eb, two, add-one i, drop-cons words i 0 h, drop-cons words (suc i) 0 k)
+  pair-read : pairsOf (drop i words) ≡ above (getD words i 0) (getD words (i + 1) 0) ∷ pairsOf (drop (i + 2) words)
+  unfolding pairsOf
+  pair-read =
+      let two : i + 2 ≡ suc (suc i) = omega arith in
+      let k : suc i < length words = omega (arith, pair-second) in
+      rw (two, add-one i, drop-cons words i 0 h, drop-cons words (suc i) 0 k)
 
 -- ---- `pairs_below`
 
@@ -70,14 +68,14 @@ module _ {limit : ℕ} {words : List ℕ} {i : ℕ} (inv : Below limit words i) 
   unfolding allBelow
   below-end h = rw (inv .left, pairs-end words i h)
 
-  module _ (h : i < length words) {a b : Lifetime} (ea : a ≡ lifetime (getD words i 0)) (eb : b ≡ lifetime (getD words (i + 1) 0)) where
-    pub below-refused : bothBelow limit (record { longer = a; shorter = b }) ≡ false → false ≡ allBelow limit (pairsOf words)
+  module _ (h : i < length words) where
+    pub below-refused : bothBelow limit (above (getD words i 0) (getD words (i + 1) 0)) ≡ false → false ≡ allBelow limit (pairsOf words)
     unfolding allBelow
-    below-refused f = rw (inv .left, pair-read (inv .at) h ea eb, f)
+    below-refused f = rw (inv .left, pair-read (inv .at) h, f)
 
-    pub below-more : bothBelow limit (record { longer = a; shorter = b }) ≡ true → Below limit words (i + 2)
+    pub below-more : bothBelow limit (above (getD words i 0) (getD words (i + 1) 0)) ≡ true → Below limit words (i + 2)
     unfolding allBelow
-    below-more t = record { at = pair-next (inv .at) h; left = inv .left ∙ rw (pair-read (inv .at) h ea eb, t) }
+    below-more t = record { at = pair-next (inv .at) h; left = inv .left ∙ rw (pair-read (inv .at) h, t) }
 
 -- ---- `filled`
 
@@ -86,9 +84,10 @@ pub record Filling (words : List ℕ) (bounds : List Bound) (pushed i : ℕ) : T
   pub at : AtPair words i
   pub places : pushed + length (pairsOf (drop i words)) ≡ length (pairsOf words)
   pub stored : sets bounds pushed (pairsOf (drop i words)) ≡ sets (replicate 256 (above 0 0)) 0 (pairsOf words)
+  pub small : allBelow 256 (pairsOf (drop i words)) ≡ true
 
-pub filling-start : (words : List ℕ) → length words % 2 ≡ 0 → {b : Bound} → b ≡ above 0 0 → Filling words (replicate 256 b) 0 0
-filling-start words e {b} q = record { at = at-start words e; places = zero-add (length (pairsOf words)); stored = rw q }
+pub filling-start : (words : List ℕ) → length words % 2 ≡ 0 → allBelow 256 (pairsOf words) ≡ true → {b : Bound} → b ≡ above 0 0 → Filling words (replicate 256 b) 0 0
+filling-start words e small {b} q = record { at = at-start words e; places = zero-add (length (pairsOf words)); stored = rw q; small = small }
 
 drop-replicate : {A : Type 0} (n m : ℕ) (x : A) → drop n (replicate m x) ≡ replicate (m - n) x
 drop-replicate zero m x = rw sub-zero
@@ -96,19 +95,29 @@ drop-replicate (suc n) zero x = rw zero-sub
 drop-replicate (suc n) (suc m) x = rw suc-sub-suc (drop-replicate n m x)
 
 module _ {words : List ℕ} {bounds : List Bound} {pushed i : ℕ} (inv : Filling words bounds pushed i) where
-  pub filling-more : i < length words → {a b : Lifetime} → a ≡ lifetime (getD words i 0) → b ≡ lifetime (getD words (i + 1) 0)
-      → Filling words (set bounds pushed (record { longer = a; shorter = b })) (pushed + 1) (i + 2)
-  filling-more h ea eb =
-      let e = pair-read (inv .at) h ea eb in
-      record {
-        at = pair-next (inv .at) h;
-        places = omega (arith, inv .places, ap length e);
-        stored = rw (add-one pushed) (rw e at (inv .stored));
-      }
+  module _ (h : i < length words) where
+    sides-here : (bothBelow 256 (above (getD words i 0) (getD words (i + 1) 0)) ≡ true) × (allBelow 256 (pairsOf (drop (i + 2) words)) ≡ true)
+    unfolding allBelow
+    sides-here = (and-eq-true-iff _ _) .0 (rw (pair-read (inv .at) h) at (inv .small))
+
+    pub filling-small : (getD words i 0 < 256) × (getD words (i + 1) 0 < 256)
+    filling-small =
+        let sides = (and-eq-true-iff (ltb (getD words i 0) 256) (ltb (getD words (i + 1) 0) 256)) .0 (sides-here .0) in
+        (ltb-true (getD words i 0) 256 (sides .0), ltb-true (getD words (i + 1) 0) 256 (sides .1))
+
+    pub filling-more : {b : Bound} → b ≡ above (getD words i 0) (getD words (i + 1) 0) → Filling words (set bounds pushed b) (pushed + 1) (i + 2)
+    filling-more {b} q =
+        let e = pair-read (inv .at) h in
+        record {
+          at = pair-next (inv .at) h;
+          places = omega (arith, inv .places, ap length e);
+          stored = rw (q, add-one pushed) (rw e at (inv .stored));
+          small = sides-here .1;
+        }
 
   module _ (few : length words ≤ 512) where
     pub filling-room : i < length words → pushed < 256
-    filling-room h = omega (arith, inv .places, ap length (pair-read (inv .at) h refl refl), pairs-few words)
+    filling-room h = omega (arith, inv .places, ap length (pair-read (inv .at) h), pairs-few words)
 
     all-stored : length words ≤ i → bounds ≡ pairsOf words ++ replicate (256 - length (pairsOf words)) (above 0 0)
     all-stored h =
@@ -146,3 +155,15 @@ module _ (declared count : ℕ) (words : List ℕ) where
     new-given n e =
         let none : NoneDue (newChecks declared count words) = next (ne-eqb (length words % 2) 1 even) n in
         rw (due-given (envOf declared count (pairsOf words)) none, e)
+
+-- ---- a larger limit
+
+pub below-larger : (m n : ℕ) → m ≤ n → (bs : List Bound) → allBelow m bs ≡ true → allBelow n bs ≡ true
+unfolding allBelow
+below-larger m n h [] e = refl
+below-larger m n h (b ∷ bs) e =
+    let both = (and-eq-true-iff (bothBelow m b) (allBelow m bs)) .0 e in
+    let sides = (and-eq-true-iff (ltb (b .longer) m) (ltb (b .shorter) m)) .0 (both .0) in
+    let l : b .longer < n = omega (arith, ltb-true (b .longer) m (sides .0)) in
+    let s : b .shorter < n = omega (arith, ltb-true (b .shorter) m (sides .1)) in
+    rw (lt-ltb (b .longer) n l, lt-ltb (b .shorter) n s, below-larger m n h bs (both .1))

@@ -1,7 +1,7 @@
 -- The environment (01: "Declared lifetimes, total count (at most 64), bounds in push order (at most 256)") and its refusals.
 -- A caller can make any value of it, so every call that takes one checks it.
 use Prim.Native.Nat.{ℕ, _+_, _-_, _/_, _%_}
-use mathlib.Core.Bool.{Bool, true, _&&_, not}
+use mathlib.Core.Bool.{Bool, true, cond, _&&_, not}
 use mathlib.Core.List.{List, [], _∷_, _++_}
 use lib.Dec.{eqb, leb, ltb}
 use lib.ListN.{length, take, set, replicate}
@@ -10,13 +10,16 @@ use Rattle.lifetimes.specs.declared.lifetime.Lifetime.{Lifetime}
 use Rattle.lifetimes.specs.declared.env.Bound.{Bound}
 use Rattle.lifetimes.specs.declared.env.LifetimeEnv.{LifetimeEnv}
 use Rattle.lifetimes.specs.declared.env.Made.{Made}
-use Rattle.lifetimes.specs.Numbers.{lifetime}
 use Rattle.lifetimes.specs.Refusals.{Check, check, Outcome, unless}
 use Rattle.lifetimes.specs.Lent.{verdictOf, resultOr}
 
 -- l lasts at least as long as s
 abbrev pub above : ℕ → ℕ → Bound
-above l s = record { longer = lifetime l; shorter = lifetime s }
+above l s = record { longer = l; shorter = s }
+
+-- a number as a bound keeps it, in a byte: 255 for all above 254
+abbrev pub byteOf : ℕ → ℕ
+byteOf n = cond (ltb n 255) n 255
 
 -- the bounds, in push order
 abbrev pub boundsOf : LifetimeEnv → List Bound
@@ -24,7 +27,7 @@ boundsOf e = take (e .pushed) (e .bounds)
 
 -- both sides of a bound, of each bound, are numbered below n
 abbrev pub bothBelow : ℕ → Bound → Bool
-bothBelow n b = ltb (b .longer .0) n && ltb (b .shorter .0) n
+bothBelow n b = ltb (b .longer) n && ltb (b .shorter) n
 
 unfoldable pub allBelow : ℕ → List Bound → Bool
 allBelow n [] = true

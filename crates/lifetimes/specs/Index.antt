@@ -75,7 +75,7 @@ skip seen (x ∷ p) = cond (member seen x) (skip seen p) (x ∷ p)
 -- bounds that the index has room for
 pub record Fine (bs : List Bound) : Type 0 where
   pub few : length bs ≤ 256
-  pub small : (b : Bound) → List·Memᴰ b bs → (b .longer .0 < 64) × (b .shorter .0 < 64)
+  pub small : (b : Bound) → List·Memᴰ b bs → (b .longer < 64) × (b .shorter < 64)
 
 pub record Chained (g : Graph) (fars befores : List ℕ) : Type 0 where
   pub few : length (g .bounds) ≤ 256

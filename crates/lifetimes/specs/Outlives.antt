@@ -10,7 +10,7 @@ use Rattle.lifetimes.specs.declared.env.Bound.{Bound}
 -- the least relation that is reflexive, transitive, and has each bound's longer side outlive its shorter
 pub data Outlives (bs : List Bound) : ℕ → ℕ → Type 0 where
   itself : {x : ℕ} → Outlives bs x x
-  by-bound : {b : Bound} → List·Memᴰ b bs → Outlives bs (b .longer .0) (b .shorter .0)
+  by-bound : {b : Bound} → List·Memᴰ b bs → Outlives bs (b .longer) (b .shorter)
   through : {x y z : ℕ} → Outlives bs x y → Outlives bs y z → Outlives bs x z
 
 -- y is in x's direction: longer, y outlives x; shorter, x outlives y
@@ -20,7 +20,7 @@ Toward false bs x y = Outlives bs x y
 
 -- a numbering of the lifetimes, in numbers N ordered by `below`, respects the bounds
 abbrev pub Respects : (N : Type 0) → (N → N → Type 0) → (ℕ → N) → List Bound → Type 0
-Respects N below v bs = (b : Bound) → List·Memᴰ b bs → below (v (b .shorter .0)) (v (b .longer .0))
+Respects N below v bs = (b : Bound) → List·Memᴰ b bs → below (v (b .shorter)) (v (b .longer))
 
 -- every numbering that respects the bounds puts y at x's number or higher
 abbrev pub ForcedIn : (N : Type 0) → (N → N → Type 0) → List Bound → ℕ → ℕ → Type 0

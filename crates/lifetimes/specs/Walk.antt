@@ -12,12 +12,12 @@ use Rattle.lifetimes.specs.Sets.{empty, member, insert, setOf}
 
 -- the side of a bound that a traversal in this direction comes from, and the side that it goes to
 abbrev pub near : Bool → Bound → ℕ
-near true b = b .shorter .0
-near false b = b .longer .0
+near true b = b .shorter
+near false b = b .longer
 
 abbrev pub far : Bool → Bound → ℕ
-far true b = b .longer .0
-far false b = b .shorter .0
+far true b = b .longer
+far false b = b .shorter
 
 -- 01: "A lifetime's `longer` list is the longer sides of the bounds where it is the shorter, in push order; `shorter` likewise."
 unfoldable pub neighbours : Bool → List Bound → ℕ → List ℕ

@@ -1,29 +1,37 @@
 // The environment of a method: its lifetimes and the bounds between them.
 ghost use mathlib.Core.Path.{_≡_};
-ghost use mathlib.Core.Bool.{not};
+ghost use mathlib.Core.Bool.{true, not};
 ghost use mathlib.Core.List.{[]};
-ghost use Prim.Native.Nat.{_+_, _*_, _/_, _%_, _≤_};
+ghost use Prim.Native.Nat.{_+_, _*_, _/_, _%_, _≤_, _<_};
 ghost use lib.ListN.{length};
 ghost use Rattle.lifetimes.specs.Refusals.{unless};
 ghost use Rattle.lifetimes.specs.Lent.{verdictOf};
-ghost use Rattle.lifetimes.specs.Env.{above, bothBelow, allBelow, envChecks, isDeclared, pairsOf, envOf, newEnv, pushBound, made};
+ghost use Rattle.lifetimes.specs.Env.{above, byteOf, bothBelow, allBelow, envChecks, isDeclared, pairsOf, envOf, newEnv, pushBound, made};
 ghost use Rattle.lifetimes.specs.Walk.{near, far};
 use super::answer::Refusal;
 use super::answer::Verdict;
 use super::lifetime::Lifetime;
 
-// One bound: the first lifetime lasts at least as long as the second.
+// One bound: the first lifetime lasts at least as long as the second. They are here by their numbers, a byte each: 256 bounds are then few enough bytes for an
+// environment to be handed from call to call by value.
 pub struct Bound {
-    pub longer: Lifetime,
-    pub shorter: Lifetime,
+    pub longer: u8,
+    pub shorter: u8,
 }
 
 impl Bound {
+    // The bound of two lifetimes. Every number above 254 is kept as 255, which is past all lifetimes of any environment.
+    pub fn new(longer: Lifetime, shorter: Lifetime) -> Bound
+        ensures { λ r. ⌜ r ≡ above (byteOf (longer .0)) (byteOf (shorter .0)) ⌝ }
+    {
+        bound_of(byte_of(longer.index()), byte_of(shorter.index()))
+    }
+
     // Whether both sides are numbered below a limit.
     pub(crate) fn both_below(self, limit: usize) -> bool
         ensures { λ r. ⌜ r ≡ bothBelow limit self ⌝ }
     {
-        self.longer.index() < limit && self.shorter.index() < limit
+        numbers_below(self.longer as usize, self.shorter as usize, limit)
     }
 
     // The side that a traversal in this direction comes from.
@@ -31,9 +39,9 @@ impl Bound {
         ensures { λ r. ⌜ r ≡ near longer self ⌝ }
     {
         if longer {
-            return self.shorter.index();
+            return self.shorter as usize;
         }
-        self.longer.index()
+        self.longer as usize
     }
 
     // The side that it goes to.
@@ -41,9 +49,9 @@ impl Bound {
         ensures { λ r. ⌜ r ≡ far longer self ⌝ }
     {
         if longer {
-            return self.longer.index();
+            return self.longer as usize;
         }
-        self.shorter.index()
+        self.shorter as usize
     }
 }
 
@@ -96,7 +104,7 @@ impl LifetimeEnv {
     // The environment with one bound more, at the end. Refused by 4 and 8 as every environment is, by 4 for a 257th bound, by 8 for a side past the
     // declared, with the environment as it was beside the refusal.
     pub fn push_bound(self, longer: Lifetime, shorter: Lifetime) -> Made
-        ensures { λ r. ⌜ r ≡ made self (pushBound self (record { longer = longer; shorter = shorter })) ⌝ }
+        ensures { λ r. ⌜ r ≡ made self (pushBound self (above (longer .0) (shorter .0))) ⌝ }
     {
         let mut env = self;
         let at = env.pushed;
@@ -111,14 +119,15 @@ impl LifetimeEnv {
         let Verdict::Accepted = verdict else {
             return Made { verdict, env: self };
         };
-        let bound = Bound { longer, shorter };
-        if !bound.both_below(declared) {
+        let from = longer.index();
+        let to = shorter.index();
+        if !numbers_below(from, to, declared) {
             return Made {
                 verdict: Verdict::Refused(Refusal::OutOfRange),
                 env: self,
             };
         }
-        env.bounds[at] = bound;
+        env.bounds[at] = bound_of(from, to);
         env.pushed = at + 1;
         Made {
             verdict: Verdict::Accepted,
@@ -162,13 +171,41 @@ impl LifetimeEnv {
     }
 }
 
+// Whether two numbers are below a limit.
+fn numbers_below(longer: usize, shorter: usize, limit: usize) -> bool
+    ensures { λ r. ⌜ r ≡ bothBelow limit (above longer shorter) ⌝ }
+{
+    longer < limit && shorter < limit
+}
+
+// A number as a byte keeps it.
+fn byte_of(number: usize) -> usize
+    ensures { λ r. ⌜ (r ≡ byteOf number) × (r < 256) ⌝ }
+{
+    if number < 255 {
+        return number;
+    }
+    255
+}
+
+// The bound of two lifetimes, by their numbers.
+fn bound_of(longer: usize, shorter: usize) -> Bound
+    requires { ⌜ (longer < 256) × (shorter < 256) ⌝ }
+    ensures { λ r. ⌜ r ≡ above longer shorter ⌝ }
+{
+    Bound {
+        longer: longer as u8,
+        shorter: shorter as u8,
+    }
+}
+
 // What stands in the array past the bounds.
 fn no_bound() -> Bound
     ensures { λ r. ⌜ r ≡ above 0 0 ⌝ }
 {
     Bound {
-        longer: Lifetime::new(0),
-        shorter: Lifetime::new(0),
+        longer: 0,
+        shorter: 0,
     }
 }
 
@@ -195,10 +232,7 @@ fn pairs_below(pairs: &[usize], limit: usize) -> bool
 {
     let mut i = 0;
     while i < pairs.len() {
-        let longer = Lifetime::new(pairs[i]);
-        let shorter = Lifetime::new(pairs[i + 1]);
-        let bound = Bound { longer, shorter };
-        if !bound.both_below(limit) {
+        if !numbers_below(pairs[i], pairs[i + 1], limit) {
             return false;
         }
         i += 2;
@@ -208,16 +242,14 @@ fn pairs_below(pairs: &[usize], limit: usize) -> bool
 
 // The environment with these pairs for bounds.
 fn filled(declared: usize, count: usize, pairs: &[usize]) -> LifetimeEnv
-    requires { ⌜ (length (now pairs) % 2 ≡ 0) × (length (now pairs) ≤ 512) ⌝ }
+    requires { ⌜ (length (now pairs) % 2 ≡ 0) × (length (now pairs) ≤ 512) × (allBelow 256 (pairsOf (now pairs)) ≡ true) ⌝ }
     ensures { λ r. ⌜ r ≡ envOf declared count (pairsOf (now (pairs .entry))) ⌝ }
 {
     let mut bounds = [no_bound(); LifetimeEnv::MAX_BOUNDS];
     let mut pushed = 0;
     let mut i = 0;
     while i < pairs.len() {
-        let longer = Lifetime::new(pairs[i]);
-        let shorter = Lifetime::new(pairs[i + 1]);
-        bounds[pushed] = Bound { longer, shorter };
+        bounds[pushed] = bound_of(pairs[i], pairs[i + 1]);
         pushed += 1;
         i += 2;
     }

@@ -111,7 +111,7 @@ module _ (env : LifetimeEnv) (valid : NoneDue (envChecks env)) where
   pub lifetimes-few : env .count ≤ 64
   lifetimes-few = ltb-false 64 (env .count) (none-first valid)
 
-  pub bounds-within : (b : Bound) → List·Memᴰ b (boundsOf env) → b .longer .0 < 64
+  pub bounds-within : (b : Bound) → List·Memᴰ b (boundsOf env) → b .longer < 64
   bounds-within b m =
       let declared = ltb-false (env .count) (env .declared) (none-first (none-rest (none-rest valid))) in
       let below = all-below (env .declared) (boundsOf env) (not-false _ (none-first (none-rest (none-rest (none-rest valid))))) b m in

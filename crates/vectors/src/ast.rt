@@ -147,16 +147,14 @@ fn names_of(words: &[usize]) -> [usize; 32] {
 // Pairs of words in the places for bounds.
 pub(crate) fn bounds_of(pairs: &[usize]) -> [Bound; 256] {
     let none = Bound {
-        longer: Lifetime::new(0),
-        shorter: Lifetime::new(0),
+        longer: 0,
+        shorter: 0,
     };
     let mut bounds = [none; 256];
     let n = scan::least(pairs.len() / 2, 256);
     let mut i = 0;
     while i < n {
-        let longer = Lifetime::new(pairs[2 * i]);
-        let shorter = Lifetime::new(pairs[2 * i + 1]);
-        bounds[i] = Bound { longer, shorter };
+        bounds[i] = Bound::new(Lifetime::new(pairs[2 * i]), Lifetime::new(pairs[2 * i + 1]));
         i += 1;
     }
     bounds
@@ -169,10 +167,10 @@ fn filled(env: LifetimeEnv) -> usize
     let mut n = 256;
     while 0 < n {
         let last = env.bounds[n - 1];
-        if 0 < last.longer.index() {
+        if 0 < last.longer {
             return n;
         }
-        if 0 < last.shorter.index() {
+        if 0 < last.shorter {
             return n;
         }
         n -= 1;
@@ -206,8 +204,8 @@ fn print_bounds(env: LifetimeEnv, n: usize)
     let mut i = 0;
     while i < n {
         let bound = env.bounds[i];
-        print::next(bound.longer.index());
-        print::next(bound.shorter.index());
+        print::next(bound.longer as usize);
+        print::next(bound.shorter as usize);
         i += 1;
     }
 }

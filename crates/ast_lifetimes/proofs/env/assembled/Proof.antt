@@ -11,14 +11,8 @@ Inv-loop declared named longs shorts pushed bounds₀ i₀ bounds i = Storing lo
 abbrev μ-loop : tie.MeasureT-loop
 μ-loop declared named longs shorts pushed bounds₀ i₀ bounds i = pushed - i
 
-new-requires : tie.Need-new-requires Inv-loop μ-loop
-new-requires c κs = search needs
-
-new-requires-2 : tie.Need-new-requires-2 Inv-loop μ-loop
-new-requires-2 c κs = search needs
-
 loop-holds : tie.Need-loop-holds Inv-loop μ-loop
-loop-holds c = storing-start _ _ _ (c .before .new .ensures) (c .new2 .ensures)
+loop-holds c = storing-start _ _ _ (c .pre .1 .1)
 
 mul-new : tie.Need-mul-new Inv-loop μ-loop
 mul-new c = search needs
@@ -26,8 +20,8 @@ mul-new c = search needs
 element-copy-out-new : tie.Need-element-copy-out-new Inv-loop μ-loop
 element-copy-out-new c = search needs
 
-new-requires-3 : tie.Need-new-requires-3 Inv-loop μ-loop
-new-requires-3 c κs = search needs
+new-requires : tie.Need-new-requires Inv-loop μ-loop
+new-requires c κs = search needs
 
 mul-new-2 : tie.Need-mul-new-2 Inv-loop μ-loop
 mul-new-2 c = search needs
@@ -35,8 +29,11 @@ mul-new-2 c = search needs
 element-copy-out-new-2 : tie.Need-element-copy-out-new-2 Inv-loop μ-loop
 element-copy-out-new-2 c = search needs
 
-new-requires-4 : tie.Need-new-requires-4 Inv-loop μ-loop
-new-requires-4 c κs = search needs
+new-requires-2 : tie.Need-new-requires-2 Inv-loop μ-loop
+new-requires-2 c κs = search needs
+
+new-requires-3 : tie.Need-new-requires-3 Inv-loop μ-loop
+new-requires-3 c κs = search needs
 
 mul-bounds : tie.Need-mul-bounds Inv-loop μ-loop
 mul-bounds c = search needs
@@ -51,18 +48,13 @@ loop-less : tie.Need-loop-less Inv-loop μ-loop
 loop-less c = search needs
 
 loop-again : tie.Need-loop-again Inv-loop μ-loop
-loop-again c =
-    let l = c .before .before .before .before .before .loop in
-    storing-more (l .inv) (c .before .before .before .before .loop-test .taken) (c .before .before .new3 .ensures) (c .new4 .ensures)
+loop-again c = storing-more (c .before .before .before .before .before .before .loop .inv) (c .before .before .before .before .before .loop-test .taken) (c .before .before .before .new .ensures) (c .before .new2 .ensures) (c .new3 .ensures)
 
 copy-names-requires : tie.Need-copy-names-requires Inv-loop μ-loop
 copy-names-requires c κs = search needs
 
 returns : tie.Need-returns Inv-loop μ-loop
-returns c =
-    let s = c .before .before .before .before .before .before in
-    let l = c .before .before .before .loop in
-    assembled-env (l .inv) (s .pre .0 .1) (c .before .before .loop-test .left) (s .args .declared .now) (s .pre .0 .0) (s .pre .1 .0) (c .copy-names .ensures)
+returns c = let s = c .before .before .before .before in assembled-env (c .before .before .before .loop .inv) (s .pre .0 .1) (c .before .before .loop-test .left) (s .args .declared .now) (s .pre .0 .0) (s .pre .1 .0 .0) (c .copy-names .ensures)
 
 pub assembled-spec : {M : Type 1} → statement M
 assembled-spec =
@@ -70,15 +62,14 @@ assembled-spec =
     (tie.spec
     Inv-loop
     μ-loop
-    new-requires
-    new-requires-2
     loop-holds
     mul-new
     element-copy-out-new
-    new-requires-3
+    new-requires
     mul-new-2
     element-copy-out-new-2
-    new-requires-4
+    new-requires-2
+    new-requires-3
     mul-bounds
     array-set-from-bounds
     add-i

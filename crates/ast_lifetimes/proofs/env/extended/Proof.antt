@@ -4,7 +4,7 @@ use lib.ListN.{length, length-map}
 use borrow.Author.Needs.{needs}
 use Rattle.ast_lifetimes.specs.Types.{typesOf}
 use Rattle.ast_lifetimes.proofs.ReadingLaws.{types-encoded}
-use Rattle.ast_lifetimes.proofs.ExtendLaws.{valid-named, valid-pushed, split-below, extended-few, extended-refused, extended-given}
+use Rattle.ast_lifetimes.proofs.ExtendLaws.{valid-named, valid-pushed, split-below, extended-few, extended-small, extended-refused, extended-given}
 use Rattle.ast_lifetimes.proofs.env.extended.Statement.{statement}
 use Rattle.ast_lifetimes.proofs.env.extended.Tie as tie
 
@@ -45,7 +45,8 @@ assembled-requires : tie.Need-assembled-requires
 assembled-requires c κs =
     let s = c .before .before .before .before .before .before .before .before .before .before .before .before .before .before .before .before .before .before .before in
     let all = extended-few (s .args .env) (s .args .types .now) (c .before .before .before .before .before .before .before .before .before .before .before .before .before .before .split .ensures) (c .before .before .before .before .before .push-types .ensures _ (types-encoded _ (s .pre .1))) (c .before .before .before .enum-told .given .1) in
-    ((valid-named (s .args .env) (s .pre .0), all .0), (full s, all .1, all .2))
+    let small = extended-small (s .args .env) (s .args .types .now) (c .before .before .before .before .before .before .before .before .before .before .before .before .before .before .split .ensures) (c .before .before .before .before .before .push-types .ensures _ (types-encoded _ (s .pre .1))) (c .before .before .before .enum-told .given .1) (s .pre .0) in
+    ((valid-named (s .args .env) (s .pre .0), all .0), ((full s, all .1, all .2), small))
 
 returns-2 : tie.Need-returns-2
 returns-2 c =

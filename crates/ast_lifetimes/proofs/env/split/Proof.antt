@@ -1,6 +1,6 @@
 -- `split` meets its contract. The loop's invariant is `Splitting` of proofs/ExtendLaws.antt; the measure is how many bounds are to be read.
 use Prim.Native.Nat.{_-_}
-use mathlib.Core.Path.{_≡_}
+use mathlib.Core.Path.{_≡_, refl}
 use native.Mathlib.Omega.{arith}
 use lib.ListN.{length, length-map}
 use borrow.Author.Needs.{needs}
@@ -26,8 +26,8 @@ mul-b c = search needs
 element-copy-out-b : tie.Need-element-copy-out-b Inv-loop μ-loop
 element-copy-out-b c = search needs
 
-index-requires : tie.Need-index-requires Inv-loop μ-loop
-index-requires c κs = search needs
+cast-longs : tie.Need-cast-longs Inv-loop μ-loop
+cast-longs c = search needs
 
 mul-longs : tie.Need-mul-longs Inv-loop μ-loop
 mul-longs c = search needs
@@ -35,8 +35,8 @@ mul-longs c = search needs
 element-write-longs : tie.Need-element-write-longs Inv-loop μ-loop
 element-write-longs c = omega (arith, c .before .before .before .before .pre .0, c .before .before .loop-test .taken)
 
-index-requires-2 : tie.Need-index-requires-2 Inv-loop μ-loop
-index-requires-2 c κs = search needs
+cast-shorts : tie.Need-cast-shorts Inv-loop μ-loop
+cast-shorts c = search needs
 
 mul-shorts : tie.Need-mul-shorts Inv-loop μ-loop
 mul-shorts c = search needs
@@ -51,9 +51,7 @@ loop-less : tie.Need-loop-less Inv-loop μ-loop
 loop-less c = search needs
 
 loop-again : tie.Need-loop-again Inv-loop μ-loop
-loop-again c =
-    let s = c .before .before .before .before .before in
-    splitting-more (c .before .before .before .before .loop .inv) (full s) (s .pre .0) (c .before .before .before .loop-test .taken) (c .before .index .ensures) (c .index2 .ensures)
+loop-again c = let s = c .before .before .before .before .before in splitting-more (c .before .before .before .before .loop .inv) (full s) (s .pre .0) (c .before .before .before .loop-test .taken) refl refl
 
 returns : tie.Need-returns Inv-loop μ-loop
 returns c = splitting-end (c .before .loop .inv) (c .loop-test .left)
@@ -67,10 +65,10 @@ split-spec =
     loop-holds
     mul-b
     element-copy-out-b
-    index-requires
+    cast-longs
     mul-longs
     element-write-longs
-    index-requires-2
+    cast-shorts
     mul-shorts
     element-write-shorts
     add-i

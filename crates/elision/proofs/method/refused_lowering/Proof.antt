@@ -1,21 +1,12 @@
--- `refused_lowering` meets its contract.
+-- `refused_lowering` meets its contract: every place of the array holds what stands past the bounds.
+use mathlib.Core.Path.{refl}
 use Rattle.lifetimes.specs.Env.{envOf}
-use borrow.Author.Needs.{needs}
 use Rattle.elision.proofs.method.refused_lowering.Statement.{statement}
 use Rattle.elision.proofs.method.refused_lowering.Tie as tie
 
--- src/method.rt:188:17
-new-requires : tie.Need-new-requires
-new-requires c κs = search needs
-
--- src/method.rt:189:18
-new-requires-2 : tie.Need-new-requires-2
-new-requires-2 c κs = search needs
-
--- src/method.rt:184:1
 returns : tie.Need-returns
 unfolding envOf
-returns c = rw (c .before .new .ensures, c .new2 .ensures)
+returns c = refl
 
 pub refused-lowering-spec : {M : Type 1} → statement M
-refused-lowering-spec = tie.close (tie.spec new-requires new-requires-2 returns)
+refused-lowering-spec = tie.close (tie.spec returns)

@@ -1,9 +1,9 @@
 -- `filled` meets its contract. The loop's invariant is `Filling` of proofs/PairLaws.antt; the measure is how many words are to be read.
+use borrow.Author.Needs.{needs}
 use Prim.Native.Nat.{_-_}
 use native.Mathlib.Omega.{arith}
 use lib.ListN.{length}
-use borrow.Author.Needs.{needs}
-use Rattle.lifetimes.proofs.PairLaws.{pair-second, Filling, filling-start, filling-room, filling-more, filling-end}
+use Rattle.lifetimes.proofs.PairLaws.{pair-second, Filling, filling-start, filling-small, filling-room, filling-more, filling-end}
 use Rattle.lifetimes.proofs.env.filled.Statement.{statement}
 use Rattle.lifetimes.proofs.env.filled.Tie as tie
 
@@ -17,34 +17,28 @@ no-bound-requires : tie.Need-no-bound-requires Inv-loop μ-loop
 no-bound-requires c κs = search needs
 
 loop-holds : tie.Need-loop-holds Inv-loop μ-loop
-loop-holds c = filling-start (c .before .before .args .pairs .now) (c .before .before .pre .0) (c .no-bound .ensures)
+loop-holds c = let s = c .before .before in filling-start (s .args .pairs .now) (s .pre .0) (s .pre .2) (c .no-bound .ensures)
 
-mul-new : tie.Need-mul-new Inv-loop μ-loop
-mul-new c = search needs
+mul-bound-of : tie.Need-mul-bound-of Inv-loop μ-loop
+mul-bound-of c = search needs
 
-shared-slice-read-new : tie.Need-shared-slice-read-new Inv-loop μ-loop
-shared-slice-read-new c = search needs
+shared-slice-read-bound-of : tie.Need-shared-slice-read-bound-of Inv-loop μ-loop
+shared-slice-read-bound-of c = search needs
 
-new-requires : tie.Need-new-requires Inv-loop μ-loop
-new-requires c κs = search needs
+add-bound-of : tie.Need-add-bound-of Inv-loop μ-loop
+add-bound-of c = search needs
 
-add-new : tie.Need-add-new Inv-loop μ-loop
-add-new c = search needs
+mul-bound-of-2 : tie.Need-mul-bound-of-2 Inv-loop μ-loop
+mul-bound-of-2 c = omega (arith, pair-second (c .before .before .loop .inv .at) (c .before .loop-test .taken))
 
-mul-new-2 : tie.Need-mul-new-2 Inv-loop μ-loop
-mul-new-2 c = omega (arith, pair-second (c .before .before .before .loop .inv .at) (c .before .before .loop-test .taken))
+shared-slice-read-bound-of-2 : tie.Need-shared-slice-read-bound-of-2 Inv-loop μ-loop
+shared-slice-read-bound-of-2 c = pair-second (c .before .before .before .loop .inv .at) (c .before .before .loop-test .taken)
 
-shared-slice-read-new-2 : tie.Need-shared-slice-read-new-2 Inv-loop μ-loop
-shared-slice-read-new-2 c = pair-second (c .before .before .before .before .loop .inv .at) (c .before .before .before .loop-test .taken)
-
-new-requires-2 : tie.Need-new-requires-2 Inv-loop μ-loop
-new-requires-2 c κs = search needs
+bound-of-requires : tie.Need-bound-of-requires Inv-loop μ-loop
+bound-of-requires c κs = filling-small (c .before .before .before .loop .inv) (c .before .before .loop-test .taken)
 
 array-set-from-bounds : tie.Need-array-set-from-bounds Inv-loop μ-loop
-array-set-from-bounds c =
-    let s = c .before .before .before .before .before .before .before .before in
-    let l = c .before .before .before .before .before .loop in
-    filling-room (l .inv) (s .pre .1) (c .before .before .before .before .loop-test .taken)
+array-set-from-bounds c = filling-room (c .before .before .before .before .loop .inv) (c .before .before .before .before .before .before .before .pre .1) (c .before .before .before .loop-test .taken)
 
 mul-bounds : tie.Need-mul-bounds Inv-loop μ-loop
 mul-bounds c = omega (arith, array-set-from-bounds c)
@@ -59,17 +53,10 @@ loop-less : tie.Need-loop-less Inv-loop μ-loop
 loop-less c = search needs
 
 loop-again : tie.Need-loop-again Inv-loop μ-loop
-loop-again c =
-    filling-more
-    (c .before .before .before .before .before .loop .inv)
-    (c .before .before .before .before .loop-test .taken)
-    (c .before .before .new .ensures)
-    (c .new2 .ensures)
+loop-again c = filling-more (c .before .before .before .before .loop .inv) (c .before .before .before .loop-test .taken) (c .bound-of .ensures)
 
 returns : tie.Need-returns Inv-loop μ-loop
-returns c =
-    let s = c .before .before .before .before in
-    filling-end (c .before .loop .inv) (s .pre .1) (c .loop-test .left) (s .args .declared) (s .args .count)
+returns c = let s = c .before .before .before .before in filling-end (c .before .loop .inv) (s .pre .1) (c .loop-test .left) (s .args .declared) (s .args .count)
 
 pub filled-spec : {M : Type 1} → statement M
 filled-spec =
@@ -79,13 +66,12 @@ filled-spec =
     μ-loop
     no-bound-requires
     loop-holds
-    mul-new
-    shared-slice-read-new
-    new-requires
-    add-new
-    mul-new-2
-    shared-slice-read-new-2
-    new-requires-2
+    mul-bound-of
+    shared-slice-read-bound-of
+    add-bound-of
+    mul-bound-of-2
+    shared-slice-read-bound-of-2
+    bound-of-requires
     mul-bounds
     array-set-from-bounds
     add-pushed

@@ -1,9 +1,9 @@
 -- `pairs_below` meets its contract. The loop's invariant is `Below` of proofs/PairLaws.antt; the measure is how many words are to be read.
+use borrow.Author.Needs.{needs}
 use Prim.Native.Nat.{_-_}
 use mathlib.Core.Path.{sym, _∙_}
 use native.Mathlib.Omega.{arith}
 use lib.ListN.{length}
-use borrow.Author.Needs.{needs}
 use borrow.Author.Tests.{not-true, not-false}
 use Rattle.lifetimes.proofs.PairLaws.{pair-second, Below, below-start, below-refused, below-more, below-end}
 use Rattle.lifetimes.proofs.env.pairs_below.Statement.{statement}
@@ -18,35 +18,26 @@ abbrev μ-loop : tie.MeasureT-loop
 loop-holds : tie.Need-loop-holds Inv-loop μ-loop
 loop-holds c = below-start (c .before .args .limit) (c .before .args .pairs .now) (c .before .pre)
 
-mul-new : tie.Need-mul-new Inv-loop μ-loop
-mul-new c = search needs
+mul-numbers-below : tie.Need-mul-numbers-below Inv-loop μ-loop
+mul-numbers-below c = search needs
 
-shared-slice-read-new : tie.Need-shared-slice-read-new Inv-loop μ-loop
-shared-slice-read-new c = search needs
+shared-slice-read-numbers-below : tie.Need-shared-slice-read-numbers-below Inv-loop μ-loop
+shared-slice-read-numbers-below c = search needs
 
-new-requires : tie.Need-new-requires Inv-loop μ-loop
-new-requires c κs = search needs
+add-numbers-below : tie.Need-add-numbers-below Inv-loop μ-loop
+add-numbers-below c = search needs
 
-add-new : tie.Need-add-new Inv-loop μ-loop
-add-new c = search needs
+mul-numbers-below-2 : tie.Need-mul-numbers-below-2 Inv-loop μ-loop
+mul-numbers-below-2 c = omega (arith, pair-second (c .before .before .loop .inv .at) (c .before .loop-test .taken))
 
-shared-slice-read-new-2 : tie.Need-shared-slice-read-new-2 Inv-loop μ-loop
-shared-slice-read-new-2 c = pair-second (c .before .before .before .before .loop .inv .at) (c .before .before .before .loop-test .taken)
+shared-slice-read-numbers-below-2 : tie.Need-shared-slice-read-numbers-below-2 Inv-loop μ-loop
+shared-slice-read-numbers-below-2 c = pair-second (c .before .before .before .loop .inv .at) (c .before .before .loop-test .taken)
 
-mul-new-2 : tie.Need-mul-new-2 Inv-loop μ-loop
-mul-new-2 c = omega (arith, pair-second (c .before .before .before .loop .inv .at) (c .before .before .loop-test .taken))
-
-new-requires-2 : tie.Need-new-requires-2 Inv-loop μ-loop
-new-requires-2 c κs = search needs
-
-both-below-requires : tie.Need-both-below-requires Inv-loop μ-loop
-both-below-requires c κs = search needs
+numbers-below-requires : tie.Need-numbers-below-requires Inv-loop μ-loop
+numbers-below-requires c κs = search needs
 
 returns : tie.Need-returns Inv-loop μ-loop
-returns c =
-    let l = c .before .before .before .before .before .before .before .loop in
-    let h = c .before .before .before .before .before .before .loop-test .taken in
-    below-refused (l .inv) h (c .before .before .before .before .new .ensures) (c .before .before .new2 .ensures) (sym (c .before .both-below .ensures) ∙ not-true _ (c .if1 .taken))
+returns c = below-refused (c .before .before .before .before .before .loop .inv) (c .before .before .before .before .loop-test .taken) (sym (c .before .numbers-below .ensures) ∙ not-true _ (c .if1 .taken))
 
 add-i : tie.Need-add-i Inv-loop μ-loop
 add-i c = search needs
@@ -55,10 +46,7 @@ loop-less : tie.Need-loop-less Inv-loop μ-loop
 loop-less c = search needs
 
 loop-again : tie.Need-loop-again Inv-loop μ-loop
-loop-again c =
-    let l = c .before .before .before .before .before .before .before .loop in
-    let h = c .before .before .before .before .before .before .loop-test .taken in
-    below-more (l .inv) h (c .before .before .before .before .new .ensures) (c .before .before .new2 .ensures) (sym (c .before .both-below .ensures) ∙ not-false _ (c .if1 .left))
+loop-again c = below-more (c .before .before .before .before .before .loop .inv) (c .before .before .before .before .loop-test .taken) (sym (c .before .numbers-below .ensures) ∙ not-false _ (c .if1 .left))
 
 returns-2 : tie.Need-returns-2 Inv-loop μ-loop
 returns-2 c = below-end (c .before .loop .inv) (c .loop-test .left)
@@ -70,14 +58,12 @@ pairs-below-spec =
     Inv-loop
     μ-loop
     loop-holds
-    mul-new
-    shared-slice-read-new
-    new-requires
-    add-new
-    mul-new-2
-    shared-slice-read-new-2
-    new-requires-2
-    both-below-requires
+    mul-numbers-below
+    shared-slice-read-numbers-below
+    add-numbers-below
+    mul-numbers-below-2
+    shared-slice-read-numbers-below-2
+    numbers-below-requires
     returns
     add-i
     loop-less

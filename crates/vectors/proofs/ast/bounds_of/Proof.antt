@@ -10,12 +10,6 @@ Inv-loop pairs bounds₀ n i₀ bounds i = i ≤ n
 abbrev μ-loop : tie.MeasureT-loop
 μ-loop pairs bounds₀ n i₀ bounds i = n - i
 
-new-requires : tie.Need-new-requires Inv-loop μ-loop
-new-requires c κs = search needs
-
-new-requires-2 : tie.Need-new-requires-2 Inv-loop μ-loop
-new-requires-2 c κs = search needs
-
 least-requires : tie.Need-least-requires Inv-loop μ-loop
 least-requires c κs = search needs
 
@@ -31,8 +25,8 @@ mul-new-2 c = search needs
 shared-slice-read-new : tie.Need-shared-slice-read-new Inv-loop μ-loop
 shared-slice-read-new c = search needs
 
-new-requires-3 : tie.Need-new-requires-3 Inv-loop μ-loop
-new-requires-3 c κs = search needs
+new-requires : tie.Need-new-requires Inv-loop μ-loop
+new-requires c κs = search needs
 
 mul-new-3 : tie.Need-mul-new-3 Inv-loop μ-loop
 mul-new-3 c = search needs
@@ -46,8 +40,11 @@ mul-new-4 c = search needs
 shared-slice-read-new-2 : tie.Need-shared-slice-read-new-2 Inv-loop μ-loop
 shared-slice-read-new-2 c = search needs
 
-new-requires-4 : tie.Need-new-requires-4 Inv-loop μ-loop
-new-requires-4 c κs = search needs
+new-requires-2 : tie.Need-new-requires-2 Inv-loop μ-loop
+new-requires-2 c κs = search needs
+
+new-requires-3 : tie.Need-new-requires-3 Inv-loop μ-loop
+new-requires-3 c κs = search needs
 
 mul-bounds : tie.Need-mul-bounds Inv-loop μ-loop
 mul-bounds c = search needs
@@ -73,19 +70,18 @@ bounds-of-spec =
     (tie.spec
     Inv-loop
     μ-loop
-    new-requires
-    new-requires-2
     least-requires
     loop-holds
     mul-new
     mul-new-2
     shared-slice-read-new
-    new-requires-3
+    new-requires
     mul-new-3
     add-new
     mul-new-4
     shared-slice-read-new-2
-    new-requires-4
+    new-requires-2
+    new-requires-3
     mul-bounds
     array-set-from-bounds
     add-i

@@ -22,14 +22,8 @@ mul-last c = search needs
 element-copy-out-last : tie.Need-element-copy-out-last Inv-loop μ-loop
 element-copy-out-last c = search needs
 
-index-requires : tie.Need-index-requires Inv-loop μ-loop
-index-requires c κs = search needs
-
 returns : tie.Need-returns Inv-loop μ-loop
 returns c = search needs
-
-index-requires-2 : tie.Need-index-requires-2 Inv-loop μ-loop
-index-requires-2 c κs = search needs
 
 returns-2 : tie.Need-returns-2 Inv-loop μ-loop
 returns-2 c = search needs
@@ -56,9 +50,7 @@ filled-spec =
     sub-last
     mul-last
     element-copy-out-last
-    index-requires
     returns
-    index-requires-2
     returns-2
     sub-n
     loop-less

@@ -1,6 +1,6 @@
 -- `LifetimeEnv::check` meets its contract. The loop's invariant is `Checking` of proofs/AstEnvLaws.antt; the measure is how many bounds are to be read.
 use Prim.Native.Nat.{_-_}
-use mathlib.Core.Path.{_≡_}
+use mathlib.Core.Path.{_≡_, refl}
 use lib.ListN.{length, length-map}
 use borrow.Author.Needs.{needs}
 use Rattle.ast_lifetimes.proofs.AstEnvLaws.{check-names, check-bounds, Checking, checking-start, checking-longer, checking-shorter, checking-more, checking-end}
@@ -31,25 +31,17 @@ mul-b c = search needs
 element-copy-out-b : tie.Need-element-copy-out-b Inv-loop μ-loop
 element-copy-out-b c = search needs
 
-index-requires : tie.Need-index-requires Inv-loop μ-loop
-index-requires c κs = search needs
+cast-if3 : tie.Need-cast-if3 Inv-loop μ-loop
+cast-if3 c = search needs
 
 returns-3 : tie.Need-returns-3 Inv-loop μ-loop
-returns-3 c =
-    let s = c .before .before .before .before .before .before .before in
-    let l = c .before .before .before .before .loop in
-    let h = c .before .before .before .loop-test .taken in
-    checking-longer (l .inv) (full s) h (c .before .index .ensures) (c .if3 .taken)
+returns-3 c = checking-longer (c .before .before .before .before .loop .inv) (full (c .before .before .before .before .before .before .before)) (c .before .before .before .loop-test .taken) refl (c .if3 .taken)
 
-index-requires-2 : tie.Need-index-requires-2 Inv-loop μ-loop
-index-requires-2 c κs = search needs
+cast-if4 : tie.Need-cast-if4 Inv-loop μ-loop
+cast-if4 c = search needs
 
 returns-4 : tie.Need-returns-4 Inv-loop μ-loop
-returns-4 c =
-    let s = c .before .before .before .before .before .before .before .before .before in
-    let l = c .before .before .before .before .before .before .loop in
-    let h = c .before .before .before .before .before .loop-test .taken in
-    checking-shorter (l .inv) (full s) h (c .before .before .before .index .ensures) (c .before .before .if3 .left) (c .before .index2 .ensures) (c .if4 .taken)
+returns-4 c = checking-shorter (c .before .before .before .before .before .before .loop .inv) (full (c .before .before .before .before .before .before .before .before .before)) (c .before .before .before .before .before .loop-test .taken) refl (c .before .before .if3 .left) refl (c .if4 .taken)
 
 add-i : tie.Need-add-i Inv-loop μ-loop
 add-i c = search needs
@@ -58,11 +50,7 @@ loop-less : tie.Need-loop-less Inv-loop μ-loop
 loop-less c = search needs
 
 loop-again : tie.Need-loop-again Inv-loop μ-loop
-loop-again c =
-    let s = c .before .before .before .before .before .before .before .before .before in
-    let l = c .before .before .before .before .before .before .loop in
-    let h = c .before .before .before .before .before .loop-test .taken in
-    checking-more (l .inv) (full s) h (c .before .before .before .index .ensures) (c .before .before .if3 .left) (c .before .index2 .ensures) (c .if4 .left)
+loop-again c = checking-more (c .before .before .before .before .before .before .loop .inv) (full (c .before .before .before .before .before .before .before .before .before)) (c .before .before .before .before .before .loop-test .taken) refl (c .before .before .if3 .left) refl (c .if4 .left)
 
 returns-5 : tie.Need-returns-5 Inv-loop μ-loop
 returns-5 c = checking-end (c .before .loop .inv) (c .loop-test .left)
@@ -78,9 +66,9 @@ check-spec =
     loop-holds
     mul-b
     element-copy-out-b
-    index-requires
+    cast-if3
     returns-3
-    index-requires-2
+    cast-if4
     returns-4
     add-i
     loop-less

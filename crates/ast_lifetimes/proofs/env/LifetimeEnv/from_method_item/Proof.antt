@@ -1,6 +1,7 @@
 -- `from_method_item` meets its contract: refused by the shape, refused at a place, or given, as proofs/Building.antt says.
 use mathlib.Core.Path.{refl, _∙_}
 use borrow.Author.Needs.{needs}
+use Rattle.ast_lifetimes.proofs.AcceptedLaws.{built-small}
 use Rattle.ast_lifetimes.proofs.Building.{shape-refused, shape-given, place-refused, method-given}
 use Rattle.ast_lifetimes.proofs.env.LifetimeEnv.from_method_item.Statement.{statement}
 use Rattle.ast_lifetimes.proofs.env.LifetimeEnv.from_method_item.Tie as tie
@@ -40,7 +41,8 @@ returns-2 c =
 assembled-requires : tie.Need-assembled-requires
 assembled-requires c κs =
     let b = c .before .before .before .before .before .build .ensures in
-    (b .few (c .before .before .before .enum-told3 .given .1), b .sizes)
+    let e = c .before .before .before .enum-told3 .given .1 in
+    (b .few e, (b .sizes, built-small b e))
 
 returns-3 : tie.Need-returns-3
 returns-3 c =

@@ -1,12 +1,13 @@
 -- `LifetimeEnv::new` meets its contract: the code's tests are the checks, in their order.
 use Prim.Native.Nat.{_/_}
 use mathlib.Core.Path.{sym, _∙_}
+use native.Mathlib.Omega.{arith}
 use lib.ListN.{length}
 use borrow.Author.Needs.{needs}
 use borrow.Author.Tests.{not-true, not-false}
 use Rattle.lifetimes.specs.Env.{pairsOf}
 use Rattle.lifetimes.proofs.EnvLaws.{lifetimes-due, bounds-due, declared-due, side-due, none-due}
-use Rattle.lifetimes.proofs.PairLaws.{new-half, new-refused, new-given}
+use Rattle.lifetimes.proofs.PairLaws.{new-half, new-refused, new-given, below-larger}
 use Rattle.lifetimes.proofs.env.LifetimeEnv.new.Statement.{statement}
 use Rattle.lifetimes.proofs.env.LifetimeEnv.new.Tie as tie
 
@@ -71,7 +72,10 @@ returns-5 c =
     (c .refused5 .ensures)
 
 filled-requires : tie.Need-filled-requires
-filled-requires c κs = search needs
+filled-requires c κs =
+    let below = sym (c .before .pairs-below .ensures) ∙ not-false _ (c .if5 .left) in
+    let a = c .before .before .before .before .before .before .before .args in
+    (search needs, search needs, below-larger (a .declared) 256 (omega arith) (pairsOf (a .pairs .now)) below)
 
 returns-6 : tie.Need-returns-6
 returns-6 c =
