@@ -40,7 +40,7 @@ use Rattle.borrowing_param.specs.Edges.{width, edgeWords}
 use Rattle.borrowing_param.specs.Brings.{bring, numberOf}
 use Rattle.borrowing_param.specs.Visit.{usedOf, drawsIn, drawsOf, bringTo, bringAll, holding}
 use Rattle.borrowing_param.specs.BorrowMap.{listedTo, listedEdges, answersFrom, Mapping, mappingOf, borrowMap, mapAnswer, answersIn, edgesIn}
-use Rattle.borrowing_param.specs.Inner.{Inside, typeIn, numberBy, CountsAll, StoresWords, Stores}
+use Rattle.borrowing_param.specs.Inner.{Inside, typeIn, numberBy, Below, CountsAll, StoresWords, Stores}
 use Rattle.borrowing_param.specs.InnerMap.{Lists, done, more, paramTypes, Params, visitorIn, bringFrom, CountsParams, roomChecks, mapOf, Maps}
 use Rattle.borrowing_param.proofs.Joining.{join-cons, words-many}
 use Rattle.borrowing_param.proofs.Drawing.{bring-few}
@@ -270,9 +270,9 @@ module _ (used : ℕ) (drawn : List ℕ) (types : List LoweredType) where
   unfolding listedEdges
   listed-left = rw (used-all used)
 
-  pub listed-end : (i : ℕ) → 64 ≤ i → leftListed used drawn types i ≡ []
+  pub listed-end : {limit : ℕ} → Below used limit → (i : ℕ) → limit ≤ i → leftListed used drawn types i ≡ []
   unfolding flatMap
-  listed-end i h = rw (used-end used i h)
+  listed-end b i h = rw (used-end used b i h)
 
   module _ (i : ℕ) (h : i < 64) where
     pub listed-here : true ≡ member used i → leftListed used drawn types i ≡ bringFrom (drawsIn (getD drawn i 0)) i 0 types ++ leftListed used drawn types (i + 1)

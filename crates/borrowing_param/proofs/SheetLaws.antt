@@ -24,13 +24,12 @@ use Rattle.sheet.specs.Reading.{sheetOf, textChecks, readText}
 use Rattle.sheet.specs.Answer.{endsFrom, recordWords}
 use Rattle.sheet.specs.Shape as shape
 use Rattle.sheet.specs.Shape.{sheetInShape, sheetAnswer, sheetEnds, callChecks}
-use Rattle.sheet.specs.Inner.{recordsAt, Laid}
+use Rattle.sheet.specs.Inner.{recordsAt, Laid, Roomy}
 use Rattle.sheet.proofs.Answers.{last-end}
-use Rattle.sheet.proofs.Placing.{laid-words, laid-records}
-use Rattle.sheet.proofs.Theorems.{room-for-any-sheet, words-take-two-bytes}
+use Rattle.sheet.proofs.Placing.{laid-words, laid-records, roomy-fits}
 use Rattle.borrowing_param.specs.declared.method.SheetMethod.{SheetMethod}
 use Rattle.borrowing_param.specs.SheetMethod.{envOfSheet, recordsChecks, sheetRefusals, lowerSheet, methodAnswer, methodWords}
-use Rattle.borrowing_param.specs.InnerSheet.{records, methodOf, Roomy, Judges}
+use Rattle.borrowing_param.specs.InnerSheet.{records, methodOf, Judges}
 
 -- the first due is in the one list or in the other
 first-either : {k : Refusal} (checks more : List Check) → FirstDue k (checks ++ more) → FirstDue k checks ⊎ (NoneDue checks × FirstDue k more)
@@ -83,16 +82,6 @@ module _ (bytes : List ℕ) where
       let p = none-split (textChecks bytes) (shapeCheck ∷ []) n in
       (p .0, not-false (sheetInShape sheet) (none-first (p .1)))
 
-  fits : {room : ℕ} → Roomy bytes room → NoneDue (textChecks bytes) → length (wordsOf sheet) ≤ room
-  unfolding readText
-  fits roomy n =
-      let e = due-given sheet n in
-      roomy (length (wordsOf sheet)) (omega (arith, room-for-any-sheet bytes sheet e)) (words-take-two-bytes bytes sheet e)
-
-  -- 512 words are enough for a sheet of 1,024 bytes
-  pub small-room : length bytes ≤ 1024 → Roomy bytes 512
-  small-room h n few half = omega (arith, h, half)
-
   module _ (scratch : List ℕ) (roomy : Roomy bytes (length scratch)) {t : Text} (read : t ≡ sheetAnswer bytes (length scratch)) {scratch₁ : List ℕ}
       (wrote : scratch₁ ≡ written (shape.sheetWords bytes (length scratch)) scratch) where
     abbrev Ends : Outcome (List ℕ)
@@ -111,7 +100,7 @@ module _ (bytes : List ℕ) where
 
         go : FirstDue k (shape.sheetChecks bytes) ⊎ (NoneDue (shape.sheetChecks bytes) × FirstDue k (roomCheck (length scratch) (wordsOf sheet) ∷ [])) → FirstDue k (sheetRefusals bytes)
         go (inl f) = read-refused f
-        go (inr (n, f)) = absurd (none-of f (le-ltb (length scratch) (length (wordsOf sheet)) (fits roomy (read-none n .0))))
+        go (inr (n, f)) = absurd (none-of f (le-ltb (length scratch) (length (wordsOf sheet)) (roomy-fits bytes roomy (read-none n .0))))
 
     pub judge-text : {k : Refusal} {m : SheetMethod} → t .verdict ≡ verdict.Refused k → m ≡ methodAnswer (Refuses k) → Judges bytes m scratch₁
     judge-text v h = record {

@@ -1,12 +1,13 @@
 -- Storing edges behind others: what is left, stored from here, gives what all gives from the start; the used lifetimes one after another; one edge; the edges of a struct.
-use Prim.Native.Nat.{ℕ, suc, _+_, _-_, _*_, _≤_, _<_}
+use Prim.Native.Nat.{ℕ, zero, suc, _+_, _-_, _*_, _^_, _≤_, _<_}
 use mathlib.Core.Bool.{Bool, true, false, cond}
 use mathlib.Core.Path.{_≡_, refl, sym, ap, _∙_}
 use mathlib.Core.List.{List, [], _∷_, _++_, flatMap}
-use native.Mathlib.Nat.{add-zero, zero-add}
+use native.Mathlib.Nat.{add-zero, zero-add, pow-suc, pow-le-pow-right, div-eq-of-lt}
 use native.Mathlib.Numerals.{add-one}
 use native.Mathlib.Omega.{arith}
 use borrow.Author.Tests.{lt-ltb, eq-eqb, ne-eqb}
+use lib.Count.{leadingZeros, leading-length}
 use lib.Dec.{eqb, ltb}
 use lib.ListN.{length, getD, set, length-append, length-set}
 use lib.Seq.{sets, length-sets}
@@ -20,7 +21,7 @@ use Rattle.borrowing_param.specs.declared.visitor.LifetimeEdge.{Lifetime
 use Rattle.borrowing_param.specs.Edges.{edge, width, edgeWords}
 use Rattle.borrowing_param.specs.Brings.{drawn, anyDrawn, oneEdge, structEdges, bring, note, notes}
 use Rattle.borrowing_param.specs.Visit.{drawsIn}
-use Rattle.borrowing_param.specs.Inner.{Inside, CountsFor, allIn, CountsAll, structOf, StoresWords, Stores}
+use Rattle.borrowing_param.specs.Inner.{Inside, CountsFor, Below, allIn, CountsAll, structOf, StoresWords, Stores}
 use Rattle.borrowing_param.proofs.Joining.{join-cons, join-append, sets-behind, words-many}
 use Rattle.borrowing_param.proofs.Drawing.{left, allPath, left-all, left-none, left-next, bring-few}
 
@@ -193,9 +194,17 @@ module _ (used : ℕ) where
   unfolding members
   used-all = refl
 
-  pub used-end : (l : ℕ) → 64 ≤ l → usedFrom used l ≡ []
+  none-past : (x : ℕ) → used < 2 ^ x → member used x ≡ false
+  unfolding member
+  none-past x h = rw (div-eq-of-lt h)
+
+  select-past : (x n : ℕ) → used < 2 ^ x → select (member used) (ascending x n) ≡ []
   unfolding ascending select
-  used-end l h = let e : 64 - l ≡ 0 = omega arith in rw e
+  select-past x zero h = refl
+  select-past x (suc n) h = rw (none-past x h) (select-past (suc x) n (omega (arith, pow-suc 2 x)))
+
+  pub used-end : {limit : ℕ} → Below used limit → (l : ℕ) → limit ≤ l → usedFrom used l ≡ []
+  used-end {limit} b l h = select-past l (64 - l) (omega (arith, b .1, pow-le-pow-right {n = 2} (omega arith) h))
 
   module _ (l : ℕ) (h : l < 64) where
     row : ascending l (64 - l) ≡ l ∷ ascending (l + 1) (64 - (l + 1))
@@ -210,6 +219,16 @@ module _ (used : ℕ) where
     unfolding select
     used-not q = rw (row, ← q)
 
+pub below-64 : {used limit l : ℕ} → Below used limit → l < limit → l < 64
+below-64 b h = omega (arith, b .0)
+
+-- a number of 64 bits has no ones above its leading zeros
+pub below-leading : (used : ℕ) → used < 2 ^ 64 → Below used (64 - leadingZeros 64 used)
+below-leading used h =
+    let m = leading-length 64 used h in
+    let e : 64 - leadingZeros 64 used ≡ m .0 = omega (arith, m .1) in
+    (omega arith, rw e (m .2))
+
 -- what is left, for the used lifetimes from a number on
 abbrev pub leftAll : ℕ → List ℕ → LoweredType → ℕ → ℕ → List LifetimeEdge
 leftAll used drawn t param l = flatMap (λ x. bring (drawsIn (getD drawn x 0)) x param t) (usedFrom used l)
@@ -218,9 +237,9 @@ module _ (used : ℕ) (drawn : List ℕ) (t : LoweredType) (param : ℕ) where
   pub all-left : allIn used drawn t param ≡ leftAll used drawn t param 0
   all-left = rw (used-all used)
 
-  pub all-end : (l : ℕ) → 64 ≤ l → leftAll used drawn t param l ≡ []
+  pub all-end : {limit : ℕ} → Below used limit → (l : ℕ) → limit ≤ l → leftAll used drawn t param l ≡ []
   unfolding flatMap
-  all-end l h = rw (used-end used l h)
+  all-end b l h = rw (used-end used b l h)
 
   module _ (l : ℕ) (h : l < 64) where
     pub all-here : true ≡ member used l → leftAll used drawn t param l ≡ bring (drawsIn (getD drawn l 0)) l param t ++ leftAll used drawn t param (l + 1)
@@ -240,8 +259,8 @@ pub counting-all : (used : ℕ) (drawn : List ℕ) (t : LoweredType) → Countin
 counting-all used drawn t = record { here = omega arith; few = omega arith; counts = λ param. zero-add _ ∙ ap length (sym (all-left used drawn t param)) }
 
 module _ {used : ℕ} {drawn : List ℕ} {t : LoweredType} {n l : ℕ} (inv : CountingAll used drawn t n l) where
-  pub counting-all-end : 64 ≤ l → CountsAll used drawn t n
-  counting-all-end h = record { counts = λ param. sym (add-zero n) ∙ (rw (all-end used drawn t param l h) at (inv .counts param)) }
+  pub counting-all-end : {limit : ℕ} → Below used limit → limit ≤ l → CountsAll used drawn t n
+  counting-all-end b h = record { counts = λ param. sym (add-zero n) ∙ (rw (all-end used drawn t param b l h) at (inv .counts param)) }
 
   pub counting-all-not : l < 64 → false ≡ member used l → CountingAll used drawn t n (l + 1)
   counting-all-not h q = record { here = omega arith; few = omega (arith, inv .few); counts = λ param. rw (all-not used drawn t param l h q) at (inv .counts param) }

@@ -1,5 +1,5 @@
 -- For private functions only: searching, counting and storing the edges of one parameter. No public contract cites this file.
-use Prim.Native.Nat.{ℕ, zero, suc, _+_, _*_, _<_}
+use Prim.Native.Nat.{ℕ, zero, suc, _+_, _*_, _^_, _≤_, _<_}
 use mathlib.Core.Bool.{Bool, true, false, cond}
 use mathlib.Core.Path.{_≡_}
 use mathlib.Core.List.{List, [], _∷_, _++_, map, flatMap}
@@ -52,6 +52,10 @@ oneIf false = 0
 -- how many edges a type brings to one used lifetime, and to all
 pub record CountsFor (draws : ℕ → Bool) (t : LoweredType) (n : ℕ) : Type 0 where
   pub counts : (used param : ℕ) → n ≡ length (bring draws used param t)
+
+-- all lifetimes of a set are below a number, of at most 64
+abbrev pub Below : ℕ → ℕ → Type 0
+Below set limit = (limit ≤ 64) × (set < 2 ^ limit)
 
 -- what it brings to all, by the set of the used ones and the sets that draw
 abbrev pub allIn : ℕ → List ℕ → LoweredType → ℕ → List LifetimeEdge

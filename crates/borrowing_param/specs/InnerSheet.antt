@@ -1,5 +1,5 @@
 -- For private functions only: a sheet judged in scratch, and what its parameters borrow. No public contract cites this file.
-use Prim.Native.Nat.{ℕ, _*_, _≤_}
+use Prim.Native.Nat.{ℕ}
 use mathlib.Core.Path.{_≡_}
 use mathlib.Core.List.{List, [], _∷_, _++_}
 use lib.ListN.{length}
@@ -24,10 +24,6 @@ records names bounds types self steps returns structs params output force =
 -- the environment of ten records
 unfoldable pub methodOf : Records → Outcome LifetimeEnv
 methodOf r = unless (recordsChecks r) (envOfSheet r)
-
--- so many words are enough for any sheet of these bytes
-abbrev pub Roomy : List ℕ → ℕ → Type 0
-Roomy bytes room = (n : ℕ) → n ≤ 10240 → 2 * n ≤ length bytes → n ≤ room
 
 -- the answer is the method's or its refusal; with it the words of the records stand in front of the scratch
 pub record Judges (bytes : List ℕ) (m : SheetMethod) (scratch : List ℕ) : Type 0 where

@@ -11,7 +11,7 @@ ghost use Rattle.borrowing_param.specs.Edges.{width, edgeWords};
 ghost use Rattle.lowered_types.specs.LoweredTypes.{lifetimesOf};
 ghost use Rattle.borrowing_param.specs.Brings.{drawn, anyDrawn, oneEdge, optionOf, bring};
 ghost use Rattle.borrowing_param.specs.Visit.{drawsIn};
-ghost use Rattle.borrowing_param.specs.Inner.{Inside, typeIn, firstFrom, FirstDrawn, countDrawn, oneIf, CountsFor, CountsAll, structOf, allIn, Stores, StoresWords};
+ghost use Rattle.borrowing_param.specs.Inner.{Below, Inside, typeIn, firstFrom, FirstDrawn, countDrawn, oneIf, CountsFor, CountsAll, structOf, allIn, Stores, StoresWords};
 use super::visitor::BorrowingParamVisitor;
 use super::visitor::LifetimeEdge;
 use lifetimes::DefLifetime;
@@ -151,14 +151,22 @@ fn count_one(set: u64, words: &[usize], parts: Parts) -> usize
     }
 }
 
+// A number that all lifetimes of a set are below.
+pub(crate) fn limit_of(set: u64) -> usize
+    ensures { λ r. ⌜ Below set r ⌝ }
+{
+    64 - u64::leading_zeros(set) as usize
+}
+
 // How many edges a parameter brings to all used lifetimes.
 pub(crate) fn count_all(used: u64, drawn: &[u64; 64], words: &[usize], parts: Parts) -> usize
     requires { ⌜ Inside (now words) (parts .from) (parts .count) × (parts .count ≤ 16) × (length (now drawn) ≡ 64) ⌝ }
     ensures { λ r. ⌜ CountsAll used (now (drawn .entry)) (typeIn (now (words .entry)) parts) r ⌝ }
 {
+    let limit = limit_of(used);
     let mut n = 0;
     let mut l = 0;
-    while l < 64 {
+    while l < limit {
         if set::contains(used, Lifetime::new(l)) {
             n += count_for(drawn[l], words, parts);
         }
@@ -309,9 +317,10 @@ pub(crate) fn store_all(
     requires { ⌜ width * (at + length (allIn used (now drawn) (typeIn (now words) parts) param)) ≤ length (now edges) ⌝ }
     ensures { λ r. ⌜ Stores (allIn used (now (drawn .entry)) (typeIn (now (words .entry)) parts) param) at (now (pairs .entry)) (now (edges .entry)) r (now (pairs .exit)) (now (edges .exit)) ⌝ }
 {
+    let limit = limit_of(used);
     let mut next = at;
     let mut i = 0;
-    'used: while i < 64 {
+    'used: while i < limit {
         let l = i;
         i += 1;
         if !set::contains(used, Lifetime::new(l)) {

@@ -10,8 +10,8 @@ ghost use Rattle.borrowing_param.specs.Visit.{drawsIn};
 ghost use Rattle.borrowing_param.specs.BorrowMap.{listedEdges, borrowMap, mapAnswer, answersIn, edgesIn};
 ghost use Rattle.borrowing_param.specs.Inner.{Stores, StoresWords};
 ghost use Rattle.borrowing_param.specs.InnerMap.{paramTypes, Params, visitorIn, bringFrom, CountsParams, mapOf, Maps};
-use super::copy::copy;
 use super::edges::count_all;
+use super::edges::limit_of;
 use super::edges::store_for;
 use super::visitor::BorrowingParamVisitor;
 use super::visitor::check_params;
@@ -22,6 +22,7 @@ use lifetimes::Verdict;
 use lifetimes::set;
 use lowered_types::Located;
 use lowered_types::type_at;
+use records::copy_words;
 
 // How many parameters and edges there are, or why the call is refused; beside a refusal none.
 pub struct BorrowMap {
@@ -91,7 +92,7 @@ fn map_params(
     if edges.len() / BorrowingParamVisitor::EDGE_WORDS < total {
         return unmapped(Refusal::NoRoom);
     }
-    copy(&numbers, count, answers);
+    copy_words(&numbers, count, answers);
     let stored = store_listed(used, &draws, params, edges);
     BorrowMap {
         verdict: Verdict::Accepted,
@@ -139,10 +140,11 @@ fn store_listed(used: u64, drawn: &[u64; 64], params: &[usize], edges: &mut [usi
     requires { ⌜ Params (now params) × (length (now drawn) ≡ 64) × (width * length (listedEdges (visitorIn used (now drawn)) (paramTypes (now params))) ≤ length (now edges)) ⌝ }
     ensures { λ r. ⌜ StoresWords (listedEdges (visitorIn used (now (drawn .entry))) (paramTypes (now (params .entry)))) 0 (now (edges .entry)) r (now (edges .exit)) ⌝ }
 {
+    let limit = limit_of(used);
     let mut pairs = [0u64; 16];
     let mut next = 0;
     let mut i = 0;
-    'used: while i < 64 {
+    'used: while i < limit {
         let l = i;
         i += 1;
         if !set::contains(used, Lifetime::new(l)) {

@@ -10,16 +10,16 @@ ghost use Rattle.lifetimes.specs.Refusals.{Refuses};
 ghost use Rattle.lifetimes.specs.Lent.{written};
 ghost use Rattle.lifetimes.specs.Env.{envOf, made};
 ghost use Rattle.sheet.specs.Shape.{sheetInShape};
-ghost use Rattle.sheet.specs.Inner.{Laid, recordsAt};
+ghost use Rattle.sheet.specs.Inner.{Laid, recordsAt, Roomy};
 ghost use Rattle.borrowing_param.specs.SheetMethod.{lowerSheet, methodAnswer, methodWords};
-ghost use Rattle.borrowing_param.specs.InnerSheet.{records, methodOf, Roomy, Judges};
-use super::copy::copy;
+ghost use Rattle.borrowing_param.specs.InnerSheet.{records, methodOf, Judges};
 use elision::measure;
 use hir_types::check_method;
 use lifetimes::LifetimeEnv;
 use lifetimes::Made;
 use lifetimes::Refusal;
 use lifetimes::Verdict;
+use records::copy_words;
 use sheet::read_sheet;
 use sheet::record_words;
 
@@ -76,7 +76,7 @@ fn lower_within(sheet: &[u8], scratch: &mut [usize], words: &mut [usize]) -> She
     if words.len() < count {
         return refused_method(Refusal::NoRoom);
     }
-    copy(scratch, count, words);
+    copy_words(scratch, count, words);
     method
 }
 

@@ -1,12 +1,12 @@
 -- Runs of stores: `sets` of lib.Seq over joined lists, the loop of `copy_to`, and what an answer in a lent slice is.
 use Prim.Native.Nat.{ℕ, zero, suc, _+_, _-_, _≤_, _<_}
-use mathlib.Core.Path.{_≡_, refl, ap, _∙_}
+use mathlib.Core.Path.{_≡_, refl, sym, ap, _∙_}
 use mathlib.Core.List.{List, [], _∷_, _++_}
 use native.Mathlib.Nat.{add-zero, zero-add, sub-zero, zero-sub, suc-sub-suc}
 use native.Mathlib.Omega.{arith}
 use native.Mathlib.Numerals.{add-one}
 use lib.ListN.{length, getD, take, drop, set, replicate, length-set, drop-of-length-le}
-use lib.Seq.{drop-cons, getD-take, length-take-le, sets, sets-eq}
+use lib.Seq.{drop-cons, getD-take, length-take-le, set-out, sets, sets-eq}
 
 -- one run after another
 pub sets-append : (l : List ℕ) (i : ℕ) (vs ws : List ℕ) → sets l i (vs ++ ws) ≡ sets (sets l i vs) (i + length vs) ws
@@ -16,6 +16,16 @@ sets-append l i (v ∷ vs) ws = let e : suc i + length vs ≡ i + suc (length vs
 -- a run from the front
 pub sets-front : (l vs : List ℕ) → length vs ≤ length l → sets l 0 vs ≡ vs ++ drop (length vs) l
 sets-front l vs h = sets-eq vs l 0 (omega arith) ∙ rw zero-add
+
+-- a run of stores past the end changes nothing, and a run cut where there is no more room is the whole run
+pub sets-out : (l : List ℕ) (i : ℕ) (vs : List ℕ) → length l ≤ i → sets l i vs ≡ l
+sets-out l i [] h = refl
+sets-out l i (v ∷ vs) h = rw (set-out l i v h) (sets-out l (suc i) vs (omega arith))
+
+pub sets-cut : (n : ℕ) (l : List ℕ) (i : ℕ) (vs : List ℕ) → length l ≤ i + n → sets l i (take n vs) ≡ sets l i vs
+sets-cut zero l i vs h = sym (sets-out l i vs (omega arith))
+sets-cut (suc n) l i [] h = refl
+sets-cut (suc n) l i (v ∷ vs) h = sets-cut n (set l i v) (suc i) vs (rw (length-set l i v) (omega arith))
 
 pub drop-replicate : (n m x : ℕ) → drop n (replicate m x) ≡ replicate (m - n) x
 drop-replicate zero m x = rw sub-zero

@@ -2,7 +2,7 @@
 use Prim.Native.Nat.{ℕ, zero, suc, _+_, _*_, _-_, _≤_, _<_}
 use mathlib.Core.Path.{_≡_, refl, sym, ap, _∙_}
 use mathlib.Core.List.{List, [], _∷_, _++_, flatten}
-use native.Mathlib.Nat.{sub-zero, zero-add}
+use native.Mathlib.Nat.{sub-zero, zero-add, mul-suc}
 use native.Mathlib.Omega.{arith}
 use native.Mathlib.Numerals.{add-one}
 use lib.ListN.{length, set, length-append}
@@ -102,13 +102,13 @@ module _ {g : Graph} {count : ℕ} {words₀ ends₀ reach₀ words ends reach :
       let none = ascending-none x count h in
       record { measures = measuring-end (inv .measuring) h; words = (rw none at (inv .words-left)); ends = (rw none at (inv .ends-left)) }
 
--- 64 words for each list are enough
-pub lists-few : (g : Graph) → Within g 64 → (x n : ℕ) → x + n ≤ 64 → length (flatten (listsFrom g x n)) ≤ 64 * n
+-- no list is longer than there are lifetimes, so as many words for each of them are enough
+pub lists-few : (g : Graph) (limit : ℕ) → Within g limit → (x n : ℕ) → x + n ≤ limit → length (flatten (listsFrom g x n)) ≤ limit * n
 unfolding flatten ascending
-lists-few g w x zero h = omega arith
-lists-few g w x (suc n) h =
-    rw length-append
-    (omega (arith, traversal-few LastFirst (g .longer) (g .bounds) x 64 w (omega arith), lists-few g w (suc x) n (omega arith)))
+lists-few g limit w x zero h = omega arith
+lists-few g limit w x (suc n) h =
+    rw (length-append, mul-suc)
+    (omega (arith, traversal-few LastFirst (g .longer) (g .bounds) x limit w (omega arith), lists-few g limit w (suc x) n (omega arith)))
 
 pub length-ends : (at : ℕ) (ls : List (List ℕ)) → length (endsFrom at ls) ≡ length ls
 unfolding endsFrom

@@ -86,7 +86,7 @@ impl LifetimeEnv {
     }
 
     // Write all lists of a direction, one after another, to one slice, and where each ends to another. Refused by 4 and 8 as the environment is,
-    // by 9 where either slice is too short. A slice of 64 words for each lifetime is always enough; with less the lists are measured first.
+    // by 9 where either slice is too short. With as many words for each lifetime as there are lifetimes the lists fit in any case; with less they are measured first.
     pub fn all_lists(self, longer: bool, words: &mut [usize], ends: &mut [usize]) -> Lists
         ensures { λ r. ⌜ r ≡ listsAnswer longer self (length (now (words .entry))) (length (now (ends .entry))) ⌝ }
         ensures { λ _. ⌜ now (words .exit) ≡ written (listWords longer self (length (now (words .entry))) (length (now (ends .entry)))) (now (words .entry)) ⌝ }
@@ -202,7 +202,7 @@ fn copy_to(items: &[usize; 64], n: usize, out: &mut [usize], at: usize)
     }
 }
 
-// Whether all lists over an index have room together. With 64 words for each lifetime they have; with less they are measured.
+// Whether all lists over an index have room together. None is longer than there are lifetimes, so with as many words for each they have; with less they are measured.
 fn all_fit(
     far: &[usize; 256],
     before: &[usize; 256],
@@ -214,7 +214,7 @@ fn all_fit(
     requires { ⌜ Measurable (now far) (now before) (now last) declared count ⌝ }
     ensures { λ r. ⌜ ((g : Graph) → Indexed g (now (far .entry)) (now (before .entry)) (now (last .entry)) → Within g declared → Fits g count room r) ⌝ }
 {
-    if 64 * count <= room {
+    if count * count <= room {
         return true;
     }
     let mut measured = [0u64; 64];

@@ -3,7 +3,7 @@ use Prim.Native.Nat.{ℕ, _+_, _*_, _-_, _/_, _≤_, _<_, _^_}
 use mathlib.Core.Bool.{Bool, true, false, cond}
 use mathlib.Core.Path.{_≡_, refl, sym, ap, subst, _∙_}
 use mathlib.Core.List.{List, [], _∷_, _++_, map, flatMap, flatten, List·Memᴰ}
-use native.Mathlib.Nat.{zero-add, sub-zero, div-add-mod', mod-lt}
+use native.Mathlib.Nat.{zero-add, sub-zero, mul-le-mul, div-add-mod', mod-lt}
 use native.Mathlib.Omega.{arith}
 use borrow.Author.Tests.{le-ltb, lt-ltb, ltb-true, ltb-false}
 use lib.Dec.{ltb}
@@ -76,28 +76,32 @@ module _ (env : LifetimeEnv) (used : ℕ) (structs params own given taken : List
 
   -- ---- the lists
 
-  lists-few : length (flatten (allLists true env)) ≤ 64 * env .count
+  lists-few : length (flatten (allLists true env)) ≤ env .count * env .count
   unfolding allLists
   lists-few =
       rw (flatten-map (traversal LastFirst true (boundsOf env)) (ascending 0 (env .count)))
       (omega (
         arith,
-        length-ascending 0 (env .count),
-        lines-short (traversal LastFirst true (boundsOf env)) 64 (ascending 0 (env .count))
-            (λ l m. traversal-few LastFirst true (boundsOf env) l 64 (bounds-within env (can .valid)) (omega (arith, (ascending-has 0 (env .count) l) .0 m, few))),
+        many,
+        ap (λ (n : ℕ). env .count * n) (length-ascending 0 (env .count)),
       ))
+    where
+      many : length (flatMap (traversal LastFirst true (boundsOf env)) (ascending 0 (env .count))) ≤ env .count * length (ascending 0 (env .count))
+      many =
+          lines-short (traversal LastFirst true (boundsOf env)) (env .count) (ascending 0 (env .count))
+          (λ l m. traversal-few LastFirst true (boundsOf env) l (env .count) (bounds-within env (can .valid)) (omega (arith, (ascending-has 0 (env .count) l) .0 m)))
 
   lists-many : length (allLists true env) ≡ env .count
   unfolding allLists
   lists-many = rw length-map (length-ascending 0 (env .count))
 
   module _ (lists ends : List ℕ) where
-    pub lists-short : {edges : ℕ} {out : List ℕ} → length lists / 64 < env .count → ListsWithin listing ((4096 ≤ length lists) × (20480 ≤ edges)) out within.Short out
-    lists-short h = (λ a. omega (arith, h, few, a .0, div-add-mod' (length lists) 64, mod-lt (length lists) {m = 64} (omega arith)), refl)
+    pub lists-short : {edges : ℕ} {out : List ℕ} → length lists < env .count * env .count → ListsWithin listing ((4096 ≤ length lists) × (20480 ≤ edges)) out within.Short out
+    lists-short h = (λ a. omega (arith, h, mul-le-mul few few, a .0), refl)
 
-    module _ (places : length ends ≡ 64) (room : env .count ≤ length lists / 64) where
+    module _ (places : length ends ≡ 64) (room : env .count * env .count ≤ length lists) where
       lists-fit : length (flatten (allLists true env)) ≤ length lists
-      lists-fit = omega (arith, lists-few, room, div-add-mod' (length lists) 64)
+      lists-fit = omega (arith, lists-few, room)
 
       lists-none : NoneDue (listsChecks true env (length lists) (length ends))
       lists-none =

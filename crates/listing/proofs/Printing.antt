@@ -10,7 +10,7 @@ use borrow.Author.Tests.{leb-true, leb-false}
 use lib.Dec.{leb}
 use lib.ListN.{length, getD, take, drop, set, length-append, length-set, drop-of-length-le}
 use lib.Seq.{drop-cons, set-out, set-comm, sets, length-sets, take-all, take-length}
-use Rattle.lifetimes.proofs.Copying.{sets-append, Copying, copying-end}
+use Rattle.lifetimes.proofs.Copying.{sets-append, sets-out, sets-cut, Copying, copying-end}
 use Rattle.sheet.specs.Text.{digits, following, line, newline, space}
 use Rattle.sheet.proofs.DigitLaws.{digits-single, digits-more}
 use Rattle.listing.specs.InnerPrint.{Prints, places, DigitsArePlaces}
@@ -48,16 +48,6 @@ module _ {text : List ℕ} {at : ℕ} {out : List ℕ} {s : List ℕ} {at₁ at�
 
 pub leaves-size : {text : List ℕ} {at : ℕ} {out : List ℕ} {rest : List ℕ} {at₁ : ℕ} {out₁ : List ℕ} → Leaves text at out rest at₁ out₁ → length out₁ ≡ length out
 leaves-size {text} {at} {out} {rest} {at₁} {out₁} l = sym (length-sets out₁ at₁ rest) ∙ ap length (l .stored) ∙ length-sets out at text
-
--- a run of stores past the end changes nothing, and a run cut where there is no more room is the whole run
-pub sets-out : (l : List ℕ) (i : ℕ) (vs : List ℕ) → length l ≤ i → sets l i vs ≡ l
-sets-out l i [] h = refl
-sets-out l i (v ∷ vs) h = rw (set-out l i v h) (sets-out l (suc i) vs (omega arith))
-
-pub sets-cut : (n : ℕ) (l : List ℕ) (i : ℕ) (vs : List ℕ) → length l ≤ i + n → sets l i (take n vs) ≡ sets l i vs
-sets-cut zero l i vs h = sym (sets-out l i vs (omega arith))
-sets-cut (suc n) l i [] h = refl
-sets-cut (suc n) l i (v ∷ vs) h = sets-cut n (set l i v) (suc i) vs (rw (length-set l i v) (omega arith))
 
 -- a store behind a run may come before it
 pub sets-behind : (l : List ℕ) (i j d : ℕ) (vs : List ℕ) → i + length vs ≤ j → sets (set l j d) i vs ≡ set (sets l i vs) j d

@@ -111,20 +111,20 @@ module _ (env : LifetimeEnv) (valid : NoneDue (envChecks env)) where
   pub lifetimes-few : env .count ≤ 64
   lifetimes-few = ltb-false 64 (env .count) (none-first valid)
 
-  pub bounds-within : (b : Bound) → List·Memᴰ b (boundsOf env) → b .longer < 64
+  pub bounds-within : (b : Bound) → List·Memᴰ b (boundsOf env) → b .longer < env .count
   bounds-within b m =
       let declared = ltb-false (env .count) (env .declared) (none-first (none-rest (none-rest valid))) in
       let below = all-below (env .declared) (boundsOf env) (not-false _ (none-first (none-rest (none-rest (none-rest valid))))) b m in
-      omega (arith, declared, lifetimes-few, below .0)
+      omega (arith, declared, below .0)
 
   longer-short : (l : ℕ) → List·Memᴰ l (ascending 0 (env .count)) → length (longerLine env l) ≤ 196
   longer-short l m =
-      let here : l < 64 = omega (arith, (ascending-has 0 (env .count) l) .0 m, lifetimes-few) in
-      let few = traversal-few LastFirst true (boundsOf env) l 64 bounds-within here in
+      let here : l < env .count = omega (arith, (ascending-has 0 (env .count) l) .0 m) in
+      let few = traversal-few LastFirst true (boundsOf env) l (env .count) bounds-within here in
       let small = below-from 100 (traversal LastFirst true (boundsOf env) l)
-      (λ y k. let z : y < 64 = traversal-only LastFirst true (boundsOf env) l (λ y. y < 64) (λ b i h. bounds-within b i) here y k in omega (arith, z)) in
-      let short = line-short (l ∷ traversal LastFirst true (boundsOf env) l) (omega (arith, here), small) in
-      omega (arith, short, few)
+      (λ y k. let z : y < env .count = traversal-only LastFirst true (boundsOf env) l (λ y. y < env .count) (λ b i h. bounds-within b i) here y k in omega (arith, z, lifetimes-few)) in
+      let short = line-short (l ∷ traversal LastFirst true (boundsOf env) l) (omega (arith, here, lifetimes-few), small) in
+      omega (arith, short, few, lifetimes-few)
 
   all-longer-short : length (longerLines env) ≤ 12560
   all-longer-short =

@@ -22,10 +22,9 @@ use Rattle.sheet.specs.Text.{line, Records}
 use Rattle.sheet.specs.Reading.{sheetOf, textChecks}
 use Rattle.sheet.specs.Shape as shape
 use Rattle.sheet.specs.Shape.{sheetAnswer}
-use Rattle.sheet.specs.Inner.{recordsAt}
+use Rattle.sheet.specs.Inner.{recordsAt, Roomy}
 use Rattle.borrowing_param.specs.SheetMethod.{recordsChecks, sheetRefusals}
 use Rattle.borrowing_param.specs.Borrows.{sheetBorrows}
-use Rattle.borrowing_param.specs.InnerSheet.{Roomy}
 use Rattle.borrowing_param.proofs.SheetLaws.{text-first, text-none, found}
 use Rattle.listing.specs.declared.within.Within.{Within}
 use Rattle.listing.specs.declared.within.Within.the-variants as within
@@ -59,10 +58,7 @@ module _ (bytes : List ℕ) where
       text-listed A (within.Done x) out out₁ h = subst (λ (o : Outcome (List ℕ)). Lists o out x out₁) records-same h
       text-listed A within.Short out out₁ h = h
 
-  -- ---- in ample scratch, or in small scratch first
-
-  pub large-room : Roomy bytes 10240
-  large-room n few half = few
+  -- ---- in ample scratch, or in smaller scratch first
 
   pub never-short : {B : Type 0} (w : Within) (out out₁ : List ℕ) → ListsWithin (listedSheet bytes) (Ample 8192 8192 4096 20480) out w out₁ → w ≡ within.Short → B
   never-short w out out₁ h e = absurd (subst (λ (y : Within). ListsWithin (listedSheet bytes) (Ample 8192 8192 4096 20480) out y out₁) e h .0 (omega arith, omega arith, omega arith, omega arith))

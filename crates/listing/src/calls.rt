@@ -1,8 +1,7 @@
 // The listing of a sheet, from bytes to bytes.
 //
-// A sheet is judged and its answers are made in scratch that is lent (`list_within`), of one of two sizes, so that a small sheet does not pay for a large one.
+// A sheet is judged and its answers are made in scratch that is lent (`list_within`), of one of four sizes, so that a small sheet does not pay for a large one.
 // Printing into no room at all measures, so nothing is written before it is known that all fits.
-ghost use Prim.Native.Nat.{_≤_};
 ghost use mathlib.Core.Path.{_≡_};
 ghost use mathlib.Core.List.{_++_};
 ghost use lib.ListN.{length, drop};
@@ -65,34 +64,95 @@ pub fn respond(sheet: &[u8], out: &mut [u8; ROOM]) -> usize
 fn list_sheet(sheet: &[u8], out: &mut [u8]) -> Listed
     ensures { λ r. ⌜ Lists (listedSheet (now (sheet .entry))) (now (out .entry)) r (now (out .exit)) ⌝ }
 {
-    if sheet.len() <= 1024 {
-        return list_short(sheet, out);
-    }
-    list_large(sheet, out)
+    list_sized(sheet, out, 256)
 }
 
-// A short sheet: in small scratch, and where that is too short, in scratch for any.
-fn list_short(sheet: &[u8], out: &mut [u8]) -> Listed
-    requires { ⌜ length (now sheet) ≤ 1024 ⌝ }
+// The same in scratch for sheets of so many bytes, and where that is too short, in the next larger. That it calls itself keeps the arrays of the larger sizes out of the frame of the smaller ones.
+fn list_sized(sheet: &[u8], out: &mut [u8], bytes: usize) -> Listed
     ensures { λ r. ⌜ Lists (listedSheet (now (sheet .entry))) (now (out .entry)) r (now (out .exit)) ⌝ }
 {
-    let tried = list_small(sheet, out);
-    match tried {
-        Within::Done(answer) => answer,
-        Within::Short => list_large(sheet, out),
+    if bytes <= 256 {
+        let tried = list_256(sheet, out);
+        let Within::Done(answer) = tried else {
+            return list_sized(sheet, out, 1024);
+        };
+        return answer;
     }
+    if bytes <= 1024 {
+        let tried = list_1024(sheet, out);
+        let Within::Done(answer) = tried else {
+            return list_sized(sheet, out, 4096);
+        };
+        return answer;
+    }
+    if bytes <= 4096 {
+        let tried = list_4096(sheet, out);
+        let Within::Done(answer) = tried else {
+            return list_sized(sheet, out, 65536);
+        };
+        return answer;
+    }
+    list_any(sheet, out)
 }
 
-// In scratch for a small sheet: 64 lowered words, 16 lifetimes, 64 edges at least.
-fn list_small(sheet: &[u8], out: &mut [u8]) -> Within
-    requires { ⌜ length (now sheet) ≤ 1024 ⌝ }
-    ensures { λ r. ⌜ ListsWithin (listedSheet (now (sheet .entry))) (Ample 512 512 1024 320) (now (out .entry)) r (now (out .exit)) ⌝ }
+// In scratch of one size: for the words of any sheet of at most so many bytes; for what 24 words of steps and 12 of returns give; for 12 lifetimes; for 20 edges.
+fn list_256(sheet: &[u8], out: &mut [u8]) -> Within
+    ensures { λ r. ⌜ ListsWithin (listedSheet (now (sheet .entry))) (Ample 192 96 144 100) (now (out .entry)) r (now (out .exit)) ⌝ }
 {
+    if 256 < sheet.len() {
+        return Within::Short;
+    }
+    let mut words = [0usize; 128];
+    let mut given = [0usize; 192];
+    let mut taken = [0usize; 96];
+    let mut lists = [0usize; 144];
+    let mut edges = [0usize; 100];
+    list_within(
+        sheet,
+        &mut words,
+        &mut given,
+        &mut taken,
+        &mut lists,
+        &mut edges,
+        out,
+    )
+}
+
+// The same for 64 words of steps, 32 of returns, 32 lifetimes, 128 edges.
+fn list_1024(sheet: &[u8], out: &mut [u8]) -> Within
+    ensures { λ r. ⌜ ListsWithin (listedSheet (now (sheet .entry))) (Ample 512 256 1024 640) (now (out .entry)) r (now (out .exit)) ⌝ }
+{
+    if 1024 < sheet.len() {
+        return Within::Short;
+    }
     let mut words = [0usize; 512];
     let mut given = [0usize; 512];
-    let mut taken = [0usize; 512];
+    let mut taken = [0usize; 256];
     let mut lists = [0usize; 1024];
-    let mut edges = [0usize; 320];
+    let mut edges = [0usize; 640];
+    list_within(
+        sheet,
+        &mut words,
+        &mut given,
+        &mut taken,
+        &mut lists,
+        &mut edges,
+        out,
+    )
+}
+
+// The same for 128 words of steps, 64 of returns, 64 lifetimes, 512 edges.
+fn list_4096(sheet: &[u8], out: &mut [u8]) -> Within
+    ensures { λ r. ⌜ ListsWithin (listedSheet (now (sheet .entry))) (Ample 1024 512 4096 2560) (now (out .entry)) r (now (out .exit)) ⌝ }
+{
+    if 4096 < sheet.len() {
+        return Within::Short;
+    }
+    let mut words = [0usize; 2048];
+    let mut given = [0usize; 1024];
+    let mut taken = [0usize; 512];
+    let mut lists = [0usize; 4096];
+    let mut edges = [0usize; 2560];
     list_within(
         sheet,
         &mut words,
@@ -105,7 +165,7 @@ fn list_small(sheet: &[u8], out: &mut [u8]) -> Within
 }
 
 // In scratch for any sheet.
-fn list_large(sheet: &[u8], out: &mut [u8]) -> Listed
+fn list_any(sheet: &[u8], out: &mut [u8]) -> Listed
     ensures { λ r. ⌜ Lists (listedSheet (now (sheet .entry))) (now (out .entry)) r (now (out .exit)) ⌝ }
 {
     let mut words = [0usize; 10240];

@@ -4,8 +4,8 @@ ghost use mathlib.Core.Bool.{true};
 ghost use mathlib.Core.Path.{_≡_};
 ghost use lib.ListN.{length};
 ghost use Rattle.sheet.specs.Shape.{sheetInShape};
-ghost use Rattle.sheet.specs.Inner.{Laid, recordsAt};
-ghost use Rattle.borrowing_param.specs.InnerSheet.{records, Roomy};
+ghost use Rattle.sheet.specs.Inner.{Laid, recordsAt, Roomy};
+ghost use Rattle.borrowing_param.specs.InnerSheet.{records};
 ghost use Rattle.listing.specs.InnerListing.{listedSheet, listedRecords, Ample, ListsWithin, listedMethod, Listable, tooMany};
 use super::whole::put_listing;
 use borrowing_param::BorrowingParamVisitor;
@@ -157,7 +157,7 @@ fn list_method(
     ensures { λ r. ⌜ ListsWithin (listedMethod env used (now (structs .entry)) (now (params .entry)) (now (own .entry)) (now (given .entry)) (now (taken .entry))) ((4096 ≤ length (now (lists .entry))) × (20480 ≤ length (now (edges .entry)))) (now (out .entry)) r (now (out .exit)) ⌝ }
 {
     let count = env.count;
-    if lists.len() / 64 < count {
+    if lists.len() < count * count {
         return Within::Short;
     }
     let mut ends = [0usize; 64];

@@ -2,8 +2,10 @@
 //
 // A record is a lent slice of words. What is read from it are items, one after another to its end; most of them hold lifetimes, as many as a word in front says. The
 // scope paper ("01") decides what is right. Nothing is refused here: a call answers where an item ends, or that there is none.
+ghost use Prim.Native.Nat.{min};
 ghost use mathlib.Core.Path.{_≡_};
-ghost use lib.ListN.{length, drop};
+ghost use lib.ListN.{length, take, drop};
+ghost use lib.Seq.{sets};
 ghost use Rattle.records.specs.Reading.{readLifetimes, endOf};
 
 // Where an item of a record ends: the place behind its last word. Missing where the words do not make one.
@@ -37,4 +39,26 @@ pub fn lifetimes_end(words: &[usize], at: usize) -> End
         return End::Missing;
     }
     End::At(from + count)
+}
+
+// Copy the first words of a record, so many, to the front of a slice, as far as there are words and the slice goes.
+pub fn copy_words(words: &[usize], count: usize, out: &mut [usize])
+    ensures { λ _. ⌜ now (out .exit) ≡ sets (now (out .entry)) 0 (take count (now (words .entry))) ⌝ }
+{
+    let n = least(least(count, words.len()), out.len());
+    let mut i = 0;
+    while i < n {
+        out[i] = words[i];
+        i += 1;
+    }
+}
+
+// The smaller of two numbers.
+fn least(a: usize, b: usize) -> usize
+    ensures { λ r. ⌜ r ≡ min a b ⌝ }
+{
+    if a < b {
+        return a;
+    }
+    b
 }

@@ -73,7 +73,7 @@ module _ (bytes : List ℕ) (t : Bool) (e : behind heading bytes ≡ cond t (som
   pub heading-is : t ≡ true → behind heading bytes ≡ some (drop 66 bytes)
   heading-is f = rw f at e
 
--- what `measure` answers, by what `lines` answers
+-- what `scan` answers, by what `lines` answers
 module _ (bytes words words′ ends : List ℕ) {r : Judged} (l : LinesRead bytes 66 words words′ ends r) (h : length bytes ≤ mostBytes) (e : behind heading bytes ≡ some (drop 66 bytes)) where
   pub measured-unreadable : r ≡ judged.Unreadable → answerOf (Refuses Unreadable) ≡ measured bytes
   measured-unreadable q = measured-none bytes (not-ten bytes h e (subst (LinesRead bytes 66 words words′ ends) q l))
@@ -105,7 +105,7 @@ accepted-reads bytes n = go (sheetIn bytes) refl (none-first n)
         let s = in-sheet bytes r e in
         rw (e, s .spelt, drop-append-seam heading (flatMap line (lists r))) (read-lines mostWord (lists r) (s .words))
 
--- what `write` writes
+-- what `write` writes, and `scan`
 module _ (bytes words words′ ends : List ℕ) (none : NoneDue (textChecks bytes)) where
   wrote-ten : {t : Bool} → TenAt bytes 66 words words′ ends t → words′ ≡ sets words 0 (wordsOf (sheetOf bytes))
   wrote-ten t = let r = t .reads in let a = accepted-reads bytes none in let e : t .lines ≡ lists (sheetOf bytes) = cc in t .stored ∙ rw e
@@ -116,7 +116,14 @@ module _ (bytes words words′ ends : List ℕ) (none : NoneDue (textChecks byte
   wrote judged.TooLong l = wrote-ten l
   wrote judged.Good l = wrote-ten l
 
--- what `write_all` leaves: all words where they fit, else none
+-- a text that `scan` refuses is not an accepted one
+pub scan-refused : {A : Type 0} (bytes : List ℕ) {k : Refusal} → answerOf (Refuses k) ≡ measured bytes → NoneDue (textChecks bytes) → A
+unfolding measured
+scan-refused bytes e n =
+    let z : _≡_ {A = ℕ} 0 1 =
+    let q = ap (λ (x : Text). x .verdict) (e ∙ ap answerOf (due-given (endsFrom 0 (lists (sheetOf bytes))) n)) in cc in absurd (omega arith)
+
+-- what `write_all` and `copy_all` leave: all words where they fit, else none
 module _ (count : ℕ) (words all : List ℕ) where
   pub left-fitting : leb count (length words) ≡ true → {words′ : List ℕ} → words′ ≡ all → words′ ≡ cond (leb count (length words)) all words
   left-fitting t w = rw t w
@@ -124,7 +131,7 @@ module _ (count : ℕ) (words all : List ℕ) where
   pub left-short : leb count (length words) ≡ false → words ≡ cond (leb count (length words)) all words
   left-short f = rw f
 
--- an accepted text, by what `measure` answers
+-- an accepted text, by what `measure` or `scan` answers
 module _ (bytes : List ℕ) (j : Text) (m : j ≡ measured bytes) (e : j .verdict ≡ verdict.Accepted) where
   pub none-due : NoneDue (textChecks bytes)
   unfolding measured
@@ -144,7 +151,7 @@ module _ (bytes : List ℕ) (j : Text) (m : j ≡ measured bytes) (e : j .verdic
   unfolding measured
   measured-given = m ∙ rw (due-given (endsFrom 0 (lists (sheetOf bytes))) none-due)
 
--- a refused text, by what `measure` answers
+-- a refused text, by what they answer
 measured-refused : (bytes : List ℕ) (j : Text) → j ≡ measured bytes → {k : Refusal} → j .verdict ≡ verdict.Refused k → FirstDue k (textChecks bytes) × (j ≡ answerOf (Refuses k))
 unfolding measured
 measured-refused bytes j m {k} e =

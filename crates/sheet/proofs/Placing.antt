@@ -1,5 +1,5 @@
 -- Records one after another: each stands between two ends, and the whole is the sheet.
-use Prim.Native.Nat.{ℕ, zero, suc, _+_, _-_, _≤_, _<_}
+use Prim.Native.Nat.{ℕ, zero, suc, _+_, _*_, _-_, _≤_, _<_}
 use mathlib.Core.Bool.{Bool, true, false, cond, _&&_}
 use mathlib.Core.Path.{_≡_, refl, ap, _∙_}
 use mathlib.Core.List.{List, [], _∷_, flatten}
@@ -8,10 +8,11 @@ use native.Mathlib.Omega.{arith}
 use borrow.Author.Tests.{not-false, lt-ltb, le-ltb, le-leb, lt-leb}
 use lib.Dec.{leb}
 use lib.ListN.{length, getD, take, drop, length-append}
-use lib.Seq.{sets, slice}
+use lib.Seq.{sets, slice, take-append-seam}
 use Rattle.lifetimes.specs.declared.answer.Verdict.the-variants as verdict
 use Rattle.lifetimes.proofs.Copying.{sets-front}
-use Rattle.lifetimes.proofs.RefusalLaws.{none-first, none-rest}
+use Rattle.lifetimes.specs.Refusals.{NoneDue}
+use Rattle.lifetimes.proofs.RefusalLaws.{due-given, none-first, none-rest}
 use Rattle.lifetimes.specs.declared.answer.Verdict.{Verdict}
 use Rattle.records.specs.Reading.{shapeVerdict}
 use Rattle.ast_lifetimes.specs.Shapes.{namesInShape, boundsInShape}
@@ -20,12 +21,14 @@ use Rattle.elision.specs.Steps.{selfInShape, stepsInShape}
 use Rattle.lowered_types.specs.declared.shapes.Shape.{Shape}
 use Rattle.lowered_types.specs.Rows.{methodInShape, methodShape, noShape, rowsOf, typesOf}
 use Rattle.sheet.specs.Text.{Records, lists, wordsOf}
-use Rattle.sheet.specs.Reading.{sheetOf, textChecks, allShort}
-use Rattle.sheet.specs.Answer.{endsFrom, startOf, recordWords}
+use Rattle.sheet.specs.declared.text.Text.{Text}
+use Rattle.sheet.specs.Reading.{sheetOf, textChecks, allShort, readText}
+use Rattle.sheet.specs.Answer.{endsFrom, startOf, recordWords, measured}
 use Rattle.sheet.specs.Shape.{sheetInShape}
-use Rattle.sheet.specs.Inner.{recordAt, recordsAt, Laid, Counted, isAccepted}
+use Rattle.sheet.specs.Inner.{recordAt, recordsAt, Laid, Counted, Roomy, isAccepted}
 use Rattle.sheet.proofs.SheetLaws.{few-all, total-words}
-use Rattle.sheet.proofs.Answers.{last-end, list-between}
+use Rattle.sheet.proofs.Answers.{last-end, list-between, none-due, counted}
+use Rattle.sheet.proofs.Theorems.{room-for-any-sheet, words-take-two-bytes}
 
 -- a part, by its length
 pub part-is : (from to : ℕ) (l : List ℕ) → from ≤ to → take (to - from) (drop from l) ≡ slice from to l
@@ -135,6 +138,40 @@ module _ {bytes ends : List ℕ} (c : Counted bytes ends) where
     pub counted-shape : {t : Bool} → t ≡ sheetInShape (recordsAt words′ ends) → t ≡ sheetInShape (sheetOf bytes)
     unfolding counted-laid
     counted-shape e = e ∙ ap sheetInShape (laid-records counted-laid)
+
+-- scratch that takes the words of any sheet of so many bytes: half as many words, and 10,240 in any case
+pub half-room : (bytes : List ℕ) {room : ℕ} → length bytes ≤ 2 * room → Roomy bytes room
+half-room bytes h n few half = omega (arith, h, half)
+
+pub any-room : (bytes : List ℕ) → Roomy bytes 10240
+any-room bytes n few half = few
+
+pub roomy-fits : (bytes : List ℕ) {room : ℕ} → Roomy bytes room → NoneDue (textChecks bytes) → length (wordsOf (sheetOf bytes)) ≤ room
+unfolding readText
+roomy-fits bytes roomy n =
+    let e = due-given (sheetOf bytes) n in
+    roomy (length (wordsOf (sheetOf bytes))) (omega (arith, room-for-any-sheet bytes (sheetOf bytes) e)) (words-take-two-bytes bytes (sheetOf bytes) e)
+
+-- an accepted text that `scan` left in such scratch: its records stand there, their shape is the sheet's, and what is copied from the front are its words
+module _ (bytes scratch : List ℕ) (roomy : Roomy bytes (length scratch)) {j : Text} (m : j ≡ measured bytes) (e : j .verdict ≡ verdict.Accepted)
+    {scratch₁ : List ℕ} (w : NoneDue (textChecks bytes) → scratch₁ ≡ sets scratch 0 (wordsOf (sheetOf bytes))) where
+  ends-counted : Counted bytes (j .ends)
+  ends-counted = counted bytes j m e
+
+  words-fit : getD (j .ends) 9 0 ≤ length scratch
+  words-fit = omega (arith, counted-end ends-counted, roomy-fits bytes roomy (none-due bytes j m e))
+
+  pub scanned-laid : Laid scratch₁ (j .ends)
+  scanned-laid = counted-laid ends-counted scratch words-fit (w (none-due bytes j m e))
+
+  pub scanned-shape : {t : Bool} → t ≡ sheetInShape (recordsAt scratch₁ (j .ends)) → t ≡ sheetInShape (sheetOf bytes)
+  scanned-shape = counted-shape ends-counted scratch words-fit (w (none-due bytes j m e))
+
+  pub scanned-copy : (words : List ℕ) {words′ : List ℕ} (fits : Bool) → words′ ≡ cond fits (sets words 0 (take (getD (j .ends) 9 0) scratch₁)) words → words′ ≡ cond fits (sets words 0 (wordsOf (sheetOf bytes))) words
+  unfolding counted-laid scanned-laid sheetOf
+  scanned-copy words fits c =
+      let t : take (getD (j .ends) 9 0) scratch₁ ≡ wordsOf (sheetOf bytes) = rw (counted-end ends-counted, scanned-laid .stored) (take-append-seam (wordsOf (sheetOf bytes)) _) in
+      c ∙ ap (λ (l : List ℕ). cond fits (sets words 0 l) words) t
 
 -- a verdict on a record's shape
 accepted-shape : (t : Bool) → isAccepted (shapeVerdict t) ≡ t

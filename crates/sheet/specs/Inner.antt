@@ -1,5 +1,5 @@
 -- Predicates that only private contracts cite: what reading a word, a line and ten lines from a place on says of reading the rest; records one after another.
-use Prim.Native.Nat.{ℕ, _+_, _≤_, _<_}
+use Prim.Native.Nat.{ℕ, _+_, _*_, _≤_, _<_}
 use mathlib.Core.Bool.{Bool, true, false}
 use mathlib.Core.Path.{_≡_}
 use mathlib.Core.Logic.{_⊎_}
@@ -101,6 +101,10 @@ pub record Laid (words ends : List ℕ) : Type 0 where
 pub record Counted (bytes ends : List ℕ) : Type 0 where
   pub due : NoneDue (textChecks bytes)
   pub placed : ends ≡ endsFrom 0 (lists (sheetOf bytes))
+
+-- so many words are enough for any sheet of these bytes
+abbrev pub Roomy : List ℕ → ℕ → Type 0
+Roomy bytes room = (n : ℕ) → n ≤ 10240 → 2 * n ≤ length bytes → n ≤ room
 
 abbrev pub isAccepted : Verdict → Bool
 isAccepted verdict.Accepted = true

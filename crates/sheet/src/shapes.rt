@@ -1,19 +1,13 @@
 // The shape of the ten records of a sheet.
-//
-// A refused call writes nothing, so the words are judged in scratch. It has two sizes, so that a small sheet does not pay for a large one.
-ghost use Prim.Native.Nat.{_≤_};
 ghost use mathlib.Core.Bool.{_&&_};
 ghost use mathlib.Core.Path.{_≡_};
-ghost use lib.ListN.{length, getD};
 ghost use Rattle.ast_lifetimes.specs.Shapes.{namesInShape, boundsInShape};
 ghost use Rattle.ast_lifetimes.specs.Types.{typesInShape};
 ghost use Rattle.elision.specs.Steps.{selfInShape, stepsInShape};
 ghost use Rattle.lowered_types.specs.Rows.{methodInShape};
-ghost use Rattle.sheet.specs.Reading.{sheetOf};
 ghost use Rattle.sheet.specs.Shape.{sheetInShape};
-ghost use Rattle.sheet.specs.Inner.{isAccepted, recordAt, recordsAt, Laid, Counted};
+ghost use Rattle.sheet.specs.Inner.{isAccepted, recordAt, recordsAt, Laid};
 use super::record::record_words;
-use super::text::write;
 use ast_lifetimes::bounds_shape;
 use ast_lifetimes::names_shape;
 use ast_lifetimes::types_shape;
@@ -22,46 +16,8 @@ use elision::steps_shape;
 use lifetimes::Verdict;
 use lowered_types::method_shape;
 
-// Whether the records of an accepted text are in shape.
-pub(crate) fn in_shape(sheet: &[u8], ends: [usize; 10]) -> bool
-    requires { ⌜ Counted (now sheet) ends ⌝ }
-    ensures { λ r. ⌜ r ≡ sheetInShape (sheetOf (now (sheet .entry))) ⌝ }
-{
-    let count = ends[9];
-    if count <= 512 {
-        return small(sheet, ends);
-    }
-    large(sheet, ends)
-}
-
-// The same with scratch of one size.
-fn small(sheet: &[u8], ends: [usize; 10]) -> bool
-    requires { ⌜ Counted (now sheet) ends × (getD ends 9 0 ≤ 512) ⌝ }
-    ensures { λ r. ⌜ r ≡ sheetInShape (sheetOf (now (sheet .entry))) ⌝ }
-{
-    let mut scratch = [0usize; 512];
-    within(sheet, ends, &mut scratch)
-}
-
-fn large(sheet: &[u8], ends: [usize; 10]) -> bool
-    requires { ⌜ Counted (now sheet) ends ⌝ }
-    ensures { λ r. ⌜ r ≡ sheetInShape (sheetOf (now (sheet .entry))) ⌝ }
-{
-    let mut scratch = [0usize; 10240];
-    within(sheet, ends, &mut scratch)
-}
-
-// The same with scratch that takes all words.
-fn within(sheet: &[u8], ends: [usize; 10], scratch: &mut [usize]) -> bool
-    requires { ⌜ Counted (now sheet) ends × (getD ends 9 0 ≤ length (now scratch)) ⌝ }
-    ensures { λ r. ⌜ r ≡ sheetInShape (sheetOf (now (sheet .entry))) ⌝ }
-{
-    write(sheet, scratch);
-    laid_in_shape(scratch, ends)
-}
-
 // Whether records are in shape whose words stand one record after another.
-fn laid_in_shape(words: &[usize], ends: [usize; 10]) -> bool
+pub(crate) fn laid_in_shape(words: &[usize], ends: [usize; 10]) -> bool
     requires { ⌜ Laid (now words) ends ⌝ }
     ensures { λ r. ⌜ r ≡ sheetInShape (recordsAt (now (words .entry)) ends) ⌝ }
 {

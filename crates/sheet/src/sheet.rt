@@ -1,34 +1,123 @@
 // The call that reads a sheet and judges the shape of its records.
+//
+// A refused call writes nothing, so the words are read into scratch, judged there, and copied once nothing can be refused any more. Scratch has four sizes, so that a small sheet does not pay for
+// a large one.
+ghost use Prim.Native.Nat.{_≤_};
+ghost use mathlib.Core.Bool.{cond};
 ghost use mathlib.Core.Path.{_≡_};
-ghost use lib.ListN.{length};
+ghost use lib.Dec.{leb};
+ghost use lib.ListN.{length, take};
+ghost use lib.Seq.{sets};
 ghost use Rattle.lifetimes.specs.Lent.{written};
 ghost use Rattle.sheet.specs.Shape.{sheetAnswer, sheetWords};
-use super::shapes::in_shape;
+ghost use Rattle.sheet.specs.Inner.{Roomy};
+use super::shapes::laid_in_shape;
 use super::text::Text;
-use super::text::measure;
 use super::text::refused;
-use super::text::write_all;
+use super::text::scan;
 use lifetimes::Refusal;
 use lifetimes::Verdict;
+use records::copy_words;
 
 // Read a sheet whose records are all in shape. The words of its ten records are written to a slice, one record after another; the answer says where each ends.
 // Refused by 10 where the bytes are not the text of a sheet, then by 1 where a record has more than 1,024 words or is not in shape, then by 9 where the slice is too short.
-// 10,240 words are always enough. Reads each byte three times: to count, to judge the shapes in scratch, to write.
+// 10,240 words are always enough. Reads each byte once.
 pub fn read_sheet(sheet: &[u8], words: &mut [usize]) -> Text
     ensures { λ r. ⌜ r ≡ sheetAnswer (now (sheet .entry)) (length (now (words .entry))) ⌝ }
     ensures { λ _. ⌜ now (words .exit) ≡ written (sheetWords (now (sheet .entry)) (length (now (words .entry)))) (now (words .entry)) ⌝ }
 {
-    let judged = measure(sheet);
-    let verdict = judged.verdict;
+    read_sized(sheet, words, 256)
+}
+
+// The same with scratch for sheets of so many bytes, or of more where this sheet has more. That it calls itself keeps the arrays of the larger sizes out of the frame of the smaller ones: the
+// compiler puts no large frame into that of a function that calls itself.
+fn read_sized(sheet: &[u8], words: &mut [usize], bytes: usize) -> Text
+    ensures { λ r. ⌜ r ≡ sheetAnswer (now (sheet .entry)) (length (now (words .entry))) ⌝ }
+    ensures { λ _. ⌜ now (words .exit) ≡ written (sheetWords (now (sheet .entry)) (length (now (words .entry)))) (now (words .entry)) ⌝ }
+{
+    if bytes <= 256 {
+        if sheet.len() <= 256 {
+            return read_256(sheet, words);
+        }
+        return read_sized(sheet, words, 1024);
+    }
+    if bytes <= 1024 {
+        if sheet.len() <= 1024 {
+            return read_1024(sheet, words);
+        }
+        return read_sized(sheet, words, 4096);
+    }
+    if sheet.len() <= 4096 {
+        return read_4096(sheet, words);
+    }
+    read_any(sheet, words)
+}
+
+// The same in scratch of one size: a word takes two bytes at least.
+fn read_256(sheet: &[u8], words: &mut [usize]) -> Text
+    requires { ⌜ length (now sheet) ≤ 256 ⌝ }
+    ensures { λ r. ⌜ r ≡ sheetAnswer (now (sheet .entry)) (length (now (words .entry))) ⌝ }
+    ensures { λ _. ⌜ now (words .exit) ≡ written (sheetWords (now (sheet .entry)) (length (now (words .entry)))) (now (words .entry)) ⌝ }
+{
+    let mut scratch = [0usize; 128];
+    read_within(sheet, &mut scratch, words)
+}
+
+fn read_1024(sheet: &[u8], words: &mut [usize]) -> Text
+    requires { ⌜ length (now sheet) ≤ 1024 ⌝ }
+    ensures { λ r. ⌜ r ≡ sheetAnswer (now (sheet .entry)) (length (now (words .entry))) ⌝ }
+    ensures { λ _. ⌜ now (words .exit) ≡ written (sheetWords (now (sheet .entry)) (length (now (words .entry)))) (now (words .entry)) ⌝ }
+{
+    let mut scratch = [0usize; 512];
+    read_within(sheet, &mut scratch, words)
+}
+
+fn read_4096(sheet: &[u8], words: &mut [usize]) -> Text
+    requires { ⌜ length (now sheet) ≤ 4096 ⌝ }
+    ensures { λ r. ⌜ r ≡ sheetAnswer (now (sheet .entry)) (length (now (words .entry))) ⌝ }
+    ensures { λ _. ⌜ now (words .exit) ≡ written (sheetWords (now (sheet .entry)) (length (now (words .entry)))) (now (words .entry)) ⌝ }
+{
+    let mut scratch = [0usize; 2048];
+    read_within(sheet, &mut scratch, words)
+}
+
+fn read_any(sheet: &[u8], words: &mut [usize]) -> Text
+    ensures { λ r. ⌜ r ≡ sheetAnswer (now (sheet .entry)) (length (now (words .entry))) ⌝ }
+    ensures { λ _. ⌜ now (words .exit) ≡ written (sheetWords (now (sheet .entry)) (length (now (words .entry)))) (now (words .entry)) ⌝ }
+{
+    let mut scratch = [0usize; 10240];
+    read_within(sheet, &mut scratch, words)
+}
+
+// The same with scratch that takes the words of any sheet of so many bytes.
+fn read_within(sheet: &[u8], scratch: &mut [usize], words: &mut [usize]) -> Text
+    requires { ⌜ Roomy (now sheet) (length (now scratch)) ⌝ }
+    ensures { λ r. ⌜ r ≡ sheetAnswer (now (sheet .entry)) (length (now (words .entry))) ⌝ }
+    ensures { λ _. ⌜ now (words .exit) ≡ written (sheetWords (now (sheet .entry)) (length (now (words .entry)))) (now (words .entry)) ⌝ }
+{
+    let text = scan(sheet, scratch);
+    let verdict = text.verdict;
     let Verdict::Accepted = verdict else {
-        return judged;
+        return text;
     };
-    let ends = judged.ends;
-    if !in_shape(sheet, ends) {
+    let ends = text.ends;
+    if !laid_in_shape(scratch, ends) {
         return refused(Refusal::Malformed);
     }
-    if !write_all(sheet, ends[9], words) {
+    if !copy_all(scratch, ends[9], words) {
         return refused(Refusal::NoRoom);
     }
-    judged
+    text
+}
+
+// Copy so many words to the front of a slice, where it takes them all; else none. Says whether it does.
+fn copy_all(scratch: &[usize], count: usize, words: &mut [usize]) -> bool
+    ensures { λ r. ⌜ r ≡ leb count (length (now (words .entry))) ⌝ }
+    ensures { λ r. ⌜ now (words .exit) ≡ cond r (sets (now (words .entry)) 0 (take count (now (scratch .entry)))) (now (words .entry)) ⌝ }
+{
+    let fits = count <= words.len();
+    if fits {
+        copy_words(scratch, count, words);
+    }
+    fits
 }

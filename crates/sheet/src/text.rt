@@ -59,8 +59,17 @@ pub(crate) fn refused(refusal: Refusal) -> Text
 }
 
 // Judge a text and count its words, without writing any. Refused by 10, then by 1.
-pub(crate) fn measure(sheet: &[u8]) -> Text
+fn measure(sheet: &[u8]) -> Text
     ensures { λ r. ⌜ r ≡ measured (now (sheet .entry)) ⌝ }
+{
+    let mut unused = [0usize; 1];
+    scan(sheet, &mut unused)
+}
+
+// The same, and the words of an accepted text are left in scratch, one record after another, as far as it goes.
+pub(crate) fn scan(sheet: &[u8], scratch: &mut [usize]) -> Text
+    ensures { λ r. ⌜ r ≡ measured (now (sheet .entry)) ⌝ }
+    ensures { λ _. ⌜ (NoneDue (textChecks (now (sheet .entry))) → now (scratch .exit) ≡ sets (now (scratch .entry)) 0 (wordsOf (sheetOf (now (sheet .entry))))) ⌝ }
 {
     if Text::MAX_BYTES < sheet.len() {
         return refused(Refusal::Unreadable);
@@ -68,9 +77,8 @@ pub(crate) fn measure(sheet: &[u8]) -> Text
     if !headed(sheet) {
         return refused(Refusal::Unreadable);
     }
-    let mut unused = [0usize; 1];
     let mut ends = [0usize; 10];
-    match lines(sheet, Text::HEADING, &mut unused, &mut ends) {
+    match lines(sheet, Text::HEADING, scratch, &mut ends) {
         Judged::Unreadable => refused(Refusal::Unreadable),
         Judged::TooLong => refused(Refusal::Malformed),
         Judged::Good => Text {
@@ -81,7 +89,7 @@ pub(crate) fn measure(sheet: &[u8]) -> Text
 }
 
 // Write the words of an accepted text, `count` of them, where the slice takes them all; else none. Says whether it does.
-pub(crate) fn write_all(sheet: &[u8], count: usize, words: &mut [usize]) -> bool
+fn write_all(sheet: &[u8], count: usize, words: &mut [usize]) -> bool
     requires { ⌜ NoneDue (textChecks (now sheet)) ⌝ }
     ensures { λ r. ⌜ r ≡ leb count (length (now (words .entry))) ⌝ }
     ensures { λ r. ⌜ now (words .exit) ≡ cond r (sets (now (words .entry)) 0 (wordsOf (sheetOf (now (sheet .entry))))) (now (words .entry)) ⌝ }
@@ -94,7 +102,7 @@ pub(crate) fn write_all(sheet: &[u8], count: usize, words: &mut [usize]) -> bool
 }
 
 // Write the words of an accepted text, one record after another, as far as the slice goes.
-pub(crate) fn write(sheet: &[u8], words: &mut [usize])
+fn write(sheet: &[u8], words: &mut [usize])
     requires { ⌜ NoneDue (textChecks (now sheet)) ⌝ }
     ensures { λ _. ⌜ now (words .exit) ≡ sets (now (words .entry)) 0 (wordsOf (sheetOf (now (sheet .entry)))) ⌝ }
 {

@@ -5,21 +5,24 @@ use mathlib.Core.Logic.{⊎-elim}
 use native.Mathlib.Omega.{arith}
 use Rattle.lifetimes.specs.declared.lifetime.Lifetime.{Lifetime}
 use Rattle.lifetimes.specs.Sets.{member}
-use Rattle.borrowing_param.specs.Inner.{typeIn}
+use Rattle.borrowing_param.specs.Inner.{typeIn, Below}
 use Rattle.borrowing_param.proofs.Drawing.{path-few}
-use Rattle.borrowing_param.proofs.Storing.{CountingAll, counting-all, counted-few, counting-all-more, counting-all-not, counting-all-end}
+use Rattle.borrowing_param.proofs.Storing.{below-64, CountingAll, counting-all, counted-few, counting-all-more, counting-all-not, counting-all-end}
 use borrow.Author.Needs.{needs}
 use Rattle.borrowing_param.proofs.edges.count_all.Statement.{statement}
 use Rattle.borrowing_param.proofs.edges.count_all.Tie as tie
 
 abbrev Inv-loop : tie.InvT-loop
-Inv-loop used drawn words parts n₀ l₀ n l = CountingAll used drawn (typeIn words parts) n l
+Inv-loop used drawn words parts limit n₀ l₀ n l = Below used limit × CountingAll used drawn (typeIn words parts) n l
 
 abbrev μ-loop : tie.MeasureT-loop
-μ-loop used drawn words parts n₀ l₀ n l = 64 - l
+μ-loop used drawn words parts limit n₀ l₀ n l = limit - l
+
+limit-of-requires : tie.Need-limit-of-requires Inv-loop μ-loop
+limit-of-requires c κs = search needs
 
 loop-holds : tie.Need-loop-holds Inv-loop μ-loop
-loop-holds c = counting-all _ _ _
+loop-holds c = (c .limit-of .ensures, counting-all _ _ _)
 
 new-requires : tie.Need-new-requires Inv-loop μ-loop
 new-requires c κs = search needs
@@ -34,12 +37,13 @@ element-copy-out-count-for : tie.Need-element-copy-out-count-for Inv-loop μ-loo
 element-copy-out-count-for c = search needs
 
 count-for-requires : tie.Need-count-for-requires Inv-loop μ-loop
-count-for-requires c κs = c .before .before .before .before .before .before .before .pre .0
+count-for-requires c κs = c .before .before .before .before .before .before .before .before .pre .0
 
 add-n : tie.Need-add-n Inv-loop μ-loop
 add-n c =
-    let s = c .before .before .before .before .before .before .before .before in
-    omega (arith, c .before .before .before .before .before .before .loop .inv .few, c .before .before .before .before .before .loop-test .taken, counted-few (c .before .before .before .before .before .before .loop .inv) (path-few (s .args .words .now) (s .args .parts) (s .pre .0) (s .pre .1)) (c .count-for .ensures))
+    let s = c .before .before .before .before .before .before .before .before .before in
+    let i = c .before .before .before .before .before .before .loop .inv in
+    omega (arith, i .1 .few, i .0 .0, c .before .before .before .before .before .loop-test .taken, counted-few (i .1) (path-few (s .args .words .now) (s .args .parts) (s .pre .0) (s .pre .1)) (c .count-for .ensures))
 
 add-l : tie.Need-add-l Inv-loop μ-loop
 add-l c = search needs
@@ -49,17 +53,17 @@ loop-less c = search needs
 
 loop-again : tie.Need-loop-again Inv-loop μ-loop
 loop-again c =
-    let s = c .before .before .before .before .before .before in
+    let s = c .before .before .before .before .before .before .before in
     let l = c .before .before .before .before .loop in
     let few = path-few (s .args .words .now) (s .args .parts) (s .pre .0) (s .pre .1) in
     let test : c .before .contains .result ≡ member (s .args .used) (l .l) = c .before .contains .ensures ∙ ap (λ (x : Lifetime). member (s .args .used) (x .0)) (c .before .before .new .ensures) in
     ⊎-elim
-    (λ h. rw (h .3) (counting-all-more (l .inv) few (h .2 .ensures) (c .before .before .before .loop-test .taken) (sym (h .0 .taken) ∙ test)))
-    (λ h. rw (h .1) (counting-all-not (l .inv) (c .before .before .before .loop-test .taken) (sym (h .0 .left) ∙ test)))
+    (λ t. rw (t .3) (l .inv .0, counting-all-more (l .inv .1) few (t .2 .ensures) (below-64 (l .inv .0) (c .before .before .before .loop-test .taken)) (sym (t .0 .taken) ∙ test)))
+    (λ t. rw (t .1) (l .inv .0, counting-all-not (l .inv .1) (below-64 (l .inv .0) (c .before .before .before .loop-test .taken)) (sym (t .0 .left) ∙ test)))
     (c .if1 .came)
 
 returns : tie.Need-returns Inv-loop μ-loop
-returns c = counting-all-end (c .before .loop .inv) (c .loop-test .left)
+returns c = counting-all-end (c .before .loop .inv .1) (c .before .loop .inv .0) (c .loop-test .left)
 
 pub count-all-spec : {M : Type 1} → statement M
 count-all-spec =
@@ -67,6 +71,7 @@ count-all-spec =
     (tie.spec
     Inv-loop
     μ-loop
+    limit-of-requires
     loop-holds
     new-requires
     contains-requires

@@ -26,11 +26,11 @@ unmapped-requires-2 c κs = search needs
 returns-2 : tie.Need-returns-2
 returns-2 c = no-room-edges (c .before .before .before .before .before .before .before .before .before .before .args .visitor) (paramTypes (c .before .before .before .before .before .before .before .before .before .before .args .params .now)) (c .before .before .before .before .before .before .before .before .before .before .args .answers .now) (c .before .before .before .before .before .before .before .before .before .before .args .edges .now) (c .before .before .before .count-params .ensures) (c .before .before .if1 .left) (c .before .if2 .taken) (c .unmapped2 .ensures)
 
-slice-aggregate-copy : tie.Need-slice-aggregate-copy
-slice-aggregate-copy c = sym (numbers-size (c .before .before .before .before .before .before .before .before .before .before .args .visitor) (paramTypes (c .before .before .before .before .before .before .before .before .before .before .args .params .now)) (c .before .before .before .before .before .before .before .before .before .before .args .answers .now) (c .before .before .before .before .before .before .before .before .before .before .args .edges .now) (c .before .before .before .count-params .ensures) refl)
+slice-aggregate-copy-words : tie.Need-slice-aggregate-copy-words
+slice-aggregate-copy-words c = sym (numbers-size (c .before .before .before .before .before .before .before .before .before .before .args .visitor) (paramTypes (c .before .before .before .before .before .before .before .before .before .before .args .params .now)) (c .before .before .before .before .before .before .before .before .before .before .args .answers .now) (c .before .before .before .before .before .before .before .before .before .before .args .edges .now) (c .before .before .before .count-params .ensures) refl)
 
-copy-requires : tie.Need-copy-requires
-copy-requires c κs = (omega (arith, c .before .before .before .before .count-params .ensures .params, c .before .before .before .before .before .before .before .before .before .before .before .pre .few, numbers-size (c .before .before .before .before .before .before .before .before .before .before .before .args .visitor) (paramTypes (c .before .before .before .before .before .before .before .before .before .before .before .args .params .now)) (c .before .before .before .before .before .before .before .before .before .before .before .args .answers .now) (c .before .before .before .before .before .before .before .before .before .before .before .args .edges .now) (c .before .before .before .before .count-params .ensures) refl), c .before .before .before .if1 .left)
+copy-words-requires : tie.Need-copy-words-requires
+copy-words-requires c κs = search needs
 
 store-listed-requires : tie.Need-store-listed-requires
 store-listed-requires c κs = (c .before .before .before .before .before .before .before .before .before .before .before .before .before .before .before .before .pre, full (c .before .before .before .before .before .before .before .before .before .before .before .before .before .before .before .before), listed-room (c .before .before .before .before .before .before .before .before .before .before .before .before .before .before .before .before .args .visitor) (paramTypes (c .before .before .before .before .before .before .before .before .before .before .before .before .before .before .before .before .args .params .now)) (c .before .before .before .before .before .before .before .before .before .before .before .before .before .before .before .before .args .answers .now) (c .before .before .before .before .before .before .before .before .before .before .before .before .before .before .before .before .args .edges .now) (c .before .before .before .before .before .before .before .before .before .count-params .ensures) (c .before .before .before .before .before .before .before .before .if1 .left) (c .before .before .before .before .before .before .before .if2 .left))
@@ -42,7 +42,7 @@ same-length-2 : tie.Need-same-length-2
 same-length-2 c = search needs
 
 returns-3 : tie.Need-returns-3
-returns-3 c = mapped (c .before .before .before .before .before .before .before .before .before .before .before .before .before .before .before .before .before .before .before .args .visitor) (paramTypes (c .before .before .before .before .before .before .before .before .before .before .before .before .before .before .before .before .before .before .before .args .params .now)) (c .before .before .before .before .before .before .before .before .before .before .before .before .before .before .before .before .before .before .before .args .answers .now) (c .before .before .before .before .before .before .before .before .before .before .before .before .before .before .before .before .before .before .before .args .edges .now) (c .before .before .before .before .before .before .before .before .before .before .before .before .count-params .ensures) (c .before .before .before .before .before .before .before .before .before .before .before .if1 .left) (c .before .before .before .before .before .before .before .before .before .before .if2 .left) refl (c .before .before .before .before .before .before .before .before .before .before .before .before .before .before .before .before .before .before .before .pre .few) (c .before .before .before .before .before .before .before .copy .ensures) (c .before .before .store-listed .ensures)
+returns-3 c = mapped (c .before .before .before .before .before .before .before .before .before .before .before .before .before .before .before .before .before .before .before .args .visitor) (paramTypes (c .before .before .before .before .before .before .before .before .before .before .before .before .before .before .before .before .before .before .before .args .params .now)) (c .before .before .before .before .before .before .before .before .before .before .before .before .before .before .before .before .before .before .before .args .answers .now) (c .before .before .before .before .before .before .before .before .before .before .before .before .before .before .before .before .before .before .before .args .edges .now) (c .before .before .before .before .before .before .before .before .before .before .before .before .count-params .ensures) (c .before .before .before .before .before .before .before .before .before .before .before .if1 .left) (c .before .before .before .before .before .before .before .before .before .before .if2 .left) refl (c .before .before .before .before .before .before .before .before .before .before .before .before .before .before .before .before .before .before .before .pre .few) (c .before .before .before .before .before .before .before .copy-words .ensures) (c .before .before .store-listed .ensures)
 
 pub map-params-spec : {M : Type 1} → statement M
 map-params-spec =
@@ -53,8 +53,8 @@ map-params-spec =
     returns
     unmapped-requires-2
     returns-2
-    slice-aggregate-copy
-    copy-requires
+    slice-aggregate-copy-words
+    copy-words-requires
     store-listed-requires
     same-length
     same-length-2

@@ -1,5 +1,5 @@
 -- `lower_small` meets its contract: the scratch is large enough.
-use Rattle.borrowing_param.proofs.SheetLaws.{small-room}
+use Rattle.sheet.proofs.Placing.{half-room}
 use borrow.Author.Needs.{needs}
 use Rattle.borrowing_param.proofs.method.lower_small.Statement.{statement}
 use Rattle.borrowing_param.proofs.method.lower_small.Tie as tie
@@ -8,7 +8,7 @@ slice-aggregate-lower-within : tie.Need-slice-aggregate-lower-within
 slice-aggregate-lower-within c = search needs
 
 lower-within-requires : tie.Need-lower-within-requires
-lower-within-requires c κs = small-room (c .before .before .before .before .args .sheet .now) (c .before .before .before .before .pre)
+lower-within-requires c κs = half-room (c .before .before .before .before .args .sheet .now) (c .before .before .before .before .pre)
 
 same-length : tie.Need-same-length
 same-length c = search needs

@@ -31,8 +31,8 @@ same-length-2 c = search needs
 returns-2 : tie.Need-returns-2
 returns-2 c = within-short (c .before .before .before .before .before .before .before .before .before .before .before .before .args .sheet .now) (c .before .before .before .before .before .before .before .judge-sheet .ensures) (c .before .before .before .before .before .before .before .before .before .before .before .before .args .words .now) (c .before .before .before .enum-told2 .given .1) (c .before .if1 .taken) (c .refused-method .ensures)
 
-copy-requires : tie.Need-copy-requires
-copy-requires c κs = (within-inside (c .before .before .before .before .before .before .before .before .before .before .before .before .before .args .sheet .now) (c .before .before .before .before .before .before .before .before .judge-sheet .ensures) (c .before .before .before .before .before .before .before .before .before .before .before .before .before .args .words .now) (c .before .before .before .before .enum-told2 .given .1), c .before .before .if1 .left)
+copy-words-requires : tie.Need-copy-words-requires
+copy-words-requires c κs = search needs
 
 same-length-3 : tie.Need-same-length-3
 same-length-3 c = search needs
@@ -41,7 +41,7 @@ same-length-4 : tie.Need-same-length-4
 same-length-4 c = search needs
 
 returns-3 : tie.Need-returns-3
-returns-3 c = within-all (c .before .before .before .before .before .before .before .before .before .before .before .before .before .before .before .before .args .sheet .now) (c .before .before .before .before .before .before .before .before .before .before .before .judge-sheet .ensures) (c .before .before .before .before .before .before .before .before .before .before .before .before .before .before .before .before .args .words .now) (c .before .before .before .before .before .before .before .enum-told2 .given .1) (c .before .before .before .before .before .if1 .left) (c .before .before .copy .ensures)
+returns-3 c = within-all (c .before .before .before .before .before .before .before .before .before .before .before .before .before .before .before .before .args .sheet .now) (c .before .before .before .before .before .before .before .before .before .before .before .judge-sheet .ensures) (c .before .before .before .before .before .before .before .before .before .before .before .before .before .before .before .before .args .words .now) (c .before .before .before .before .before .before .before .enum-told2 .given .1) (c .before .before .before .before .before .if1 .left) (c .before .before .copy-words .ensures)
 
 pub lower-within-spec : {M : Type 1} → statement M
 lower-within-spec =
@@ -56,7 +56,7 @@ lower-within-spec =
     refused-method-requires
     same-length-2
     returns-2
-    copy-requires
+    copy-words-requires
     same-length-3
     same-length-4
     returns-3)

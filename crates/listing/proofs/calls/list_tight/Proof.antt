@@ -18,10 +18,16 @@ enum-told : tie.Need-enum-told
 enum-told c = search needs
 
 returns : tie.Need-returns
-returns c = measured-refused (c .before .before .before .before .before .before .before .args .sheet .now) (c .before .before .before .before .before .before .before .args .out .now) (c .before .before .before .list-sheet .result) [] (c .before .before .before .list-sheet .last .1 .0) (c .before .before .before .list-sheet .ensures) (c .enum-told .given .1)
+returns c =
+    let s = c .before .before .before .before .before .before .before in
+    let l = c .before .before .before .list-sheet in
+    measured-refused (s .args .sheet .now) (s .args .out .now) (l .result) [] (l .last .1 .0) (l .ensures) (c .enum-told .given .1)
 
 returns-2 : tie.Need-returns-2
-returns-2 c = too-long (c .before .before .before .before .before .before .before .before .before .args .sheet .now) (c .before .before .before .before .before .before .before .before .before .args .out .now) (c .before .before .before .before .before .list-sheet .result) [] (c .before .before .before .before .before .list-sheet .last .1 .0) (c .before .before .before .before .before .list-sheet .ensures) (c .before .before .measured .given .1) (c .if1 .taken)
+returns-2 c =
+    let s = c .before .before .before .before .before .before .before .before .before in
+    let l = c .before .before .before .before .before .list-sheet in
+    too-long (s .args .sheet .now) (s .args .out .now) (l .result) [] (l .last .1 .0) (l .ensures) (c .before .before .measured .given .1) (c .if1 .taken)
 
 list-sheet-requires-2 : tie.Need-list-sheet-requires-2
 list-sheet-requires-2 c κs = search needs
@@ -30,7 +36,10 @@ same-length : tie.Need-same-length
 same-length c = search needs
 
 returns-3 : tie.Need-returns-3
-returns-3 c = listed-so (c .before .before .before .before .before .before .before .before .before .before .before .before .before .args .sheet .now) (c .before .before .before .before .before .before .before .before .before .before .before .before .before .args .out .now) (c .before .before .list-sheet2 .result) (c .before .before .list-sheet2 .last .1 .0) (c .before .before .list-sheet2 .ensures) (measured-enough (c .before .before .before .before .before .before .before .before .before .before .before .before .before .args .sheet .now) (c .before .before .before .before .before .before .before .before .before .before .before .before .before .args .out .now) (c .before .before .before .before .before .before .before .before .before .list-sheet .result) [] (c .before .before .before .before .before .before .before .before .before .list-sheet .last .1 .0) (c .before .before .before .before .before .before .before .before .before .list-sheet .ensures) (c .before .before .before .before .before .before .measured .given .1) (c .before .before .before .before .if1 .left))
+returns-3 c =
+    let s = c .before .before .before .before .before .before .before .before .before .before .before .before .before in
+    let l = c .before .before .before .before .before .before .before .before .before .list-sheet in
+    listed-so (s .args .sheet .now) (s .args .out .now) (c .before .before .list-sheet2 .result) (c .before .before .list-sheet2 .last .1 .0) (c .before .before .list-sheet2 .ensures) (measured-enough (s .args .sheet .now) (s .args .out .now) (l .result) [] (l .last .1 .0) (l .ensures) (c .before .before .before .before .before .before .measured .given .1) (c .before .before .before .before .if1 .left))
 
 pub list-tight-spec : {M : Type 1} → statement M
 list-tight-spec =

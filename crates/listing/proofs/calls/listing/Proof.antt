@@ -20,7 +20,10 @@ same-length-2 : tie.Need-same-length-2
 same-length-2 c = search needs
 
 returns-2 : tie.Need-returns-2
-returns-2 c = listed-so (c .before .before .before .before .before .before .before .args .sheet .now) (c .before .before .before .before .before .before .before .args .out .now) (c .before .before .list-sheet .result) (c .before .before .list-sheet .last .1 .0) (c .before .before .list-sheet .ensures) (wide-enough (c .before .before .before .before .before .before .before .args .sheet .now) (c .before .before .before .before .before .before .before .args .out .now) (c .before .before .before .before .if1 .left))
+returns-2 c =
+    let s = c .before .before .before .before .before .before .before in
+    let l = c .before .before .list-sheet in
+    listed-so (s .args .sheet .now) (s .args .out .now) (l .result) (l .last .1 .0) (l .ensures) (wide-enough (s .args .sheet .now) (s .args .out .now) (c .before .before .before .before .if1 .left))
 
 pub listing-spec : {M : Type 1} → statement M
 listing-spec =

@@ -28,10 +28,16 @@ put-refusal-requires : tie.Need-put-refusal-requires
 put-refusal-requires c κs = refusal-fits (c .before .before .before .before .answer2 .given .0 .0) (c .before .before .number .ensures)
 
 returns : tie.Need-returns
-returns c = respond-listed (c .before .before .before .before .before .before .args .sheet .now) (c .before .before .before .before .before .before .args .out .now) (c .before .before .before .list-sheet .result) (c .before .before .before .list-sheet .last .1 .0) (full (c .before .before .before .before)) (c .before .before .before .list-sheet .ensures) (c .before .answer .given .1)
+returns c =
+    let s = c .before .before .before .before .before .before in
+    let l = c .before .before .before .list-sheet in
+    respond-listed (s .args .sheet .now) (s .args .out .now) (l .result) (l .last .1 .0) (full (c .before .before .before .before)) (l .ensures) (c .before .answer .given .1)
 
 returns-2 : tie.Need-returns-2
-returns-2 c = respond-refused (c .before .before .before .before .before .answer2 .given .0 .0) (c .before .before .before .number .ensures) (c .before .before .before .before .before .before .before .before .before .before .args .sheet .now) (c .before .before .before .before .before .before .before .before .before .before .args .out .now) (c .before .before .before .before .before .before .before .list-sheet .result) (c .before .before .before .before .before .before .before .list-sheet .last .1 .0) (full (c .before .before .before .before .before .before .before .before)) (c .before .before .before .before .before .before .before .list-sheet .ensures) (c .before .before .before .before .before .answer2 .given .1) (c .put-refusal .ensures)
+returns-2 c =
+    let s = c .before .before .before .before .before .before .before .before .before .before in
+    let l = c .before .before .before .before .before .before .before .list-sheet in
+    respond-refused (c .before .before .before .before .before .answer2 .given .0 .0) (c .before .before .before .number .ensures) (s .args .sheet .now) (s .args .out .now) (l .result) (l .last .1 .0) (full (c .before .before .before .before .before .before .before .before)) (l .ensures) (c .before .before .before .before .before .answer2 .given .1) (c .put-refusal .ensures)
 
 pub respond-spec : {M : Type 1} → statement M
 respond-spec =

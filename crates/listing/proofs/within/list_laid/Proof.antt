@@ -41,7 +41,9 @@ record-words-requires-10 : tie.Need-record-words-requires-10
 record-words-requires-10 c κs = search needs
 
 list-records-requires : tie.Need-list-records-requires
-list-records-requires c κs = (subst (λ (r : Records). sheetInShape r ≡ true) (sym (ten-found (c .before .before .before .before .before .before .before .before .before .before .before .before .before .before .before .before .before .before .before .before .before .pre .0) (c .before .before .before .before .before .before .before .before .before .before .before .before .before .before .record-words .ensures) (c .before .before .before .before .before .before .before .before .before .before .before .before .before .record-words2 .ensures) (c .before .before .before .before .before .before .before .before .before .before .before .before .record-words3 .ensures) (c .before .before .before .before .before .before .before .before .before .before .before .record-words4 .ensures) (c .before .before .before .before .before .before .before .before .before .before .record-words5 .ensures) (c .before .before .before .before .before .before .before .before .before .record-words6 .ensures) (c .before .before .before .before .before .before .before .before .record-words7 .ensures) (c .before .before .before .before .before .before .before .record-words8 .ensures) (c .before .before .before .before .before .before .record-words9 .ensures) (c .before .before .before .before .before .record-words10 .ensures))) (c .before .before .before .before .before .before .before .before .before .before .before .before .before .before .before .before .before .before .before .before .before .pre .1), c .before .before .before .before .before .before .before .before .before .before .before .before .before .before .before .before .before .before .before .before .before .pre .2)
+list-records-requires c κs =
+    let s = c .before .before .before .before .before .before .before .before .before .before .before .before .before .before .before .before .before .before .before .before .before in
+    (subst (λ (r : Records). sheetInShape r ≡ true) (sym (ten-found (s .pre .0) (c .before .before .before .before .before .before .before .before .before .before .before .before .before .before .record-words .ensures) (c .before .before .before .before .before .before .before .before .before .before .before .before .before .record-words2 .ensures) (c .before .before .before .before .before .before .before .before .before .before .before .before .record-words3 .ensures) (c .before .before .before .before .before .before .before .before .before .before .before .record-words4 .ensures) (c .before .before .before .before .before .before .before .before .before .before .record-words5 .ensures) (c .before .before .before .before .before .before .before .before .before .record-words6 .ensures) (c .before .before .before .before .before .before .before .before .record-words7 .ensures) (c .before .before .before .before .before .before .before .record-words8 .ensures) (c .before .before .before .before .before .before .record-words9 .ensures) (c .before .before .before .before .before .record-words10 .ensures))) (s .pre .1), s .pre .2)
 
 same-length : tie.Need-same-length
 same-length c = search needs
@@ -59,7 +61,9 @@ same-length-5 : tie.Need-same-length-5
 same-length-5 c = search needs
 
 returns : tie.Need-returns
-returns c = subst (λ (r : Records). ListsWithin (listedRecords r) (Ample (length (c .before .before .before .before .before .before .before .before .before .before .before .before .before .before .before .before .before .before .before .before .before .before .before .before .before .before .before .before .before .before .before .before .args .given .now)) (length (c .before .before .before .before .before .before .before .before .before .before .before .before .before .before .before .before .before .before .before .before .before .before .before .before .before .before .before .before .before .before .before .before .args .taken .now)) (length (c .before .before .before .before .before .before .before .before .before .before .before .before .before .before .before .before .before .before .before .before .before .before .before .before .before .before .before .before .before .before .before .before .args .lists .now)) (length (c .before .before .before .before .before .before .before .before .before .before .before .before .before .before .before .before .before .before .before .before .before .before .before .before .before .before .before .before .before .before .before .before .args .edges .now))) (c .before .before .before .before .before .before .before .before .before .before .before .before .before .before .before .before .before .before .before .before .before .before .before .before .before .before .before .before .before .before .before .before .args .out .now) (c .before .before .before .before .before .before .before .before .before .before .list-records .result) (c .before .before .before .before .before .before .before .before .before .before .list-records .last .1 .1 .1 .1 .1 .1 .1 .1 .1 .1 .1 .1 .1 .1 .0)) (ten-found (c .before .before .before .before .before .before .before .before .before .before .before .before .before .before .before .before .before .before .before .before .before .before .before .before .before .before .before .before .before .before .before .before .pre .0) (c .before .before .before .before .before .before .before .before .before .before .before .before .before .before .before .before .before .before .before .before .before .before .before .before .before .record-words .ensures) (c .before .before .before .before .before .before .before .before .before .before .before .before .before .before .before .before .before .before .before .before .before .before .before .before .record-words2 .ensures) (c .before .before .before .before .before .before .before .before .before .before .before .before .before .before .before .before .before .before .before .before .before .before .before .record-words3 .ensures) (c .before .before .before .before .before .before .before .before .before .before .before .before .before .before .before .before .before .before .before .before .before .before .record-words4 .ensures) (c .before .before .before .before .before .before .before .before .before .before .before .before .before .before .before .before .before .before .before .before .before .record-words5 .ensures) (c .before .before .before .before .before .before .before .before .before .before .before .before .before .before .before .before .before .before .before .before .record-words6 .ensures) (c .before .before .before .before .before .before .before .before .before .before .before .before .before .before .before .before .before .before .before .record-words7 .ensures) (c .before .before .before .before .before .before .before .before .before .before .before .before .before .before .before .before .before .before .record-words8 .ensures) (c .before .before .before .before .before .before .before .before .before .before .before .before .before .before .before .before .before .record-words9 .ensures) (c .before .before .before .before .before .before .before .before .before .before .before .before .before .before .before .before .record-words10 .ensures)) (c .before .before .before .before .before .before .before .before .before .before .list-records .ensures)
+returns c =
+    let s = c .before .before .before .before .before .before .before .before .before .before .before .before .before .before .before .before .before .before .before .before .before .before .before .before .before .before .before .before .before .before .before .before in
+    subst (λ (r : Records). ListsWithin (listedRecords r) (Ample (length (s .args .given .now)) (length (s .args .taken .now)) (length (s .args .lists .now)) (length (s .args .edges .now))) (s .args .out .now) (c .before .before .before .before .before .before .before .before .before .before .list-records .result) (c .before .before .before .before .before .before .before .before .before .before .list-records .last .1 .1 .1 .1 .1 .1 .1 .1 .1 .1 .1 .1 .1 .1 .0)) (ten-found (s .pre .0) (c .before .before .before .before .before .before .before .before .before .before .before .before .before .before .before .before .before .before .before .before .before .before .before .before .before .record-words .ensures) (c .before .before .before .before .before .before .before .before .before .before .before .before .before .before .before .before .before .before .before .before .before .before .before .before .record-words2 .ensures) (c .before .before .before .before .before .before .before .before .before .before .before .before .before .before .before .before .before .before .before .before .before .before .before .record-words3 .ensures) (c .before .before .before .before .before .before .before .before .before .before .before .before .before .before .before .before .before .before .before .before .before .before .record-words4 .ensures) (c .before .before .before .before .before .before .before .before .before .before .before .before .before .before .before .before .before .before .before .before .before .record-words5 .ensures) (c .before .before .before .before .before .before .before .before .before .before .before .before .before .before .before .before .before .before .before .before .record-words6 .ensures) (c .before .before .before .before .before .before .before .before .before .before .before .before .before .before .before .before .before .before .before .record-words7 .ensures) (c .before .before .before .before .before .before .before .before .before .before .before .before .before .before .before .before .before .before .record-words8 .ensures) (c .before .before .before .before .before .before .before .before .before .before .before .before .before .before .before .before .before .record-words9 .ensures) (c .before .before .before .before .before .before .before .before .before .before .before .before .before .before .before .before .record-words10 .ensures)) (c .before .before .before .before .before .before .before .before .before .before .list-records .ensures)
 
 pub list-laid-spec : {M : Type 1} → statement M
 list-laid-spec =

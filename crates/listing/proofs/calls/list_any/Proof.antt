@@ -1,10 +1,11 @@
--- `list_large` meets its contract: such scratch is ample.
+-- `list_any` meets its contract: such scratch is ample.
 use native.Mathlib.Omega.{arith}
 use Rattle.listing.specs.InnerListing.{Ample}
-use Rattle.listing.proofs.SheetListing.{large-room, never-short, tried-done}
+use Rattle.sheet.proofs.Placing.{any-room}
+use Rattle.listing.proofs.SheetListing.{never-short, tried-done}
 use borrow.Author.Needs.{needs}
-use Rattle.listing.proofs.calls.list_large.Statement.{statement}
-use Rattle.listing.proofs.calls.list_large.Tie as tie
+use Rattle.listing.proofs.calls.list_any.Statement.{statement}
+use Rattle.listing.proofs.calls.list_any.Tie as tie
 
 slice-aggregate-list-within : tie.Need-slice-aggregate-list-within
 slice-aggregate-list-within c = search needs
@@ -22,7 +23,7 @@ slice-aggregate-list-within-5 : tie.Need-slice-aggregate-list-within-5
 slice-aggregate-list-within-5 c = search needs
 
 list-within-requires : tie.Need-list-within-requires
-list-within-requires c κs = (large-room (c .before .before .before .before .before .before .before .before .args .sheet .now), omega arith)
+list-within-requires c κs = (any-room (c .before .before .before .before .before .before .before .before .args .sheet .now), omega arith)
 
 enum-known-listed : tie.Need-enum-known-listed
 enum-known-listed c = search needs
@@ -42,8 +43,8 @@ same-length-2 c = search needs
 returns-2 : tie.Need-returns-2
 returns-2 c = tried-done (c .before .before .before .before .before .before .before .before .before .before .before .before .before .before .before .before .before .before .before .args .sheet .now) (Ample 8192 8192 4096 20480) (c .before .before .before .before .before .before .before .before .before .before .list-within .result) _ (c .before .before .before .before .before .before .before .before .before .before .before .before .before .before .before .before .before .before .before .args .out .now) (c .before .before .before .before .before .before .before .before .before .before .list-within .last .1 .1 .1 .1 .1 .1 .0) (c .before .before .before .before .before .before .before .before .before .before .list-within .ensures) (c .before .listed .given .1)
 
-pub list-large-spec : {M : Type 1} → statement M
-list-large-spec =
+pub list-any-spec : {M : Type 1} → statement M
+list-any-spec =
     tie.close
     (tie.spec
     slice-aggregate-list-within
