@@ -11,9 +11,9 @@ pub mod Lending
 pub mod Filling
 pub mod Running
 pub mod Stepping
--- The whole records: storing words, taking a step, a step by its words, one record, three records, every lifetime has a word, the answers.
-pub mod Storing
+-- The whole records: taking a step, a step lowered and stored, a step by its words, one record, three records, every lifetime has a word, the answers.
 pub mod Taking
+pub mod Showing
 pub mod Wording
 pub mod Recording
 pub mod MethodLaws

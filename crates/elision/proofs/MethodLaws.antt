@@ -1,83 +1,95 @@
--- The three records one after another: what `lower_receiver` and `run` answer, and what they store.
-use Prim.Native.Nat.{ℕ, _+_, _≤_}
+-- The three records one after another: what `put_receiver` and `run` answer, and what they store.
+use Prim.Native.Nat.{ℕ}
 use mathlib.Core.Bool.{true, false}
-use mathlib.Core.Path.{_≡_, refl, sym, ap, subst, _∙_}
-use mathlib.Core.List.{List, [], _∷_, map}
+use mathlib.Core.Path.{_≡_, refl, sym, ap, _∙_}
+use mathlib.Core.List.{List, [], _∷_}
 use native.Mathlib.Nat.{zero-add}
 use native.Mathlib.Omega.{arith}
-use lib.ListN.{length, getD}
-use lib.Seq.{sets}
+use lib.ListN.{length, getD, set}
 use Rattle.lifetimes.specs.declared.answer.Refusal.{Refusal}
 use Rattle.lifetimes.specs.declared.answer.Verdict.the-variants as verdict
 use Rattle.lifetimes.specs.Refusals.{Outcome, Gives, Refuses}
 use Rattle.records.proofs.VerdictLaws.{refused-accepted}
+use Rattle.records.proofs.ReadingLaws.{passed}
+use Rattle.elision.specs.declared.source.ElisionSource.the-variants.{NoBorrows, SelfParam}
+use Rattle.elision.specs.declared.lowerer.Standing.the-variants.{Aside}
+use Rattle.elision.specs.declared.lowerer.Seen.{Seen}
+use Rattle.elision.specs.declared.lowerer.Worded.{Worded}
 use Rattle.elision.specs.declared.lowerer.Lowerer.{Lowerer}
-use Rattle.elision.specs.declared.lowerer.Stepped.{Stepped}
-use Rattle.elision.specs.declared.method.Ran.{Ran}
+use Rattle.elision.specs.declared.method.Took.{Took}
 use Rattle.elision.specs.declared.method.Totals.{Totals}
 use Rattle.elision.specs.Steps.{Step, Receiver, receiverOf}
 use Rattle.elision.specs.Rfc.{Method}
-use Rattle.elision.specs.Machine.{Answer, valuesIn, stepped, unused, selfRef, lowerSelf, runSteps, runMethod}
-use Rattle.elision.specs.Inner.{shown, Runs, totals, RunsAll}
-use Rattle.elision.proofs.RfcLaws.{laid-values}
+use Rattle.elision.specs.Machine.{Answer, answer, laid, lowerWord, unused, selfRef, lowerSelf, runSteps, runMethod}
+use Rattle.elision.specs.Inner.{shown, worded, Shows, Given, Lowers, totals, RunsAll}
+use Rattle.elision.proofs.Running.{single-word, accepted-word, refused-word}
 
--- ---- one record
+-- ---- the record `self`
 
-given-same : {A : Type 0} {a b : A} → Gives a ≡ Gives b → a ≡ b
-given-same e = cc
+-- a lowerer without the `Self` type is shown with any list
+abbrev bare : Seen → Lowerer
+bare seen = record { seen = seen; kept = false; own = laid [] }
+
+bare-shown : (seen : Seen) (list : List ℕ) → length list ≡ 16 → Shows (bare seen) seen false 0 list
+bare-shown seen list full = record { saw = refl; keeps = refl; full = full; many = λ e. passed e; words = λ e. passed e }
+
+-- what is seen at first
+abbrev fresh : List ℕ → Seen
+fresh names = record { source = NoBorrows; count = length names }
+
+module _ (names : List ℕ) where
+  pub receiver-none : (self slice : List ℕ) → length self ≡ 0 → (list : List ℕ) → length list ≡ 16
+      → Lowers (lowerSelf names (receiverOf self)) 0 list slice slice (record { verdict = verdict.Accepted; seen = fresh names; kept = false; own = 0; n = 0; to = 0 })
+  unfolding unused
+  receiver-none [] slice h list full = record {
+    accepted = λ v. record { it = answer [] (bare (fresh names)); is = refl; shows = bare-shown (fresh names) list full; count = refl; stored = refl };
+    refused = λ k v. refused-accepted (sym v);
+  }
+  receiver-none (w ∷ self) slice h list full = absurd (omega arith)
+
+  module _ (self : List ℕ) (h : length self ≡ 0 → ⊥) {w : Worded} (said : w ≡ worded (fresh names) (lowerWord names Aside (getD self 0 0) (fresh names))) where
+    pub receiver-refused : {k : Refusal} → w .verdict ≡ verdict.Refused k → {slice slice₁ : List ℕ} (list : List ℕ) → length list ≡ 16
+        → Lowers (lowerSelf names (receiverOf self)) 0 list slice slice₁ (record { verdict = verdict.Refused k; seen = fresh names; kept = false; own = 0; n = 0; to = 0 })
+    unfolding selfRef unused
+    receiver-refused {k} v list full = record {
+      accepted = λ a. refused-accepted a;
+      refused = λ j e. let same : k ≡ j = cc in go self h (refused-word (fresh names) (lowerWord names Aside (getD self 0 0) (fresh names)) said v) ∙ rw same;
+    }
+      where
+        go : (self : List ℕ) → (length self ≡ 0 → ⊥) → lowerWord names Aside (getD self 0 0) (fresh names) ≡ Refuses k → lowerSelf names (receiverOf self) ≡ Refuses k
+        go [] h e = absurd (h refl)
+        go (x ∷ self) h e = rw e
+
+    pub receiver-given : w .verdict ≡ verdict.Accepted → {shows : ℕ} → shows ≡ shown (w .lifetime) → {slice slice₁ : List ℕ} → slice₁ ≡ set slice 0 shows → (list : List ℕ) → length list ≡ 16
+        → Lowers (lowerSelf names (receiverOf self)) 0 list slice slice₁
+        (record { verdict = verdict.Accepted; seen = record { source = SelfParam (w .lifetime); count = w .seen .count }; kept = false; own = 0; n = 1; to = 0 })
+    unfolding selfRef unused
+    receiver-given v sh put list full =
+        let after : Seen = record { source = SelfParam (w .lifetime); count = w .seen .count } in
+        let one = accepted-word (fresh names) (lowerWord names Aside (getD self 0 0) (fresh names)) said (single-word names Aside (getD self 0 0) (fresh names)) v in
+        record {
+          accepted = λ a. record {
+            it = answer (w .lifetime ∷ []) (bare after);
+            is = go self h one;
+            shows = bare-shown after list full;
+            count = refl;
+            stored = rw (put, sh);
+          };
+          refused = λ k e. refused-accepted (sym e);
+        }
+      where
+        go : (self : List ℕ) → (length self ≡ 0 → ⊥) → lowerWord names Aside (getD self 0 0) (fresh names) ≡ Gives (answer (w .lifetime ∷ []) (w .seen))
+            → lowerSelf names (receiverOf self) ≡ Gives (answer (w .lifetime ∷ []) (bare (record { source = SelfParam (w .lifetime); count = w .seen .count })))
+        go [] h e = absurd (h refl)
+        go (x ∷ self) h e = rw e
+
+-- ---- the three records
 
 refuses-gives : {A B : Type 0} {b : B} {r : Refusal} → Refuses r ≡ Gives b → A
 refuses-gives e = let z : _≡_ {A = ℕ} 0 1 = cc in absurd (omega arith)
 
--- a step that is stored from the front
-pub stepped-runs : (s : Lowerer) (o : Outcome (Answer Lowerer)) {d : Stepped} → d ≡ stepped s o → {r : Ran} {slice slice₁ : List ℕ}
-    → (r ≡ record { verdict = d .verdict; lowerer = d .lowerer; n = 0 + length (valuesIn (d .lifetimes)) }) × ((r .n ≤ 0 + 16) × (slice₁ ≡ sets slice 0 (map shown (valuesIn (d .lifetimes)))))
-    → Runs s o slice slice₁ r
-stepped-runs s (Gives a) e p = record {
-  answers = rw (p .0, e, laid-values (a .given), zero-add (length (a .given)));
-  stores = λ b q. rw (p .1 .1, e, laid-values (a .given), given-same q);
-}
-stepped-runs s (Refuses k) e p = record {
-  answers = rw (p .0, e, laid-values []);
-  stores = λ b q. refuses-gives q;
-}
-
-module _ (names : List ℕ) where
-  pub receiver-none : (self slice : List ℕ) → length self ≡ 0 → {fresh : Lowerer} → fresh ≡ unused names
-      → Runs (unused names) (lowerSelf names (receiverOf self)) slice slice (record { verdict = verdict.Accepted; lowerer = fresh; n = 0 })
-  receiver-none [] slice h e = record { answers = rw e; stores = λ a q. rw (← given-same q) }
-  receiver-none (w ∷ self) slice h e = absurd (omega arith)
-
-  pub receiver-given : (self : List ℕ) {slice slice₁ : List ℕ} → (length self ≡ 0 → ⊥) → {d : Stepped} → d ≡ stepped (unused names) (selfRef names (getD self 0 0)) → {r : Ran}
-      → (r ≡ record { verdict = d .verdict; lowerer = d .lowerer; n = 0 + length (valuesIn (d .lifetimes)) }) × ((r .n ≤ 0 + 16) × (slice₁ ≡ sets slice 0 (map shown (valuesIn (d .lifetimes)))))
-      → Runs (unused names) (lowerSelf names (receiverOf self)) slice slice₁ r
-  receiver-given [] h e p = absurd (h refl)
-  receiver-given (w ∷ self) h e p = stepped-runs (unused names) (selfRef names w) e p
-
--- ---- what a record says of the next
-
-pub record GivenRun (o : Outcome (Answer Lowerer)) (slice slice₁ : List ℕ) (r : Ran) : Type 0 where
-  pub it : Answer Lowerer
-  pub is : o ≡ Gives it
-  pub lowerer : r .lowerer ≡ it .left
-  pub count : r .n ≡ length (it .given)
-  pub stored : slice₁ ≡ sets slice 0 (map shown (it .given))
-
-runs-given : {s : Lowerer} {slice slice₁ : List ℕ} {r : Ran} (o : Outcome (Answer Lowerer)) → Runs s o slice slice₁ r → r .verdict ≡ verdict.Accepted → GivenRun o slice slice₁ r
-runs-given (Gives a) h v = record {
-  it = a;
-  is = refl;
-  lowerer = ap (λ (x : Ran). x .lowerer) (h .answers);
-  count = ap (λ (x : Ran). x .n) (h .answers);
-  stored = h .stores a refl;
-}
-runs-given (Refuses k) h v = refused-accepted (sym (ap (λ (x : Ran). x .verdict) (h .answers)) ∙ v)
-
-runs-refused : {s : Lowerer} {slice slice₁ : List ℕ} {r : Ran} {k : Refusal} (o : Outcome (Answer Lowerer)) → Runs s o slice slice₁ r → r .verdict ≡ verdict.Refused k → o ≡ Refuses k
-runs-refused (Gives a) h v = refused-accepted (sym v ∙ ap (λ (x : Ran). x .verdict) (h .answers))
-runs-refused (Refuses j) h v = let e : verdict.Refused j ≡ verdict.Refused _ = sym (ap (λ (x : Ran). x .verdict) (h .answers)) ∙ v in cc
-
--- ---- the three records
+given-same : {A : Type 0} {a b : A} → Gives a ≡ Gives b → a ≡ b
+given-same e = cc
 
 abbrev none : Refusal → Totals
 none k = record { verdict = verdict.Refused k; selves = 0; steps = 0; returns = 0; count = 0 }
@@ -100,46 +112,52 @@ given-all : (names : List ℕ) (self : Receiver) (steps returns : List Step) (a 
 unfolding runMethod
 given-all names self steps returns a b c p q r = rw (p, q, r)
 
-module _ (names : List ℕ) (self : Receiver) (steps returns : List Step) {own own₁ : List ℕ} {r₁ : Ran} (first : Runs (unused names) (lowerSelf names self) own own₁ r₁) where
+-- how many words a record gave
+counted : {o : Outcome (Answer Lowerer)} {list slice slice₁ : List ℕ} {r : Took} (g : Given o 0 list slice slice₁ r) → r .n ≡ length (g .it .given)
+counted g = g .count ∙ zero-add (length (g .it .given))
+
+module _ (names : List ℕ) (self : Receiver) (steps returns : List Step) (list : List ℕ) (full : length list ≡ 16) {own own₁ : List ℕ} {r₁ : Took}
+    (first : (l : List ℕ) → length l ≡ 16 → Lowers (lowerSelf names self) 0 l own own₁ r₁) where
   pub all-first : {k : Refusal} {given taken given₁ taken₁ : List ℕ} {t : Totals} → r₁ .verdict ≡ verdict.Refused k → t ≡ none k
       → RunsAll (runMethod names self steps returns) own given taken own₁ given₁ taken₁ t
   unfolding runMethod
-  all-first v h = all-refused (rw (runs-refused (lowerSelf names self) first v)) h
+  all-first {k} v h = all-refused (rw (first list full .refused k v)) h
 
-  module _ (v₁ : r₁ .verdict ≡ verdict.Accepted) {given given₁ : List ℕ} {r₂ : Ran} (second : Runs (r₁ .lowerer) (runSteps names false steps (r₁ .lowerer)) given given₁ r₂) where
-    one : GivenRun (lowerSelf names self) own own₁ r₁
-    one = runs-given (lowerSelf names self) first v₁
+  module _ (v₁ : r₁ .verdict ≡ verdict.Accepted) {list₁ given given₁ : List ℕ} {r₂ : Took}
+      (second : (s : Lowerer) → Shows s (r₁ .seen) (r₁ .kept) (r₁ .own) list → Lowers (runSteps names false steps s) 0 list₁ given given₁ r₂) where
+    one : Given (lowerSelf names self) 0 list own own₁ r₁
+    one = first list full .accepted v₁
 
-    second-here : Runs (one .it .left) (runSteps names false steps (one .it .left)) given given₁ r₂
-    second-here = subst (λ (l : Lowerer). Runs l (runSteps names false steps l) given given₁ r₂) (one .lowerer) second
+    second-here : Lowers (runSteps names false steps (one .it .left)) 0 list₁ given given₁ r₂
+    second-here = second (one .it .left) (one .shows)
 
     pub all-second : {k : Refusal} {taken taken₁ : List ℕ} {t : Totals} → r₂ .verdict ≡ verdict.Refused k → t ≡ none k
         → RunsAll (runMethod names self steps returns) own given taken own₁ given₁ taken₁ t
     unfolding runMethod
-    all-second v h = all-refused (rw (one .is, runs-refused (runSteps names false steps (one .it .left)) second-here v)) h
+    all-second {k} v h = all-refused (rw (one .is, second-here .refused k v)) h
 
-    module _ (v₂ : r₂ .verdict ≡ verdict.Accepted) {taken taken₁ : List ℕ} {r₃ : Ran} (third : Runs (r₂ .lowerer) (runSteps names true returns (r₂ .lowerer)) taken taken₁ r₃) where
-      two : GivenRun (runSteps names false steps (one .it .left)) given given₁ r₂
-      two = runs-given (runSteps names false steps (one .it .left)) second-here v₂
+    module _ (v₂ : r₂ .verdict ≡ verdict.Accepted) {list₂ taken taken₁ : List ℕ} {r₃ : Took}
+        (third : (s : Lowerer) → Shows s (r₂ .seen) (r₂ .kept) (r₂ .own) list₁ → Lowers (runSteps names true returns s) 0 list₂ taken taken₁ r₃) where
+      two : Given (runSteps names false steps (one .it .left)) 0 list₁ given given₁ r₂
+      two = second-here .accepted v₂
 
-      third-here : Runs (two .it .left) (runSteps names true returns (two .it .left)) taken taken₁ r₃
-      third-here = subst (λ (l : Lowerer). Runs l (runSteps names true returns l) taken taken₁ r₃) (two .lowerer) third
+      third-here : Lowers (runSteps names true returns (two .it .left)) 0 list₂ taken taken₁ r₃
+      third-here = third (two .it .left) (two .shows)
 
       pub all-third : {k : Refusal} {t : Totals} → r₃ .verdict ≡ verdict.Refused k → t ≡ none k → RunsAll (runMethod names self steps returns) own given taken own₁ given₁ taken₁ t
       unfolding runMethod
-      all-third v h = all-refused (rw (one .is, two .is, runs-refused (runSteps names true returns (two .it .left)) third-here v)) h
+      all-third {k} v h = all-refused (rw (one .is, two .is, third-here .refused k v)) h
 
       pub all-given : r₃ .verdict ≡ verdict.Accepted
           → RunsAll (runMethod names self steps returns) own given taken own₁ given₁ taken₁
-          (record { verdict = verdict.Accepted; selves = r₁ .n; steps = r₂ .n; returns = r₃ .n; count = r₃ .lowerer .seen .count })
-      unfolding runMethod
+          (record { verdict = verdict.Accepted; selves = r₁ .n; steps = r₂ .n; returns = r₃ .n; count = r₃ .seen .count })
       all-given v =
-          let three = runs-given (runSteps names true returns (two .it .left)) third-here v in
+          let three = third-here .accepted v in
           let whole : Method = record { self = one .it .given; steps = two .it .given; returns = three .it .given; count = three .it .left .seen .count } in
           let is : runMethod names self steps returns ≡ Gives whole = given-all names self steps returns (one .it) (two .it) (three .it) (one .is) (two .is) (three .is) in
           record {
-            answers = same (one .count) (two .count) (three .count) (ap (λ (l : Lowerer). l .seen .count) (three .lowerer)) ∙ sym (ap totals is);
-            self = λ m q. let e : whole ≡ m = given-same (sym is ∙ q) in rw (← e) (one .stored);
-            steps = λ m q. let e : whole ≡ m = given-same (sym is ∙ q) in rw (← e) (two .stored);
-            returns = λ m q. let e : whole ≡ m = given-same (sym is ∙ q) in rw (← e) (three .stored);
+            answers = same (counted one) (counted two) (counted three) (sym (ap (λ (x : Seen). x .count) (three .shows .saw))) ∙ sym (ap totals is);
+            self = λ m q. rw (← given-same (sym is ∙ q)) (one .stored);
+            steps = λ m q. rw (← given-same (sym is ∙ q)) (two .stored);
+            returns = λ m q. rw (← given-same (sym is ∙ q)) (three .stored);
           }

@@ -65,8 +65,10 @@ module _ (words : List ℕ) (at : ℕ) where
     unfolding readStep
     lifetime-there k m =
         let e : drop (suc at + 1) words ≡ drop (suc (suc at)) words = rw (add-one (suc at)) in
+        let back : suc at + 1 - 1 ≡ suc at = omega arith in
+        let word : drop (suc at + 1 - 1) words ≡ getD words (suc at) 0 ∷ drop (suc (suc at)) words = rw back (drop-cons words (suc at) 0 (omega arith)) in
         rw (drop-cons words at 0 h, eq-eqb (getD words at 0) 0 k, drop-cons words (suc at) 0 (omega arith), add-one at)
-        (inner.lifetime {to = suc at + 1} {rest = drop (suc (suc at)) words} e (omega arith) (omega arith))
+        (inner.lifetime {to = suc at + 1} {rest = drop (suc (suc at)) words} word e (omega arith) (omega arith))
 
     module _ (k : getD words at 0 ≡ 1) where
       pub generics-short : length words ≤ at + 1 → Stands standing.Missing
@@ -116,7 +118,7 @@ module _ (words : List ℕ) (at : ℕ) where
 -- ---- where it ends
 
 lifetime-end : {words : List ℕ} {at : ℕ} {reading : Reading Step} {word to : ℕ} → StandsAt words at reading (standing.Lifetime word to) → EndsAt words at reading (end.At to)
-lifetime-end (inner.lifetime d b e) = ends d b e
+lifetime-end (inner.lifetime w d b e) = ends d b e
 
 generics-end : {words : List ℕ} {at : ℕ} {reading : Reading Step} {g from to : ℕ} → StandsAt words at reading (standing.Generics g from to) → EndsAt words at reading (end.At to)
 generics-end (inner.generics l d b m e) = ends d b e

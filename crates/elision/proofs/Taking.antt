@@ -23,7 +23,7 @@ use Rattle.elision.specs.Inner as inner
 module _ (names : List ℕ) (out : Bool) (s : Lowerer) {d : Stepped} where
   lifetime-takes : {words : List ℕ} {at : ℕ} {reading : Reading Step} {word to : ℕ} → StandsAt words at reading (standing.Lifetime word to)
       → d ≡ stepped s (oneStep names out (Lifetime word) s) → d ≡ takes names out s reading
-  lifetime-takes (inner.lifetime x b e) h = h
+  lifetime-takes (inner.lifetime w x b e) h = h
 
   generics-takes : {words : List ℕ} {at : ℕ} {reading : Reading Step} {g from to : ℕ} → StandsAt words at reading (standing.Generics g from to)
       → d ≡ stepped s (oneStep names out (Generics g (take (to - from) (drop from words))) s) → d ≡ takes names out s reading
@@ -68,19 +68,15 @@ module _ {words : List ℕ} {at : ℕ} {reading : Reading Step} {r : StepAt} (s 
 
 -- ---- what is read fits
 
-first : (a b : Bool) → (a && b) ≡ true → a ≡ true
-first true b e = refl
-first false b e = e
+pub both : (a b : Bool) → (a && b) ≡ true → (a ≡ true) × (b ≡ true)
+both true b e = (refl, e)
+both false b e = passed e
 
 lifetimes-fit : (words : List ℕ) → Holds (λ ls rest. leb (length ls) 16 ≡ true) (readLifetimes words)
 lifetimes-fit [] = fails
 lifetimes-fit (n ∷ words) =
     holds-cond (λ ls rest. leb (length ls) 16 ≡ true) (leb n 16 && leb n (length words))
-    (λ e. read (rw (length-take-le n words (few (leb n 16) e)) (first (leb n 16) (leb n (length words)) e))) fails
-  where
-    few : (b : Bool) → (b && leb n (length words)) ≡ true → n ≤ length words
-    few true e = leb-true n (length words) e
-    few false e = passed e
+    (λ e. let p = both (leb n 16) (leb n (length words)) e in read (rw (length-take-le n words (leb-true n (length words) (p .1))) (p .0))) fails
 
 word-fits : (words : List ℕ) → Holds (λ (l : ℕ) rest. Unit {0}) (readWord words)
 word-fits [] = fails

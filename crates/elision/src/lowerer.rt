@@ -57,10 +57,10 @@ pub struct Stepped {
 }
 
 // One lifetime lowered; refused, a static one and what was seen before.
-struct Worded {
-    verdict: Verdict,
-    lifetime: MaybeStatic,
-    seen: Seen,
+pub(crate) struct Worded {
+    pub(crate) verdict: Verdict,
+    pub(crate) lifetime: MaybeStatic,
+    pub(crate) seen: Seen,
 }
 
 // Some lifetimes lowered; refused, none and what was seen before.
@@ -250,7 +250,7 @@ fn first_of(own: Lifetimes) -> Lifetimes
 }
 
 // At most as many as a list of lifetimes holds.
-pub(crate) fn at_most_16(n: usize) -> usize
+fn at_most_16(n: usize) -> usize
     ensures { λ r. ⌜ r ≡ atMost16 n ⌝ }
 {
     if n < End::MAX_LIFETIMES {
@@ -260,7 +260,7 @@ pub(crate) fn at_most_16(n: usize) -> usize
 }
 
 // How the lifetimes of kinds 0 and 1 stand.
-fn standing_in(output: bool) -> Standing
+pub(crate) fn standing_in(output: bool) -> Standing
     ensures { λ r. ⌜ r ≡ standingIn output ⌝ }
 {
     if output {
@@ -311,7 +311,7 @@ fn lower_words(
 }
 
 // The larger of two numbers.
-fn larger(a: usize, b: usize) -> usize
+pub(crate) fn larger(a: usize, b: usize) -> usize
     ensures { λ r. ⌜ r ≡ a + (b - a) ⌝ }
 {
     if a < b {
@@ -321,7 +321,7 @@ fn larger(a: usize, b: usize) -> usize
 }
 
 // A word, or an anonymous lifetime past the words.
-fn word_or_anonymous(words: &[usize], i: usize) -> usize
+pub(crate) fn word_or_anonymous(words: &[usize], i: usize) -> usize
     ensures { λ r. ⌜ r ≡ getD (now (words .entry)) i 1 ⌝ }
 {
     if i < words.len() {
@@ -331,7 +331,7 @@ fn word_or_anonymous(words: &[usize], i: usize) -> usize
 }
 
 // Lower one word. Refused by 3 for a name that is not declared, and as an anonymous lifetime is.
-fn lower_word(names: &[usize], standing: Standing, word: usize, seen: Seen) -> Worded
+pub(crate) fn lower_word(names: &[usize], standing: Standing, word: usize, seen: Seen) -> Worded
     ensures { λ r. ⌜ r ≡ worded seen (lowerWord (now (names .entry)) standing word seen) ⌝ }
 {
     if word == 1 {

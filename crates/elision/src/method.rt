@@ -1,26 +1,31 @@
 // The whole records `self`, `steps` and `returns`: their lowered words to lent slices, and the method's environment.
 ghost use mathlib.Core.Path.{_≡_};
 ghost use mathlib.Core.Bool.{true};
-ghost use mathlib.Core.List.{[], map};
-ghost use Prim.Native.Nat.{_+_, _≤_};
-ghost use lib.ListN.{length, drop, set};
+ghost use mathlib.Core.List.{List, []};
+ghost use Prim.Native.Nat.{ℕ, _≤_};
+ghost use lib.ListN.{length, take, drop, set};
 ghost use lib.Seq.{sets};
 ghost use Rattle.lifetimes.specs.Lent.{written};
 ghost use Rattle.lifetimes.specs.Env.{envOf, made};
 ghost use Rattle.records.specs.Reading.{shapeVerdict};
-ghost use Rattle.elision.specs.Steps.{readStep, receiverOf, selfInShape, stepsInShape, stepsOf};
-ghost use Rattle.elision.specs.Machine.{unused, lowerSelf, runSteps, runMethod, valuesIn};
+ghost use Rattle.elision.specs.Steps.{readStep, receiverOf, stepsInShape, stepsOf};
+ghost use Rattle.elision.specs.Rfc.{padded, standingIn};
+ghost use Rattle.elision.specs.Machine.{lowerWords, lowerSelf, wordsStep, selfStep, runSteps, runMethod};
 ghost use Rattle.elision.specs.Lowering.{inShapeAll, finishEnv, measureRecords, lowerRecords, answered, ownWords, stepWords, returnWords};
-ghost use Rattle.elision.specs.Inner.{shown, takes, totals, Runs, RunsAll};
-use super::lowerer::Lifetimes;
+ghost use Rattle.elision.specs.Inner.{shown, takes, totals, Shows, Lowers, Puts, PutsOne, PutsStep, RunsAll};
 use super::lowerer::Lowerer;
+use super::lowerer::Seen;
+use super::lowerer::Standing;
 use super::lowerer::Stepped;
-use super::lowerer::at_most_16;
+use super::lowerer::larger;
+use super::lowerer::lower_word;
 use super::lowerer::refused;
+use super::lowerer::standing_in;
+use super::lowerer::word_or_anonymous;
+use super::source::ElisionSource;
 use super::steps::StepAt;
 use super::steps::read_step;
 use super::steps::self_shape;
-use super::steps::step_end;
 use super::steps::steps_shape;
 use lifetimes::Bound;
 use lifetimes::LoweredWord;
@@ -38,11 +43,22 @@ pub struct Lowering {
     pub env: lifetimes::LifetimeEnv,
 }
 
-// A record lowered: the next lowerer, and how many words it gave; refused, none and the lowerer as it was.
-struct Ran {
+// Some words lowered and stored: what is seen then, and the place behind them; refused, what was seen before and the place before.
+struct Put {
     verdict: Verdict,
-    lowerer: Lowerer,
+    seen: Seen,
+    at: usize,
+}
+
+// Steps lowered and stored: what is seen then, whether the `Self` type was there and how many lifetimes it has, the place behind their words in the slice, and the place
+// behind them in their record. Refused, only the verdict says something.
+struct Took {
+    verdict: Verdict,
+    seen: Seen,
+    kept: bool,
+    own: usize,
     n: usize,
+    to: usize,
 }
 
 // Three records lowered: how many words each gave, and how many lifetimes there are; refused, none.
@@ -222,26 +238,44 @@ fn run(
     requires { ⌜ (stepsInShape (now steps) ≡ true) × (stepsInShape (now returns) ≡ true) ⌝ }
     ensures { λ r. ⌜ RunsAll (runMethod (now (names .entry)) (receiverOf (now (receiver .entry))) (stepsOf (now (steps .entry))) (stepsOf (now (returns .entry)))) (now (own .entry)) (now (given .entry)) (now (taken .entry)) (now (own .exit)) (now (given .exit)) (now (taken .exit)) r ⌝ }
 {
-    let first = lower_receiver(names, receiver, own);
+    let first = put_receiver(names, receiver, own);
     let one = first.verdict;
     if let Verdict::Refused(refusal) = one {
         return refused_totals(refusal);
     }
-    let fresh = first.lowerer;
-    let second = lower_record(fresh, names, steps, false, given);
+    let mut list = [0usize; End::MAX_LIFETIMES];
+    let fresh = first.seen;
+    let second = put_record(
+        names,
+        steps,
+        false,
+        fresh,
+        first.kept,
+        first.own,
+        &mut list,
+        given,
+    );
     let two = second.verdict;
     if let Verdict::Refused(refusal) = two {
         return refused_totals(refusal);
     }
-    let middle = second.lowerer;
-    let third = lower_record(middle, names, returns, true, taken);
+    let middle = second.seen;
+    let third = put_record(
+        names,
+        returns,
+        true,
+        middle,
+        second.kept,
+        second.own,
+        &mut list,
+        taken,
+    );
     let three = third.verdict;
     if let Verdict::Refused(refusal) = three {
         return refused_totals(refusal);
     }
-    let last = third.lowerer;
-    let seen = last.seen;
-    let count = seen.count;
+    let last = third.seen;
+    let count = last.count;
     Totals {
         verdict: Verdict::Accepted,
         selves: first.n,
@@ -302,80 +336,292 @@ fn shape_of(receiver: &[usize], steps: &[usize], returns: &[usize]) -> Verdict
     steps_shape(returns)
 }
 
-// Lower the record `self`.
-fn lower_receiver(names: &[usize], receiver: &[usize], out: &mut [usize]) -> Ran
-    ensures { λ r. ⌜ Runs (unused (now (names .entry))) (lowerSelf (now (names .entry)) (receiverOf (now (receiver .entry)))) (now (out .entry)) (now (out .exit)) r ⌝ }
+// Lower the record `self`, and store its word. What it leaves is shown with any list, since no `Self` type was there.
+fn put_receiver(names: &[usize], receiver: &[usize], out: &mut [usize]) -> Took
+    ensures { λ r. ⌜ r .own ≤ 16 ⌝ }
+    ensures { λ r. ⌜ ((list : List ℕ) → length list ≡ 16 → Lowers (lowerSelf (now (names .entry)) (receiverOf (now (receiver .entry)))) 0 list (now (out .entry)) (now (out .exit)) r) ⌝ }
 {
+    let fresh = Seen {
+        source: ElisionSource::NoBorrows,
+        count: names.len(),
+    };
     if receiver.len() == 0 {
-        return Ran {
+        return Took {
             verdict: Verdict::Accepted,
-            lowerer: Lowerer::no_self_ref(names),
+            seen: fresh,
+            kept: false,
+            own: 0,
             n: 0,
+            to: 0,
         };
     }
-    let done = Lowerer::lower_self_ref(names, receiver[0]);
-    finish_step(done, 0, out)
-}
-
-// Store what a step answers.
-fn finish_step(done: Stepped, at: usize, out: &mut [usize]) -> Ran
-    requires { ⌜ at ≤ 65536 ⌝ }
-    ensures { λ r. ⌜ r ≡ record { verdict = done .verdict; lowerer = done .lowerer; n = at + length (valuesIn (done .lifetimes)) } ⌝ }
-    ensures { λ r. ⌜ r .n ≤ at + 16 ⌝ }
-    ensures { λ _. ⌜ now (out .exit) ≡ sets (now (out .entry)) at (map shown (valuesIn (done .lifetimes))) ⌝ }
-{
+    let done = lower_word(names, Standing::Aside, receiver[0], fresh);
     let verdict = done.verdict;
-    let lowerer = done.lowerer;
-    let lifetimes = done.lifetimes;
-    let n = store_all(lifetimes, at, out);
-    Ran {
-        verdict,
-        lowerer,
-        n,
+    if let Verdict::Refused(refusal) = verdict {
+        return Took {
+            verdict: Verdict::Refused(refusal),
+            seen: fresh,
+            kept: false,
+            own: 0,
+            n: 0,
+            to: 0,
+        };
+    }
+    let lifetime = done.lifetime;
+    let after = done.seen;
+    let count = after.count;
+    store(out, 0, word_of(lifetime));
+    Took {
+        verdict: Verdict::Accepted,
+        seen: Seen {
+            source: ElisionSource::SelfParam(lifetime),
+            count,
+        },
+        kept: false,
+        own: 0,
+        n: 1,
+        to: 0,
     }
 }
 
-// Lower a record `steps` or `returns` in shape.
-fn lower_record(
-    lowerer: Lowerer,
+// Lower a record `steps` or `returns` in shape, and store its words from the front. The lowerer is passed as what is seen, whether the `Self` type was there, and how many
+// lifetimes it has; their words stand in the list.
+fn put_record(
     names: &[usize],
     words: &[usize],
     output: bool,
+    before: Seen,
+    was: bool,
+    had: usize,
+    list: &mut [usize; End::MAX_LIFETIMES],
     out: &mut [usize],
-) -> Ran
-    requires { ⌜ stepsInShape (now words) ≡ true ⌝ }
-    ensures { λ r. ⌜ Runs lowerer (runSteps (now (names .entry)) output (stepsOf (now (words .entry))) lowerer) (now (out .entry)) (now (out .exit)) r ⌝ }
+) -> Took
+    requires { ⌜ (stepsInShape (now words) ≡ true) × (had ≤ 16) ⌝ }
+    ensures { λ r. ⌜ r .own ≤ 16 ⌝ }
+    ensures { λ r. ⌜ ((s : Lowerer) → Shows s before was had (now (list .entry)) → Lowers (runSteps (now (names .entry)) output (stepsOf (now (words .entry))) s) 0 (now (list .exit)) (now (out .entry)) (now (out .exit)) r) ⌝ }
 {
-    let mut here = lowerer;
+    let mut seen = before;
+    let mut kept = was;
+    let mut own = had;
     let mut n = 0;
     let mut at = 0;
     while at < words.len() {
-        let end = step_end(words, at);
-        let End::At(next) = end else {
-            return Ran {
-                verdict: Verdict::Refused(Refusal::Malformed),
-                lowerer,
-                n: 0,
-            };
+        let took = put_step(names, words, at, output, seen, kept, own, n, list, out);
+        let verdict = took.verdict;
+        if let Verdict::Refused(_) = verdict {
+            return took;
+        }
+        seen = took.seen;
+        kept = took.kept;
+        own = took.own;
+        n = took.n;
+        at = took.to;
+    }
+    Took {
+        verdict: Verdict::Accepted,
+        seen,
+        kept,
+        own,
+        n,
+        to: at,
+    }
+}
+
+// Lower the step that stands at a place, and store its words.
+fn put_step(
+    names: &[usize],
+    words: &[usize],
+    at: usize,
+    output: bool,
+    seen: Seen,
+    kept: bool,
+    own: usize,
+    n: usize,
+    list: &mut [usize; End::MAX_LIFETIMES],
+    out: &mut [usize],
+) -> Took
+    requires { ⌜ (own ≤ 16) × (n ≤ 65536) ⌝ }
+    ensures { λ r. ⌜ PutsStep (now (names .entry)) (now (words .entry)) output at seen kept own n (now (list .entry)) (now (list .exit)) (now (out .entry)) (now (out .exit)) r ⌝ }
+{
+    let step = read_step(words, at);
+    match step {
+        StepAt::Lifetime { word: _, to } => {
+            let from = to - 1;
+            put_given(
+                names,
+                &words[from..to],
+                0,
+                output,
+                seen,
+                kept,
+                own,
+                n,
+                to,
+                out,
+            )
+        }
+        StepAt::Generics { generics, from, to } => put_given(
+            names,
+            &words[from..to],
+            generics,
+            output,
+            seen,
+            kept,
+            own,
+            n,
+            to,
+            out,
+        ),
+        StepAt::SelfType { from, to } => put_self(
+            names,
+            &words[from..to],
+            seen,
+            kept,
+            own,
+            n,
+            to,
+            list,
+            out,
+        ),
+        StepAt::Missing => Took {
+            verdict: Verdict::Refused(Refusal::Malformed),
+            seen,
+            kept,
+            own,
+            n,
+            to: at,
+        },
+    }
+}
+
+// Lower the words of a step of kind 0 or 1, and store them.
+fn put_given(
+    names: &[usize],
+    words: &[usize],
+    generics: usize,
+    output: bool,
+    seen: Seen,
+    kept: bool,
+    own: usize,
+    n: usize,
+    to: usize,
+    out: &mut [usize],
+) -> Took
+    requires { ⌜ (length (now words) ≤ 16) × (generics ≤ 16) × (own ≤ 16) × (n ≤ 65536) ⌝ }
+    ensures { λ r. ⌜ ((list : List ℕ) → PutsOne (wordsStep (now (names .entry)) (standingIn output) (padded generics (now (words .entry)))) seen kept own n to list list (now (out .entry)) (now (out .exit)) r) ⌝ }
+{
+    let put = put_words(names, standing_in(output), words, generics, seen, n, out);
+    let verdict = put.verdict;
+    let after = put.seen;
+    Took {
+        verdict,
+        seen: after,
+        kept,
+        own,
+        n: put.at,
+        to,
+    }
+}
+
+// The `Self` type (kind 2): at its first use its words are lowered into the list, and always those in the list are stored.
+fn put_self(
+    names: &[usize],
+    words: &[usize],
+    seen: Seen,
+    kept: bool,
+    own: usize,
+    n: usize,
+    to: usize,
+    list: &mut [usize; End::MAX_LIFETIMES],
+    out: &mut [usize],
+) -> Took
+    requires { ⌜ (length (now words) ≤ 16) × (own ≤ 16) × (n ≤ 65536) ⌝ }
+    ensures { λ r. ⌜ PutsOne (selfStep (now (names .entry)) (now (words .entry))) seen kept own n to (now (list .entry)) (now (list .exit)) (now (out .entry)) (now (out .exit)) r ⌝ }
+{
+    if kept {
+        put_list(list, own, n, out);
+        return Took {
+            verdict: Verdict::Accepted,
+            seen,
+            kept,
+            own,
+            n: n + own,
+            to,
         };
-        let done = lower_step_at(here, names, words, at, output);
-        let ran = finish_step(done, n, out);
-        let verdict = ran.verdict;
+    }
+    let put = put_words(names, Standing::Aside, words, 0, seen, 0, list);
+    let verdict = put.verdict;
+    if let Verdict::Refused(refusal) = verdict {
+        return Took {
+            verdict: Verdict::Refused(refusal),
+            seen,
+            kept,
+            own,
+            n,
+            to,
+        };
+    }
+    let after = put.seen;
+    let count = put.at;
+    put_list(list, count, n, out);
+    Took {
+        verdict: Verdict::Accepted,
+        seen: after,
+        kept: true,
+        own: count,
+        n: n + count,
+        to,
+    }
+}
+
+// Store the first words of a list from a place on, as far as the slice takes them.
+fn put_list(list: &[usize; End::MAX_LIFETIMES], count: usize, at: usize, out: &mut [usize])
+    requires { ⌜ (count ≤ 16) × (at ≤ 65536) ⌝ }
+    ensures { λ _. ⌜ (length (now (list .entry)) ≡ 16 → now (out .exit) ≡ sets (now (out .entry)) at (take count (now (list .entry)))) ⌝ }
+{
+    let mut i = 0;
+    while i < count {
+        store(out, at + i, list[i]);
+        i += 1;
+    }
+}
+
+// Lower some words, then anonymous ones until there are as many as generics, and store each from a place on, as far as the slice takes them.
+fn put_words(
+    names: &[usize],
+    standing: Standing,
+    words: &[usize],
+    generics: usize,
+    seen: Seen,
+    at: usize,
+    out: &mut [usize],
+) -> Put
+    requires { ⌜ (length (now words) ≤ 16) × (generics ≤ 16) × (at ≤ 65536) ⌝ }
+    ensures { λ r. ⌜ Puts seen (lowerWords (now (names .entry)) standing (padded generics (now (words .entry))) seen) at (now (out .entry)) (now (out .exit)) r ⌝ }
+{
+    let total = larger(words.len(), generics);
+    let mut here = seen;
+    let mut i = 0;
+    while i < total {
+        let word = word_or_anonymous(words, i);
+        let done = lower_word(names, standing, word, here);
+        let verdict = done.verdict;
         if let Verdict::Refused(refusal) = verdict {
-            return Ran {
+            return Put {
                 verdict: Verdict::Refused(refusal),
-                lowerer,
-                n: 0,
+                seen,
+                at,
             };
         }
-        here = ran.lowerer;
-        n = ran.n;
-        at = next;
+        let lifetime = done.lifetime;
+        here = done.seen;
+        store(out, at + i, word_of(lifetime));
+        i += 1;
     }
-    Ran {
+    Put {
         verdict: Verdict::Accepted,
-        lowerer: here,
-        n,
+        seen: here,
+        at: at + total,
     }
 }
 
@@ -401,26 +647,6 @@ pub(crate) fn lower_step_at(
         StepAt::SelfType { from, to } => lowerer.is_self(names, &words[from..to], output),
         StepAt::Missing => refused(lowerer, Refusal::Malformed),
     }
-}
-
-// Store the words of some lifetimes from a place on, as far as the slice takes them; the answer is the place behind them.
-fn store_all(lifetimes: Lifetimes, at: usize, out: &mut [usize]) -> usize
-    requires { ⌜ at ≤ 65536 ⌝ }
-    ensures { λ r. ⌜ r ≡ at + length (valuesIn lifetimes) ⌝ }
-    ensures { λ r. ⌜ r ≤ at + 16 ⌝ }
-    ensures { λ _. ⌜ now (out .exit) ≡ sets (now (out .entry)) at (map shown (valuesIn lifetimes)) ⌝ }
-{
-    let n = at_most_16(lifetimes.n);
-    let mut i = 0;
-    let mut place = at;
-    while i < n {
-        let lowered = lifetimes.list[i];
-        let lifetime = lowered.lifetime;
-        store(out, place, word_of(lifetime));
-        place += 1;
-        i += 1;
-    }
-    place
 }
 
 // Store a word, if the slice takes it.

@@ -1,126 +1,105 @@
 -- `run` meets its contract: each way out is one law of proofs/MethodLaws.antt.
-use Rattle.elision.specs.Steps.{receiverOf}
-use Rattle.elision.specs.Steps.{stepsOf}
+use mathlib.Core.Path.{refl}
+use lib.ListN.{replicate}
+use Rattle.elision.specs.Steps.{receiverOf, stepsOf}
 use Rattle.elision.proofs.MethodLaws.{all-first, all-second, all-third, all-given}
 use borrow.Author.Needs.{needs}
 use Rattle.elision.proofs.method.run.Statement.{statement}
 use Rattle.elision.proofs.method.run.Tie as tie
 
--- src/method.rt:143:9
-lower-receiver-requires : tie.Need-lower-receiver-requires
-lower-receiver-requires c κs = search needs
+put-receiver-requires : tie.Need-put-receiver-requires
+put-receiver-requires c κs = search needs
 
--- src/method.rt:145:29
 enum-known-one : tie.Need-enum-known-one
 enum-known-one c = search needs
 
--- src/method.rt:146:9
 refused-totals-requires : tie.Need-refused-totals-requires
 refused-totals-requires c κs = search needs
 
--- src/method.rt:146:9
 same-length : tie.Need-same-length
 same-length c = search needs
 
--- src/method.rt:146:9
 returns : tie.Need-returns
-returns c = all-first (c .before .before .before .before .before .before .before .before .before .before .before .before .before .before .before .args .names .now) (receiverOf (c .before .before .before .before .before .before .before .before .before .before .before .before .before .before .before .args .receiver .now)) (stepsOf (c .before .before .before .before .before .before .before .before .before .before .before .before .before .before .before .args .steps .now)) (stepsOf (c .before .before .before .before .before .before .before .before .before .before .before .before .before .before .before .args .returns .now)) (c .before .before .before .before .before .before .lower-receiver .ensures) (c .before .before .one .given .1) (c .refused-totals .ensures)
+returns c = all-first (c .before .before .before .before .before .before .before .before .before .before .before .before .before .before .before .args .names .now) (receiverOf (c .before .before .before .before .before .before .before .before .before .before .before .before .before .before .before .args .receiver .now)) (stepsOf (c .before .before .before .before .before .before .before .before .before .before .before .before .before .before .before .args .steps .now)) (stepsOf (c .before .before .before .before .before .before .before .before .before .before .before .before .before .before .before .args .returns .now)) (replicate 16 0) refl (c .before .before .before .before .before .before .put-receiver .ensures .1) (c .before .before .one .given .1) (c .refused-totals .ensures)
 
 enum-told : tie.Need-enum-told
 enum-told c = search needs
 
--- src/method.rt:149:9
-lower-record-requires : tie.Need-lower-record-requires
-lower-record-requires c κs = search needs
+put-record-requires : tie.Need-put-record-requires
+put-record-requires c κs = (c .before .before .before .before .before .before .before .before .before .before .before .before .before .before .before .before .pre .0, c .before .before .before .before .before .before .before .put-receiver .ensures .0)
 
--- src/method.rt:151:29
 enum-known-two : tie.Need-enum-known-two
 enum-known-two c = search needs
 
--- src/method.rt:152:9
 refused-totals-requires-2 : tie.Need-refused-totals-requires-2
 refused-totals-requires-2 c κs = search needs
 
--- src/method.rt:152:9
 same-length-2 : tie.Need-same-length-2
 same-length-2 c = search needs
 
--- src/method.rt:152:9
 same-length-3 : tie.Need-same-length-3
 same-length-3 c = search needs
 
--- src/method.rt:152:9
 returns-2 : tie.Need-returns-2
-returns-2 c = all-second (c .before .before .before .before .before .before .before .before .before .before .before .before .before .before .before .before .before .before .before .before .before .before .args .names .now) (receiverOf (c .before .before .before .before .before .before .before .before .before .before .before .before .before .before .before .before .before .before .before .before .before .before .args .receiver .now)) (stepsOf (c .before .before .before .before .before .before .before .before .before .before .before .before .before .before .before .before .before .before .before .before .before .before .args .steps .now)) (stepsOf (c .before .before .before .before .before .before .before .before .before .before .before .before .before .before .before .before .before .before .before .before .before .before .args .returns .now)) (c .before .before .before .before .before .before .before .before .before .before .before .before .before .lower-receiver .ensures) (c .before .before .before .before .before .before .before .before .before .enum-told .given .1) (c .before .before .before .before .before .before .lower-record .ensures) (c .before .before .two .given .1) (c .refused-totals2 .ensures)
+returns-2 c = all-second (c .before .before .before .before .before .before .before .before .before .before .before .before .before .before .before .before .before .before .before .before .before .before .before .args .names .now) (receiverOf (c .before .before .before .before .before .before .before .before .before .before .before .before .before .before .before .before .before .before .before .before .before .before .before .args .receiver .now)) (stepsOf (c .before .before .before .before .before .before .before .before .before .before .before .before .before .before .before .before .before .before .before .before .before .before .before .args .steps .now)) (stepsOf (c .before .before .before .before .before .before .before .before .before .before .before .before .before .before .before .before .before .before .before .before .before .before .before .args .returns .now)) (replicate 16 0) refl (c .before .before .before .before .before .before .before .before .before .before .before .before .before .before .put-receiver .ensures .1) (c .before .before .before .before .before .before .before .before .before .before .enum-told .given .1) (c .before .before .before .before .before .before .put-record .ensures .1) (c .before .before .two .given .1) (c .refused-totals2 .ensures)
 
 enum-told-2 : tie.Need-enum-told-2
 enum-told-2 c = search needs
 
--- src/method.rt:155:9
-lower-record-requires-2 : tie.Need-lower-record-requires-2
-lower-record-requires-2 c κs = c .before .before .before .before .before .before .before .before .before .before .before .before .before .before .before .before .before .before .before .before .before .before .pre .1
+put-record-requires-2 : tie.Need-put-record-requires-2
+put-record-requires-2 c κs = (c .before .before .before .before .before .before .before .before .before .before .before .before .before .before .before .before .before .before .before .before .before .before .before .before .pre .1, c .before .before .before .before .before .before .before .put-record .ensures .0)
 
--- src/method.rt:157:29
 enum-known-three : tie.Need-enum-known-three
 enum-known-three c = search needs
 
--- src/method.rt:158:9
 refused-totals-requires-3 : tie.Need-refused-totals-requires-3
 refused-totals-requires-3 c κs = search needs
 
--- src/method.rt:158:9
 same-length-4 : tie.Need-same-length-4
-same-length-4 c = c .before .before .before .before .before .before .before .before .before .before .before .before .before .before .before .before .before .before .before .own .given
+same-length-4 c = c .before .before .before .before .before .before .before .before .before .before .before .before .before .before .before .before .before .before .before .before .before .own .given
 
--- src/method.rt:158:9
 same-length-5 : tie.Need-same-length-5
 same-length-5 c = search needs
 
--- src/method.rt:158:9
 same-length-6 : tie.Need-same-length-6
 same-length-6 c = search needs
 
--- src/method.rt:158:9
 returns-3 : tie.Need-returns-3
-returns-3 c = all-third (c .before .before .before .before .before .before .before .before .before .before .before .before .before .before .before .before .before .before .before .before .before .before .before .before .before .before .before .before .before .args .names .now) (receiverOf (c .before .before .before .before .before .before .before .before .before .before .before .before .before .before .before .before .before .before .before .before .before .before .before .before .before .before .before .before .before .args .receiver .now)) (stepsOf (c .before .before .before .before .before .before .before .before .before .before .before .before .before .before .before .before .before .before .before .before .before .before .before .before .before .before .before .before .before .args .steps .now)) (stepsOf (c .before .before .before .before .before .before .before .before .before .before .before .before .before .before .before .before .before .before .before .before .before .before .before .before .before .before .before .before .before .args .returns .now)) (c .before .before .before .before .before .before .before .before .before .before .before .before .before .before .before .before .before .before .before .before .lower-receiver .ensures) (c .before .before .before .before .before .before .before .before .before .before .before .before .before .before .before .before .enum-told .given .1) (c .before .before .before .before .before .before .before .before .before .before .before .before .before .lower-record .ensures) (c .before .before .before .before .before .before .before .before .before .enum-told2 .given .1) (c .before .before .before .before .before .before .lower-record2 .ensures) (c .before .before .three .given .1) (c .refused-totals3 .ensures)
+returns-3 c = all-third (c .before .before .before .before .before .before .before .before .before .before .before .before .before .before .before .before .before .before .before .before .before .before .before .before .before .before .before .before .before .before .before .args .names .now) (receiverOf (c .before .before .before .before .before .before .before .before .before .before .before .before .before .before .before .before .before .before .before .before .before .before .before .before .before .before .before .before .before .before .before .args .receiver .now)) (stepsOf (c .before .before .before .before .before .before .before .before .before .before .before .before .before .before .before .before .before .before .before .before .before .before .before .before .before .before .before .before .before .before .before .args .steps .now)) (stepsOf (c .before .before .before .before .before .before .before .before .before .before .before .before .before .before .before .before .before .before .before .before .before .before .before .before .before .before .before .before .before .before .before .args .returns .now)) (replicate 16 0) refl (c .before .before .before .before .before .before .before .before .before .before .before .before .before .before .before .before .before .before .before .before .before .before .put-receiver .ensures .1) (c .before .before .before .before .before .before .before .before .before .before .before .before .before .before .before .before .before .before .enum-told .given .1) (c .before .before .before .before .before .before .before .before .before .before .before .before .before .before .put-record .ensures .1) (c .before .before .before .before .before .before .before .before .before .before .enum-told2 .given .1) (c .before .before .before .before .before .before .put-record2 .ensures .1) (c .before .before .three .given .1) (c .refused-totals3 .ensures)
 
 enum-told-3 : tie.Need-enum-told-3
 enum-told-3 c = search needs
 
--- src/method.rt:131:1
 same-length-7 : tie.Need-same-length-7
-same-length-7 c = search needs
+same-length-7 c = c .before .before .before .before .before .before .before .before .before .before .before .before .before .before .before .before .before .before .before .before .own .given
 
--- src/method.rt:131:1
 same-length-8 : tie.Need-same-length-8
 same-length-8 c = search needs
 
--- src/method.rt:131:1
 same-length-9 : tie.Need-same-length-9
 same-length-9 c = search needs
 
--- src/method.rt:131:1
 returns-4 : tie.Need-returns-4
-returns-4 c = all-given (c .before .before .before .before .before .before .before .before .before .before .before .before .before .before .before .before .before .before .before .before .before .before .before .before .before .before .before .before .before .args .names .now) (receiverOf (c .before .before .before .before .before .before .before .before .before .before .before .before .before .before .before .before .before .before .before .before .before .before .before .before .before .before .before .before .before .args .receiver .now)) (stepsOf (c .before .before .before .before .before .before .before .before .before .before .before .before .before .before .before .before .before .before .before .before .before .before .before .before .before .before .before .before .before .args .steps .now)) (stepsOf (c .before .before .before .before .before .before .before .before .before .before .before .before .before .before .before .before .before .before .before .before .before .before .before .before .before .before .before .before .before .args .returns .now)) (c .before .before .before .before .before .before .before .before .before .before .before .before .before .before .before .before .before .before .before .before .lower-receiver .ensures) (c .before .before .before .before .before .before .before .before .before .before .before .before .before .before .before .before .enum-told .given .1) (c .before .before .before .before .before .before .before .before .before .before .before .before .before .lower-record .ensures) (c .before .before .before .before .before .before .before .before .before .enum-told2 .given .1) (c .before .before .before .before .before .before .lower-record2 .ensures) (c .before .before .enum-told3 .given .1)
+returns-4 c = all-given (c .before .before .before .before .before .before .before .before .before .before .before .before .before .before .before .before .before .before .before .before .before .before .before .before .before .before .before .before .before .before .args .names .now) (receiverOf (c .before .before .before .before .before .before .before .before .before .before .before .before .before .before .before .before .before .before .before .before .before .before .before .before .before .before .before .before .before .before .args .receiver .now)) (stepsOf (c .before .before .before .before .before .before .before .before .before .before .before .before .before .before .before .before .before .before .before .before .before .before .before .before .before .before .before .before .before .before .args .steps .now)) (stepsOf (c .before .before .before .before .before .before .before .before .before .before .before .before .before .before .before .before .before .before .before .before .before .before .before .before .before .before .before .before .before .before .args .returns .now)) (replicate 16 0) refl (c .before .before .before .before .before .before .before .before .before .before .before .before .before .before .before .before .before .before .before .before .before .put-receiver .ensures .1) (c .before .before .before .before .before .before .before .before .before .before .before .before .before .before .before .before .before .enum-told .given .1) (c .before .before .before .before .before .before .before .before .before .before .before .before .before .put-record .ensures .1) (c .before .before .before .before .before .before .before .before .before .enum-told2 .given .1) (c .before .before .before .before .before .put-record2 .ensures .1) (c .before .enum-told3 .given .1)
 
 pub run-spec : {M : Type 1} → statement M
 run-spec =
     tie.close
     (tie.spec
-    lower-receiver-requires
+    put-receiver-requires
     enum-known-one
     refused-totals-requires
     same-length
     returns
     enum-told
-    lower-record-requires
+    put-record-requires
     enum-known-two
     refused-totals-requires-2
     same-length-2
     same-length-3
     returns-2
     enum-told-2
-    lower-record-requires-2
+    put-record-requires-2
     enum-known-three
     refused-totals-requires-3
     same-length-4

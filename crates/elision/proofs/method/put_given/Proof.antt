@@ -1,0 +1,20 @@
+-- `put_given` meets its contract, by `given-puts` of proofs/Showing.antt.
+use Rattle.elision.proofs.Showing.{given-puts}
+use borrow.Author.Needs.{needs}
+use Rattle.elision.proofs.method.put_given.Statement.{statement}
+use Rattle.elision.proofs.method.put_given.Tie as tie
+
+standing-in-requires : tie.Need-standing-in-requires
+standing-in-requires c κs = search needs
+
+put-words-requires : tie.Need-put-words-requires
+put-words-requires c κs = search needs
+
+same-length : tie.Need-same-length
+same-length c = search needs
+
+returns : tie.Need-returns
+returns c = given-puts _ (c .before .before .before .before .before .before .before .before .before .args .output) _ _ _ _ _ _ (c .before .before .before .before .before .standing-in .ensures) (c .before .before .before .before .before .before .before .before .before .pre .2) (c .before .before .before .put-words .ensures)
+
+pub put-given-spec : {M : Type 1} → statement M
+put-given-spec = tie.close (tie.spec standing-in-requires put-words-requires same-length returns)
