@@ -2,11 +2,8 @@
 ghost use mathlib.Core.Path.{_≡_};
 ghost use mathlib.Core.Bool.{cond};
 ghost use lib.Dec.{eqb};
-ghost use mathlib.Core.List.{[], _∷_};
 ghost use Prim.Native.Nat.{_+_, _≤_};
 ghost use lib.ListN.{length};
-ghost use Rattle.hir_types.specs.Method.{methodVerdict};
-ghost use Rattle.lifetimes.specs.Env.{envOf};
 ghost use Rattle.borrowing_param.specs.Brings.{refuse};
 ghost use Rattle.borrowing_param.specs.Visit.{state, outcome, visit};
 ghost use Rattle.borrowing_param.specs.VisitParam.{visitParam};
@@ -15,7 +12,7 @@ ghost use Rattle.borrowing_param.specs.Inner.{Inside, typeIn, FoundAt, n
 use super::edges::count_all;
 use super::edges::store_all;
 use hir_types::UsedLifetimes;
-use hir_types::check_method;
+use hir_types::check_params;
 use hir_types::used_method_lifetimes;
 use lifetimes::Lifetime;
 use lifetimes::LifetimeEnv;
@@ -155,17 +152,6 @@ fn refused(visitor: BorrowingParamVisitor, refusal: Refusal) -> Visited
         },
         visitor,
     }
-}
-
-// Whether two records are those of a method, whatever else it has.
-pub(crate) fn check_params(structs: &[usize], params: &[usize]) -> Verdict
-    ensures { λ r. ⌜ r ≡ methodVerdict (envOf 0 0 []) (now (structs .entry)) (now (params .entry)) [] (0 ∷ []) ⌝ }
-{
-    let none = [0usize; 0];
-    let made = LifetimeEnv::new(0, 0, &none);
-    let env = made.env;
-    let force = [0usize; 1];
-    check_method(env, structs, params, &none, &force)
 }
 
 // The parameter with a number, where it stands.

@@ -2,9 +2,9 @@
 use Prim.Native.Nat.{ℕ, _≤_, _<_}
 use mathlib.Core.Bool.{Bool, true, false, cond, _&&_}
 use mathlib.Core.Path.{_≡_, refl, sym, ap, subst, _∙_}
-use mathlib.Core.List.{List, [], _∷_, _++_}
+use mathlib.Core.List.{List, [], _∷_, _++_, flatMap}
 use native.Mathlib.Omega.{arith}
-use lib.ListN.{length, drop}
+use lib.ListN.{length, drop, replicate}
 use borrow.Author.Tests.{lt-ltb, le-ltb}
 use Rattle.lifetimes.specs.declared.answer.Refusal.{Refusal}
 use Rattle.lifetimes.specs.declared.answer.Refusal.the-variants.{Malformed, Full, Mismatch, OutOfRange}
@@ -13,11 +13,11 @@ use Rattle.lifetimes.specs.declared.answer.Verdict.the-variants.{Accepted, Refu
 use Rattle.lifetimes.specs.declared.env.LifetimeEnv.{LifetimeEnv}
 use Rattle.lifetimes.specs.Refusals.{Check, check, Refuses, unless}
 use Rattle.lifetimes.specs.Lent.{verdictOf}
-use Rattle.lifetimes.specs.Env.{envChecks}
+use Rattle.lifetimes.specs.Env.{envOf, envChecks, allBelow}
 use Rattle.lifetimes.specs.Sets.{setOf}
 use Rattle.lifetimes.proofs.RefusalLaws.{accepted-none}
 use Rattle.lifetimes.proofs.EnvLaws.{valid}
-use Rattle.records.specs.Reading.{Read}
+use Rattle.records.specs.Reading.{Read, itemsOf, readAll}
 use Rattle.records.specs.Ends.{judged}
 use Rattle.records.proofs.ReadingLaws.{passed}
 use Rattle.records.proofs.VerdictLaws.{judged-after, judged-stays, refused-accepted}
@@ -244,3 +244,24 @@ module _ (env : LifetimeEnv) (structs params output force : List ℕ) {sh : Shap
                 go : CollectIs (env .count) 0 (outputLifetimes structs output) (Set used)
                     → (anyPast (env .count) (outputLifetimes structs output) ≡ false) × (used ≡ setOf (outputNumbers structs output))
                 go (within h e) = (h, e)
+
+-- two records of a method without lifetimes and output: all that can be due is due by their shapes and places
+pub params-torn : (structs params : List ℕ) {sh : Shape} → sh ≡ methodShape structs params [] (0 ∷ []) → {r : Refusal} → sh .verdict ≡ Refused r
+    → sh .verdict ≡ judged (methodChecks (envOf 0 0 []) structs params [] (0 ∷ []))
+params-torn structs params q k = judge-torn (envOf 0 0 []) structs params [] (0 ∷ []) q {places = replicate 32 0} refl k .verdict
+
+nothing-past : (structs : List ℕ) → judged (drop 2 (envChecks (envOf 0 0 [])) ++ (check (anyPast (envOf 0 0 [] .count) (outputLifetimes structs [])) OutOfRange ∷ [])) ≡ Accepted
+unfolding unless envOf allBelow itemsOf readAll anyPast flatMap
+nothing-past structs = refl
+
+pub params-stand : (structs params : List ℕ) {sh : Shape} → sh ≡ methodShape structs params [] (0 ∷ []) → sh .verdict ≡ Accepted → {places : List ℕ} {v : Verdict} → Places structs params [] places v
+    → v ≡ judged (methodChecks (envOf 0 0 []) structs params [] (0 ∷ []))
+unfolding unless envOf
+params-stand structs params q a {places} {v} x = go v refl
+  where
+    none : {n : ℕ} → 0 ≤ n
+    none = omega arith
+
+    go : (w : Verdict) → v ≡ w → v ≡ judged (methodChecks (envOf 0 0 []) structs params [] (0 ∷ []))
+    go (Refused r) k = judge-place (envOf 0 0 []) structs params [] (0 ∷ []) q a none none x k .verdict
+    go Accepted k = k ∙ sym (past-places (envOf 0 0 []) structs params [] (0 ∷ []) q a none none x k refl ∙ nothing-past structs)

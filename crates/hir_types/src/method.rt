@@ -1,6 +1,8 @@
 // The refusal of a method, and the lifetimes of its output.
 ghost use mathlib.Core.Path.{_≡_};
+ghost use mathlib.Core.List.{[], _∷_};
 ghost use lib.ListN.{length};
+ghost use Rattle.lifetimes.specs.Env.{envOf};
 ghost use Rattle.hir_types.specs.Method.{methodVerdict};
 ghost use Rattle.hir_types.specs.Inner.{InShape, Places, Judges};
 use super::fits::Fit;
@@ -38,7 +40,25 @@ pub fn check_method(
     judged.verdict
 }
 
-// The same, with what is known of an accepted method: the array holds where its rows stand.
+// Whether two records can be those of a method, whatever else it has. Refused by 1, then by 4 and 7 at the first bad place. No environment is looked at, so none is passed.
+pub fn check_params(structs: &[usize], params: &[usize]) -> Verdict
+    ensures { λ r. ⌜ r ≡ methodVerdict (envOf 0 0 []) (now (structs .entry)) (now (params .entry)) [] (0 ∷ []) ⌝ }
+{
+    let none = [0usize; 0];
+    let force = [0usize; 1];
+    let shape = method_shape(structs, params, &none, &force);
+    let first = shape.verdict;
+    let Verdict::Accepted = first else {
+        return first;
+    };
+    let rows = shape.rows;
+    let inputs = shape.params;
+    let outputs = shape.outputs;
+    let mut places = [0usize; 32];
+    judge_places(structs, params, &none, rows, inputs, outputs, &mut places)
+}
+
+// As `check_method`, with what is known of an accepted method: the array holds where its rows stand.
 pub(crate) fn judge(
     env: LifetimeEnv,
     structs: &[usize],
