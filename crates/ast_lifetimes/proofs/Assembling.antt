@@ -54,12 +54,16 @@ pub storing-start : (longs shorts : List ℕ) (pushed : ℕ) → allBelow 255 (s
 storing-start longs shorts pushed small = record { here = omega arith; small = below-under (sidesOf pushed longs shorts) small; stored = rw sub-zero }
 
 module _ {longs shorts : List ℕ} {pushed : ℕ} {bounds : List Bound} {i : ℕ} (inv : Storing longs shorts pushed bounds i) where
+  -- the sides of the next bound are bytes
+  pub storing-small : i < pushed → (getD longs i 0 < 255) × (getD shorts i 0 < 255)
+  storing-small h = under-sides 255 0 pushed longs shorts (inv .small) i (omega arith) (omega arith)
+
   pub storing-more : i < pushed → {l s : Lifetime} → l ≡ lifetime (getD longs i 0) → s ≡ lifetime (getD shorts i 0) → {b : Bound} → b ≡ above (byteOf (l .0)) (byteOf (s .0))
       → Storing longs shorts pushed (set bounds i b) (i + 1)
   unfolding ascending
   storing-more h {l} {s} el es {b} eb =
       let one : pushed - i ≡ suc (pushed - suc i) = omega arith in
-      let k = under-sides 255 0 pushed longs shorts (inv .small) i (omega arith) (omega arith) in
+      let k = storing-small h in
       let e : b ≡ side longs shorts i = eb ∙ rw (el, es, lt-ltb (getD longs i 0) 255 (k .0), lt-ltb (getD shorts i 0) 255 (k .1)) in
       record { here = omega arith; small = inv .small; stored = rw (add-one i, e) (rw one at (inv .stored)) }
 

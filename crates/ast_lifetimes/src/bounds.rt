@@ -39,8 +39,8 @@ pub(crate) fn push_pair(
     named: usize,
     longer: usize,
     shorter: usize,
-    longs: &mut [usize; 256],
-    shorts: &mut [usize; 256],
+    longs: &mut [u8; 256],
+    shorts: &mut [u8; 256],
     pushed: usize,
 ) -> Verdict
     requires { ⌜ (named ≤ 32) × (length (now names) ≡ 32) ⌝ }
@@ -58,8 +58,8 @@ pub(crate) fn push_pair(
     if LifetimeEnv::MAX_BOUNDS <= pushed {
         return Verdict::Refused(Refusal::Full);
     }
-    longs[pushed] = long;
-    shorts[pushed] = short;
+    longs[pushed] = long as u8;
+    shorts[pushed] = short as u8;
     Verdict::Accepted
 }
 
@@ -70,8 +70,8 @@ pub(crate) fn push_pairs(
     count: usize,
     names: &[usize; 32],
     named: usize,
-    longs: &mut [usize; 256],
-    shorts: &mut [usize; 256],
+    longs: &mut [u8; 256],
+    shorts: &mut [u8; 256],
     pushed: usize,
 ) -> Verdict
     requires { ⌜ from + 2 * count ≤ length (now words) ⌝ }

@@ -67,8 +67,8 @@ impl LifetimeEnv {
             return refused(shape);
         };
         let mut declared = [0usize; 32];
-        let mut longs = [0usize; 256];
-        let mut shorts = [0usize; 256];
+        let mut longs = [0u8; 256];
+        let mut shorts = [0u8; 256];
         let built = build(names, bounds, types, &mut declared, &mut longs, &mut shorts);
         let verdict = built.verdict;
         let Verdict::Accepted = verdict else {
@@ -182,8 +182,8 @@ fn extended(env: LifetimeEnv, types: &[usize]) -> Made
     let names = env.names;
     let named = env.named;
     let pushed = env.pushed;
-    let mut longs = [0usize; 256];
-    let mut shorts = [0usize; 256];
+    let mut longs = [0u8; 256];
+    let mut shorts = [0u8; 256];
     let mut reach = [0u64; 32];
     split(env, &mut longs, &mut shorts);
     close(&longs, &shorts, pushed, named, &mut reach);
@@ -208,7 +208,7 @@ fn extended(env: LifetimeEnv, types: &[usize]) -> Made
 }
 
 // The sides of an environment's bounds, in two arrays.
-fn split(env: LifetimeEnv, longs: &mut [usize; 256], shorts: &mut [usize; 256])
+fn split(env: LifetimeEnv, longs: &mut [u8; 256], shorts: &mut [u8; 256])
     requires { ⌜ (env .pushed ≤ 256) × (length (now longs) ≡ 256) × (length (now shorts) ≡ 256) ⌝ }
     ensures { λ _. ⌜ Splits env (now (longs .exit)) (now (shorts .exit)) ⌝ }
 {
@@ -216,8 +216,8 @@ fn split(env: LifetimeEnv, longs: &mut [usize; 256], shorts: &mut [usize; 256])
     let mut i = 0;
     while i < pushed {
         let b = env.bounds[i];
-        longs[i] = b.longer as usize;
-        shorts[i] = b.shorter as usize;
+        longs[i] = b.longer;
+        shorts[i] = b.shorter;
         i += 1;
     }
 }
@@ -243,8 +243,8 @@ fn build(
     bounds: &[usize],
     types: &[usize],
     declared: &mut [usize; 32],
-    longs: &mut [usize; 256],
-    shorts: &mut [usize; 256],
+    longs: &mut [u8; 256],
+    shorts: &mut [u8; 256],
 ) -> Counts
     requires { ⌜ (namesInShape (now names) ≡ true) × (boundsInShape (now bounds) ≡ true) × (typesInShape (now types) ≡ true) ⌝ }
     requires { ⌜ (length (now declared) ≡ 32) × (length (now longs) ≡ 256) × (length (now shorts) ≡ 256) ⌝ }
@@ -332,8 +332,8 @@ fn refused(verdict: Verdict) -> Made
 fn assembled(
     declared: &[usize; 32],
     named: usize,
-    longs: &[usize; 256],
-    shorts: &[usize; 256],
+    longs: &[u8; 256],
+    shorts: &[u8; 256],
     pushed: usize,
 ) -> LifetimeEnv
     requires { ⌜ (named ≤ 32) × (pushed ≤ 256) ⌝ }
@@ -348,7 +348,10 @@ fn assembled(
     let mut bounds = [none; LifetimeEnv::MAX_BOUNDS];
     let mut i = 0;
     while i < pushed {
-        bounds[i] = Bound::new(Lifetime::new(longs[i]), Lifetime::new(shorts[i]));
+        bounds[i] = Bound::new(
+            Lifetime::new(longs[i] as usize),
+            Lifetime::new(shorts[i] as usize),
+        );
         i += 1;
     }
     let mut names = [0usize; LifetimeEnv::MAX_NAMES];

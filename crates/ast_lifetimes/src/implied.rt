@@ -40,8 +40,8 @@ fn join(reach: &mut [u64; 32], named: usize, long: usize, short: usize)
 
 // The sets of those that outlive each lifetime, by the first `pushed` bounds.
 pub(crate) fn close(
-    longs: &[usize; 256],
-    shorts: &[usize; 256],
+    longs: &[u8; 256],
+    shorts: &[u8; 256],
     pushed: usize,
     named: usize,
     reach: &mut [u64; 32],
@@ -53,8 +53,8 @@ pub(crate) fn close(
     each_itself(named, reach);
     let mut i = 0;
     while i < pushed {
-        let long = longs[i];
-        let short = shorts[i];
+        let long = longs[i] as usize;
+        let short = shorts[i] as usize;
         join(reach, named, long, short);
         i += 1;
     }
@@ -108,8 +108,8 @@ fn push_path(
     behind: usize,
     names: &[usize; 32],
     named: usize,
-    longs: &mut [usize; 256],
-    shorts: &mut [usize; 256],
+    longs: &mut [u8; 256],
+    shorts: &mut [u8; 256],
     pushed: usize,
     reach: &mut [u64; 32],
 ) -> Implied
@@ -151,8 +151,8 @@ pub(crate) fn push_types(
     types: &[usize],
     names: &[usize; 32],
     named: usize,
-    longs: &mut [usize; 256],
-    shorts: &mut [usize; 256],
+    longs: &mut [u8; 256],
+    shorts: &mut [u8; 256],
     pushed: usize,
     reach: &mut [u64; 32],
 ) -> Implied

@@ -32,14 +32,14 @@ returns-3 c =
     let short = c .before .before .position2 in
     push-full (sized s) (s .pre .1 .1) (s .pre .1 .2) (long .ensures) (c .before .before .before .if1 .left) (short .ensures) (c .before .if2 .left) (c .if3 .taken)
 
-mul-longs : tie.Need-mul-longs
-mul-longs c = search needs
+cast-longs : tie.Need-cast-longs
+cast-longs c = search needs
 
 element-write-longs : tie.Need-element-write-longs
 element-write-longs c = search needs
 
-mul-shorts : tie.Need-mul-shorts
-mul-shorts c = search needs
+cast-shorts : tie.Need-cast-shorts
+cast-shorts c = search needs
 
 element-write-shorts : tie.Need-element-write-shorts
 element-write-shorts c = search needs
@@ -60,8 +60,8 @@ push-pair-spec =
     position-requires-2
     returns-2
     returns-3
-    mul-longs
+    cast-longs
     element-write-longs
-    mul-shorts
+    cast-shorts
     element-write-shorts
     returns-4)

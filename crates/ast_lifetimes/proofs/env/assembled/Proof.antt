@@ -1,7 +1,8 @@
 -- `assembled` meets its contract. The loop's invariant is `Storing` of proofs/Assembling.antt; the measure is how many sides are to be read.
 use Prim.Native.Nat.{_-_}
+use native.Mathlib.Omega.{arith}
 use borrow.Author.Needs.{needs}
-use Rattle.ast_lifetimes.proofs.Assembling.{Storing, storing-start, storing-more, assembled-env}
+use Rattle.ast_lifetimes.proofs.Assembling.{Storing, storing-start, storing-small, storing-more, assembled-env}
 use Rattle.ast_lifetimes.proofs.env.assembled.Statement.{statement}
 use Rattle.ast_lifetimes.proofs.env.assembled.Tie as tie
 
@@ -14,20 +15,20 @@ abbrev μ-loop : tie.MeasureT-loop
 loop-holds : tie.Need-loop-holds Inv-loop μ-loop
 loop-holds c = storing-start _ _ _ (c .pre .1 .1)
 
-mul-new : tie.Need-mul-new Inv-loop μ-loop
-mul-new c = search needs
-
 element-copy-out-new : tie.Need-element-copy-out-new Inv-loop μ-loop
 element-copy-out-new c = search needs
+
+cast-new : tie.Need-cast-new Inv-loop μ-loop
+cast-new c = omega (arith, storing-small (c .before .before .loop .inv) (c .before .loop-test .taken) .0)
 
 new-requires : tie.Need-new-requires Inv-loop μ-loop
 new-requires c κs = search needs
 
-mul-new-2 : tie.Need-mul-new-2 Inv-loop μ-loop
-mul-new-2 c = search needs
-
 element-copy-out-new-2 : tie.Need-element-copy-out-new-2 Inv-loop μ-loop
 element-copy-out-new-2 c = search needs
+
+cast-new-2 : tie.Need-cast-new-2 Inv-loop μ-loop
+cast-new-2 c = omega (arith, storing-small (c .before .before .before .before .loop .inv) (c .before .before .before .loop-test .taken) .1)
 
 new-requires-2 : tie.Need-new-requires-2 Inv-loop μ-loop
 new-requires-2 c κs = search needs
@@ -63,11 +64,11 @@ assembled-spec =
     Inv-loop
     μ-loop
     loop-holds
-    mul-new
     element-copy-out-new
+    cast-new
     new-requires
-    mul-new-2
     element-copy-out-new-2
+    cast-new-2
     new-requires-2
     new-requires-3
     mul-bounds

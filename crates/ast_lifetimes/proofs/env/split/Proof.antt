@@ -26,23 +26,11 @@ mul-b c = search needs
 element-copy-out-b : tie.Need-element-copy-out-b Inv-loop μ-loop
 element-copy-out-b c = search needs
 
-cast-longs : tie.Need-cast-longs Inv-loop μ-loop
-cast-longs c = search needs
-
-mul-longs : tie.Need-mul-longs Inv-loop μ-loop
-mul-longs c = search needs
-
 element-write-longs : tie.Need-element-write-longs Inv-loop μ-loop
-element-write-longs c = omega (arith, c .before .before .before .before .pre .0, c .before .before .loop-test .taken)
-
-cast-shorts : tie.Need-cast-shorts Inv-loop μ-loop
-cast-shorts c = search needs
-
-mul-shorts : tie.Need-mul-shorts Inv-loop μ-loop
-mul-shorts c = search needs
+element-write-longs c = omega (arith, c .before .before .before .pre .0, c .before .loop-test .taken)
 
 element-write-shorts : tie.Need-element-write-shorts Inv-loop μ-loop
-element-write-shorts c = omega (arith, c .before .before .before .before .before .pre .0, c .before .before .before .loop-test .taken)
+element-write-shorts c = omega (arith, c .before .before .before .pre .0, c .before .loop-test .taken)
 
 add-i : tie.Need-add-i Inv-loop μ-loop
 add-i c = search needs
@@ -51,7 +39,7 @@ loop-less : tie.Need-loop-less Inv-loop μ-loop
 loop-less c = search needs
 
 loop-again : tie.Need-loop-again Inv-loop μ-loop
-loop-again c = let s = c .before .before .before .before .before in splitting-more (c .before .before .before .before .loop .inv) (full s) (s .pre .0) (c .before .before .before .loop-test .taken) refl refl
+loop-again c = let s = c .before .before .before in splitting-more (c .before .before .loop .inv) (full s) (s .pre .0) (c .before .loop-test .taken) refl refl
 
 returns : tie.Need-returns Inv-loop μ-loop
 returns c = splitting-end (c .before .loop .inv) (c .loop-test .left)
@@ -65,11 +53,7 @@ split-spec =
     loop-holds
     mul-b
     element-copy-out-b
-    cast-longs
-    mul-longs
     element-write-longs
-    cast-shorts
-    mul-shorts
     element-write-shorts
     add-i
     loop-less

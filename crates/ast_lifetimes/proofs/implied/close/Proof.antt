@@ -21,17 +21,17 @@ each-itself-requires c κs = search needs
 loop-holds : tie.Need-loop-holds Inv-loop μ-loop
 loop-holds c = (omega arith, c .each-itself .ensures .0, closing-start (c .before .before .args .named) (c .before .before .args .longs .now) (c .before .before .args .shorts .now) (c .each-itself .last .1 .0) (c .each-itself .ensures .1))
 
-mul-long : tie.Need-mul-long Inv-loop μ-loop
-mul-long c = search needs
-
 element-copy-out-long : tie.Need-element-copy-out-long Inv-loop μ-loop
 element-copy-out-long c = search needs
 
-mul-short : tie.Need-mul-short Inv-loop μ-loop
-mul-short c = search needs
+cast-long : tie.Need-cast-long Inv-loop μ-loop
+cast-long c = let s = c .before .before .before .before .before in omega (arith, s .pre .0 .0, s .pre .0 .2 (c .before .before .loop .i) (c .before .loop-test .taken) .0)
 
 element-copy-out-short : tie.Need-element-copy-out-short Inv-loop μ-loop
 element-copy-out-short c = search needs
+
+cast-short : tie.Need-cast-short Inv-loop μ-loop
+cast-short c = let s = c .before .before .before .before .before .before in omega (arith, s .pre .0 .0, s .pre .0 .2 (c .before .before .before .loop .i) (c .before .before .loop-test .taken) .1)
 
 join-requires : tie.Need-join-requires Inv-loop μ-loop
 join-requires c κs =
@@ -64,10 +64,10 @@ close-spec =
     μ-loop
     each-itself-requires
     loop-holds
-    mul-long
     element-copy-out-long
-    mul-short
+    cast-long
     element-copy-out-short
+    cast-short
     join-requires
     add-i
     loop-less
