@@ -69,6 +69,9 @@ module _ {g : Graph} {i n : ℕ} {fars befores lasts : List ℕ} (inv : Linking 
     pub linking-near : near (g .longer) b < 64
     linking-near = rw (← reads) (near-small (g .longer) fine (getD (g .bounds) i (above 0 0)) (at-mem (g .bounds) i (above 0 0) (omega arith)))
 
+    pub linking-far : far (g .longer) b < 64
+    linking-far = rw (← reads) (far-small (g .longer) fine (getD (g .bounds) i (above 0 0)) (at-mem (g .bounds) i (above 0 0) (omega arith)))
+
     pub linking-more : (x y older : ℕ) → x ≡ near (g .longer) b → y ≡ far (g .longer) b → older ≡ getD lasts x 0
         → Linking g (i + 1) (set fars i y) (set befores i older) (set lasts x (i + 1))
     unfolding lastOf

@@ -21,6 +21,10 @@ use Rattle.lifetimes.proofs.NeighbourLaws.{neighbours-only, push-in}
 use Rattle.lifetimes.proofs.WalkLaws.{walks, walk-nil, walk-seen, walk-new, unseen, unseen-empty, unseen-insert, walks-few}
 use Rattle.lifetimes.proofs.ChainLaws.{last-le, last-pushed, chains-kept}
 
+-- a lifetime's last bound is one of the bounds, so its number fits two bytes
+pub last-small : {g : Graph} {fars befores lasts : List ℕ} → Indexed g fars befores lasts → (x : ℕ) → x < 64 → getD lasts x 0 ≤ 256
+last-small {g} k x h = omega (arith, k .last x h, last-le g (length (g .bounds)) x, k .chained .few)
+
 -- `skip` leaves a part of what is pending, whose first entry was not seen, and the walk goes on from it
 skip-in : (s : ℕ) (p : List ℕ) (y : ℕ) → List·Memᴰ y (skip s p) → List·Memᴰ y p
 unfolding skip

@@ -18,9 +18,9 @@ pub(crate) fn link(
     env: LifetimeEnv,
     ast: bool,
     longer: bool,
-    far: &mut [usize; 256],
-    before: &mut [usize; 256],
-    last: &mut [usize; 64],
+    far: &mut [u8; 256],
+    before: &mut [u16; 256],
+    last: &mut [u16; 64],
 )
     requires { ⌜ Fine (boundsOf env) × (length (boundsOf env) ≡ env .pushed) ⌝ }
     requires { ⌜ Zeros (now last) ⌝ }
@@ -35,10 +35,10 @@ pub(crate) fn link(
         let x = b.near(longer);
         let y = b.far(longer);
         let older = last[x];
-        far[i] = y;
+        far[i] = y as u8;
         before[i] = older;
         i += 1;
-        last[x] = i;
+        last[x] = i as u16;
     }
 }
 

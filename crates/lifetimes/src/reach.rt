@@ -74,9 +74,9 @@ impl LifetimeEnv {
         };
         let declared = self.declared;
         let count = self.count;
-        let mut far = [0usize; 256];
-        let mut before = [0usize; 256];
-        let mut last = [0usize; 64];
+        let mut far = [0u8; 256];
+        let mut before = [0u16; 256];
+        let mut last = [0u16; 64];
         link(self, false, longer, &mut far, &mut before, &mut last);
         measure(&far, &before, &last, declared, count, &mut sets);
         ReachSets {
@@ -108,9 +108,9 @@ impl LifetimeEnv {
                 sets,
             };
         }
-        let mut far = [0usize; 256];
-        let mut before = [0usize; 256];
-        let mut last = [0usize; 64];
+        let mut far = [0u8; 256];
+        let mut before = [0u16; 256];
+        let mut last = [0u16; 64];
         link(self, false, longer, &mut far, &mut before, &mut last);
         if !all_fit(&far, &before, &last, declared, count, words.len()) {
             return Lists {
@@ -171,9 +171,9 @@ fn list(env: LifetimeEnv, ast: bool, longer: bool, start: usize, items: &mut [us
 {
     let declared = env.declared;
     let count = env.count;
-    let mut far = [0usize; 256];
-    let mut before = [0usize; 256];
-    let mut last = [0usize; 64];
+    let mut far = [0u8; 256];
+    let mut before = [0u16; 256];
+    let mut last = [0u16; 64];
     link(env, ast, longer, &mut far, &mut before, &mut last);
     let limit = limit_of(declared, count, start);
     walk(&far, &before, &last, limit, start, items).count
@@ -204,9 +204,9 @@ fn copy_to(items: &[usize; 64], n: usize, out: &mut [usize], at: usize)
 
 // Whether all lists over an index have room together. None is longer than there are lifetimes, so with as many words for each they have; with less they are measured.
 fn all_fit(
-    far: &[usize; 256],
-    before: &[usize; 256],
-    last: &[usize; 64],
+    far: &[u8; 256],
+    before: &[u16; 256],
+    last: &[u16; 64],
     declared: usize,
     count: usize,
     room: usize,
@@ -223,9 +223,9 @@ fn all_fit(
 
 // All traversals over an index: the set of each to its place, and how many words all lists have together.
 fn measure(
-    far: &[usize; 256],
-    before: &[usize; 256],
-    last: &[usize; 64],
+    far: &[u8; 256],
+    before: &[u16; 256],
+    last: &[u16; 64],
     declared: usize,
     count: usize,
     reach: &mut [u64; 64],
@@ -249,9 +249,9 @@ fn measure(
 
 // All traversals over an index: the lists one after another, where each ends, and the set of each.
 fn lay(
-    far: &[usize; 256],
-    before: &[usize; 256],
-    last: &[usize; 64],
+    far: &[u8; 256],
+    before: &[u16; 256],
+    last: &[u16; 64],
     declared: usize,
     count: usize,
     words: &mut [usize],

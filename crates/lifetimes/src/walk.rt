@@ -27,8 +27,8 @@ pub(crate) struct Walked {
 
 // The next unseen lifetime: pending entries that were seen are passed over.
 fn advance(
-    far: &[usize; 256],
-    before: &[usize; 256],
+    far: &[u8; 256],
+    before: &[u16; 256],
     stack: &[usize; 64],
     seen: u64,
     from: usize,
@@ -48,8 +48,8 @@ fn advance(
             at = stack[depth];
         } else {
             let i = at - 1;
-            let y = far[i];
-            at = before[i];
+            let y = far[i] as usize;
+            at = before[i] as usize;
             if !set::holds(seen, y) {
                 break 'pending Next::Yield(Lifetime::new(y));
             }
@@ -61,9 +61,9 @@ fn advance(
 // The traversal from a lifetime, over the index of an environment whose lifetimes are below a limit, to the first places of `items`.
 // It stops when as many are listed as there are. A chain that is at its end is not stacked.
 pub(crate) fn walk(
-    far: &[usize; 256],
-    before: &[usize; 256],
-    last: &[usize; 64],
+    far: &[u8; 256],
+    before: &[u16; 256],
+    last: &[u16; 64],
     limit: usize,
     start: usize,
     items: &mut [usize; 64],
@@ -78,7 +78,7 @@ pub(crate) fn walk(
     let mut count = 1;
     let mut seen = set::with(set::EMPTY, start);
     let mut depth = 0;
-    let mut at = last[start];
+    let mut at = last[start] as usize;
     while count < limit {
         let stepped = advance(far, before, &stack, seen, at, depth);
         let next = stepped.next;
@@ -95,7 +95,7 @@ pub(crate) fn walk(
             stack[depth] = rest;
             depth += 1;
         }
-        at = last[y];
+        at = last[y] as usize;
     }
     Walked { count, seen }
 }

@@ -8,7 +8,7 @@ use Rattle.lifetimes.specs.Env.{above, boundsOf}
 use Rattle.lifetimes.specs.Walk.{orderOf}
 use Rattle.lifetimes.specs.Index.{Fine, linkedIn, graphIn}
 use Rattle.lifetimes.proofs.ReverseLaws.{linked-length, linked-fine, linked-at, place-below}
-use Rattle.lifetimes.proofs.Linking.{Linking, linking-start, linking-end, linking-near, linking-more}
+use Rattle.lifetimes.proofs.Linking.{Linking, linking-start, linking-end, linking-near, linking-far, linking-more}
 use Rattle.lifetimes.proofs.index.link.Statement.{statement}
 use Rattle.lifetimes.proofs.index.link.Tie as tie
 
@@ -45,6 +45,12 @@ small c =
     let l = c .before .before .before .before .before .loop in
     rw (c .before .near .ensures) (linking-near (l .inv) (fine s) (all s) (search needs) (reads (c .before .before .before)))
 
+low : (c : tie.After-far Inv-loop μ-loop) → c .far .result < 64
+low c =
+    let s = c .before .before .before .before .before .before in
+    let l = c .before .before .before .before .before .loop in
+    rw (c .far .ensures) (linking-far (l .inv) (fine s) (all s) (search needs) (reads (c .before .before .before)))
+
 loop-holds : tie.Need-loop-holds Inv-loop μ-loop
 loop-holds c = linking-start (graphIn (orderOf (c .args .ast)) (c .args .longer) (c .args .t1)) (c .args .far .now) (c .args .before .now) (c .args .last .now) (c .pre .1 .0) (c .pre .1 .1 .0) (c .pre .1 .1 .1) (c .pre .1 .1 .2)
 
@@ -69,8 +75,8 @@ mul-older c = omega (arith, small c)
 element-copy-out-older : tie.Need-element-copy-out-older Inv-loop μ-loop
 element-copy-out-older c = small c
 
-mul-far : tie.Need-mul-far Inv-loop μ-loop
-mul-far c = omega (arith, few (c .before .before .before .before .before .before .before))
+cast-far : tie.Need-cast-far Inv-loop μ-loop
+cast-far c = omega (arith, low (c .before))
 
 element-write-far : tie.Need-element-write-far Inv-loop μ-loop
 element-write-far c = omega (arith, few (c .before .before .before .before .before .before .before))
@@ -83,6 +89,9 @@ element-write-before c = omega (arith, few (c .before .before .before .before .b
 
 add-i : tie.Need-add-i Inv-loop μ-loop
 add-i c = search needs
+
+cast-last : tie.Need-cast-last Inv-loop μ-loop
+cast-last c = omega (arith, few (c .before .before .before .before .before .before .before), c .before .before .before .before .before .loop-test .taken)
 
 mul-last : tie.Need-mul-last Inv-loop μ-loop
 mul-last c = omega (arith, small (c .before))
@@ -116,11 +125,12 @@ link-spec =
     far-requires
     mul-older
     element-copy-out-older
-    mul-far
+    cast-far
     element-write-far
     mul-before
     element-write-before
     add-i
+    cast-last
     mul-last
     element-write-last
     loop-less

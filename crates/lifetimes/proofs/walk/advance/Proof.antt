@@ -52,17 +52,26 @@ pending-again c = λ g ch r.
 sub-i : tie.Need-sub-i Inv-pending μ-pending
 sub-i c = search needs
 
-mul-y : tie.Need-mul-y Inv-pending μ-pending
-mul-y c = omega (arith, few-at (c .before))
-
 element-copy-out-y : tie.Need-element-copy-out-y Inv-pending μ-pending
 element-copy-out-y c = omega (arith, few-at (c .before))
+
+cast-y : tie.Need-cast-y Inv-pending μ-pending
+cast-y c =
+    let s = c .before .before .before in
+    let p = c .before .before .pending in
+    omega (arith, skipping-far (s .pre .1) (s .pre .2) (inv-of (c .before .before)) (p .at - 1) (omega arith))
 
 mul-at-2 : tie.Need-mul-at-2 Inv-pending μ-pending
 mul-at-2 c = omega (arith, few-at (c .before .before))
 
 element-copy-out-at-2 : tie.Need-element-copy-out-at-2 Inv-pending μ-pending
 element-copy-out-at-2 c = omega (arith, few-at (c .before .before))
+
+cast-at : tie.Need-cast-at Inv-pending μ-pending
+cast-at c =
+    let s = c .before .before .before .before in
+    let p = c .before .before .before .pending in
+    omega (arith, few-at (c .before .before .before), skipping-before (s .pre .1) (s .pre .2) (inv-of (c .before .before .before)) (p .at - 1) (omega arith))
 
 holds-requires : tie.Need-holds-requires Inv-pending μ-pending
 holds-requires c κs =
@@ -105,10 +114,11 @@ advance-spec =
     pending-less
     pending-again
     sub-i
-    mul-y
     element-copy-out-y
+    cast-y
     mul-at-2
     element-copy-out-at-2
+    cast-at
     holds-requires
     new-requires
     pending-less-2

@@ -6,7 +6,7 @@ use native.Mathlib.Omega.{arith}
 use borrow.Author.Needs.{needs}
 use lib.ListN.{length, length-set}
 use Rattle.lifetimes.specs.Index.{Graph, Indexed, Within, Steps}
-use Rattle.lifetimes.proofs.Walking.{Walking, walking-start, walking-end, walking-small, walking-more, walking-held, stacked-push, stacked-same, going-full}
+use Rattle.lifetimes.proofs.Walking.{last-small, Walking, walking-start, walking-end, walking-small, walking-more, walking-held, stacked-push, stacked-same, going-full}
 use Rattle.lifetimes.proofs.walk.walk.Statement.{statement}
 use Rattle.lifetimes.proofs.walk.walk.Tie as tie
 
@@ -51,6 +51,9 @@ mul-at c = omega (arith, c .before .pre .0 .1, c .before .pre .0 .2)
 
 element-copy-out-at : tie.Need-element-copy-out-at Inv-loop μ-loop
 element-copy-out-at c = omega (arith, c .before .pre .0 .1, c .before .pre .0 .2)
+
+cast-at : tie.Need-cast-at Inv-loop μ-loop
+cast-at c = let s = c .before .before in omega (arith, last-small (s .pre .0 .0 .1) (s .args .start) (omega (arith, s .pre .0 .1, s .pre .0 .2)))
 
 loop-holds : tie.Need-loop-holds Inv-loop μ-loop
 loop-holds c =
@@ -109,6 +112,12 @@ mul-at-2 c = omega (arith, small (c .before .before))
 element-copy-out-at-2 : tie.Need-element-copy-out-at-2 Inv-loop μ-loop
 element-copy-out-at-2 c = small (c .before .before)
 
+cast-at-2 : tie.Need-cast-at-2 Inv-loop μ-loop
+cast-at-2 c =
+    let i = c .before .before .before in
+    let s = i .before .before .before .before .before .before .before .before .before .before in
+    omega (arith, last-small (s .pre .0 .0 .1) (i .index .result) (small i))
+
 loop-less : tie.Need-loop-less Inv-loop μ-loop
 loop-less c = search needs
 
@@ -152,6 +161,7 @@ walk-spec =
     with-requires
     mul-at
     element-copy-out-at
+    cast-at
     loop-holds
     advance-requires
     enum-known-next
@@ -167,6 +177,7 @@ walk-spec =
     add-depth
     mul-at-2
     element-copy-out-at-2
+    cast-at-2
     loop-less
     loop-again
     returns-2)
