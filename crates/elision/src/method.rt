@@ -400,6 +400,34 @@ fn put_record(
     ensures { λ r. ⌜ r .own ≤ 16 ⌝ }
     ensures { λ r. ⌜ ((s : Lowerer) → Shows s before was had (now (list .entry)) → Lowers (runSteps (now (names .entry)) output (stepsOf (now (words .entry))) s) 0 (now (list .exit)) (now (out .entry)) (now (out .exit)) r) ⌝ }
 {
+    if words.len() == 0 {
+        return Took {
+            verdict: Verdict::Accepted,
+            seen: before,
+            kept: was,
+            own: had,
+            n: 0,
+            to: 0,
+        };
+    }
+    put_steps(names, words, output, before, was, had, list, out)
+}
+
+// The same of one that has words: a record without any is not worth a call.
+fn put_steps(
+    names: &[usize],
+    words: &[usize],
+    output: bool,
+    before: Seen,
+    was: bool,
+    had: usize,
+    list: &mut [usize; End::MAX_LIFETIMES],
+    out: &mut [usize],
+) -> Took
+    requires { ⌜ (stepsInShape (now words) ≡ true) × (had ≤ 16) ⌝ }
+    ensures { λ r. ⌜ r .own ≤ 16 ⌝ }
+    ensures { λ r. ⌜ ((s : Lowerer) → Shows s before was had (now (list .entry)) → Lowers (runSteps (now (names .entry)) output (stepsOf (now (words .entry))) s) 0 (now (list .exit)) (now (out .entry)) (now (out .exit)) r) ⌝ }
+{
     let mut seen = before;
     let mut kept = was;
     let mut own = had;
