@@ -1,6 +1,6 @@
 // The whole records `self`, `steps` and `returns`: their lowered words to lent slices, and the method's environment.
 ghost use mathlib.Core.Path.{_≡_};
-ghost use mathlib.Core.Bool.{true};
+ghost use mathlib.Core.Bool.{true, false};
 ghost use mathlib.Core.List.{List, []};
 ghost use Prim.Native.Nat.{ℕ, _≤_};
 ghost use lib.ListN.{length, take, drop, set};
@@ -245,25 +245,15 @@ fn run(
     }
     let mut list = [0usize; End::MAX_LIFETIMES];
     let fresh = first.seen;
-    let second = put_record(
-        names,
-        steps,
-        false,
-        fresh,
-        first.kept,
-        first.own,
-        &mut list,
-        given,
-    );
+    let second = put_inputs(names, steps, fresh, first.kept, first.own, &mut list, given);
     let two = second.verdict;
     if let Verdict::Refused(refusal) = two {
         return refused_totals(refusal);
     }
     let middle = second.seen;
-    let third = put_record(
+    let third = put_outputs(
         names,
         returns,
-        true,
         middle,
         second.kept,
         second.own,
@@ -384,12 +374,10 @@ fn put_receiver(names: &[usize], receiver: &[usize], out: &mut [usize]) -> Took
     }
 }
 
-// Lower a record `steps` or `returns` in shape, and store its words from the front. The lowerer is passed as what is seen, whether the `Self` type was there, and how many
-// lifetimes it has; their words stand in the list.
-fn put_record(
+// Lower the record `steps`. One without words is not worth a call.
+fn put_inputs(
     names: &[usize],
     words: &[usize],
-    output: bool,
     before: Seen,
     was: bool,
     had: usize,
@@ -398,7 +386,7 @@ fn put_record(
 ) -> Took
     requires { ⌜ (stepsInShape (now words) ≡ true) × (had ≤ 16) ⌝ }
     ensures { λ r. ⌜ r .own ≤ 16 ⌝ }
-    ensures { λ r. ⌜ ((s : Lowerer) → Shows s before was had (now (list .entry)) → Lowers (runSteps (now (names .entry)) output (stepsOf (now (words .entry))) s) 0 (now (list .exit)) (now (out .entry)) (now (out .exit)) r) ⌝ }
+    ensures { λ r. ⌜ ((s : Lowerer) → Shows s before was had (now (list .entry)) → Lowers (runSteps (now (names .entry)) false (stepsOf (now (words .entry))) s) 0 (now (list .exit)) (now (out .entry)) (now (out .exit)) r) ⌝ }
 {
     if words.len() == 0 {
         return Took {
@@ -410,10 +398,38 @@ fn put_record(
             to: 0,
         };
     }
-    put_steps(names, words, output, before, was, had, list, out)
+    put_steps(names, words, false, before, was, had, list, out)
 }
 
-// The same of one that has words: a record without any is not worth a call.
+// Lower the record `returns`, in the same way.
+fn put_outputs(
+    names: &[usize],
+    words: &[usize],
+    before: Seen,
+    was: bool,
+    had: usize,
+    list: &mut [usize; End::MAX_LIFETIMES],
+    out: &mut [usize],
+) -> Took
+    requires { ⌜ (stepsInShape (now words) ≡ true) × (had ≤ 16) ⌝ }
+    ensures { λ r. ⌜ r .own ≤ 16 ⌝ }
+    ensures { λ r. ⌜ ((s : Lowerer) → Shows s before was had (now (list .entry)) → Lowers (runSteps (now (names .entry)) true (stepsOf (now (words .entry))) s) 0 (now (list .exit)) (now (out .entry)) (now (out .exit)) r) ⌝ }
+{
+    if words.len() == 0 {
+        return Took {
+            verdict: Verdict::Accepted,
+            seen: before,
+            kept: was,
+            own: had,
+            n: 0,
+            to: 0,
+        };
+    }
+    put_steps(names, words, true, before, was, had, list, out)
+}
+
+// Lower a record `steps` or `returns` in shape, and store its words from the front. The lowerer is passed as what is seen, whether the `Self` type was there, and how many
+// lifetimes it has; their words stand in the list.
 fn put_steps(
     names: &[usize],
     words: &[usize],

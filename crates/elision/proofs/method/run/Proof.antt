@@ -20,13 +20,15 @@ same-length : tie.Need-same-length
 same-length c = search needs
 
 returns : tie.Need-returns
-returns c = all-first (c .before .before .before .before .before .before .before .before .before .before .before .before .before .before .before .args .names .now) (receiverOf (c .before .before .before .before .before .before .before .before .before .before .before .before .before .before .before .args .receiver .now)) (stepsOf (c .before .before .before .before .before .before .before .before .before .before .before .before .before .before .before .args .steps .now)) (stepsOf (c .before .before .before .before .before .before .before .before .before .before .before .before .before .before .before .args .returns .now)) (replicate 16 0) refl (c .before .before .before .before .before .before .put-receiver .ensures .1) (c .before .before .one .given .1) (c .refused-totals .ensures)
+returns c =
+    let s = c .before .before .before .before .before .before .before .before .before .before .before .before .before .before .before in
+    all-first (s .args .names .now) (receiverOf (s .args .receiver .now)) (stepsOf (s .args .steps .now)) (stepsOf (s .args .returns .now)) (replicate 16 0) refl (c .before .before .before .before .before .before .put-receiver .ensures .1) (c .before .before .one .given .1) (c .refused-totals .ensures)
 
 enum-told : tie.Need-enum-told
 enum-told c = search needs
 
-put-record-requires : tie.Need-put-record-requires
-put-record-requires c κs = (c .before .before .before .before .before .before .before .before .before .before .before .before .before .before .before .before .pre .0, c .before .before .before .before .before .before .before .put-receiver .ensures .0)
+put-inputs-requires : tie.Need-put-inputs-requires
+put-inputs-requires c κs = (c .before .before .before .before .before .before .before .before .before .before .before .before .before .before .before .before .pre .0, c .before .before .before .before .before .before .before .put-receiver .ensures .0)
 
 enum-known-two : tie.Need-enum-known-two
 enum-known-two c = search needs
@@ -41,13 +43,17 @@ same-length-3 : tie.Need-same-length-3
 same-length-3 c = search needs
 
 returns-2 : tie.Need-returns-2
-returns-2 c = all-second (c .before .before .before .before .before .before .before .before .before .before .before .before .before .before .before .before .before .before .before .before .before .before .before .args .names .now) (receiverOf (c .before .before .before .before .before .before .before .before .before .before .before .before .before .before .before .before .before .before .before .before .before .before .before .args .receiver .now)) (stepsOf (c .before .before .before .before .before .before .before .before .before .before .before .before .before .before .before .before .before .before .before .before .before .before .before .args .steps .now)) (stepsOf (c .before .before .before .before .before .before .before .before .before .before .before .before .before .before .before .before .before .before .before .before .before .before .before .args .returns .now)) (replicate 16 0) refl (c .before .before .before .before .before .before .before .before .before .before .before .before .before .before .put-receiver .ensures .1) (c .before .before .before .before .before .before .before .before .before .before .enum-told .given .1) (c .before .before .before .before .before .before .put-record .ensures .1) (c .before .before .two .given .1) (c .refused-totals2 .ensures)
+returns-2 c =
+    let s = c .before .before .before .before .before .before .before .before .before .before .before .before .before .before .before .before .before .before .before .before .before .before .before in
+    all-second (s .args .names .now) (receiverOf (s .args .receiver .now)) (stepsOf (s .args .steps .now)) (stepsOf (s .args .returns .now)) (replicate 16 0) refl (c .before .before .before .before .before .before .before .before .before .before .before .before .before .before .put-receiver .ensures .1) (c .before .before .before .before .before .before .before .before .before .before .enum-told .given .1) (c .before .before .before .before .before .before .put-inputs .ensures .1) (c .before .before .two .given .1) (c .refused-totals2 .ensures)
 
 enum-told-2 : tie.Need-enum-told-2
 enum-told-2 c = search needs
 
-put-record-requires-2 : tie.Need-put-record-requires-2
-put-record-requires-2 c κs = (c .before .before .before .before .before .before .before .before .before .before .before .before .before .before .before .before .before .before .before .before .before .before .before .before .pre .1, c .before .before .before .before .before .before .before .put-record .ensures .0)
+put-outputs-requires : tie.Need-put-outputs-requires
+put-outputs-requires c κs =
+    let s = c .before .before .before .before .before .before .before .before .before .before .before .before .before .before .before .before .before .before .before .before .before .before .before .before in
+    (s .pre .1, c .before .before .before .before .before .before .before .put-inputs .ensures .0)
 
 enum-known-three : tie.Need-enum-known-three
 enum-known-three c = search needs
@@ -65,7 +71,9 @@ same-length-6 : tie.Need-same-length-6
 same-length-6 c = search needs
 
 returns-3 : tie.Need-returns-3
-returns-3 c = all-third (c .before .before .before .before .before .before .before .before .before .before .before .before .before .before .before .before .before .before .before .before .before .before .before .before .before .before .before .before .before .before .before .args .names .now) (receiverOf (c .before .before .before .before .before .before .before .before .before .before .before .before .before .before .before .before .before .before .before .before .before .before .before .before .before .before .before .before .before .before .before .args .receiver .now)) (stepsOf (c .before .before .before .before .before .before .before .before .before .before .before .before .before .before .before .before .before .before .before .before .before .before .before .before .before .before .before .before .before .before .before .args .steps .now)) (stepsOf (c .before .before .before .before .before .before .before .before .before .before .before .before .before .before .before .before .before .before .before .before .before .before .before .before .before .before .before .before .before .before .before .args .returns .now)) (replicate 16 0) refl (c .before .before .before .before .before .before .before .before .before .before .before .before .before .before .before .before .before .before .before .before .before .before .put-receiver .ensures .1) (c .before .before .before .before .before .before .before .before .before .before .before .before .before .before .before .before .before .before .enum-told .given .1) (c .before .before .before .before .before .before .before .before .before .before .before .before .before .before .put-record .ensures .1) (c .before .before .before .before .before .before .before .before .before .before .enum-told2 .given .1) (c .before .before .before .before .before .before .put-record2 .ensures .1) (c .before .before .three .given .1) (c .refused-totals3 .ensures)
+returns-3 c =
+    let s = c .before .before .before .before .before .before .before .before .before .before .before .before .before .before .before .before .before .before .before .before .before .before .before .before .before .before .before .before .before .before .before in
+    all-third (s .args .names .now) (receiverOf (s .args .receiver .now)) (stepsOf (s .args .steps .now)) (stepsOf (s .args .returns .now)) (replicate 16 0) refl (c .before .before .before .before .before .before .before .before .before .before .before .before .before .before .before .before .before .before .before .before .before .before .put-receiver .ensures .1) (c .before .before .before .before .before .before .before .before .before .before .before .before .before .before .before .before .before .before .enum-told .given .1) (c .before .before .before .before .before .before .before .before .before .before .before .before .before .before .put-inputs .ensures .1) (c .before .before .before .before .before .before .before .before .before .before .enum-told2 .given .1) (c .before .before .before .before .before .before .put-outputs .ensures .1) (c .before .before .three .given .1) (c .refused-totals3 .ensures)
 
 enum-told-3 : tie.Need-enum-told-3
 enum-told-3 c = search needs
@@ -80,7 +88,9 @@ same-length-9 : tie.Need-same-length-9
 same-length-9 c = search needs
 
 returns-4 : tie.Need-returns-4
-returns-4 c = all-given (c .before .before .before .before .before .before .before .before .before .before .before .before .before .before .before .before .before .before .before .before .before .before .before .before .before .before .before .before .before .before .args .names .now) (receiverOf (c .before .before .before .before .before .before .before .before .before .before .before .before .before .before .before .before .before .before .before .before .before .before .before .before .before .before .before .before .before .before .args .receiver .now)) (stepsOf (c .before .before .before .before .before .before .before .before .before .before .before .before .before .before .before .before .before .before .before .before .before .before .before .before .before .before .before .before .before .before .args .steps .now)) (stepsOf (c .before .before .before .before .before .before .before .before .before .before .before .before .before .before .before .before .before .before .before .before .before .before .before .before .before .before .before .before .before .before .args .returns .now)) (replicate 16 0) refl (c .before .before .before .before .before .before .before .before .before .before .before .before .before .before .before .before .before .before .before .before .before .put-receiver .ensures .1) (c .before .before .before .before .before .before .before .before .before .before .before .before .before .before .before .before .before .enum-told .given .1) (c .before .before .before .before .before .before .before .before .before .before .before .before .before .put-record .ensures .1) (c .before .before .before .before .before .before .before .before .before .enum-told2 .given .1) (c .before .before .before .before .before .put-record2 .ensures .1) (c .before .enum-told3 .given .1)
+returns-4 c =
+    let s = c .before .before .before .before .before .before .before .before .before .before .before .before .before .before .before .before .before .before .before .before .before .before .before .before .before .before .before .before .before .before in
+    all-given (s .args .names .now) (receiverOf (s .args .receiver .now)) (stepsOf (s .args .steps .now)) (stepsOf (s .args .returns .now)) (replicate 16 0) refl (c .before .before .before .before .before .before .before .before .before .before .before .before .before .before .before .before .before .before .before .before .before .put-receiver .ensures .1) (c .before .before .before .before .before .before .before .before .before .before .before .before .before .before .before .before .before .enum-told .given .1) (c .before .before .before .before .before .before .before .before .before .before .before .before .before .put-inputs .ensures .1) (c .before .before .before .before .before .before .before .before .before .enum-told2 .given .1) (c .before .before .before .before .before .put-outputs .ensures .1) (c .before .enum-told3 .given .1)
 
 pub run-spec : {M : Type 1} → statement M
 run-spec =
@@ -92,14 +102,14 @@ run-spec =
     same-length
     returns
     enum-told
-    put-record-requires
+    put-inputs-requires
     enum-known-two
     refused-totals-requires-2
     same-length-2
     same-length-3
     returns-2
     enum-told-2
-    put-record-requires-2
+    put-outputs-requires
     enum-known-three
     refused-totals-requires-3
     same-length-4

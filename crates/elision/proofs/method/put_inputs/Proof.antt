@@ -1,0 +1,24 @@
+-- `put_inputs` meets its contract: a record without words leaves all as it was.
+use mathlib.Core.Bool.{false}
+use native.Mathlib.Omega.{arith}
+use borrow.Author.Needs.{needs}
+use Rattle.elision.proofs.Recording.{recording-start, recording-end}
+use Rattle.elision.proofs.method.put_inputs.Statement.{statement}
+use Rattle.elision.proofs.method.put_inputs.Tie as tie
+
+returns : tie.Need-returns
+returns c =
+    let s = c .before .before .before .before in
+    recording-end (recording-start (s .args .names .now) false (s .args .words .now) (s .args .before) (s .args .was) (s .args .had) (s .args .list .now) (s .args .out .now) (s .pre .0) (s .pre .1)) (omega (arith, c .if1 .taken))
+
+put-steps-requires : tie.Need-put-steps-requires
+put-steps-requires c κs = search needs
+
+same-length : tie.Need-same-length
+same-length c = search needs
+
+returns-2 : tie.Need-returns-2
+returns-2 c = search needs
+
+pub put-inputs-spec : {M : Type 1} → statement M
+put-inputs-spec = tie.close (tie.spec returns put-steps-requires same-length returns-2)
