@@ -1,12 +1,12 @@
 -- The loop of `headed`: a prefix compared byte by byte.
 use Prim.Native.Nat.{ℕ, _+_, _≤_, _<_}
-use mathlib.Core.Bool.{Bool, true, false, cond}
+use mathlib.Core.Bool.{Bool, true, false, cond, _&&_}
 use mathlib.Core.Path.{_≡_, refl, sym, _∙_}
 use mathlib.Core.List.{List, [], _∷_}
 use mathlib.Core.Option.{none, some}
 use native.Mathlib.Numerals.{add-one}
 use native.Mathlib.Omega.{arith}
-use borrow.Author.Tests.{eq-eqb, ne-eqb}
+use borrow.Author.Tests.{eq-eqb, ne-eqb, eqb-true, eqb-false}
 use lib.Dec.{eqb}
 use lib.ListN.{length, getD, drop, drop-of-length-le}
 use lib.Seq.{drop-cons}
@@ -52,3 +52,25 @@ module _ {prefix bytes : List ℕ} {i : ℕ} (inv : Matching prefix bytes i) whe
       here = omega arith;
       long = inv .long;
     }
+
+-- and what a comparison of all bytes knows: so far they are the same, and then what is left decides; or one differed
+abbrev pub Comparing : Bool → List ℕ → List ℕ → ℕ → Type 0
+Comparing true prefix bytes i = Matching prefix bytes i
+Comparing false prefix bytes i = (behind prefix bytes ≡ none) × (i ≤ length prefix) × (length prefix ≤ length bytes)
+
+module _ (prefix bytes : List ℕ) (i : ℕ) where
+  pub comparing-here : (same : Bool) → Comparing same prefix bytes i → (i ≤ length prefix) × (length prefix ≤ length bytes)
+  comparing-here true inv = (inv .here, inv .long)
+  comparing-here false inv = (inv .1, inv .2)
+
+  pub comparing-more : (same : Bool) → Comparing same prefix bytes i → i < length prefix → (also : Bool) → also ≡ same && eqb (getD bytes i 0) (getD prefix i 0) → Comparing also prefix bytes (i + 1)
+  comparing-more false inv h also e = rw e (inv .0, omega arith, inv .2)
+  comparing-more true inv h also e = go (eqb (getD bytes i 0) (getD prefix i 0)) refl
+    where
+      go : (t : Bool) → eqb (getD bytes i 0) (getD prefix i 0) ≡ t → Comparing also prefix bytes (i + 1)
+      go true q = rw (e, q) (matching-more inv h (eqb-true (getD bytes i 0) (getD prefix i 0) q))
+      go false q = rw (e, q) (matching-not inv h (eqb-false (getD bytes i 0) (getD prefix i 0) q), omega arith, inv .long)
+
+  pub comparing-end : (same : Bool) → Comparing same prefix bytes i → length prefix ≤ i → behind prefix bytes ≡ cond same (some (drop i bytes)) none
+  comparing-end true inv h = matching-end inv h
+  comparing-end false inv h = inv .0

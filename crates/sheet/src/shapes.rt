@@ -70,7 +70,8 @@ fn accepted(verdict: Verdict) -> bool
     }
 }
 
-fn both(a: bool, b: bool) -> bool
+// Whether both hold.
+pub(crate) fn both(a: bool, b: bool) -> bool
     ensures { λ r. ⌜ r ≡ a && b ⌝ }
 {
     if a {

@@ -12,6 +12,7 @@ ghost use Rattle.sheet.specs.Reading.{behind, sheetOf, textChecks};
 ghost use Rattle.sheet.specs.Answer.{answerOf, measured, readAnswer, readWords};
 use super::lines::Judged;
 use super::lines::lines;
+use super::shapes::both;
 use lifetimes::Refusal;
 use lifetimes::Verdict;
 
@@ -110,7 +111,7 @@ fn write(sheet: &[u8], words: &mut [usize])
     lines(sheet, Text::HEADING, words, &mut ends);
 }
 
-// Whether the first line is the heading.
+// Whether the first line is the heading. All its bytes are compared, many at a time by the compiler, where it could end at the first that differs.
 fn headed(bytes: &[u8]) -> bool
     ensures { λ r. ⌜ behind heading (now (bytes .entry)) ≡ cond r (some (drop 66 (now (bytes .entry)))) none ⌝ }
 {
@@ -118,12 +119,11 @@ fn headed(bytes: &[u8]) -> bool
     if bytes.len() < Text::HEADING {
         return false;
     }
+    let mut same = true;
     let mut i = 0;
     while i < Text::HEADING {
-        if bytes[i] != line[i] {
-            return false;
-        }
+        same = both(same, bytes[i] == line[i]);
         i += 1;
     }
-    true
+    same
 }
