@@ -9,8 +9,8 @@
  *   - each pointer is valid for its length: sheets for reading, all others for reading and writing; aligned as its type
  *     wants; and not NULL, also where the length is 0;
  *   - the pieces of memory of one call do not overlap, and nobody else writes to any of them meanwhile;
- *   - BORROWS_STACK bytes of stack are left. borrows_listing was seen to take 512 kilobytes and borrows_sheet 188, whatever the
- *     sheet; the rest is to spare.
+ *   - BORROWS_STACK bytes of stack are left. borrows_listing was seen to take up to 503 kilobytes (16 for a sheet of at most
+ *     256 bytes with few lifetimes and edges) and borrows_sheet up to 170; the rest is to spare.
  * Apart from that no argument is wrong: any bytes, any lengths.
  *
  * Both calls answer BORROWS_OK or one of the refusals below. After a refusal every byte and word that was lent is as it
