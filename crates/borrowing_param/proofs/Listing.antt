@@ -22,6 +22,8 @@ use Rattle.lifetimes.specs.Sets.{member, members}
 use Rattle.lifetimes.proofs.RefusalLaws.{due-given, due-refused, refused-first, accepted-none, first-more}
 use Rattle.lifetimes.proofs.SetLaws.{members-few}
 use Rattle.lifetimes.proofs.Copying.{sets-front}
+use Rattle.records.specs.Copied.{copied}
+use Rattle.records.proofs.CopyLaws.{copied-stores}
 use Rattle.records.specs.Reading.{Read, Fails, readAll, readOr, fewWords, inShape, itemsOf}
 use Rattle.records.proofs.ReadingLaws.{Holds, read, fails, holds-onward, holds-or, passed}
 use Rattle.lowered_types.specs.declared.types.Parts.{Parts}
@@ -370,7 +372,7 @@ module _ (v : BorrowingParamVisitor) (types : List LoweredType) (answers edges :
       pub listed-room : width * length (listedEdges (visitorIn (v .used) (v .draws)) types) ≤ length edges
       listed-room = omega (arith, c .edges, div-add-mod' (length edges) 5)
 
-      pub mapped : length numbers₀ ≡ 16 → length types ≤ 16 → {answers₁ edges₁ : List ℕ} {stored : ℕ} → answers₁ ≡ sets answers 0 (take (n .params) numbers) → StoresWords (listedEdges (visitorIn (v .used) (v .draws)) types) 0 edges stored edges₁
+      pub mapped : length numbers₀ ≡ 16 → length types ≤ 16 → {answers₁ edges₁ : List ℕ} {stored : ℕ} → answers₁ ≡ written (copied numbers (n .params) (length answers)) answers → StoresWords (listedEdges (visitorIn (v .used) (v .draws)) types) 0 edges stored edges₁
           → Maps (mapOf v types (length answers) (length edges)) answers edges (record { verdict = Accepted; params = n .params; edges = stored }) answers₁ edges₁
       mapped size few {answers₁} {edges₁} {stored} a s =
           let past : length (flatMap edgeWords (listedEdges v types)) ≤ length edges = omega (arith, edges-size, div-add-mod' (length edges) 5) in
@@ -380,7 +382,7 @@ module _ (v : BorrowingParamVisitor) (types : List LoweredType) (answers edges :
           c .noted ∙ ap (sets numbers₀ 0) (answers-holding v 0 0 types) ∙ sets-front numbers₀ (answersFrom v 0 types) (omega (arith, answers-many v 0 types)) in
           let first : take (n .params) numbers ≡ answersFrom v 0 types = rw (named, ← answers-size) (take-at (answersFrom v 0 types) (drop (length (answersFrom v 0 types)) numbers₀) (length (answersFrom v 0 types)) refl) in
           let stands : answers₁ ≡ answersFrom v 0 types ++ drop (length (answersFrom v 0 types)) answers =
-          a ∙ ap (sets answers 0) first ∙ sets-front answers (answersFrom v 0 types) (omega (arith, answers-size)) in
+          copied-stores numbers (n .params) answers (omega (arith, numbers-size size, c .params)) a room ∙ ap (sets answers 0) first ∙ sets-front answers (answersFrom v 0 types) (omega (arith, answers-size)) in
           let stored-words : edges₁ ≡ flatMap edgeWords (listedEdges v types) ++ drop (length (flatMap edgeWords (listedEdges v types))) edges =
           s .stored ∙ ap (λ (l : List LifetimeEdge). sets edges 0 (flatMap edgeWords l)) edges-are ∙ sets-front edges (flatMap edgeWords (listedEdges v types)) past in
           let count : stored ≡ length (listedEdges v types) = s .count ∙ zero-add _ ∙ ap length edges-are in

@@ -1,5 +1,5 @@
 -- A sheet judged in scratch: what reading it says, where its records are found, and what the call answers and writes.
-use Prim.Native.Nat.{ℕ, _≤_, _<_}
+use Prim.Native.Nat.{ℕ, _≤_}
 use mathlib.Core.Bool.{true, false, not}
 use mathlib.Core.Logic.{_⊎_, inl, inr}
 use mathlib.Core.Path.{_≡_, refl, sym, ap, _∙_}
@@ -11,16 +11,20 @@ use lib.Seq.{sets, take-append-seam}
 use Rattle.lifetimes.specs.declared.answer.Refusal.{Refusal}
 use Rattle.lifetimes.specs.declared.answer.Refusal.the-variants.{Malformed, NoRoom}
 use Rattle.lifetimes.specs.declared.answer.Verdict.the-variants as verdict
+use Rattle.lifetimes.specs.declared.answer.Listed.{Listed}
+use Rattle.lifetimes.specs.declared.answer.Listed.the-variants.{Count, Refused}
 use Rattle.lifetimes.specs.declared.env.Made.{Made}
 use Rattle.lifetimes.specs.Refusals.{Check, check, Outcome, Gives, Refuses, unless, FirstDue, here, later, NoneDue, next, end}
-use Rattle.lifetimes.specs.Lent.{verdictOf, resultOr, roomCheck, written}
+use Rattle.lifetimes.specs.Lent.{counted, verdictOf, resultOr, roomCheck, written}
 use Rattle.lifetimes.specs.Env.{envOf, made}
 use Rattle.lifetimes.proofs.Copying.{sets-front}
 use Rattle.lifetimes.proofs.RefusalLaws.{due-given, due-refused, none-first, none-split, none-more, first-more, first-after, refused-first, accepted-none}
+use Rattle.records.specs.Copied.{copied}
+use Rattle.records.proofs.CopyLaws.{copied-stores, copied-all, copied-none}
 use Rattle.records.proofs.VerdictLaws.{refused-accepted}
 use Rattle.sheet.specs.declared.text.Text.{Text}
 use Rattle.sheet.specs.Text.{Records, lists, wordsOf}
-use Rattle.sheet.specs.Reading.{sheetOf, textChecks, readText}
+use Rattle.sheet.specs.Reading.{sheetOf, textChecks}
 use Rattle.sheet.specs.Answer.{endsFrom, recordWords}
 use Rattle.sheet.specs.Shape as shape
 use Rattle.sheet.specs.Shape.{sheetInShape, sheetAnswer, sheetEnds, callChecks}
@@ -192,17 +196,23 @@ module _ (bytes : List ℕ) where
       total : getD (m .ends) 9 0 ≡ length (wordsOf sheet)
       total = ap (λ (x : SheetMethod). getD (x .ends) 9 0) is-given ∙ last-end 0 (sheet .names) _ ∙ omega arith
 
-      pub within-inside : getD (m .ends) 9 0 ≤ length scratch
+      within-inside : getD (m .ends) 9 0 ≤ length scratch
       within-inside = let p = judges .leaves fine in rw (p .1, length-append) (omega (arith, total))
 
-      pub within-short : {x : SheetMethod} → length words < getD (m .ends) 9 0 → x ≡ methodAnswer (Refuses NoRoom) → Answers x words
-      within-short l h = refused-answers h (first-after none (here (lt-ltb (length words) (length (wordsOf sheet)) (omega (arith, total))) refl))
+      module _ {words₁ : List ℕ} (left : words₁ ≡ written (copied scratch (getD (m .ends) 9 0) (length words)) words) {r : Listed} (told : r ≡ counted (copied scratch (getD (m .ends) 9 0) (length words))) where
+        pub within-short : {k : Refusal} → r ≡ Refused k → {x : SheetMethod} → x ≡ methodAnswer (Refuses NoRoom) → Answers x words₁
+        within-short c h =
+            let no = copied-none scratch (getD (m .ends) 9 0) words within-inside left told c in
+            let a = refused-answers h (first-after none (here (lt-ltb (length words) (length (wordsOf sheet)) (omega (arith, total, no .0))) refl)) in
+            (a .0, no .1 ∙ a .1)
 
-      pub within-all : getD (m .ends) 9 0 ≤ length words → {words₁ : List ℕ} → words₁ ≡ sets words 0 (take (getD (m .ends) 9 0) scratch) → Answers m words₁
-      unfolding lowerSheet
-      within-all l {words₁} e =
-          let p = judges .leaves fine in
-          let t : take (getD (m .ends) 9 0) scratch ≡ wordsOf sheet = rw (p .1, total) (take-append-seam (wordsOf sheet) (p .0)) in
-          let room : roomCheck (length words) (wordsOf sheet) .due ≡ false = le-ltb (length words) (length (wordsOf sheet)) (omega (arith, total)) in
-          let g : NoneDue (sheetRefusals bytes ++ (roomCheck (length words) (wordsOf sheet) ∷ [])) = none-more none (next room end) in
-          rw (due-given sheet g) (is-given, e ∙ ap (sets words 0) t ∙ sets-front words (wordsOf sheet) (omega (arith, total)))
+        pub within-all : {n : ℕ} → r ≡ Count n → Answers m words₁
+        unfolding lowerSheet
+        within-all c =
+            let fits : getD (m .ends) 9 0 ≤ length words = copied-all scratch (getD (m .ends) 9 0) words within-inside left told c in
+            let p = judges .leaves fine in
+            let t : take (getD (m .ends) 9 0) scratch ≡ wordsOf sheet = rw (p .1, total) (take-append-seam (wordsOf sheet) (p .0)) in
+            let room : roomCheck (length words) (wordsOf sheet) .due ≡ false = le-ltb (length words) (length (wordsOf sheet)) (omega (arith, total)) in
+            let g : NoneDue (sheetRefusals bytes ++ (roomCheck (length words) (wordsOf sheet) ∷ [])) = none-more none (next room end) in
+            let stored = copied-stores scratch (getD (m .ends) 9 0) words within-inside left fits in
+            rw (due-given sheet g) (is-given, stored ∙ ap (sets words 0) t ∙ sets-front words (wordsOf sheet) (omega (arith, total)))

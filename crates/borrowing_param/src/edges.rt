@@ -152,7 +152,7 @@ fn count_one(set: u64, words: &[usize], parts: Parts) -> usize
 }
 
 // A number that all lifetimes of a set are below.
-pub(crate) fn limit_of(set: u64) -> usize
+pub(crate) fn past_last(set: u64) -> usize
     ensures { λ r. ⌜ Below set r ⌝ }
 {
     64 - u64::leading_zeros(set) as usize
@@ -163,7 +163,7 @@ pub(crate) fn count_all(used: u64, drawn: &[u64; 64], words: &[usize], parts: Pa
     requires { ⌜ Inside (now words) (parts .from) (parts .count) × (parts .count ≤ 16) × (length (now drawn) ≡ 64) ⌝ }
     ensures { λ r. ⌜ CountsAll used (now (drawn .entry)) (typeIn (now (words .entry)) parts) r ⌝ }
 {
-    let limit = limit_of(used);
+    let limit = past_last(used);
     let mut n = 0;
     let mut l = 0;
     while l < limit {
@@ -317,7 +317,7 @@ pub(crate) fn store_all(
     requires { ⌜ width * (at + length (allIn used (now drawn) (typeIn (now words) parts) param)) ≤ length (now edges) ⌝ }
     ensures { λ r. ⌜ Stores (allIn used (now (drawn .entry)) (typeIn (now (words .entry)) parts) param) at (now (pairs .entry)) (now (edges .entry)) r (now (pairs .exit)) (now (edges .exit)) ⌝ }
 {
-    let limit = limit_of(used);
+    let limit = past_last(used);
     let mut next = at;
     let mut i = 0;
     'used: while i < limit {

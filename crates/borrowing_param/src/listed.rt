@@ -11,11 +11,11 @@ ghost use Rattle.borrowing_param.specs.BorrowMap.{listedEdges, borrowMap
 ghost use Rattle.borrowing_param.specs.Inner.{Stores, StoresWords};
 ghost use Rattle.borrowing_param.specs.InnerMap.{paramTypes, Params, visitorIn, bringFrom, CountsParams, mapOf, Maps};
 use super::edges::count_all;
-use super::edges::limit_of;
+use super::edges::past_last;
 use super::edges::store_for;
 use super::visitor::BorrowingParamVisitor;
 use super::visitor::number_of;
-use hir_types::check_params;
+use hir_types::check_structs_and_params;
 use lifetimes::Lifetime;
 use lifetimes::Refusal;
 use lifetimes::Verdict;
@@ -51,7 +51,7 @@ impl BorrowingParamVisitor {
         ensures { λ _. ⌜ now (answers .exit) ≡ written (answersIn (borrowMap self (now (structs .entry)) (now (params .entry)) (length (now (answers .entry))) (length (now (edges .entry))))) (now (answers .entry)) ⌝ }
         ensures { λ _. ⌜ now (edges .exit) ≡ written (edgesIn (borrowMap self (now (structs .entry)) (now (params .entry)) (length (now (answers .entry))) (length (now (edges .entry))))) (now (edges .entry)) ⌝ }
     {
-        let verdict = check_params(structs, params);
+        let verdict = check_structs_and_params(structs, params);
         match verdict {
             Verdict::Refused(refusal) => unmapped(refusal),
             Verdict::Accepted => map_params(self, params, answers, edges),
@@ -140,7 +140,7 @@ fn store_listed(used: u64, drawn: &[u64; 64], params: &[usize], edges: &mut [usi
     requires { ⌜ Params (now params) × (length (now drawn) ≡ 64) × (width * length (listedEdges (visitorIn used (now drawn)) (paramTypes (now params))) ≤ length (now edges)) ⌝ }
     ensures { λ r. ⌜ StoresWords (listedEdges (visitorIn used (now (drawn .entry))) (paramTypes (now (params .entry)))) 0 (now (edges .entry)) r (now (edges .exit)) ⌝ }
 {
-    let limit = limit_of(used);
+    let limit = past_last(used);
     let mut pairs = [0u64; 16];
     let mut next = 0;
     let mut i = 0;

@@ -16,6 +16,7 @@ ghost use Rattle.borrowing_param.specs.InnerSheet.{records, methodOf, Ju
 use elision::measure;
 use hir_types::check_method;
 use lifetimes::LifetimeEnv;
+use lifetimes::Listed;
 use lifetimes::Made;
 use lifetimes::Refusal;
 use lifetimes::Verdict;
@@ -72,11 +73,9 @@ fn lower_within(sheet: &[u8], scratch: &mut [usize], words: &mut [usize]) -> She
         return method;
     }
     let ends = method.ends;
-    let count = ends[9];
-    if words.len() < count {
+    let Listed::Count(_) = copy_words(scratch, ends[9], words) else {
         return refused_method(Refusal::NoRoom);
-    }
-    copy_words(scratch, count, words);
+    };
     method
 }
 

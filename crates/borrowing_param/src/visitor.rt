@@ -12,7 +12,7 @@ ghost use Rattle.borrowing_param.specs.Inner.{Inside, typeIn, FoundAt, n
 use super::edges::count_all;
 use super::edges::store_all;
 use hir_types::UsedLifetimes;
-use hir_types::check_params;
+use hir_types::check_structs_and_params;
 use hir_types::used_method_lifetimes;
 use lifetimes::Lifetime;
 use lifetimes::LifetimeEnv;
@@ -115,7 +115,7 @@ impl BorrowingParamVisitor {
         let Located::At(parts) = found else {
             return refused(self, Refusal::Malformed);
         };
-        let verdict = check_params(structs, params);
+        let verdict = check_structs_and_params(structs, params);
         match verdict {
             Verdict::Refused(refusal) => refused(self, refusal),
             Verdict::Accepted => visit_parts(self, params, parts, param, edges),

@@ -245,15 +245,25 @@ fn run(
     }
     let mut list = [0usize; End::MAX_LIFETIMES];
     let fresh = first.seen;
-    let second = put_inputs(names, steps, fresh, first.kept, first.own, &mut list, given);
+    let second = put_record(
+        names,
+        steps,
+        false,
+        fresh,
+        first.kept,
+        first.own,
+        &mut list,
+        given,
+    );
     let two = second.verdict;
     if let Verdict::Refused(refusal) = two {
         return refused_totals(refusal);
     }
     let middle = second.seen;
-    let third = put_outputs(
+    let third = put_record(
         names,
         returns,
+        true,
         middle,
         second.kept,
         second.own,
@@ -374,10 +384,11 @@ fn put_receiver(names: &[usize], receiver: &[usize], out: &mut [usize]) -> Took
     }
 }
 
-// Lower the record `steps`. One without words is not worth a call.
-fn put_inputs(
+// Lower a record `steps` or `returns` as `put_steps` does. One without words is not worth that call.
+fn put_record(
     names: &[usize],
     words: &[usize],
+    output: bool,
     before: Seen,
     was: bool,
     had: usize,
@@ -386,7 +397,7 @@ fn put_inputs(
 ) -> Took
     requires { ⌜ (stepsInShape (now words) ≡ true) × (had ≤ 16) ⌝ }
     ensures { λ r. ⌜ r .own ≤ 16 ⌝ }
-    ensures { λ r. ⌜ ((s : Lowerer) → Shows s before was had (now (list .entry)) → Lowers (runSteps (now (names .entry)) false (stepsOf (now (words .entry))) s) 0 (now (list .exit)) (now (out .entry)) (now (out .exit)) r) ⌝ }
+    ensures { λ r. ⌜ ((s : Lowerer) → Shows s before was had (now (list .entry)) → Lowers (runSteps (now (names .entry)) output (stepsOf (now (words .entry))) s) 0 (now (list .exit)) (now (out .entry)) (now (out .exit)) r) ⌝ }
 {
     if words.len() == 0 {
         return Took {
@@ -398,34 +409,7 @@ fn put_inputs(
             to: 0,
         };
     }
-    put_steps(names, words, false, before, was, had, list, out)
-}
-
-// Lower the record `returns`, in the same way.
-fn put_outputs(
-    names: &[usize],
-    words: &[usize],
-    before: Seen,
-    was: bool,
-    had: usize,
-    list: &mut [usize; End::MAX_LIFETIMES],
-    out: &mut [usize],
-) -> Took
-    requires { ⌜ (stepsInShape (now words) ≡ true) × (had ≤ 16) ⌝ }
-    ensures { λ r. ⌜ r .own ≤ 16 ⌝ }
-    ensures { λ r. ⌜ ((s : Lowerer) → Shows s before was had (now (list .entry)) → Lowers (runSteps (now (names .entry)) true (stepsOf (now (words .entry))) s) 0 (now (list .exit)) (now (out .entry)) (now (out .exit)) r) ⌝ }
-{
-    if words.len() == 0 {
-        return Took {
-            verdict: Verdict::Accepted,
-            seen: before,
-            kept: was,
-            own: had,
-            n: 0,
-            to: 0,
-        };
-    }
-    put_steps(names, words, true, before, was, had, list, out)
+    put_steps(names, words, output, before, was, had, list, out)
 }
 
 // Lower a record `steps` or `returns` in shape, and store its words from the front. The lowerer is passed as what is seen, whether the `Self` type was there, and how many

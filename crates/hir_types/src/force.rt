@@ -128,7 +128,7 @@ fn search_type(
     }
 }
 
-// Search the fields of a row, unless that was done.
+// Search the fields of a row, unless that was done. The rows that were searched are a set of 64 bits too, so a row's number goes into it as a lifetime's would.
 fn search_fields(
     structs: &[usize],
     places: &[usize; 32],
@@ -193,7 +193,8 @@ fn with_word(word: usize, declared: usize, found: u64) -> u64
     found
 }
 
-// The lifetime of a definition's field as the method's with its number, not linked with the words at the use: as the Rust takes it, and in no other place.
+// The method's lifetime with the number that stands here. In a field of a definition that is not linked with the words at the use, as the Rust takes it; in the method's own output it is the
+// lifetime itself. Nowhere else is a definition's lifetime made one of the method.
 fn unlinked(def: DefLifetime) -> Lifetime
     ensures { λ r. ⌜ r ≡ lifetime (def .0) ⌝ }
 {

@@ -16,6 +16,6 @@ pub use fields::FieldLifetimes;
 pub use fields::FieldPair;
 pub use fields::compute_for_struct_field;
 pub use method::check_method;
-pub use method::check_params;
+pub use method::check_structs_and_params;
 pub use used::UsedLifetimes;
 pub use used::used_method_lifetimes;

@@ -41,7 +41,7 @@ pub fn check_method(
 }
 
 // Whether two records can be those of a method, whatever else it has. Refused by 1, then by 4 and 7 at the first bad place. No environment is looked at, so none is passed.
-pub fn check_params(structs: &[usize], params: &[usize]) -> Verdict
+pub fn check_structs_and_params(structs: &[usize], params: &[usize]) -> Verdict
     ensures { λ r. ⌜ r ≡ methodVerdict (envOf 0 0 []) (now (structs .entry)) (now (params .entry)) [] (0 ∷ []) ⌝ }
 {
     let none = [0usize; 0];

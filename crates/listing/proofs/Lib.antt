@@ -1,4 +1,4 @@
--- Laws: printing, text after text; the sections; how long a listing can be; a method, ten records and a sheet listed in scratch. The main theorems.
+-- Laws: printing, text after text; the sections; how long a listing can be; a method, ten records and a sheet listed in scratch; what a response is; the examples. The main theorems.
 pub mod Printing
 pub mod SectionLaws
 pub mod ListingLaws
@@ -6,4 +6,6 @@ pub mod MethodListing
 pub mod RecordsListing
 pub mod SheetListing
 pub mod RoomLaws
+pub mod ProgramLaws
+pub mod ExampleLaws
 pub mod Theorems

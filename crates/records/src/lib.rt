@@ -1,12 +1,15 @@
 // Records of words, read in place: what the records of a method have in common.
 //
 // A record is a lent slice of words. What is read from it are items, one after another to its end; most of them hold lifetimes, as many as a word in front says. The
-// scope paper ("01") decides what is right. Nothing is refused here: a call answers where an item ends, or that there is none.
+// scope paper ("01") decides what is right. Where an item does not end well no refusal is named here: the call answers that there is none.
 ghost use Prim.Native.Nat.{min};
 ghost use mathlib.Core.Path.{_≡_};
-ghost use lib.ListN.{length, take, drop};
-ghost use lib.Seq.{sets};
+ghost use lib.ListN.{length, drop};
+ghost use Rattle.lifetimes.specs.Lent.{counted, written};
+ghost use Rattle.records.specs.Copied.{copied};
 ghost use Rattle.records.specs.Reading.{readLifetimes, endOf};
+use lifetimes::Listed;
+use lifetimes::Refusal;
 
 // Where an item of a record ends: the place behind its last word. Missing where the words do not make one.
 pub enum End {
@@ -41,16 +44,21 @@ pub fn lifetimes_end(words: &[usize], at: usize) -> End
     End::At(from + count)
 }
 
-// Copy the first words of a record, so many, to the front of a slice, as far as there are words and the slice goes.
-pub fn copy_words(words: &[usize], count: usize, out: &mut [usize])
-    ensures { λ _. ⌜ now (out .exit) ≡ sets (now (out .entry)) 0 (take count (now (words .entry))) ⌝ }
+// Copy the first words of a record, so many, to the front of a slice; where the record has fewer, all of them. Refused by 9 where the slice is too short for them.
+pub fn copy_words(words: &[usize], count: usize, out: &mut [usize]) -> Listed
+    ensures { λ r. ⌜ r ≡ counted (copied (now (words .entry)) count (length (now (out .entry)))) ⌝ }
+    ensures { λ _. ⌜ now (out .exit) ≡ written (copied (now (words .entry)) count (length (now (out .entry)))) (now (out .entry)) ⌝ }
 {
-    let n = least(least(count, words.len()), out.len());
+    let n = least(count, words.len());
+    if out.len() < n {
+        return Listed::Refused(Refusal::NoRoom);
+    }
     let mut i = 0;
     while i < n {
         out[i] = words[i];
         i += 1;
     }
+    Listed::Count(n)
 }
 
 // The smaller of two numbers.

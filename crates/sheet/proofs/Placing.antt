@@ -1,7 +1,7 @@
 -- Records one after another: each stands between two ends, and the whole is the sheet.
 use Prim.Native.Nat.{ℕ, zero, suc, _+_, _*_, _-_, _≤_, _<_}
 use mathlib.Core.Bool.{Bool, true, false, cond, _&&_}
-use mathlib.Core.Path.{_≡_, refl, ap, _∙_}
+use mathlib.Core.Path.{_≡_, refl, sym, ap, _∙_}
 use mathlib.Core.List.{List, [], _∷_, flatten}
 use native.Mathlib.Nat.{sub-zero}
 use native.Mathlib.Omega.{arith}
@@ -9,12 +9,20 @@ use borrow.Author.Tests.{not-false, lt-ltb, le-ltb, le-leb, lt-leb}
 use lib.Dec.{leb}
 use lib.ListN.{length, getD, take, drop, length-append}
 use lib.Seq.{sets, slice, take-append-seam}
+use Rattle.lifetimes.specs.declared.answer.Refusal.{Refusal}
+use Rattle.lifetimes.specs.declared.answer.Refusal.the-variants.{NoRoom}
 use Rattle.lifetimes.specs.declared.answer.Verdict.the-variants as verdict
+use Rattle.lifetimes.specs.declared.answer.Listed.{Listed}
+use Rattle.lifetimes.specs.declared.answer.Listed.the-variants.{Count, Refused}
+use Rattle.lifetimes.specs.Lent as lent
+use Rattle.lifetimes.specs.Lent.{written}
 use Rattle.lifetimes.proofs.Copying.{sets-front}
-use Rattle.lifetimes.specs.Refusals.{NoneDue}
+use Rattle.lifetimes.specs.Refusals.{Refuses, NoneDue}
 use Rattle.lifetimes.proofs.RefusalLaws.{due-given, none-first, none-rest}
 use Rattle.lifetimes.specs.declared.answer.Verdict.{Verdict}
 use Rattle.records.specs.Reading.{shapeVerdict}
+use Rattle.records.specs.Copied.{copied}
+use Rattle.records.proofs.CopyLaws.{copied-stores, copied-all, copied-none}
 use Rattle.ast_lifetimes.specs.Shapes.{namesInShape, boundsInShape}
 use Rattle.ast_lifetimes.specs.Types.{typesInShape}
 use Rattle.elision.specs.Steps.{selfInShape, stepsInShape}
@@ -23,11 +31,11 @@ use Rattle.lowered_types.specs.Rows.{methodInShape, methodShape, noShape, rowsO
 use Rattle.sheet.specs.Text.{Records, lists, wordsOf}
 use Rattle.sheet.specs.declared.text.Text.{Text}
 use Rattle.sheet.specs.Reading.{sheetOf, textChecks, allShort, readText}
-use Rattle.sheet.specs.Answer.{endsFrom, startOf, recordWords, measured}
-use Rattle.sheet.specs.Shape.{sheetInShape}
+use Rattle.sheet.specs.Answer.{answerOf, endsFrom, startOf, recordWords, measured}
+use Rattle.sheet.specs.Shape.{sheetInShape, sheetAnswer, sheetWords}
 use Rattle.sheet.specs.Inner.{recordAt, recordsAt, Laid, Counted, Roomy, isAccepted}
 use Rattle.sheet.proofs.SheetLaws.{few-all, total-words}
-use Rattle.sheet.proofs.Answers.{last-end, list-between, none-due, counted}
+use Rattle.sheet.proofs.Answers.{last-end, list-between, none-due, counted, sheet-short, sheet-wrote}
 use Rattle.sheet.proofs.Theorems.{room-for-any-sheet, words-take-two-bytes}
 
 -- a part, by its length
@@ -167,11 +175,26 @@ module _ (bytes scratch : List ℕ) (roomy : Roomy bytes (length scratch)) {j : 
   pub scanned-shape : {t : Bool} → t ≡ sheetInShape (recordsAt scratch₁ (j .ends)) → t ≡ sheetInShape (sheetOf bytes)
   scanned-shape = counted-shape ends-counted scratch words-fit (w (none-due bytes j m e))
 
-  pub scanned-copy : (words : List ℕ) {words′ : List ℕ} (fits : Bool) → words′ ≡ cond fits (sets words 0 (take (getD (j .ends) 9 0) scratch₁)) words → words′ ≡ cond fits (sets words 0 (wordsOf (sheetOf bytes))) words
+  first-words : take (getD (j .ends) 9 0) scratch₁ ≡ wordsOf (sheetOf bytes)
   unfolding counted-laid scanned-laid sheetOf
-  scanned-copy words fits c =
-      let t : take (getD (j .ends) 9 0) scratch₁ ≡ wordsOf (sheetOf bytes) = rw (counted-end ends-counted, scanned-laid .stored) (take-append-seam (wordsOf (sheetOf bytes)) _) in
-      c ∙ ap (λ (l : List ℕ). cond fits (sets words 0 l) words) t
+  first-words = rw (counted-end ends-counted, scanned-laid .stored) (take-append-seam (wordsOf (sheetOf bytes)) _)
+
+  inside : getD (j .ends) 9 0 ≤ length scratch₁
+  unfolding counted-laid scanned-laid sheetOf
+  inside = rw (scanned-laid .stored, length-append) (omega (arith, counted-end ends-counted))
+
+  module _ {t : Bool} (shape : t ≡ sheetInShape (recordsAt scratch₁ (j .ends))) (right : t ≡ true) (words : List ℕ) {words′ : List ℕ}
+      (left : words′ ≡ written (copied scratch₁ (getD (j .ends) 9 0) (length words)) words) {r : Listed} (told : r ≡ lent.counted (copied scratch₁ (getD (j .ends) 9 0) (length words))) where
+    pub scanned-short : {k : Refusal} → r ≡ Refused k → (answerOf (Refuses NoRoom) ≡ sheetAnswer bytes (length words)) × (words′ ≡ written (sheetWords bytes (length words)) words)
+    scanned-short c =
+        let none = copied-none scratch₁ (getD (j .ends) 9 0) words inside left told c in
+        sheet-short bytes words j m e (scanned-shape shape) right {fits = false} (sym (lt-leb _ _ (none .0))) (none .1) refl
+
+    pub scanned-wrote : {n : ℕ} → r ≡ Count n → (j ≡ sheetAnswer bytes (length words)) × (words′ ≡ written (sheetWords bytes (length words)) words)
+    scanned-wrote c =
+        let fits = copied-all scratch₁ (getD (j .ends) 9 0) words inside left told c in
+        sheet-wrote bytes words j m e (scanned-shape shape) right {fits = true} (sym (le-leb _ _ fits))
+        (copied-stores scratch₁ (getD (j .ends) 9 0) words inside left fits ∙ ap (λ (l : List ℕ). sets words 0 l) first-words) refl
 
 -- a verdict on a record's shape
 accepted-shape : (t : Bool) → isAccepted (shapeVerdict t) ≡ t

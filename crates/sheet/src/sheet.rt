@@ -3,11 +3,8 @@
 // A refused call writes nothing, so the words are read into scratch, judged there, and copied once nothing can be refused any more. Scratch has four sizes, so that a small sheet does not pay for
 // a large one.
 ghost use Prim.Native.Nat.{_≤_};
-ghost use mathlib.Core.Bool.{cond};
 ghost use mathlib.Core.Path.{_≡_};
-ghost use lib.Dec.{leb};
-ghost use lib.ListN.{length, take};
-ghost use lib.Seq.{sets};
+ghost use lib.ListN.{length};
 ghost use Rattle.lifetimes.specs.Lent.{written};
 ghost use Rattle.sheet.specs.Shape.{sheetAnswer, sheetWords};
 ghost use Rattle.sheet.specs.Inner.{Roomy};
@@ -15,6 +12,7 @@ use super::shapes::laid_in_shape;
 use super::text::Text;
 use super::text::refused;
 use super::text::scan;
+use lifetimes::Listed;
 use lifetimes::Refusal;
 use lifetimes::Verdict;
 use records::copy_words;
@@ -104,20 +102,8 @@ fn read_within(sheet: &[u8], scratch: &mut [usize], words: &mut [usize]) -> Text
     if !laid_in_shape(scratch, ends) {
         return refused(Refusal::Malformed);
     }
-    if !copy_all(scratch, ends[9], words) {
+    let Listed::Count(_) = copy_words(scratch, ends[9], words) else {
         return refused(Refusal::NoRoom);
-    }
+    };
     text
-}
-
-// Copy so many words to the front of a slice, where it takes them all; else none. Says whether it does.
-fn copy_all(scratch: &[usize], count: usize, words: &mut [usize]) -> bool
-    ensures { λ r. ⌜ r ≡ leb count (length (now (words .entry))) ⌝ }
-    ensures { λ r. ⌜ now (words .exit) ≡ cond r (sets (now (words .entry)) 0 (take count (now (scratch .entry)))) (now (words .entry)) ⌝ }
-{
-    let fits = count <= words.len();
-    if fits {
-        copy_words(scratch, count, words);
-    }
-    fits
 }

@@ -47,9 +47,11 @@ enum-told-2 c = search needs
 
 returns : tie.Need-returns Inv-loop μ-loop
 returns c =
-    let s = c .before .before .before .before .before .before .before .before .before .before in
-    let l = c .before .before .before .before .before .before .before .before .loop in
-    pushing-refused (l .inv) (s .pre .0) (c .before .before .before .before .before .before .before .loop-test .taken) (c .before .before .push-pair .ensures) (c .enum-told2 .given .1)
+    let at-loop-test = c .before .before .before .before .before .before .before in
+    let at-loop = at-loop-test .before in
+    let s = at-loop .before .before in
+    let l = at-loop .loop in
+    pushing-refused (l .inv) (s .pre .0) (at-loop-test .loop-test .taken) (c .before .before .push-pair .ensures) (c .enum-told2 .given .1)
 
 add-at : tie.Need-add-at Inv-loop μ-loop
 add-at c = search needs
@@ -62,9 +64,11 @@ loop-less c = search needs
 
 loop-again : tie.Need-loop-again Inv-loop μ-loop
 loop-again c =
-    let s = c .before .before .before .before .before .before .before .before .before .before in
-    let l = c .before .before .before .before .before .before .before .before .loop in
-    pushing-more (l .inv) (s .pre .0) (c .before .before .before .before .before .before .before .loop-test .taken) (c .before .before .push-pair .ensures) (c .enum-told .given .1)
+    let at-loop-test = c .before .before .before .before .before .before .before in
+    let at-loop = at-loop-test .before in
+    let s = at-loop .before .before in
+    let l = at-loop .loop in
+    pushing-more (l .inv) (s .pre .0) (at-loop-test .loop-test .taken) (c .before .before .push-pair .ensures) (c .enum-told .given .1)
 
 returns-2 : tie.Need-returns-2 Inv-loop μ-loop
 returns-2 c = pushing-end (c .before .loop .inv) (c .loop-test .left)

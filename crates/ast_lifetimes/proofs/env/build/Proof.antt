@@ -11,16 +11,26 @@ shape : (s : tie.Start) → Shaped (s .args .names .now) (s .args .bounds .now) 
 shape s = shaped _ _ _ (s .pre .0)
 
 one : (c : tie.After-enum-told) → let s = c .before .before .before .before .before .before .before .before .before in ImplNamed (s .args .names .now) (s .args .bounds .now) (s .args .types .now) (c .before .before .declare-all .last .1 .1 .1 .0)
-one c = impl-named (shape (c .before .before .before .before .before .before .before .before .before)) (c .before .before .declare-all .ensures) (c .enum-told .given .1)
+one c =
+    let at-before = c .before .before .before .before .before .before .before .before in
+    impl-named (shape (at-before .before)) (c .before .before .declare-all .ensures) (c .enum-told .given .1)
 
 two : (c : tie.After-enum-told3) → let s = c .before .before .before .before .before .before .before .before .before .before .before .before .before .before .before in ImplBound (s .args .names .now) (s .args .bounds .now) (s .args .types .now) (c .before .before .before .before .before .before .before .before .declare-all .last .1 .1 .1 .0) (c .before .before .push-pairs .last .1 .1 .1 .1 .1 .0) (c .before .before .push-pairs .last .1 .1 .1 .1 .1 .1 .0)
-two c = impl-bound (shape (c .before .before .before .before .before .before .before .before .before .before .before .before .before .before .before)) (one (c .before .before .before .before .before .before)) (c .before .before .push-pairs .ensures) (c .enum-told3 .given .1)
+two c =
+    let at-before = c .before .before .before .before .before in
+    let at-before-2 = at-before .before .before .before .before .before .before .before .before .before in
+    impl-bound (shape (at-before-2 .before)) (one (at-before .before)) (c .before .before .push-pairs .ensures) (c .enum-told3 .given .1)
 
 three : (c : tie.After-enum-told5) → let s = c .before .before .before .before .before .before .before .before .before .before .before .before .before .before .before .before .before .before .before in AllNamed (s .args .names .now) (s .args .bounds .now) (s .args .types .now) (c .before .before .declare-all2 .last .1 .1 .1 .0) (c .before .before .before .before .before .before .push-pairs .last .1 .1 .1 .1 .1 .0) (c .before .before .before .before .before .before .push-pairs .last .1 .1 .1 .1 .1 .1 .0)
-three c = all-named (shape (c .before .before .before .before .before .before .before .before .before .before .before .before .before .before .before .before .before .before .before)) (two (c .before .before .before .before)) (c .before .before .declare-all2 .ensures) (c .enum-told5 .given .1)
+three c =
+    let at-before = c .before .before .before .before .before .before .before .before .before .before .before .before .before .before .before .before .before .before in
+    all-named (shape (at-before .before)) (two (c .before .before .before .before)) (c .before .before .declare-all2 .ensures) (c .enum-told5 .given .1)
 
 four : (c : tie.After-enum-told7) → let s = c .before .before .before .before .before .before .before .before .before .before .before .before .before .before .before .before .before .before .before .before .before .before .before .before .before in AllBound (s .args .names .now) (s .args .bounds .now) (s .args .types .now) (c .before .before .before .before .before .before .before .before .declare-all2 .last .1 .1 .1 .0) (c .before .before .push-pairs2 .last .1 .1 .1 .1 .1 .0) (c .before .before .push-pairs2 .last .1 .1 .1 .1 .1 .1 .0)
-four c = all-bound (shape (c .before .before .before .before .before .before .before .before .before .before .before .before .before .before .before .before .before .before .before .before .before .before .before .before .before)) (three (c .before .before .before .before .before .before)) (c .before .before .push-pairs2 .ensures) (c .enum-told7 .given .1)
+four c =
+    let at-before = c .before .before .before .before .before in
+    let at-before-2 = at-before .before .before .before .before .before .before .before .before .before .before .before .before .before .before .before .before .before .before .before in
+    all-bound (shape (at-before-2 .before)) (three (at-before .before)) (c .before .before .push-pairs2 .ensures) (c .enum-told7 .given .1)
 
 shared-slice-read-impls : tie.Need-shared-slice-read-impls
 shared-slice-read-impls c = (shape (c .before .before .before .before)) .in-names .some
@@ -67,17 +77,23 @@ enum-told-4 : tie.Need-enum-told-4
 enum-told-4 c = search needs
 
 returns-2 : tie.Need-returns-2
-returns-2 c = impl-pairs-refused (shape (c .before .before .before .before .before .before .before .before .before .before .before .before .before .before .before)) (one (c .before .before .before .before .before .before)) (c .before .before .push-pairs .ensures) (c .enum-told4 .given .1)
+returns-2 c =
+    let at-before = c .before .before .before .before .before in
+    let at-before-2 = at-before .before .before .before .before .before .before .before .before .before in
+    impl-pairs-refused (shape (at-before-2 .before)) (one (at-before .before)) (c .before .before .push-pairs .ensures) (c .enum-told4 .given .1)
 
 add-declare-all-2 : tie.Need-add-declare-all-2
-add-declare-all-2 c = let h = (shape (c .before .before .before .before .before .before .before .before .before .before .before .before .before .before .before)) .in-names in omega (arith, h .few, h .fits)
+add-declare-all-2 c =
+    let at-before = c .before .before .before .before .before .before .before .before .before .before .before .before .before .before in
+    let h = (shape (at-before .before)) .in-names in omega (arith, h .few, h .fits)
 
 add-declare-all-3 : tie.Need-add-declare-all-3
 add-declare-all-3 c = search needs
 
 declare-all-requires-2 : tie.Need-declare-all-requires-2
 declare-all-requires-2 c κs =
-    let h = (shape (c .before .before .before .before .before .before .before .before .before .before .before .before .before .before .before .before)) .in-names in
+    let at-before = c .before .before .before .before .before .before .before .before .before .before .before .before .before .before .before in
+    let h = (shape (at-before .before)) .in-names in
     let t = two (c .before) in
     ((omega (arith, h .fits), omega (arith, h .some)), (t .named .few, t .named .size))
 
@@ -88,20 +104,29 @@ enum-told-6 : tie.Need-enum-told-6
 enum-told-6 c = search needs
 
 returns-3 : tie.Need-returns-3
-returns-3 c = method-names-refused (shape (c .before .before .before .before .before .before .before .before .before .before .before .before .before .before .before .before .before .before .before)) (two (c .before .before .before .before)) (c .before .before .declare-all2 .ensures) (c .enum-told6 .given .1)
+returns-3 c =
+    let at-before = c .before .before .before .before .before .before .before .before .before .before .before .before .before .before .before .before .before .before in
+    method-names-refused (shape (at-before .before)) (two (c .before .before .before .before)) (c .before .before .declare-all2 .ensures) (c .enum-told6 .given .1)
 
 mul-push-pairs : tie.Need-mul-push-pairs
-mul-push-pairs c = let h = (shape (c .before .before .before .before .before .before .before .before .before .before .before .before .before .before .before .before .before .before .before)) .in-bounds in omega (arith, h .few, h .fits, h .even)
+mul-push-pairs c =
+    let at-before = c .before .before .before .before .before .before .before .before .before .before .before .before .before .before .before .before .before .before in
+    let h = (shape (at-before .before)) .in-bounds in omega (arith, h .few, h .fits, h .even)
 
 add-push-pairs : tie.Need-add-push-pairs
-add-push-pairs c = let h = (shape (c .before .before .before .before .before .before .before .before .before .before .before .before .before .before .before .before .before .before .before)) .in-bounds in omega (arith, h .few, h .fits, h .even)
+add-push-pairs c =
+    let at-before = c .before .before .before .before .before .before .before .before .before .before .before .before .before .before .before .before .before .before in
+    let h = (shape (at-before .before)) .in-bounds in omega (arith, h .few, h .fits, h .even)
 
 sub-push-pairs : tie.Need-sub-push-pairs
-sub-push-pairs c = (shape (c .before .before .before .before .before .before .before .before .before .before .before .before .before .before .before .before .before .before .before)) .in-bounds .fits
+sub-push-pairs c =
+    let at-before = c .before .before .before .before .before .before .before .before .before .before .before .before .before .before .before .before .before .before in
+    (shape (at-before .before)) .in-bounds .fits
 
 push-pairs-requires-2 : tie.Need-push-pairs-requires-2
 push-pairs-requires-2 c κs =
-    let h = (shape (c .before .before .before .before .before .before .before .before .before .before .before .before .before .before .before .before .before .before .before .before .before .before)) .in-bounds in
+    let at-before = c .before .before .before .before .before .before .before .before .before .before .before .before .before .before .before .before .before .before .before .before .before in
+    let h = (shape (at-before .before)) .in-bounds in
     let t = three (c .before .before .before) in
     (omega (arith, h .fits, h .even), ((t .named .few, t .named .size), (t .sides .few, t .sides .size-longs, t .sides .size-shorts)))
 
@@ -112,23 +137,32 @@ enum-told-8 : tie.Need-enum-told-8
 enum-told-8 c = search needs
 
 returns-4 : tie.Need-returns-4
-returns-4 c = method-pairs-refused (shape (c .before .before .before .before .before .before .before .before .before .before .before .before .before .before .before .before .before .before .before .before .before .before .before .before .before)) (three (c .before .before .before .before .before .before)) (c .before .before .push-pairs2 .ensures) (c .enum-told8 .given .1)
+returns-4 c =
+    let at-before = c .before .before .before .before .before in
+    let at-before-2 = at-before .before .before .before .before .before .before .before .before .before .before .before .before .before .before .before .before .before .before .before in
+    method-pairs-refused (shape (at-before-2 .before)) (three (at-before .before)) (c .before .before .push-pairs2 .ensures) (c .enum-told8 .given .1)
 
 close-requires : tie.Need-close-requires
 close-requires c κs =
+    let at-before = c .before .before .before .before .before .before .before .before .before .before .before .before .before .before .before .before .before .before .before .before .before .before .before .before .before .before .before in
     let f = four (c .before .before .before) in
-    ((f .named .few, f .sides .few, all-below (shape (c .before .before .before .before .before .before .before .before .before .before .before .before .before .before .before .before .before .before .before .before .before .before .before .before .before .before .before .before)) f), (f .sides .size-longs, f .sides .size-shorts, refl))
+    ((f .named .few, f .sides .few, all-below (shape (at-before .before)) f), (f .sides .size-longs, f .sides .size-shorts, refl))
 
 push-types-requires : tie.Need-push-types-requires
 push-types-requires c κs =
-    let s = c .before .before .before .before .before .before .before .before .before .before .before .before .before .before .before .before .before .before .before .before .before .before .before .before .before .before .before .before .before .before .before .before .before in
-    let f = four (c .before .before .before .before .before .before .before .before) in (
+    let at-close = c .before .before .before .before in
+    let at-before = at-close .before .before .before in
+    let s = at-before .before .before .before .before .before .before .before .before .before .before .before .before .before .before .before .before .before .before .before .before .before .before .before .before .before .before in
+    let f = four (at-before .before) in (
       (typesOf (s .args .types .now), (shape s) .in-types),
-      ((f .named .few, f .named .size), ((f .sides .few, f .sides .size-longs, f .sides .size-shorts), c .before .before .before .before .close .ensures)),
+      ((f .named .few, f .named .size), ((f .sides .few, f .sides .size-longs, f .sides .size-shorts), at-close .close .ensures)),
     )
 
 returns-5 : tie.Need-returns-5
-returns-5 c = all-built (shape (c .before .before .before .before .before .before .before .before .before .before .before .before .before .before .before .before .before .before .before .before .before .before .before .before .before .before .before .before .before .before .before .before .before .before)) (four (c .before .before .before .before .before .before .before .before .before)) (c .push-types .ensures)
+returns-5 c =
+    let at-before = c .before .before .before .before .before .before .before .before in
+    let at-before-2 = at-before .before .before .before .before .before .before .before .before .before .before .before .before .before .before .before .before .before .before .before .before .before .before .before .before .before in
+    all-built (shape (at-before-2 .before)) (four (at-before .before)) (c .push-types .ensures)
 
 pub build-spec : {M : Type 1} → statement M
 build-spec =

@@ -23,11 +23,13 @@ close-requires c κs =
 
 push-types-requires : tie.Need-push-types-requires
 push-types-requires c κs =
-    let s = c .before .before .before .before .before .before .before .before .before .before .before .before .before in
+    let at-close = c .before .before .before .before in
+    let at-split = at-close .before .before .before .before in
+    let s = at-split .before .before .before .before .before in
     let e = s .args .env in
-    let splits = c .before .before .before .before .before .before .before .before .split .ensures in (
+    let splits = at-split .split .ensures in (
       (typesOf (s .args .types .now), types-encoded (s .args .types .now) (s .pre .1)),
-      ((valid-named e (s .pre .0), full s), ((valid-pushed e (s .pre .0), splits .size-longs, splits .size-shorts), c .before .before .before .before .close .ensures)),
+      ((valid-named e (s .pre .0), full s), ((valid-pushed e (s .pre .0), splits .size-longs, splits .size-shorts), at-close .close .ensures)),
     )
 
 enum-told : tie.Need-enum-told
@@ -38,20 +40,26 @@ enum-told-2 c = search needs
 
 returns : tie.Need-returns
 returns c =
-    let s = c .before .before .before .before .before .before .before .before .before .before .before .before .before .before .before .before in
-    extended-refused (s .args .env) (s .args .types .now) (c .before .before .before .before .before .before .before .before .before .before .before .split .ensures) (c .before .before .push-types .ensures _ (types-encoded _ (s .pre .1))) (c .enum-told2 .given .1)
+    let at-split = c .before .before .before .before .before .before .before .before .before .before .before in
+    let s = at-split .before .before .before .before .before in
+    extended-refused (s .args .env) (s .args .types .now) (at-split .split .ensures) (c .before .before .push-types .ensures _ (types-encoded _ (s .pre .1))) (c .enum-told2 .given .1)
 
 assembled-requires : tie.Need-assembled-requires
 assembled-requires c κs =
-    let s = c .before .before .before .before .before .before .before .before .before .before .before .before .before .before .before .before .before .before .before in
-    let all = extended-few (s .args .env) (s .args .types .now) (c .before .before .before .before .before .before .before .before .before .before .before .before .before .before .split .ensures) (c .before .before .before .before .before .push-types .ensures _ (types-encoded _ (s .pre .1))) (c .before .before .before .enum-told .given .1) in
-    let small = extended-small (s .args .env) (s .args .types .now) (c .before .before .before .before .before .before .before .before .before .before .before .before .before .before .split .ensures) (c .before .before .before .before .before .push-types .ensures _ (types-encoded _ (s .pre .1))) (c .before .before .before .enum-told .given .1) (s .pre .0) in
+    let at-push-types = c .before .before .before .before .before in
+    let at-split = at-push-types .before .before .before .before .before .before .before .before .before in
+    let s = at-split .before .before .before .before .before in
+    let all = extended-few (s .args .env) (s .args .types .now) (at-split .split .ensures) (at-push-types .push-types .ensures _ (types-encoded _ (s .pre .1))) (c .before .before .before .enum-told .given .1) in
+    let small = extended-small (s .args .env) (s .args .types .now) (at-split .split .ensures) (at-push-types .push-types .ensures _ (types-encoded _ (s .pre .1))) (c .before .before .before .enum-told .given .1) (s .pre .0) in
     ((valid-named (s .args .env) (s .pre .0), all .0), ((full s, all .1, all .2), small))
 
 returns-2 : tie.Need-returns-2
 returns-2 c =
-    let s = c .before .before .before .before .before .before .before .before .before .before .before .before .before .before .before .before .before .before .before .before in
-    extended-given (s .args .env) (s .args .types .now) (c .before .before .before .before .before .before .before .before .before .before .before .before .before .before .before .split .ensures) (c .before .before .before .before .before .before .push-types .ensures _ (types-encoded _ (s .pre .1))) (c .before .before .before .before .enum-told .given .1) (c .assembled .ensures)
+    let at-enum-told = c .before .before .before .before in
+    let at-push-types = at-enum-told .before .before in
+    let at-split = at-push-types .before .before .before .before .before .before .before .before .before in
+    let s = at-split .before .before .before .before .before in
+    extended-given (s .args .env) (s .args .types .now) (at-split .split .ensures) (at-push-types .push-types .ensures _ (types-encoded _ (s .pre .1))) (at-enum-told .enum-told .given .1) (c .assembled .ensures)
 
 pub extended-spec : {M : Type 1} → statement M
 extended-spec =

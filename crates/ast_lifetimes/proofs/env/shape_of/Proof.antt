@@ -29,8 +29,10 @@ enum-told-4 c = search needs
 
 returns-2 : tie.Need-returns-2
 returns-2 c =
-    let s = c .before .before .before .before .before .before .before .before .before .args in
-    shape-bounds (s .names .now) (s .bounds .now) (s .types .now) (c .before .before .before .before .before .names-shape .ensures)
+    let at-names-shape = c .before .before .before .before .before in
+    let s = at-names-shape .before .before .before .before in
+    let s = s .args in
+    shape-bounds (s .names .now) (s .bounds .now) (s .types .now) (at-names-shape .names-shape .ensures)
     (c .before .before .before .enum-told .given .1) (c .before .before .bounds-shape .ensures) (c .enum-told4 .given .1)
 
 types-shape-requires : tie.Need-types-shape-requires
@@ -38,9 +40,12 @@ types-shape-requires c κs = search needs
 
 returns-3 : tie.Need-returns-3
 returns-3 c =
-    let s = c .before .before .before .before .before .before .before .before .before .before .args in
-    shape-types (s .names .now) (s .bounds .now) (s .types .now) (c .before .before .before .before .before .before .names-shape .ensures)
-    (c .before .before .before .before .enum-told .given .1) (c .before .before .before .bounds-shape .ensures) (c .before .enum-told3 .given .1) (c .types-shape .ensures)
+    let at-enum-told = c .before .before .before .before in
+    let at-names-shape = at-enum-told .before .before in
+    let s = at-names-shape .before .before .before .before in
+    let s = s .args in
+    shape-types (s .names .now) (s .bounds .now) (s .types .now) (at-names-shape .names-shape .ensures)
+    (at-enum-told .enum-told .given .1) (c .before .before .before .bounds-shape .ensures) (c .before .enum-told3 .given .1) (c .types-shape .ensures)
 
 pub shape-of-spec : {M : Type 1} → statement M
 shape-of-spec =

@@ -47,8 +47,10 @@ loop-less c = search needs
 
 loop-again : tie.Need-loop-again Inv-loop μ-loop
 loop-again c =
-    let l = c .before .before .before .before .before .loop in
-    (omega arith, c .join .ensures .size, closing-more (l .i) (c .before .before .before .before .before .before .before .before .args .longs .now) (c .before .before .before .before .before .before .before .before .args .shorts .now) (c .join .ensures) (l .inv .2))
+    let at-loop = c .before .before .before .before .before in
+    let s = at-loop .before .before .before in
+    let l = at-loop .loop in
+    (omega arith, c .join .ensures .size, closing-more (l .i) (s .args .longs .now) (s .args .shorts .now) (c .join .ensures) (l .inv .2))
 
 returns : tie.Need-returns Inv-loop μ-loop
 returns c =

@@ -37,9 +37,10 @@ tested : (c : tie.After-is-implied Inv-lifetimes μ-lifetimes) →
     let w = getD (s .args .words .now) (c .before .before .before .lifetimes .at) 0 in
     isImplied (take (s .args .named) (s .args .names .now)) (c .before .before .before .before .before .outlived .result) w ≡ (isName w && not (among (take (s .args .named) (s .args .names .now)) (sidesOf (s .args .pushed) (s .args .longs .now) (s .args .shorts .now)) (s .args .behind) w))
 tested c =
-    let s = c .before .before .before .before .before .before .before .before in
+    let at-outlived = c .before .before .before .before .before in
+    let s = at-outlived .before .before .before in
     let w = getD (s .args .words .now) (c .before .before .before .lifetimes .at) 0 in
-    ap (λ (t : ℕ). isImplied (take (s .args .named) (s .args .names .now)) t w) (c .before .before .before .before .before .outlived .ensures)
+    ap (λ (t : ℕ). isImplied (take (s .args .named) (s .args .names .now)) t w) (at-outlived .outlived .ensures)
     ∙ implied-test (take (s .args .named) (s .args .names .now)) (sidesOf (s .args .pushed) (s .args .longs .now) (s .args .shorts .now)) (s .args .reach .now) (reaches s) (s .args .behind) w
 
 -- what is left begins with this lifetime's pair
@@ -60,8 +61,9 @@ joined : (c : tie.After-join Inv-lifetimes μ-lifetimes) →
     let l = c .before .before .before .before .before .before .before .before .before .before .before .before .lifetimes in
     Joins (length (take (s .args .named) (s .args .names .now))) (place (take (s .args .named) (s .args .names .now)) (getD (s .args .words .now) (l .at) 0)) (place (take (s .args .named) (s .args .names .now)) (s .args .behind)) (l .reach) (c .join .last .0)
 joined c =
-    let s = c .before .before .before .before .before .before .before .before .before .before .before .before .before .before .before .before .before in
-    rw (named-long s, ← c .before .before .position2 .ensures, ← c .before .before .before .before .before .before .before .before .before .before .before .before .before .position .ensures) (c .join .ensures)
+    let at-position = c .before .before .before .before .before .before .before .before .before .before .before .before .before in
+    let s = at-position .before .before .before .before in
+    rw (named-long s, ← c .before .before .position2 .ensures, ← at-position .position .ensures) (c .join .ensures)
 
 outlived-requires : tie.Need-outlived-requires Inv-lifetimes μ-lifetimes
 outlived-requires c κs = search needs
@@ -91,8 +93,9 @@ lifetimes-less c = search needs
 
 lifetimes-again : tie.Need-lifetimes-again Inv-lifetimes μ-lifetimes
 lifetimes-again c =
-    let s = c .before .before .before .before .before .before .before .before .before in
-    let l = c .before .before .before .before .lifetimes in (
+    let at-lifetimes = c .before .before .before .before in
+    let s = at-lifetimes .before .before .before .before .before in
+    let l = at-lifetimes .lifetimes in (
       omega arith,
       omega arith,
       run-same (l .inv .2) (path-passed (take (s .args .named) (s .args .names .now)) (sidesOf (s .args .pushed) (s .args .longs .now) (s .args .shorts .now)) (s .args .behind) (s .args .words .now) (l .at) (s .args .to) (c .before .before .before .lifetimes-test .taken) (s .pre .0 .1)
@@ -110,32 +113,42 @@ enum-told-2 c = search needs
 
 returns : tie.Need-returns Inv-lifetimes μ-lifetimes
 returns c =
-    let s = c .before .before .before .before .before .before .before .before .before .before .before .before .before .before in
-    let l = c .before .before .before .before .before .before .before .before .before .lifetimes in
+    let at-before = c .before .before .before .before .before in
+    let at-lifetimes = at-before .before .before .before .before in
+    let s = at-lifetimes .before .before .before .before .before in
+    let l = at-lifetimes .lifetimes in
     let e = c .enum-told2 .given .1 in
-    run-refused (l .inv .2) _ _ (pushed-next (c .before .before .before .before .before .before) (c .before .before .before .before .before .if1 .left)) (extends-refused (c .before .before .push-pair .ensures) e (l .inv .2 .size-reach)) e
+    run-refused (l .inv .2) _ _ (pushed-next (at-before .before) (at-before .if1 .left)) (extends-refused (c .before .before .push-pair .ensures) e (l .inv .2 .size-reach)) e
 
 position-requires-2 : tie.Need-position-requires-2 Inv-lifetimes μ-lifetimes
 position-requires-2 c κs = search needs
 
 join-requires : tie.Need-join-requires Inv-lifetimes μ-lifetimes
 join-requires c κs =
-    let s = c .before .before .before .before .before .before .before .before .before .before .before .before .before .before .before .before in
-    let sides = accepted-sides (c .before .before .before .before .push-pair .ensures) (c .before .before .enum-told .given .1) in
-    (omega (arith, s .pre .1 .0), omega (arith, named-long s, sides, c .before .position2 .ensures), omega (arith, named-long s, sides, c .before .before .before .before .before .before .before .before .before .before .before .before .position .ensures), c .before .before .before .before .before .before .before .before .before .before .before .lifetimes .inv .2 .size-reach)
+    let at-push-pair = c .before .before .before .before in
+    let at-lifetimes = at-push-pair .before .before .before .before .before .before .before in
+    let at-position = at-lifetimes .before in
+    let s = at-position .before .before .before .before in
+    let sides = accepted-sides (at-push-pair .push-pair .ensures) (c .before .before .enum-told .given .1) in
+    (omega (arith, s .pre .1 .0), omega (arith, named-long s, sides, c .before .position2 .ensures), omega (arith, named-long s, sides, at-position .position .ensures), at-lifetimes .lifetimes .inv .2 .size-reach)
 
 add-count : tie.Need-add-count Inv-lifetimes μ-lifetimes
-add-count c = omega (arith, c .before .before .before .before .before .before .before .before .before .before .before .before .lifetimes .inv .2 .few)
+add-count c =
+    let at-lifetimes = c .before .before .before .before .before .before .before .before .before .before .before .before in
+    omega (arith, at-lifetimes .lifetimes .inv .2 .few)
 
 lifetimes-less-2 : tie.Need-lifetimes-less-2 Inv-lifetimes μ-lifetimes
 lifetimes-less-2 c = search needs
 
 lifetimes-again-2 : tie.Need-lifetimes-again-2 Inv-lifetimes μ-lifetimes
 lifetimes-again-2 c =
-    let s = c .before .before .before .before .before .before .before .before .before .before .before .before .before .before .before .before .before in
-    let l = c .before .before .before .before .before .before .before .before .before .before .before .before .lifetimes in
+    let at-push-pair = c .before .before .before .before .before in
+    let at-before = at-push-pair .before .before .before in
+    let at-lifetimes = at-before .before .before .before .before in
+    let s = at-lifetimes .before .before .before .before .before in
+    let l = at-lifetimes .lifetimes in
     let e = c .before .before .before .enum-told .given .1 in
-    (omega arith, omega arith, run-more (l .inv .2) _ _ (pushed-next (c .before .before .before .before .before .before .before .before .before) (c .before .before .before .before .before .before .before .before .if1 .left)) (extends-one (c .before .before .before .before .before .push-pair .ensures) e (joined c) (l .inv .2 .reaches)) e)
+    (omega arith, omega arith, run-more (l .inv .2) _ _ (pushed-next (at-before .before) (at-before .if1 .left)) (extends-one (at-push-pair .push-pair .ensures) e (joined c) (l .inv .2 .reaches)) e)
 
 returns-2 : tie.Need-returns-2 Inv-lifetimes μ-lifetimes
 returns-2 c =

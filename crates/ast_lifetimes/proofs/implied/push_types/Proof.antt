@@ -91,9 +91,11 @@ words-again-3 c = λ ts e. implying-free (c .before .before .before .before .bef
 
 push-path-requires : tie.Need-push-path-requires Inv-words μ-words
 push-path-requires c κs =
-    let s = c .before .before .before .before .before .before .before .before .before .before .before in
-    let run = (held (c .before .before .before .before .before .before .before .before .before)) .run in (
-      (omega arith, implying-fits (held (c .before .before .before .before .before .before .before .before .before)) (c .before .before .before .before .before .before .before .before .words-test .taken) (c .before .before .before .before .before .if2 .left)),
+    let at-if2 = c .before .before .before .before .before in
+    let at-before = at-if2 .before .before .before in
+    let s = at-before .before .before .before in
+    let run = (held (at-before .before)) .run in (
+      (omega arith, implying-fits (held (at-before .before)) (at-before .words-test .taken) (at-if2 .if2 .left)),
       (
         s .pre .1 .0,
         (
@@ -110,13 +112,23 @@ enum-told-2 : tie.Need-enum-told-2 Inv-words μ-words
 enum-told-2 c = search needs
 
 returns : tie.Need-returns Inv-words μ-words
-returns c = λ ts e. implying-refused (c .before .before .before .before .before .before .before .before .before .before .before .before .words .inv ts e) (c .before .before .before .before .before .before .before .before .before .before .before .words-test .taken) (c .before .before .before .before .before .before .before .before .if2 .left) (c .before .before .before .before .before .before .if3 .left) (c .before .before .push-path .ensures) (c .enum-told2 .given .1)
+returns c =
+    let at-if3 = c .before .before .before .before .before .before in
+    let at-if2 = at-if3 .before .before in
+    let at-words-test = at-if2 .before .before .before in
+    let at-words = at-words-test .before in
+    λ ts e. implying-refused (at-words .words .inv ts e) (at-words-test .words-test .taken) (at-if2 .if2 .left) (at-if3 .if3 .left) (c .before .before .push-path .ensures) (c .enum-told2 .given .1)
 
 words-less-4 : tie.Need-words-less-4 Inv-words μ-words
 words-less-4 c = omega arith
 
 words-again-4 : tie.Need-words-again-4 Inv-words μ-words
-words-again-4 c = λ ts e. implying-path (c .before .before .before .before .before .before .before .before .before .before .before .before .words .inv ts e) (c .before .before .before .before .before .before .before .before .before .before .before .words-test .taken) (c .before .before .before .before .before .before .before .before .if2 .left) (c .before .before .before .before .before .before .if3 .left) (c .before .before .push-path .ensures) (c .enum-told .given .1)
+words-again-4 c =
+    let at-if3 = c .before .before .before .before .before .before in
+    let at-if2 = at-if3 .before .before in
+    let at-words-test = at-if2 .before .before .before in
+    let at-words = at-words-test .before in
+    λ ts e. implying-path (at-words .words .inv ts e) (at-words-test .words-test .taken) (at-if2 .if2 .left) (at-if3 .if3 .left) (c .before .before .push-path .ensures) (c .enum-told .given .1)
 
 returns-2 : tie.Need-returns-2 Inv-words μ-words
 returns-2 c = λ ts e. implying-end (c .before .words .inv ts e) (c .words-test .left)

@@ -14,7 +14,9 @@ unborrowed-requires c κs = search needs
 
 -- src/borrows.rt:143:9
 returns : tie.Need-returns
-returns c = by-used (c .before .before .before .before .before .before .before .before .args .visitor) (c .before .before .before .before .before .before .before .before .args .structs .now) (c .before .before .before .before .before .before .before .before .args .params .now) (c .before .before .before .before .before .before .before .before .args .used .now) (c .before .before .before .before .before .before .before .before .args .answers .now) (c .before .before .before .before .before .before .before .before .args .edges .now) (c .before .before .before .before .before .before .before .before .pre) (c .before .before .count .ensures) (c .before .if1 .taken) (c .unborrowed .ensures)
+returns c =
+    let s = c .before .before .before .before .before .before .before .before in
+    by-used (s .args .visitor) (s .args .structs .now) (s .args .params .now) (s .args .used .now) (s .args .answers .now) (s .args .edges .now) (s .pre) (c .before .before .count .ensures) (c .before .if1 .taken) (c .unborrowed .ensures)
 
 -- src/borrows.rt:145:9
 borrow-map-requires : tie.Need-borrow-map-requires
@@ -38,7 +40,12 @@ same-length-2 c = search needs
 
 -- src/borrows.rt:148:9
 returns-2 : tie.Need-returns-2
-returns-2 c = by-map-refused (c .before .before .before .before .before .before .before .before .before .before .before .before .before .before .before .before .before .before .args .visitor) (c .before .before .before .before .before .before .before .before .before .before .before .before .before .before .before .before .before .before .args .structs .now) (c .before .before .before .before .before .before .before .before .before .before .before .before .before .before .before .before .before .before .args .params .now) (c .before .before .before .before .before .before .before .before .before .before .before .before .before .before .before .before .before .before .args .used .now) (c .before .before .before .before .before .before .before .before .before .before .before .before .before .before .before .before .before .before .args .answers .now) (c .before .before .before .before .before .before .before .before .before .before .before .before .before .before .before .before .before .before .args .edges .now) (c .before .before .before .before .before .before .before .before .before .before .before .before .before .before .before .before .before .before .pre) (c .before .before .before .before .before .before .before .before .before .before .before .before .count .ensures) (c .before .before .before .before .before .before .before .before .before .before .before .if1 .left) (c .before .before .before .before .before .before .before .before .borrow-map .ensures .0) (c .before .before .before .before .before .before .before .before .borrow-map .ensures .1 .0) (c .before .before .before .before .before .before .before .before .borrow-map .ensures .1 .1) (c .before .before .verdict .given .1) (c .unborrowed2 .ensures)
+returns-2 c =
+    let at-borrow-map = c .before .before .before .before .before .before .before .before in
+    let at-if1 = at-borrow-map .before .before .before in
+    let at-count = at-if1 .before in
+    let s = at-count .before .before .before .before .before .before in
+    by-map-refused (s .args .visitor) (s .args .structs .now) (s .args .params .now) (s .args .used .now) (s .args .answers .now) (s .args .edges .now) (s .pre) (at-count .count .ensures) (at-if1 .if1 .left) (at-borrow-map .borrow-map .ensures .0) (at-borrow-map .borrow-map .ensures .1 .0) (at-borrow-map .borrow-map .ensures .1 .1) (c .before .before .verdict .given .1) (c .unborrowed2 .ensures)
 
 enum-told : tie.Need-enum-told
 enum-told c = search needs
@@ -61,7 +68,13 @@ same-length-5 c = search needs
 
 -- src/borrows.rt:129:1
 returns-3 : tie.Need-returns-3
-returns-3 c = by-given (c .before .before .before .before .before .before .before .before .before .before .before .before .before .before .before .before .before .before .before .before .args .visitor) (c .before .before .before .before .before .before .before .before .before .before .before .before .before .before .before .before .before .before .before .before .args .structs .now) (c .before .before .before .before .before .before .before .before .before .before .before .before .before .before .before .before .before .before .before .before .args .params .now) (c .before .before .before .before .before .before .before .before .before .before .before .before .before .before .before .before .before .before .before .before .args .used .now) (c .before .before .before .before .before .before .before .before .before .before .before .before .before .before .before .before .before .before .before .before .args .answers .now) (c .before .before .before .before .before .before .before .before .before .before .before .before .before .before .before .before .before .before .before .before .args .edges .now) (c .before .before .before .before .before .before .before .before .before .before .before .before .before .before .before .before .before .before .before .before .pre) (c .before .before .before .before .before .before .before .before .before .before .before .before .before .before .count .ensures) (c .before .before .before .before .before .before .before .before .before .before .before .before .before .if1 .left) (c .before .before .before .before .before .before .before .before .before .before .borrow-map .ensures .0) (c .before .before .before .before .before .before .before .before .before .before .borrow-map .ensures .1 .0) (c .before .before .before .before .before .before .before .before .before .before .borrow-map .ensures .1 .1) (c .before .before .before .before .enum-told .given .1) (c .before .before .members .ensures .1)
+returns-3 c =
+    let at-enum-told = c .before .before .before .before in
+    let at-borrow-map = at-enum-told .before .before .before .before .before .before in
+    let at-if1 = at-borrow-map .before .before .before in
+    let at-count = at-if1 .before in
+    let s = at-count .before .before .before .before .before .before in
+    by-given (s .args .visitor) (s .args .structs .now) (s .args .params .now) (s .args .used .now) (s .args .answers .now) (s .args .edges .now) (s .pre) (at-count .count .ensures) (at-if1 .if1 .left) (at-borrow-map .borrow-map .ensures .0) (at-borrow-map .borrow-map .ensures .1 .0) (at-borrow-map .borrow-map .ensures .1 .1) (at-enum-told .enum-told .given .1) (c .before .before .members .ensures .1)
 
 pub borrow-by-spec : {M : Type 1} → statement M
 borrow-by-spec =

@@ -18,14 +18,21 @@ unborrowed-requires c κs = search needs
 
 -- src/borrows.rt:122:9
 returns : tie.Need-returns
-returns c = method-unborrowed (c .before .before .before .before .before .before .before .before .before .before .before .before .args .env) (c .before .before .before .before .before .before .before .before .before .before .before .before .args .structs .now) (c .before .before .before .before .before .before .before .before .before .before .before .before .args .params .now) (c .before .before .before .before .before .before .before .before .before .before .before .before .args .output .now) (c .before .before .before .before .before .before .before .before .before .before .before .before .args .force .now) (c .before .before .before .before .before .before .before .before .before .before .before .before .args .used .now) (c .before .before .before .before .before .before .before .before .before .before .before .before .args .answers .now) (c .before .before .before .before .before .before .before .before .before .before .before .before .args .edges .now) (c .before .before .before .before .new .ensures) (c .before .before .verdict .given .1) (c .unborrowed .ensures)
+returns c =
+    let at-new = c .before .before .before .before in
+    let s = at-new .before .before .before .before .before .before .before .before in
+    method-unborrowed (s .args .env) (s .args .structs .now) (s .args .params .now) (s .args .output .now) (s .args .force .now) (s .args .used .now) (s .args .answers .now) (s .args .edges .now) (at-new .new .ensures) (c .before .before .verdict .given .1) (c .unborrowed .ensures)
 
 enum-told : tie.Need-enum-told
 enum-told c = search needs
 
 -- src/borrows.rt:125:5
 borrow-by-requires : tie.Need-borrow-by-requires
-borrow-by-requires c κs = method-of (c .before .before .before .before .before .before .before .before .before .before .before .before .before .before .args .env) (c .before .before .before .before .before .before .before .before .before .before .before .before .before .before .args .structs .now) (c .before .before .before .before .before .before .before .before .before .before .before .before .before .before .args .params .now) (c .before .before .before .before .before .before .before .before .before .before .before .before .before .before .args .output .now) (c .before .before .before .before .before .before .before .before .before .before .before .before .before .before .args .force .now) (c .before .before .before .before .before .before .before .before .before .before .before .before .before .before .args .used .now) (c .before .before .before .before .before .before .before .before .before .before .before .before .before .before .args .answers .now) (c .before .before .before .before .before .before .before .before .before .before .before .before .before .before .args .edges .now) (c .before .before .before .before .before .before .new .ensures) (c .before .before .before .before .enum-told .given .1)
+borrow-by-requires c κs =
+    let at-enum-told = c .before .before .before .before in
+    let at-new = at-enum-told .before .before in
+    let s = at-new .before .before .before .before .before .before .before .before in
+    method-of (s .args .env) (s .args .structs .now) (s .args .params .now) (s .args .output .now) (s .args .force .now) (s .args .used .now) (s .args .answers .now) (s .args .edges .now) (at-new .new .ensures) (at-enum-told .enum-told .given .1)
 
 -- src/borrows.rt:104:1
 same-length : tie.Need-same-length
@@ -41,7 +48,12 @@ same-length-3 c = search needs
 
 -- src/borrows.rt:104:1
 returns-2 : tie.Need-returns-2
-returns-2 c = method-borrowed (c .before .before .before .before .before .before .before .before .before .before .before .before .before .before .before .before .before .before .before .before .before .args .env) (c .before .before .before .before .before .before .before .before .before .before .before .before .before .before .before .before .before .before .before .before .before .args .structs .now) (c .before .before .before .before .before .before .before .before .before .before .before .before .before .before .before .before .before .before .before .before .before .args .params .now) (c .before .before .before .before .before .before .before .before .before .before .before .before .before .before .before .before .before .before .before .before .before .args .output .now) (c .before .before .before .before .before .before .before .before .before .before .before .before .before .before .before .before .before .before .before .before .before .args .force .now) (c .before .before .before .before .before .before .before .before .before .before .before .before .before .before .before .before .before .before .before .before .before .args .used .now) (c .before .before .before .before .before .before .before .before .before .before .before .before .before .before .before .before .before .before .before .before .before .args .answers .now) (c .before .before .before .before .before .before .before .before .before .before .before .before .before .before .before .before .before .before .before .before .before .args .edges .now) (c .before .before .before .before .before .before .before .before .before .before .before .before .before .new .ensures) (c .before .before .before .before .before .before .before .before .before .before .before .enum-told .given .1) (c .before .before .before .before .before .before .borrow-by .ensures)
+returns-2 c =
+    let at-borrow-by = c .before .before .before .before .before .before in
+    let at-enum-told = at-borrow-by .before .before .before .before .before in
+    let at-new = at-enum-told .before .before in
+    let s = at-new .before .before .before .before .before .before .before .before in
+    method-borrowed (s .args .env) (s .args .structs .now) (s .args .params .now) (s .args .output .now) (s .args .force .now) (s .args .used .now) (s .args .answers .now) (s .args .edges .now) (at-new .new .ensures) (at-enum-told .enum-told .given .1) (at-borrow-by .borrow-by .ensures)
 
 pub borrow-method-spec : {M : Type 1} → statement M
 borrow-method-spec =

@@ -22,7 +22,10 @@ same-length-3 c = search needs
 
 -- src/borrows.rt:42:9
 returns : tie.Need-returns
-returns c = sheet-says (c .before .before .before .before .before .before .before .before .before .before .before .before .before .before .before .args .sheet .now) (c .before .before .before .before .before .before .before .before .before .before .before .before .before .before .before .args .used .now) (c .before .before .before .before .before .before .before .before .before .before .before .before .before .before .before .args .answers .now) (c .before .before .before .before .before .before .before .before .before .before .before .before .before .before .before .args .edges .now) (c .before .before .before .before .before .before .borrow-small .ensures)
+returns c =
+    let at-borrow-small = c .before .before .before .before .before .before in
+    let s = at-borrow-small .before .before .before .before .before .before .before .before .before in
+    sheet-says (s .args .sheet .now) (s .args .used .now) (s .args .answers .now) (s .args .edges .now) (at-borrow-small .borrow-small .ensures)
 
 -- src/borrows.rt:44:5
 borrow-large-requires : tie.Need-borrow-large-requires
@@ -42,7 +45,10 @@ same-length-6 c = search needs
 
 -- src/borrows.rt:29:1
 returns-2 : tie.Need-returns-2
-returns-2 c = sheet-says (c .before .before .before .before .before .before .before .before .before .before .before .before .before .before .before .args .sheet .now) (c .before .before .before .before .before .before .before .before .before .before .before .before .before .before .before .args .used .now) (c .before .before .before .before .before .before .before .before .before .before .before .before .before .before .before .args .answers .now) (c .before .before .before .before .before .before .before .before .before .before .before .before .before .before .before .args .edges .now) (c .before .before .before .before .before .before .borrow-large .ensures)
+returns-2 c =
+    let at-borrow-large = c .before .before .before .before .before .before in
+    let s = at-borrow-large .before .before .before .before .before .before .before .before .before in
+    sheet-says (s .args .sheet .now) (s .args .used .now) (s .args .answers .now) (s .args .edges .now) (at-borrow-large .borrow-large .ensures)
 
 pub borrow-sheet-spec : {M : Type 1} → statement M
 borrow-sheet-spec =

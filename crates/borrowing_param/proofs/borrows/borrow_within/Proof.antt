@@ -22,7 +22,10 @@ same-length c = search needs
 
 -- src/borrows.rt:87:9
 returns : tie.Need-returns
-returns c = sheet-unborrowed (c .before .before .before .before .before .before .before .before .before .before .before .before .before .args .sheet .now) (c .before .before .before .before .before .before .before .before .before .before .before .before .before .args .used .now) (c .before .before .before .before .before .before .before .before .before .before .before .before .before .args .answers .now) (c .before .before .before .before .before .before .before .before .before .before .before .before .before .args .edges .now) (c .before .before .before .before .before .before .judge-sheet .ensures) (c .before .before .verdict .given .1) (c .unborrowed .ensures)
+returns c =
+    let at-judge-sheet = c .before .before .before .before .before .before in
+    let s = at-judge-sheet .before .before .before .before .before .before .before in
+    sheet-unborrowed (s .args .sheet .now) (s .args .used .now) (s .args .answers .now) (s .args .edges .now) (at-judge-sheet .judge-sheet .ensures) (c .before .before .verdict .given .1) (c .unborrowed .ensures)
 
 enum-told : tie.Need-enum-told
 enum-told c = search needs
@@ -65,7 +68,16 @@ same-length-5 c = search needs
 
 -- src/borrows.rt:74:1
 returns-2 : tie.Need-returns-2
-returns-2 c = sheet-borrowed (c .before .before .before .before .before .before .before .before .before .before .before .before .before .before .before .before .before .before .before .before .before .before .before .before .before .before .before .before .args .sheet .now) (c .before .before .before .before .before .before .before .before .before .before .before .before .before .before .before .before .before .before .before .before .before .before .before .before .before .before .before .before .args .used .now) (c .before .before .before .before .before .before .before .before .before .before .before .before .before .before .before .before .before .before .before .before .before .before .before .before .before .before .before .before .args .answers .now) (c .before .before .before .before .before .before .before .before .before .before .before .before .before .before .before .before .before .before .before .before .before .before .before .before .before .before .before .before .args .edges .now) (c .before .before .before .before .before .before .before .before .before .before .before .before .before .before .before .before .before .before .before .before .before .judge-sheet .ensures) (c .before .before .before .before .before .before .before .before .before .before .before .before .before .before .before .before .before .enum-told .given .1) (c .before .before .before .before .before .before .before .before .before .before .before .before .before .record-words .ensures) (c .before .before .before .before .before .before .before .before .before .before .before .before .record-words2 .ensures) (c .before .before .before .before .before .before .before .before .before .before .before .record-words3 .ensures) (c .before .before .before .before .before .before .before .before .before .before .record-words4 .ensures) (c .before .before .before .before .before .before .borrow-method .ensures)
+returns-2 c =
+    let at-borrow-method = c .before .before .before .before .before .before in
+    let at-record-words4 = at-borrow-method .before .before .before .before in
+    let at-record-words3 = at-record-words4 .before in
+    let at-record-words2 = at-record-words3 .before in
+    let at-record-words = at-record-words2 .before in
+    let at-enum-told = at-record-words .before .before .before .before in
+    let at-judge-sheet = at-enum-told .before .before .before .before in
+    let s = at-judge-sheet .before .before .before .before .before .before .before in
+    sheet-borrowed (s .args .sheet .now) (s .args .used .now) (s .args .answers .now) (s .args .edges .now) (at-judge-sheet .judge-sheet .ensures) (at-enum-told .enum-told .given .1) (at-record-words .record-words .ensures) (at-record-words2 .record-words2 .ensures) (at-record-words3 .record-words3 .ensures) (at-record-words4 .record-words4 .ensures) (at-borrow-method .borrow-method .ensures)
 
 pub borrow-within-spec : {M : Type 1} → statement M
 borrow-within-spec =

@@ -18,11 +18,11 @@ Inv-loop used drawn words parts limit n₀ l₀ n l = Below used limit × Counti
 abbrev μ-loop : tie.MeasureT-loop
 μ-loop used drawn words parts limit n₀ l₀ n l = limit - l
 
-limit-of-requires : tie.Need-limit-of-requires Inv-loop μ-loop
-limit-of-requires c κs = search needs
+past-last-requires : tie.Need-past-last-requires Inv-loop μ-loop
+past-last-requires c κs = search needs
 
 loop-holds : tie.Need-loop-holds Inv-loop μ-loop
-loop-holds c = (c .limit-of .ensures, counting-all _ _ _)
+loop-holds c = (c .past-last .ensures, counting-all _ _ _)
 
 new-requires : tie.Need-new-requires Inv-loop μ-loop
 new-requires c κs = search needs
@@ -37,13 +37,17 @@ element-copy-out-count-for : tie.Need-element-copy-out-count-for Inv-loop μ-loo
 element-copy-out-count-for c = search needs
 
 count-for-requires : tie.Need-count-for-requires Inv-loop μ-loop
-count-for-requires c κs = c .before .before .before .before .before .before .before .before .pre .0
+count-for-requires c κs =
+    let s = c .before .before .before .before .before .before .before .before in
+    s .pre .0
 
 add-n : tie.Need-add-n Inv-loop μ-loop
 add-n c =
-    let s = c .before .before .before .before .before .before .before .before .before in
-    let i = c .before .before .before .before .before .before .loop .inv in
-    omega (arith, i .1 .few, i .0 .0, c .before .before .before .before .before .loop-test .taken, counted-few (i .1) (path-few (s .args .words .now) (s .args .parts) (s .pre .0) (s .pre .1)) (c .count-for .ensures))
+    let at-loop-test = c .before .before .before .before .before in
+    let at-loop = at-loop-test .before in
+    let s = at-loop .before .before .before in
+    let i = at-loop .loop .inv in
+    omega (arith, i .1 .few, i .0 .0, at-loop-test .loop-test .taken, counted-few (i .1) (path-few (s .args .words .now) (s .args .parts) (s .pre .0) (s .pre .1)) (c .count-for .ensures))
 
 add-l : tie.Need-add-l Inv-loop μ-loop
 add-l c = search needs
@@ -71,7 +75,7 @@ count-all-spec =
     (tie.spec
     Inv-loop
     μ-loop
-    limit-of-requires
+    past-last-requires
     loop-holds
     new-requires
     contains-requires

@@ -22,7 +22,9 @@ loop-holds : tie.Need-loop-holds Inv-loop μ-loop
 loop-holds c = counting-start _ _ _ _
 
 linked-lifetime-requires : tie.Need-linked-lifetime-requires Inv-loop μ-loop
-linked-lifetime-requires c κs = (part-many (c .before .before .before .before .args .words .now) (c .before .before .path-words .result .now) (c .before .before .before .before .args .from) (c .before .before .before .before .args .count) (c .before .before .path-words .ensures) (c .before .before .before .before .pre), c .loop-test .taken)
+linked-lifetime-requires c κs =
+    let s = c .before .before .before .before in
+    (part-many (s .args .words .now) (c .before .before .path-words .result .now) (s .args .from) (s .args .count) (c .before .before .path-words .ensures) (s .pre), c .loop-test .taken)
 
 draws-requires : tie.Need-draws-requires Inv-loop μ-loop
 draws-requires c κs = search needs

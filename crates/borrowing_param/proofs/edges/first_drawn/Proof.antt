@@ -33,13 +33,26 @@ enum-told-3 : tie.Need-enum-told-3
 enum-told-3 c = search needs
 
 returns-2 : tie.Need-returns-2
-returns-2 c = drawn-own (drawsIn (c .before .before .before .before .before .before .before .before .before .args .set)) (c .before .before .before .before .before .before .before .before .before .args .words .now) (c .before .before .before .before .before .before .before .before .before .args .parts) (c .before .before .before .before .before .before .before .first-word .ensures) (c .before .before .before .before .before .before .before .before .before .pre) (c .before .before .before .before .before .enum-told .given .1) (c .before .before .before .before .lifetime .ensures) (c .before .before .last .given .1) (c .first-own .ensures)
+returns-2 c =
+    let at-lifetime = c .before .before .before .before in
+    let at-enum-told = at-lifetime .before in
+    let at-first-word = at-enum-told .before .before in
+    let s = at-first-word .before .before in
+    drawn-own (drawsIn (s .args .set)) (s .args .words .now) (s .args .parts) (at-first-word .first-word .ensures) (s .pre) (at-enum-told .enum-told .given .1) (at-lifetime .lifetime .ensures) (c .before .before .last .given .1) (c .first-own .ensures)
 
 returns-3 : tie.Need-returns-3
-returns-3 c = drawn-absent (drawsIn (c .before .before .before .before .before .before .before .args .set)) (c .before .before .before .before .before .before .before .args .words .now) (c .before .before .before .before .before .before .before .args .parts) (c .before .before .before .before .before .first-word .ensures) (c .before .before .before .before .before .before .before .pre) (c .before .before .before .enum-told .given .1) (c .before .before .lifetime .ensures) (c .enum-told2 .given .1)
+returns-3 c =
+    let at-enum-told = c .before .before .before in
+    let at-first-word = at-enum-told .before .before in
+    let s = at-first-word .before .before in
+    drawn-absent (drawsIn (s .args .set)) (s .args .words .now) (s .args .parts) (at-first-word .first-word .ensures) (s .pre) (at-enum-told .enum-told .given .1) (c .before .before .lifetime .ensures) (c .enum-told2 .given .1)
 
 returns-4 : tie.Need-returns-4
-returns-4 c = drawn-refused (drawsIn (c .before .before .before .before .before .before .before .args .set)) (c .before .before .before .before .before .before .before .args .words .now) (c .before .before .before .before .before .before .before .args .parts) (c .before .before .before .before .before .first-word .ensures) (c .before .before .before .before .before .before .before .pre) (c .before .before .before .enum-told .given .1) (c .before .before .lifetime .ensures) (c .enum-told3 .given .1)
+returns-4 c =
+    let at-enum-told = c .before .before .before in
+    let at-first-word = at-enum-told .before .before in
+    let s = at-first-word .before .before in
+    drawn-refused (drawsIn (s .args .set)) (s .args .words .now) (s .args .parts) (at-first-word .first-word .ensures) (s .pre) (at-enum-told .enum-told .given .1) (c .before .before .lifetime .ensures) (c .enum-told3 .given .1)
 
 pub first-drawn-spec : {M : Type 1} → statement M
 first-drawn-spec =

@@ -20,13 +20,13 @@ Inv-used used drawn words parts param edges₀ at pairs₀ limit next₀ i₀ ed
 abbrev μ-used : tie.MeasureT-used
 μ-used used drawn words parts param edges₀ at pairs₀ limit next₀ i₀ edges pairs next i = limit - i
 
-limit-of-requires : tie.Need-limit-of-requires Inv-used μ-used
-limit-of-requires c κs = search needs
+past-last-requires : tie.Need-past-last-requires Inv-used μ-used
+past-last-requires c κs = search needs
 
 used-holds : tie.Need-used-holds Inv-used μ-used
 used-holds c =
     let s = c .before .before .before in
-    (c .limit-of .ensures, storing-none (storing-start (allIn (s .args .used) (s .args .drawn .now) (typeIn (s .args .words .now) (s .args .parts)) (s .args .param)) (s .args .at) (s .args .pairs .now) (s .args .edges .now) (s .pre .0 .2) (s .pre .1)) (all-left (s .args .used) (s .args .drawn .now) (typeIn (s .args .words .now) (s .args .parts)) (s .args .param)))
+    (c .past-last .ensures, storing-none (storing-start (allIn (s .args .used) (s .args .drawn .now) (typeIn (s .args .words .now) (s .args .parts)) (s .args .param)) (s .args .at) (s .args .pairs .now) (s .args .edges .now) (s .pre .0 .2) (s .pre .1)) (all-left (s .args .used) (s .args .drawn .now) (typeIn (s .args .words .now) (s .args .parts)) (s .args .param)))
 
 add-i : tie.Need-add-i Inv-used μ-used
 add-i c = search needs
@@ -42,8 +42,9 @@ used-less c = search needs
 
 used-again : tie.Need-used-again Inv-used μ-used
 used-again c =
-    let s = c .before .before .before .before .before .before .before .before in
-    let l = c .before .before .before .before .used in
+    let at-used = c .before .before .before .before in
+    let s = at-used .before .before .before .before in
+    let l = at-used .used in
     (l .inv .0, storing-none (l .inv .1) (all-not (s .args .used) (s .args .drawn .now) (typeIn (s .args .words .now) (s .args .parts)) (s .args .param) (l .i) (below-64 (l .inv .0) (c .before .before .before .used-test .taken)) (sym (not-true _ (c .if1 .taken)) ∙ c .before .contains .ensures ∙ ap (λ (x : Lifetime). member (s .args .used) (x .0)) (c .before .before .new .ensures))))
 
 mul-store-for : tie.Need-mul-store-for Inv-used μ-used
@@ -54,10 +55,14 @@ element-copy-out-store-for c = search needs
 
 store-for-requires : tie.Need-store-for-requires Inv-used μ-used
 store-for-requires c κs =
-    let s = c .before .before .before .before .before .before .before .before .before .before .before in
-    let l = c .before .before .before .before .before .before .before .used in
-    let h = below-64 (l .inv .0) (c .before .before .before .before .before .before .used-test .taken) in
-    let split = all-here (s .args .used) (s .args .drawn .now) (typeIn (s .args .words .now) (s .args .parts)) (s .args .param) (l .i) h (sym (not-false _ (c .before .before .before .if1 .left)) ∙ c .before .before .before .before .contains .ensures ∙ ap (λ (x : Lifetime). member (s .args .used) (x .0)) (c .before .before .before .before .before .new .ensures)) in
+    let at-contains = c .before .before .before .before in
+    let at-new = at-contains .before in
+    let at-used-test = at-new .before in
+    let at-used = at-used-test .before in
+    let s = at-used .before .before .before .before in
+    let l = at-used .used in
+    let h = below-64 (l .inv .0) (at-used-test .used-test .taken) in
+    let split = all-here (s .args .used) (s .args .drawn .now) (typeIn (s .args .words .now) (s .args .parts)) (s .args .param) (l .i) h (sym (not-false _ (c .before .before .before .if1 .left)) ∙ at-contains .contains .ensures ∙ ap (λ (x : Lifetime). member (s .args .used) (x .0)) (at-new .new .ensures)) in
     ((s .pre .0 .0, s .pre .0 .1, h, l .inv .1 .sets16), storing-fits (l .inv .1) (bring (drawsIn (getD (s .args .drawn .now) (l .i) 0)) (l .i) (s .args .param) (typeIn (s .args .words .now) (s .args .parts))) (leftAll (s .args .used) (s .args .drawn .now) (typeIn (s .args .words .now) (s .args .parts)) (s .args .param) (l .i + 1)) split)
 
 used-less-2 : tie.Need-used-less-2 Inv-used μ-used
@@ -65,9 +70,14 @@ used-less-2 c = search needs
 
 used-again-2 : tie.Need-used-again-2 Inv-used μ-used
 used-again-2 c =
-    let s = c .before .before .before .before .before .before .before .before .before .before .before .before .before .before in
-    let l = c .before .before .before .before .before .before .before .before .before .before .used in
-    let split = all-here (s .args .used) (s .args .drawn .now) (typeIn (s .args .words .now) (s .args .parts)) (s .args .param) (l .i) (below-64 (l .inv .0) (c .before .before .before .before .before .before .before .before .before .used-test .taken)) (sym (not-false _ (c .before .before .before .before .before .before .if1 .left)) ∙ c .before .before .before .before .before .before .before .contains .ensures ∙ ap (λ (x : Lifetime). member (s .args .used) (x .0)) (c .before .before .before .before .before .before .before .before .new .ensures)) in
+    let at-if1 = c .before .before .before .before .before .before in
+    let at-contains = at-if1 .before in
+    let at-new = at-contains .before in
+    let at-used-test = at-new .before in
+    let at-used = at-used-test .before in
+    let s = at-used .before .before .before .before in
+    let l = at-used .used in
+    let split = all-here (s .args .used) (s .args .drawn .now) (typeIn (s .args .words .now) (s .args .parts)) (s .args .param) (l .i) (below-64 (l .inv .0) (at-used-test .used-test .taken)) (sym (not-false _ (at-if1 .if1 .left)) ∙ at-contains .contains .ensures ∙ ap (λ (x : Lifetime). member (s .args .used) (x .0)) (at-new .new .ensures)) in
     (l .inv .0, storing-part (l .inv .1) (bring (drawsIn (getD (s .args .drawn .now) (l .i) 0)) (l .i) (s .args .param) (typeIn (s .args .words .now) (s .args .parts))) (leftAll (s .args .used) (s .args .drawn .now) (typeIn (s .args .words .now) (s .args .parts)) (s .args .param) (l .i + 1)) split (c .before .before .store-for .ensures))
 
 same-length : tie.Need-same-length Inv-used μ-used
@@ -85,7 +95,7 @@ store-all-spec =
     (tie.spec
     Inv-used
     μ-used
-    limit-of-requires
+    past-last-requires
     used-holds
     add-i
     new-requires

@@ -26,18 +26,23 @@ mul-pairs : tie.Need-mul-pairs
 mul-pairs c = search needs
 
 element-write-pairs : tie.Need-element-write-pairs
-element-write-pairs c = c .before .before .before .before .before .before .before .before .pre .1
+element-write-pairs c =
+    let s = c .before .before .before .before .before .before .before .before in
+    s .pre .1
 
 add-result : tie.Need-add-result
-add-result c = omega (arith, c .before .before .before .before .before .before .before .before .pre .4, c .before .before .before .before .before .before .before .before .fits)
+add-result c =
+    let s = c .before .before .before .before .before .before .before .before in
+    omega (arith, s .pre .4, s .fits)
 
 same-length : tie.Need-same-length
 same-length c = search needs
 
 returns : tie.Need-returns
 returns c =
-    let s = c .before .before .before .before .before .before .before .before in
-    pair-stored (s .args .edge) (s .args .at) (s .args .pairs .now) (s .args .edges .now) (s .pre .0) (s .pre .2) (ap (λ (l : Lifetime). l .0) (c .before .new .ensures)) (c .before .before .before .before .before .put .ensures) (c .insert .ensures)
+    let at-put = c .before .before .before .before .before in
+    let s = at-put .before .before .before in
+    pair-stored (s .args .edge) (s .args .at) (s .args .pairs .now) (s .args .edges .now) (s .pre .0) (s .pre .2) (ap (λ (l : Lifetime). l .0) (c .before .new .ensures)) (at-put .put .ensures) (c .insert .ensures)
 
 pub store-pair-spec : {M : Type 1} → statement M
 store-pair-spec =

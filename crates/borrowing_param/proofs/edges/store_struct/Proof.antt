@@ -38,7 +38,9 @@ add-i : tie.Need-add-i Inv-lifetimes μ-lifetimes
 add-i c = search needs
 
 linked-lifetime-requires : tie.Need-linked-lifetime-requires Inv-lifetimes μ-lifetimes
-linked-lifetime-requires c κs = (part-many (c .before .before .before .before .before .before .args .words .now) (c .before .before .path-words .result .now) (c .before .before .before .before .before .before .args .parts .from) (c .before .before .before .before .before .before .args .parts .count) (c .before .before .path-words .ensures) (c .before .before .before .before .before .before .pre .0 .0), c .lifetimes-test .taken)
+linked-lifetime-requires c κs =
+    let s = c .before .before .before .before .before .before in
+    (part-many (s .args .words .now) (c .before .before .path-words .result .now) (s .args .parts .from) (s .args .parts .count) (c .before .before .path-words .ensures) (s .pre .0 .0), c .lifetimes-test .taken)
 
 draws-requires : tie.Need-draws-requires Inv-lifetimes μ-lifetimes
 draws-requires c κs = search needs
@@ -47,21 +49,40 @@ lifetimes-less : tie.Need-lifetimes-less Inv-lifetimes μ-lifetimes
 lifetimes-less c = search needs
 
 lifetimes-again : tie.Need-lifetimes-again Inv-lifetimes μ-lifetimes
-lifetimes-again c = (omega (arith, c .before .before .before .lifetimes-test .taken), storing-none (c .before .before .before .before .lifetimes .inv .1) (edges-skip (drawsIn (c .before .before .before .before .before .before .before .before .before .args .set)) (c .before .before .before .before .before .before .before .before .before .args .used) (c .before .before .before .before .before .before .before .before .before .args .param) (c .before .before .before .before .before .before .option-number .result) (c .before .before .before .before .before .before .before .before .before .args .words .now) (c .before .before .before .before .before .before .before .before .before .args .parts .from) (c .before .before .before .before .before .before .before .before .before .args .parts .count) (c .before .before .before .before .before .before .before .before .before .pre .0 .0) (c .before .before .before .before .lifetimes .i) (c .before .before .before .lifetimes-test .taken) (part-word (c .before .before .before .before .before .before .before .before .before .args .words .now) (c .before .before .before .before .before .path-words .result .now) (c .before .before .before .before .before .before .before .before .before .args .parts .from) (c .before .before .before .before .before .before .before .before .before .args .parts .count) (c .before .before .before .before .before .path-words .ensures) (c .before .before .before .lifetimes-test .taken) (c .before .before .linked-lifetime .ensures)) (sym (not-true _ (c .if1 .taken)) ∙ c .before .draws .ensures)))
+lifetimes-again c =
+    let at-lifetimes-test = c .before .before .before in
+    let at-lifetimes = at-lifetimes-test .before in
+    let at-path-words = at-lifetimes .before in
+    let at-option-number = at-path-words .before in
+    let s = at-option-number .before .before .before in
+    (omega (arith, at-lifetimes-test .lifetimes-test .taken), storing-none (at-lifetimes .lifetimes .inv .1) (edges-skip (drawsIn (s .args .set)) (s .args .used) (s .args .param) (at-option-number .option-number .result) (s .args .words .now) (s .args .parts .from) (s .args .parts .count) (s .pre .0 .0) (at-lifetimes .lifetimes .i) (at-lifetimes-test .lifetimes-test .taken) (part-word (s .args .words .now) (at-path-words .path-words .result .now) (s .args .parts .from) (s .args .parts .count) (at-path-words .path-words .ensures) (at-lifetimes-test .lifetimes-test .taken) (c .before .before .linked-lifetime .ensures)) (sym (not-true _ (c .if1 .taken)) ∙ c .before .draws .ensures)))
 
 store-pair-requires : tie.Need-store-pair-requires Inv-lifetimes μ-lifetimes
 store-pair-requires c κs =
-    let s = c .before .before .before .before .before .before .before .before .before .before .before in
-    let split = edges-one (drawsIn (c .before .before .before .before .before .before .before .before .before .before .before .args .set)) (c .before .before .before .before .before .before .before .before .before .before .before .args .used) (c .before .before .before .before .before .before .before .before .before .before .before .args .param) (c .before .before .before .before .before .before .before .before .option-number .result) (c .before .before .before .before .before .before .before .before .before .before .before .args .words .now) (c .before .before .before .before .before .before .before .before .before .before .before .args .parts .from) (c .before .before .before .before .before .before .before .before .before .before .before .args .parts .count) (c .before .before .before .before .before .before .before .before .before .before .before .pre .0 .0) (c .before .before .before .before .before .before .lifetimes .i) (c .before .before .before .before .before .lifetimes-test .taken) (part-word (c .before .before .before .before .before .before .before .before .before .before .before .args .words .now) (c .before .before .before .before .before .before .before .path-words .result .now) (c .before .before .before .before .before .before .before .before .before .before .before .args .parts .from) (c .before .before .before .before .before .before .before .before .before .before .before .args .parts .count) (c .before .before .before .before .before .before .before .path-words .ensures) (c .before .before .before .before .before .lifetimes-test .taken) (c .before .before .before .before .linked-lifetime .ensures)) (sym (not-false _ (c .before .before .if1 .left)) ∙ c .before .before .before .draws .ensures) in
-    (refl, omega (arith, s .pre .0 .1, c .before .before .before .before .before .lifetimes-test .taken), s .pre .0 .2, c .before .before .before .before .before .before .lifetimes .inv .1 .sets16, storing-fits (c .before .before .before .before .before .before .lifetimes .inv .1) (edge (c .before .before .before .before .before .before .before .before .before .before .before .args .used) (c .before .before .before .before .before .before .before .before .before .before .before .args .param) 3 (c .before .before .before .before .before .before .lifetimes .i) (c .before .before .before .before .before .before .before .before .option-number .result) ∷ []) (leftEdges (drawsIn (c .before .before .before .before .before .before .before .before .before .before .before .args .set)) (c .before .before .before .before .before .before .before .before .before .before .before .args .used) (c .before .before .before .before .before .before .before .before .before .before .before .args .param) (c .before .before .before .before .before .before .before .before .option-number .result) (c .before .before .before .before .before .before .before .before .before .before .before .args .words .now) (c .before .before .before .before .before .before .before .before .before .before .before .args .parts .from) (c .before .before .before .before .before .before .before .before .before .before .before .args .parts .count) (c .before .before .before .before .before .before .lifetimes .i + 1)) split)
+    let at-linked-lifetime = c .before .before .before .before in
+    let at-lifetimes-test = at-linked-lifetime .before in
+    let at-lifetimes = at-lifetimes-test .before in
+    let at-path-words = at-lifetimes .before in
+    let at-option-number = at-path-words .before in
+    let s = at-option-number .before .before .before in
+    let split = edges-one (drawsIn (s .args .set)) (s .args .used) (s .args .param) (at-option-number .option-number .result) (s .args .words .now) (s .args .parts .from) (s .args .parts .count) (s .pre .0 .0) (at-lifetimes .lifetimes .i) (at-lifetimes-test .lifetimes-test .taken) (part-word (s .args .words .now) (at-path-words .path-words .result .now) (s .args .parts .from) (s .args .parts .count) (at-path-words .path-words .ensures) (at-lifetimes-test .lifetimes-test .taken) (at-linked-lifetime .linked-lifetime .ensures)) (sym (not-false _ (c .before .before .if1 .left)) ∙ c .before .before .before .draws .ensures) in
+    (refl, omega (arith, s .pre .0 .1, at-lifetimes-test .lifetimes-test .taken), s .pre .0 .2, at-lifetimes .lifetimes .inv .1 .sets16, storing-fits (at-lifetimes .lifetimes .inv .1) (edge (s .args .used) (s .args .param) 3 (at-lifetimes .lifetimes .i) (at-option-number .option-number .result) ∷ []) (leftEdges (drawsIn (s .args .set)) (s .args .used) (s .args .param) (at-option-number .option-number .result) (s .args .words .now) (s .args .parts .from) (s .args .parts .count) (at-lifetimes .lifetimes .i + 1)) split)
 
 lifetimes-less-2 : tie.Need-lifetimes-less-2 Inv-lifetimes μ-lifetimes
 lifetimes-less-2 c = search needs
 
 lifetimes-again-2 : tie.Need-lifetimes-again-2 Inv-lifetimes μ-lifetimes
 lifetimes-again-2 c =
-    let split = edges-one (drawsIn (c .before .before .before .before .before .before .before .before .before .before .before .before .before .before .args .set)) (c .before .before .before .before .before .before .before .before .before .before .before .before .before .before .args .used) (c .before .before .before .before .before .before .before .before .before .before .before .before .before .before .args .param) (c .before .before .before .before .before .before .before .before .before .before .before .option-number .result) (c .before .before .before .before .before .before .before .before .before .before .before .before .before .before .args .words .now) (c .before .before .before .before .before .before .before .before .before .before .before .before .before .before .args .parts .from) (c .before .before .before .before .before .before .before .before .before .before .before .before .before .before .args .parts .count) (c .before .before .before .before .before .before .before .before .before .before .before .before .before .before .pre .0 .0) (c .before .before .before .before .before .before .before .before .before .lifetimes .i) (c .before .before .before .before .before .before .before .before .lifetimes-test .taken) (part-word (c .before .before .before .before .before .before .before .before .before .before .before .before .before .before .args .words .now) (c .before .before .before .before .before .before .before .before .before .before .path-words .result .now) (c .before .before .before .before .before .before .before .before .before .before .before .before .before .before .args .parts .from) (c .before .before .before .before .before .before .before .before .before .before .before .before .before .before .args .parts .count) (c .before .before .before .before .before .before .before .before .before .before .path-words .ensures) (c .before .before .before .before .before .before .before .before .lifetimes-test .taken) (c .before .before .before .before .before .before .before .linked-lifetime .ensures)) (sym (not-false _ (c .before .before .before .before .before .if1 .left)) ∙ c .before .before .before .before .before .before .draws .ensures) in
-    (omega (arith, c .before .before .before .before .before .before .before .before .lifetimes-test .taken), storing-part (c .before .before .before .before .before .before .before .before .before .lifetimes .inv .1) (edge (c .before .before .before .before .before .before .before .before .before .before .before .before .before .before .args .used) (c .before .before .before .before .before .before .before .before .before .before .before .before .before .before .args .param) 3 (c .before .before .before .before .before .before .before .before .before .lifetimes .i) (c .before .before .before .before .before .before .before .before .before .before .before .option-number .result) ∷ []) (leftEdges (drawsIn (c .before .before .before .before .before .before .before .before .before .before .before .before .before .before .args .set)) (c .before .before .before .before .before .before .before .before .before .before .before .before .before .before .args .used) (c .before .before .before .before .before .before .before .before .before .before .before .before .before .before .args .param) (c .before .before .before .before .before .before .before .before .before .before .before .option-number .result) (c .before .before .before .before .before .before .before .before .before .before .before .before .before .before .args .words .now) (c .before .before .before .before .before .before .before .before .before .before .before .before .before .before .args .parts .from) (c .before .before .before .before .before .before .before .before .before .before .before .before .before .before .args .parts .count) (c .before .before .before .before .before .before .before .before .before .lifetimes .i + 1)) split (c .before .before .store-pair .ensures))
+    let at-if1 = c .before .before .before .before .before in
+    let at-draws = at-if1 .before in
+    let at-linked-lifetime = at-draws .before in
+    let at-lifetimes-test = at-linked-lifetime .before in
+    let at-lifetimes = at-lifetimes-test .before in
+    let at-path-words = at-lifetimes .before in
+    let at-option-number = at-path-words .before in
+    let s = at-option-number .before .before .before in
+    let split = edges-one (drawsIn (s .args .set)) (s .args .used) (s .args .param) (at-option-number .option-number .result) (s .args .words .now) (s .args .parts .from) (s .args .parts .count) (s .pre .0 .0) (at-lifetimes .lifetimes .i) (at-lifetimes-test .lifetimes-test .taken) (part-word (s .args .words .now) (at-path-words .path-words .result .now) (s .args .parts .from) (s .args .parts .count) (at-path-words .path-words .ensures) (at-lifetimes-test .lifetimes-test .taken) (at-linked-lifetime .linked-lifetime .ensures)) (sym (not-false _ (at-if1 .if1 .left)) ∙ at-draws .draws .ensures) in
+    (omega (arith, at-lifetimes-test .lifetimes-test .taken), storing-part (at-lifetimes .lifetimes .inv .1) (edge (s .args .used) (s .args .param) 3 (at-lifetimes .lifetimes .i) (at-option-number .option-number .result) ∷ []) (leftEdges (drawsIn (s .args .set)) (s .args .used) (s .args .param) (at-option-number .option-number .result) (s .args .words .now) (s .args .parts .from) (s .args .parts .count) (at-lifetimes .lifetimes .i + 1)) split (c .before .before .store-pair .ensures))
 
 same-length : tie.Need-same-length Inv-lifetimes μ-lifetimes
 same-length c = c .before .lifetimes .inv .1 .size

@@ -35,23 +35,40 @@ returns c = absurd (passing-missing (c .before .before .before .before .loop .in
 
 store-for-requires : tie.Need-store-for-requires Inv-loop μ-loop
 store-for-requires c κs =
-    let o = passing-next (c .before .before .before .before .before .before .before .loop .inv .passing) (c .before .before .before .before .before .before .loop-test .taken) (c .before .before .before .before .before .type-at .ensures .1) (c .before .before .before .found .given .1) in
-    ((o .inside, o .few, c .before .before .before .before .before .before .before .before .before .before .pre .0 .1, c .before .before .before .before .before .before .before .loop .inv .storing .sets16), to-fits (c .before .before .before .before .before .before .before .loop .inv) o)
+    let at-type-at = c .before .before .before .before .before in
+    let at-loop-test = at-type-at .before in
+    let at-loop = at-loop-test .before in
+    let s = at-loop .before .before .before in
+    let o = passing-next (at-loop .loop .inv .passing) (at-loop-test .loop-test .taken) (at-type-at .type-at .ensures .1) (c .before .before .before .found .given .1) in
+    ((o .inside, o .few, s .pre .0 .1, at-loop .loop .inv .storing .sets16), to-fits (at-loop .loop .inv) o)
 
 add-param : tie.Need-add-param Inv-loop μ-loop
 add-param c =
-    let o = passing-next (c .before .before .before .before .before .before .before .before .before .before .loop .inv .passing) (c .before .before .before .before .before .before .before .before .before .loop-test .taken) (c .before .before .before .before .before .before .before .before .type-at .ensures .1) (c .before .before .before .before .before .before .found .given .1) in
-    omega (arith, to-few (c .before .before .before .before .before .before .before .before .before .before .loop .inv) o (c .before .before .before .before .before .before .before .before .before .before .before .before .before .pre .0 .0 .few))
+    let at-found = c .before .before .before .before .before .before in
+    let at-type-at = at-found .before .before in
+    let at-loop-test = at-type-at .before in
+    let at-loop = at-loop-test .before in
+    let s = at-loop .before .before .before in
+    let o = passing-next (at-loop .loop .inv .passing) (at-loop-test .loop-test .taken) (at-type-at .type-at .ensures .1) (at-found .found .given .1) in
+    omega (arith, to-few (at-loop .loop .inv) o (s .pre .0 .0 .few))
 
 loop-less : tie.Need-loop-less Inv-loop μ-loop
 loop-less c =
-    let o = passing-next (c .before .before .before .before .before .before .before .before .before .before .loop .inv .passing) (c .before .before .before .before .before .before .before .before .before .loop-test .taken) (c .before .before .before .before .before .before .before .before .type-at .ensures .1) (c .before .before .before .before .before .before .found .given .1) in
+    let at-found = c .before .before .before .before .before .before in
+    let at-type-at = at-found .before .before in
+    let at-loop-test = at-type-at .before in
+    let at-loop = at-loop-test .before in
+    let o = passing-next (at-loop .loop .inv .passing) (at-loop-test .loop-test .taken) (at-type-at .type-at .ensures .1) (at-found .found .given .1) in
     omega (arith, o .past, o .within)
 
 loop-again : tie.Need-loop-again Inv-loop μ-loop
 loop-again c =
-    let o = passing-next (c .before .before .before .before .before .before .before .before .before .before .loop .inv .passing) (c .before .before .before .before .before .before .before .before .before .loop-test .taken) (c .before .before .before .before .before .before .before .before .type-at .ensures .1) (c .before .before .before .before .before .before .found .given .1) in
-    to-more (c .before .before .before .before .before .before .before .before .before .before .loop .inv) o (c .before .before .store-for .ensures)
+    let at-found = c .before .before .before .before .before .before in
+    let at-type-at = at-found .before .before in
+    let at-loop-test = at-type-at .before in
+    let at-loop = at-loop-test .before in
+    let o = passing-next (at-loop .loop .inv .passing) (at-loop-test .loop-test .taken) (at-type-at .type-at .ensures .1) (at-found .found .given .1) in
+    to-more (at-loop .loop .inv) o (c .before .before .store-for .ensures)
 
 same-length-2 : tie.Need-same-length-2 Inv-loop μ-loop
 same-length-2 c = c .before .loop .inv .storing .size

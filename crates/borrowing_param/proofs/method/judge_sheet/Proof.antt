@@ -17,13 +17,19 @@ same-length : tie.Need-same-length
 same-length c = search needs
 
 returns : tie.Need-returns
-returns c = judge-text (c .before .before .before .before .before .before .before .before .before .before .args .sheet .now) (c .before .before .before .before .before .before .before .before .before .before .args .scratch .now) (c .before .before .before .before .before .before .before .before .before .before .pre) (c .before .before .before .before .before .before .read-sheet .ensures .0) (c .before .before .before .before .before .before .read-sheet .ensures .1) (c .before .before .verdict .given .1) (c .refused-method .ensures)
+returns c =
+    let at-read-sheet = c .before .before .before .before .before .before in
+    let s = at-read-sheet .before .before .before .before in
+    judge-text (s .args .sheet .now) (s .args .scratch .now) (s .pre) (at-read-sheet .read-sheet .ensures .0) (at-read-sheet .read-sheet .ensures .1) (c .before .before .verdict .given .1) (c .refused-method .ensures)
 
 enum-told : tie.Need-enum-told
 enum-told c = search needs
 
 lower-laid-requires : tie.Need-lower-laid-requires
-lower-laid-requires c κs = judge-shape (c .before .before .before .before .before .before .before .before .before .before .args .sheet .now) (c .before .before .before .before .before .before .before .before .before .before .args .scratch .now) (c .before .before .before .before .before .before .before .before .before .before .pre) (c .before .before .before .before .before .before .read-sheet .ensures .0) (c .before .before .before .before .before .before .read-sheet .ensures .1) (c .before .before .enum-told .given .1)
+lower-laid-requires c κs =
+    let at-read-sheet = c .before .before .before .before .before .before in
+    let s = at-read-sheet .before .before .before .before in
+    judge-shape (s .args .sheet .now) (s .args .scratch .now) (s .pre) (at-read-sheet .read-sheet .ensures .0) (at-read-sheet .read-sheet .ensures .1) (c .before .before .enum-told .given .1)
 
 enum-known-judged : tie.Need-enum-known-judged
 enum-known-judged c = search needs
@@ -35,7 +41,12 @@ same-length-2 : tie.Need-same-length-2
 same-length-2 c = search needs
 
 returns-2 : tie.Need-returns-2
-returns-2 c = judge-refused (c .before .before .before .before .before .before .before .before .before .before .before .before .before .before .before .args .sheet .now) (c .before .before .before .before .before .before .before .before .before .before .before .before .before .before .before .args .scratch .now) (c .before .before .before .before .before .before .before .before .before .before .before .before .before .before .before .pre) (c .before .before .before .before .before .before .before .before .before .before .before .read-sheet .ensures .0) (c .before .before .before .before .before .before .before .before .before .before .before .read-sheet .ensures .1) (c .before .before .before .before .before .before .before .enum-told .given .1) (c .before .before .before .before .lower-laid .ensures) (c .before .before .judged .given .1) (c .refused-method2 .ensures)
+returns-2 c =
+    let at-lower-laid = c .before .before .before .before in
+    let at-enum-told = at-lower-laid .before .before .before in
+    let at-read-sheet = at-enum-told .before .before .before .before in
+    let s = at-read-sheet .before .before .before .before in
+    judge-refused (s .args .sheet .now) (s .args .scratch .now) (s .pre) (at-read-sheet .read-sheet .ensures .0) (at-read-sheet .read-sheet .ensures .1) (at-enum-told .enum-told .given .1) (at-lower-laid .lower-laid .ensures) (c .before .before .judged .given .1) (c .refused-method2 .ensures)
 
 enum-told-2 : tie.Need-enum-told-2
 enum-told-2 c = search needs
@@ -44,7 +55,12 @@ same-length-3 : tie.Need-same-length-3
 same-length-3 c = search needs
 
 returns-3 : tie.Need-returns-3
-returns-3 c = judge-given (c .before .before .before .before .before .before .before .before .before .before .before .before .before .before .args .sheet .now) (c .before .before .before .before .before .before .before .before .before .before .before .before .before .before .args .scratch .now) (c .before .before .before .before .before .before .before .before .before .before .before .before .before .before .pre) (c .before .before .before .before .before .before .before .before .before .before .read-sheet .ensures .0) (c .before .before .before .before .before .before .before .before .before .before .read-sheet .ensures .1) (c .before .before .before .before .before .before .enum-told .given .1) (c .before .before .before .lower-laid .ensures) (c .before .enum-told2 .given .1)
+returns-3 c =
+    let at-lower-laid = c .before .before .before in
+    let at-enum-told = at-lower-laid .before .before .before in
+    let at-read-sheet = at-enum-told .before .before .before .before in
+    let s = at-read-sheet .before .before .before .before in
+    judge-given (s .args .sheet .now) (s .args .scratch .now) (s .pre) (at-read-sheet .read-sheet .ensures .0) (at-read-sheet .read-sheet .ensures .1) (at-enum-told .enum-told .given .1) (at-lower-laid .lower-laid .ensures) (c .before .enum-told2 .given .1)
 
 pub judge-sheet-spec : {M : Type 1} → statement M
 judge-sheet-spec =

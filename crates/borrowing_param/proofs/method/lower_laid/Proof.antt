@@ -40,10 +40,29 @@ record-words-requires-10 : tie.Need-record-words-requires-10
 record-words-requires-10 c κs = search needs
 
 lower-records-requires : tie.Need-lower-records-requires
-lower-records-requires c κs = rw (ten-found (c .before .before .before .before .before .before .before .before .before .before .before .pre .0) (c .before .before .before .before .before .before .before .before .before .record-words .ensures) (c .before .before .before .before .before .before .before .before .record-words2 .ensures) (c .before .before .before .before .before .before .before .record-words3 .ensures) (c .before .before .before .before .before .before .record-words4 .ensures) (c .before .before .before .before .before .record-words5 .ensures) (c .before .before .before .before .record-words6 .ensures) (c .before .before .before .record-words7 .ensures) (c .before .before .record-words8 .ensures) (c .before .record-words9 .ensures) (c .record-words10 .ensures)) (c .before .before .before .before .before .before .before .before .before .before .before .pre .1)
+lower-records-requires c κs =
+    let at-record-words7 = c .before .before .before in
+    let at-record-words6 = at-record-words7 .before in
+    let at-record-words5 = at-record-words6 .before in
+    let at-record-words4 = at-record-words5 .before in
+    let at-record-words3 = at-record-words4 .before in
+    let at-record-words2 = at-record-words3 .before in
+    let at-record-words = at-record-words2 .before in
+    let s = at-record-words .before .before in
+    rw (ten-found (s .pre .0) (at-record-words .record-words .ensures) (at-record-words2 .record-words2 .ensures) (at-record-words3 .record-words3 .ensures) (at-record-words4 .record-words4 .ensures) (at-record-words5 .record-words5 .ensures) (at-record-words6 .record-words6 .ensures) (at-record-words7 .record-words7 .ensures) (c .before .before .record-words8 .ensures) (c .before .record-words9 .ensures) (c .record-words10 .ensures)) (s .pre .1)
 
 returns : tie.Need-returns
-returns c = c .lower-records .ensures ∙ ap (λ (r : Records). made (envOf 0 0 []) (methodOf r)) (ten-found (c .before .before .before .before .before .before .before .before .before .before .before .before .pre .0) (c .before .before .before .before .before .before .before .before .before .before .record-words .ensures) (c .before .before .before .before .before .before .before .before .before .record-words2 .ensures) (c .before .before .before .before .before .before .before .before .record-words3 .ensures) (c .before .before .before .before .before .before .before .record-words4 .ensures) (c .before .before .before .before .before .before .record-words5 .ensures) (c .before .before .before .before .before .record-words6 .ensures) (c .before .before .before .before .record-words7 .ensures) (c .before .before .before .record-words8 .ensures) (c .before .before .record-words9 .ensures) (c .before .record-words10 .ensures))
+returns c =
+    let at-record-words8 = c .before .before .before in
+    let at-record-words7 = at-record-words8 .before in
+    let at-record-words6 = at-record-words7 .before in
+    let at-record-words5 = at-record-words6 .before in
+    let at-record-words4 = at-record-words5 .before in
+    let at-record-words3 = at-record-words4 .before in
+    let at-record-words2 = at-record-words3 .before in
+    let at-record-words = at-record-words2 .before in
+    let s = at-record-words .before .before in
+    c .lower-records .ensures ∙ ap (λ (r : Records). made (envOf 0 0 []) (methodOf r)) (ten-found (s .pre .0) (at-record-words .record-words .ensures) (at-record-words2 .record-words2 .ensures) (at-record-words3 .record-words3 .ensures) (at-record-words4 .record-words4 .ensures) (at-record-words5 .record-words5 .ensures) (at-record-words6 .record-words6 .ensures) (at-record-words7 .record-words7 .ensures) (at-record-words8 .record-words8 .ensures) (c .before .before .record-words9 .ensures) (c .before .record-words10 .ensures))
 
 pub lower-laid-spec : {M : Type 1} → statement M
 lower-laid-spec =

@@ -21,7 +21,11 @@ refused-env-requires : tie.Need-refused-env-requires
 refused-env-requires c κs = search needs
 
 returns : tie.Need-returns
-returns c = names-refused (sheetIn (c .before .before .before .before .before .before .before .before .before .before .before .before .before .before .before)) (c .before .before .before .before .before .before .before .before .before .before .before .before .before .before .before .pre) (c .before .before .before .before .from-method-item .ensures) (c .before .before .declared .given .1) (c .refused-env .ensures)
+returns c =
+    let at-from-method-item = c .before .before .before .before in
+    let at-before = at-from-method-item .before .before .before .before .before .before .before .before .before .before in
+    let s = at-before .before in
+    names-refused (sheetIn (at-before .before)) (s .pre) (at-from-method-item .from-method-item .ensures) (c .before .before .declared .given .1) (c .refused-env .ensures)
 
 enum-told : tie.Need-enum-told
 enum-told c = search needs
@@ -36,7 +40,13 @@ refused-env-requires-2 : tie.Need-refused-env-requires-2
 refused-env-requires-2 c κs = search needs
 
 returns-2 : tie.Need-returns-2
-returns-2 c = steps-refused (sheetIn (c .before .before .before .before .before .before .before .before .before .before .before .before .before .before .before .before .before .before)) (c .before .before .before .before .before .before .before .before .before .before .before .before .before .before .before .before .before .before .pre) (c .before .before .before .before .before .before .before .from-method-item .ensures) (c .before .before .before .before .before .enum-told .given .1) (c .before .before .before .before .measure .ensures) (c .before .before .elided .given .1) (c .refused-env2 .ensures)
+returns-2 c =
+    let at-measure = c .before .before .before .before in
+    let at-enum-told = at-measure .before in
+    let at-from-method-item = at-enum-told .before .before in
+    let at-before = at-from-method-item .before .before .before .before .before .before .before .before .before .before in
+    let s = at-before .before in
+    steps-refused (sheetIn (at-before .before)) (s .pre) (at-from-method-item .from-method-item .ensures) (at-enum-told .enum-told .given .1) (at-measure .measure .ensures) (c .before .before .elided .given .1) (c .refused-env2 .ensures)
 
 enum-told-2 : tie.Need-enum-told-2
 enum-told-2 c = search needs
@@ -51,13 +61,28 @@ refused-env-requires-3 : tie.Need-refused-env-requires-3
 refused-env-requires-3 c κs = search needs
 
 returns-3 : tie.Need-returns-3
-returns-3 c = method-refused (sheetIn (c .before .before .before .before .before .before .before .before .before .before .before .before .before .before .before .before .before .before .before .before .before .before)) (c .before .before .before .before .before .before .before .before .before .before .before .before .before .before .before .before .before .before .before .before .before .before .pre) (c .before .before .before .before .before .before .before .before .before .before .before .from-method-item .ensures) (c .before .before .before .before .before .before .before .before .before .enum-told .given .1) (c .before .before .before .before .before .before .before .before .measure .ensures) (c .before .before .before .before .before .before .enum-told2 .given .1) (c .before .before .before .before .check-method .ensures) (c .before .before .verdict .given .1) (c .refused-env3 .ensures)
+returns-3 c =
+    let at-check-method = c .before .before .before .before in
+    let at-enum-told2 = at-check-method .before .before in
+    let at-measure = at-enum-told2 .before .before in
+    let at-enum-told = at-measure .before in
+    let at-from-method-item = at-enum-told .before .before in
+    let at-before = at-from-method-item .before .before .before .before .before .before .before .before .before .before in
+    let s = at-before .before in
+    method-refused (sheetIn (at-before .before)) (s .pre) (at-from-method-item .from-method-item .ensures) (at-enum-told .enum-told .given .1) (at-measure .measure .ensures) (at-enum-told2 .enum-told2 .given .1) (at-check-method .check-method .ensures) (c .before .before .verdict .given .1) (c .refused-env3 .ensures)
 
 enum-told-3 : tie.Need-enum-told-3
 enum-told-3 c = search needs
 
 returns-4 : tie.Need-returns-4
-returns-4 c = method-given (sheetIn (c .before .before .before .before .before .before .before .before .before .before .before .before .before .before .before .before .before .before .before .before)) (c .before .before .before .before .before .before .before .before .before .before .before .before .before .before .before .before .before .before .before .before .pre) (c .before .before .before .before .before .before .before .before .before .from-method-item .ensures) (c .before .before .before .before .before .before .before .enum-told .given .1) (c .before .before .before .before .before .before .measure .ensures) (c .before .before .before .before .enum-told2 .given .1) (c .before .before .check-method .ensures) (c .enum-told3 .given .1)
+returns-4 c =
+    let at-enum-told2 = c .before .before .before .before in
+    let at-measure = at-enum-told2 .before .before in
+    let at-enum-told = at-measure .before in
+    let at-from-method-item = at-enum-told .before .before in
+    let at-before = at-from-method-item .before .before .before .before .before .before .before .before .before .before in
+    let s = at-before .before in
+    method-given (sheetIn (at-before .before)) (s .pre) (at-from-method-item .from-method-item .ensures) (at-enum-told .enum-told .given .1) (at-measure .measure .ensures) (at-enum-told2 .enum-told2 .given .1) (c .before .before .check-method .ensures) (c .enum-told3 .given .1)
 
 pub lower-records-spec : {M : Type 1} → statement M
 lower-records-spec =

@@ -49,7 +49,12 @@ lifetimes-less-2 : tie.Need-lifetimes-less-2 Inv-lifetimes μ-lifetimes
 lifetimes-less-2 c = search needs
 
 lifetimes-again-2 : tie.Need-lifetimes-again-2 Inv-lifetimes μ-lifetimes
-lifetimes-again-2 c = keeping-one (c .before .before .before .before .before .lifetimes .inv) (c .before .before .before .before .lifetimes-test .taken) (sym (not-false _ (c .before .if1 .left)) ∙ c .before .before .contains .ensures ∙ ap (λ (x : Lifetime). member (c .before .before .before .before .before .before .args .used) (x .0)) (c .before .before .before .new .ensures))
+lifetimes-again-2 c =
+    let at-new = c .before .before .before in
+    let at-lifetimes-test = at-new .before in
+    let at-lifetimes = at-lifetimes-test .before in
+    let s = at-lifetimes .before in
+    keeping-one (at-lifetimes .lifetimes .inv) (at-lifetimes-test .lifetimes-test .taken) (sym (not-false _ (c .before .if1 .left)) ∙ c .before .before .contains .ensures ∙ ap (λ (x : Lifetime). member (s .args .used) (x .0)) (at-new .new .ensures))
 
 returns : tie.Need-returns Inv-lifetimes μ-lifetimes
 returns c = keeping-end (c .before .lifetimes .inv) (c .lifetimes-test .left)

@@ -38,7 +38,12 @@ no-lifetimes-requires c κs = search needs
 
 -- src/lowerer.rt:280:13
 returns : tie.Need-returns Inv-loop μ-loop
-returns c = rw (c .no-lifetimes .ensures) (running-refused (c .before .before .before .before .before .before .before .loop .inv) (c .before .before .before .before .before .before .loop-test .taken) (c .before .before .before .before .before .word-or-anonymous .ensures) (c .before .before .before .before .lower-word .ensures) (c .before .before .verdict .given .1))
+returns c =
+    let at-lower-word = c .before .before .before .before in
+    let at-word-or-anonymous = at-lower-word .before in
+    let at-loop-test = at-word-or-anonymous .before in
+    let at-loop = at-loop-test .before in
+    rw (c .no-lifetimes .ensures) (running-refused (at-loop .loop .inv) (at-loop-test .loop-test .taken) (at-word-or-anonymous .word-or-anonymous .ensures) (at-lower-word .lower-word .ensures) (c .before .before .verdict .given .1))
 
 enum-told : tie.Need-enum-told Inv-loop μ-loop
 enum-told c = search needs

@@ -42,14 +42,23 @@ refused-env-requires-2 c κs = search needs
 
 -- src/method.rt:149:9
 returns-2 : tie.Need-returns-2
-returns-2 c = finish-refused (c .before .before .before .before .before .before .before .before .before .before .args .env) (c .before .before .before .before .before .before .before .before .before .before .args .lowerer .seen .count) (c .before .before .before .before .before .before .before .before .before .check .ensures) (c .before .before .before .before .before .before .before .enum-told .given .1) (c .before .before .before .before .check2 .ensures) (c .before .before .verdict .given .1) (c .refused-env2 .ensures)
+returns-2 c =
+    let at-check2 = c .before .before .before .before in
+    let at-enum-told = at-check2 .before .before .before in
+    let at-check = at-enum-told .before .before in
+    let s = at-check .before in
+    finish-refused (s .args .env) (s .args .lowerer .seen .count) (at-check .check .ensures) (at-enum-told .enum-told .given .1) (at-check2 .check2 .ensures) (c .before .before .verdict .given .1) (c .refused-env2 .ensures)
 
 enum-told-2 : tie.Need-enum-told-2
 enum-told-2 c = search needs
 
 -- src/method.rt:129:1
 returns-3 : tie.Need-returns-3
-returns-3 c = finish-given (c .before .before .before .before .before .before .before .before .args .env) (c .before .before .before .before .before .before .before .before .args .lowerer .seen .count) (c .before .before .before .before .before .before .before .check .ensures) (c .before .before .before .before .before .enum-told .given .1) (c .before .before .check2 .ensures) (c .enum-told2 .given .1)
+returns-3 c =
+    let at-enum-told = c .before .before .before .before .before in
+    let at-check = at-enum-told .before .before in
+    let s = at-check .before in
+    finish-given (s .args .env) (s .args .lowerer .seen .count) (at-check .check .ensures) (at-enum-told .enum-told .given .1) (c .before .before .check2 .ensures) (c .enum-told2 .given .1)
 
 pub finish-spec : {M : Type 1} → statement M
 finish-spec =

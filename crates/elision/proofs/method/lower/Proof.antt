@@ -20,7 +20,9 @@ enum-told c = search needs
 
 -- src/method.rt:119:9
 returns : tie.Need-returns
-returns c = lower-refused (c .before .before .before .before .before .before .before .before .before .args .env) (c .before .before .before .before .before .before .before .before .before .args .receiver .now) (c .before .before .before .before .before .before .before .before .before .args .steps .now) (c .before .before .before .before .before .before .before .before .before .args .returns .now) (c .before .before .before .before .before .before .before .before .before .args .own .now) (c .before .before .before .before .before .before .before .before .before .args .given .now) (c .before .before .before .before .before .before .before .before .before .args .taken .now) (c .before .before .measure .ensures) (c .enum-told .given .1)
+returns c =
+    let s = c .before .before .before .before .before .before .before .before .before in
+    lower-refused (s .args .env) (s .args .receiver .now) (s .args .steps .now) (s .args .returns .now) (s .args .own .now) (s .args .given .now) (s .args .taken .now) (c .before .before .measure .ensures) (c .enum-told .given .1)
 
 enum-told-2 : tie.Need-enum-told-2
 enum-told-2 c = search needs
@@ -31,7 +33,11 @@ refused-lowering-requires c κs = search needs
 
 -- src/method.rt:122:9
 returns-2 : tie.Need-returns-2
-returns-2 c = lower-own (c .before .before .before .before .before .before .before .before .before .before .before .before .args .env) (c .before .before .before .before .before .before .before .before .before .before .before .before .args .receiver .now) (c .before .before .before .before .before .before .before .before .before .before .before .before .args .steps .now) (c .before .before .before .before .before .before .before .before .before .before .before .before .args .returns .now) (c .before .before .before .before .before .before .before .before .before .before .before .before .args .own .now) (c .before .before .before .before .before .before .before .before .before .before .before .before .args .given .now) (c .before .before .before .before .before .before .before .before .before .before .before .before .args .taken .now) (c .before .before .before .before .before .measure .ensures) (c .before .before .before .enum-told2 .given .1) (c .before .if1 .taken) (c .refused-lowering .ensures)
+returns-2 c =
+    let at-enum-told2 = c .before .before .before in
+    let at-measure = at-enum-told2 .before .before in
+    let s = at-measure .before .before .before .before .before .before .before in
+    lower-own (s .args .env) (s .args .receiver .now) (s .args .steps .now) (s .args .returns .now) (s .args .own .now) (s .args .given .now) (s .args .taken .now) (at-measure .measure .ensures) (at-enum-told2 .enum-told2 .given .1) (c .before .if1 .taken) (c .refused-lowering .ensures)
 
 -- src/method.rt:125:9
 refused-lowering-requires-2 : tie.Need-refused-lowering-requires-2
@@ -39,7 +45,12 @@ refused-lowering-requires-2 c κs = search needs
 
 -- src/method.rt:125:9
 returns-3 : tie.Need-returns-3
-returns-3 c = lower-given (c .before .before .before .before .before .before .before .before .before .before .before .before .before .before .args .env) (c .before .before .before .before .before .before .before .before .before .before .before .before .before .before .args .receiver .now) (c .before .before .before .before .before .before .before .before .before .before .before .before .before .before .args .steps .now) (c .before .before .before .before .before .before .before .before .before .before .before .before .before .before .args .returns .now) (c .before .before .before .before .before .before .before .before .before .before .before .before .before .before .args .own .now) (c .before .before .before .before .before .before .before .before .before .before .before .before .before .before .args .given .now) (c .before .before .before .before .before .before .before .before .before .before .before .before .before .before .args .taken .now) (c .before .before .before .before .before .before .before .measure .ensures) (c .before .before .before .before .before .enum-told2 .given .1) (c .before .before .before .if1 .left) (c .before .if2 .taken) (c .refused-lowering2 .ensures)
+returns-3 c =
+    let at-if1 = c .before .before .before in
+    let at-enum-told2 = at-if1 .before .before in
+    let at-measure = at-enum-told2 .before .before in
+    let s = at-measure .before .before .before .before .before .before .before in
+    lower-given (s .args .env) (s .args .receiver .now) (s .args .steps .now) (s .args .returns .now) (s .args .own .now) (s .args .given .now) (s .args .taken .now) (at-measure .measure .ensures) (at-enum-told2 .enum-told2 .given .1) (at-if1 .if1 .left) (c .before .if2 .taken) (c .refused-lowering2 .ensures)
 
 -- src/method.rt:128:9
 refused-lowering-requires-3 : tie.Need-refused-lowering-requires-3
@@ -47,7 +58,13 @@ refused-lowering-requires-3 c κs = search needs
 
 -- src/method.rt:128:9
 returns-4 : tie.Need-returns-4
-returns-4 c = lower-taken (c .before .before .before .before .before .before .before .before .before .before .before .before .before .before .before .before .args .env) (c .before .before .before .before .before .before .before .before .before .before .before .before .before .before .before .before .args .receiver .now) (c .before .before .before .before .before .before .before .before .before .before .before .before .before .before .before .before .args .steps .now) (c .before .before .before .before .before .before .before .before .before .before .before .before .before .before .before .before .args .returns .now) (c .before .before .before .before .before .before .before .before .before .before .before .before .before .before .before .before .args .own .now) (c .before .before .before .before .before .before .before .before .before .before .before .before .before .before .before .before .args .given .now) (c .before .before .before .before .before .before .before .before .before .before .before .before .before .before .before .before .args .taken .now) (c .before .before .before .before .before .before .before .before .before .measure .ensures) (c .before .before .before .before .before .before .before .enum-told2 .given .1) (c .before .before .before .before .before .if1 .left) (c .before .before .before .if2 .left) (c .before .if3 .taken) (c .refused-lowering3 .ensures)
+returns-4 c =
+    let at-if2 = c .before .before .before in
+    let at-if1 = at-if2 .before .before in
+    let at-enum-told2 = at-if1 .before .before in
+    let at-measure = at-enum-told2 .before .before in
+    let s = at-measure .before .before .before .before .before .before .before in
+    lower-taken (s .args .env) (s .args .receiver .now) (s .args .steps .now) (s .args .returns .now) (s .args .own .now) (s .args .given .now) (s .args .taken .now) (at-measure .measure .ensures) (at-enum-told2 .enum-told2 .given .1) (at-if1 .if1 .left) (at-if2 .if2 .left) (c .before .if3 .taken) (c .refused-lowering3 .ensures)
 
 -- src/method.rt:133:9
 sub-run : tie.Need-sub-run
@@ -59,11 +76,20 @@ part-run-start c = search needs
 
 -- src/method.rt:133:9
 part-run-end : tie.Need-part-run-end
-part-run-end c = omega (arith, full (c .before .before .before .before .before .before .before .before .before .before .before .before .before .before .before .before .before), lower-named (c .before .before .before .before .before .before .before .before .before .before .before .before .before .before .before .before .before .args .env) (c .before .before .before .before .before .before .before .before .before .before .before .before .before .before .before .before .before .args .receiver .now) (c .before .before .before .before .before .before .before .before .before .before .before .before .before .before .before .before .before .args .steps .now) (c .before .before .before .before .before .before .before .before .before .before .before .before .before .before .before .before .before .args .returns .now) (c .before .before .before .before .before .before .before .before .before .before .before .before .before .before .before .before .before .args .own .now) (c .before .before .before .before .before .before .before .before .before .before .before .before .before .before .before .before .before .args .given .now) (c .before .before .before .before .before .before .before .before .before .before .before .before .before .before .before .before .before .args .taken .now) (c .before .before .before .before .before .before .before .before .before .before .measure .ensures) (c .before .before .before .before .before .before .before .before .enum-told2 .given .1))
+part-run-end c =
+    let at-enum-told2 = c .before .before .before .before .before .before .before .before in
+    let at-measure = at-enum-told2 .before .before in
+    let at-before = at-measure .before .before .before .before .before .before in
+    let s = at-before .before in
+    omega (arith, full (at-before .before), lower-named (s .args .env) (s .args .receiver .now) (s .args .steps .now) (s .args .returns .now) (s .args .own .now) (s .args .given .now) (s .args .taken .now) (at-measure .measure .ensures) (at-enum-told2 .enum-told2 .given .1))
 
 -- src/method.rt:132:5
 run-requires : tie.Need-run-requires
-run-requires c κs = lower-shaped (c .before .before .before .before .before .before .before .before .before .before .before .before .before .before .before .before .before .before .before .before .before .args .env) (c .before .before .before .before .before .before .before .before .before .before .before .before .before .before .before .before .before .before .before .before .before .args .receiver .now) (c .before .before .before .before .before .before .before .before .before .before .before .before .before .before .before .before .before .before .before .before .before .args .steps .now) (c .before .before .before .before .before .before .before .before .before .before .before .before .before .before .before .before .before .before .before .before .before .args .returns .now) (c .before .before .before .before .before .before .before .before .before .before .before .before .before .before .before .before .before .before .before .before .before .args .own .now) (c .before .before .before .before .before .before .before .before .before .before .before .before .before .before .before .before .before .before .before .before .before .args .given .now) (c .before .before .before .before .before .before .before .before .before .before .before .before .before .before .before .before .before .before .before .before .before .args .taken .now) (c .before .before .before .before .before .before .before .before .before .before .before .before .before .before .measure .ensures) (c .before .before .before .before .before .before .before .before .before .before .before .before .enum-told2 .given .1)
+run-requires c κs =
+    let at-enum-told2 = c .before .before .before .before .before .before .before .before .before .before .before .before in
+    let at-measure = at-enum-told2 .before .before in
+    let s = at-measure .before .before .before .before .before .before .before in
+    lower-shaped (s .args .env) (s .args .receiver .now) (s .args .steps .now) (s .args .returns .now) (s .args .own .now) (s .args .given .now) (s .args .taken .now) (at-measure .measure .ensures) (at-enum-told2 .enum-told2 .given .1)
 
 -- src/method.rt:102:1
 same-length : tie.Need-same-length
@@ -79,7 +105,16 @@ same-length-3 c = search needs
 
 -- src/method.rt:102:1
 returns-5 : tie.Need-returns-5
-returns-5 c = lower-all (c .before .before .before .before .before .before .before .before .before .before .before .before .before .before .before .before .before .before .before .before .before .before .before .before .before .before .before .before .args .env) (c .before .before .before .before .before .before .before .before .before .before .before .before .before .before .before .before .before .before .before .before .before .before .before .before .before .before .before .before .args .receiver .now) (c .before .before .before .before .before .before .before .before .before .before .before .before .before .before .before .before .before .before .before .before .before .before .before .before .before .before .before .before .args .steps .now) (c .before .before .before .before .before .before .before .before .before .before .before .before .before .before .before .before .before .before .before .before .before .before .before .before .before .before .before .before .args .returns .now) (c .before .before .before .before .before .before .before .before .before .before .before .before .before .before .before .before .before .before .before .before .before .before .before .before .before .before .before .before .args .own .now) (c .before .before .before .before .before .before .before .before .before .before .before .before .before .before .before .before .before .before .before .before .before .before .before .before .before .before .before .before .args .given .now) (c .before .before .before .before .before .before .before .before .before .before .before .before .before .before .before .before .before .before .before .before .before .before .before .before .before .before .before .before .args .taken .now) (c .before .before .before .before .before .before .before .before .before .before .before .before .before .before .before .before .before .before .before .before .before .measure .ensures) (c .before .before .before .before .before .before .before .before .before .before .before .before .before .before .before .before .before .before .before .enum-told2 .given .1) (c .before .before .before .before .before .before .before .before .before .before .before .before .before .before .before .before .before .if1 .left) (c .before .before .before .before .before .before .before .before .before .before .before .before .before .before .before .if2 .left) (c .before .before .before .before .before .before .before .before .before .before .before .before .before .if3 .left) (full (c .before .before .before .before .before .before .before .before .before .before .before .before .before .before .before .before .before .before .before .before .before .before .before .before .before .before .before .before)) (c .before .before .before .before .before .before .run .ensures)
+returns-5 c =
+    let at-run = c .before .before .before .before .before .before in
+    let at-if3 = at-run .before .before .before .before .before .before .before in
+    let at-if2 = at-if3 .before .before in
+    let at-if1 = at-if2 .before .before in
+    let at-enum-told2 = at-if1 .before .before in
+    let at-measure = at-enum-told2 .before .before in
+    let at-before = at-measure .before .before .before .before .before .before in
+    let s = at-before .before in
+    lower-all (s .args .env) (s .args .receiver .now) (s .args .steps .now) (s .args .returns .now) (s .args .own .now) (s .args .given .now) (s .args .taken .now) (at-measure .measure .ensures) (at-enum-told2 .enum-told2 .given .1) (at-if1 .if1 .left) (at-if2 .if2 .left) (at-if3 .if3 .left) (full (at-before .before)) (at-run .run .ensures)
 
 pub lower-spec : {M : Type 1} → statement M
 lower-spec =

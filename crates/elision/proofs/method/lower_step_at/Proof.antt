@@ -75,19 +75,33 @@ refused-requires c κs = search needs
 
 -- src/method.rt:289:1
 returns : tie.Need-returns
-returns c = takes-lifetime (c .before .before .before .before .read-step .ensures) (c .before .before .before .before .before .before .before .args .names .now) (c .before .before .before .before .before .before .before .args .output) (c .before .before .before .before .before .before .before .args .lowerer) (c .before .before .step .given .1) (c .lower-lifetime .ensures)
+returns c =
+    let at-read-step = c .before .before .before .before in
+    let s = at-read-step .before .before .before in
+    takes-lifetime (at-read-step .read-step .ensures) (s .args .names .now) (s .args .output) (s .args .lowerer) (c .before .before .step .given .1) (c .lower-lifetime .ensures)
 
 -- src/method.rt:289:1
 returns-2 : tie.Need-returns-2
-returns-2 c = takes-generics (c .before .before .before .before .before .read-step .ensures) (c .before .before .before .before .before .before .before .before .args .names .now) (c .before .before .before .before .before .before .before .before .args .output) (c .before .before .before .before .before .before .before .before .args .lowerer) (c .before .before .before .step2 .given .1) (c .lower-generics .ensures)
+returns-2 c =
+    let at-step2 = c .before .before .before in
+    let at-read-step = at-step2 .before .before in
+    let s = at-read-step .before .before .before in
+    takes-generics (at-read-step .read-step .ensures) (s .args .names .now) (s .args .output) (s .args .lowerer) (at-step2 .step2 .given .1) (c .lower-generics .ensures)
 
 -- src/method.rt:289:1
 returns-3 : tie.Need-returns-3
-returns-3 c = takes-self (c .before .before .before .before .before .read-step .ensures) (c .before .before .before .before .before .before .before .before .args .names .now) (c .before .before .before .before .before .before .before .before .args .output) (c .before .before .before .before .before .before .before .before .args .lowerer) (c .before .before .before .step3 .given .1) (c .is-self .ensures)
+returns-3 c =
+    let at-step3 = c .before .before .before in
+    let at-read-step = at-step3 .before .before in
+    let s = at-read-step .before .before .before in
+    takes-self (at-read-step .read-step .ensures) (s .args .names .now) (s .args .output) (s .args .lowerer) (at-step3 .step3 .given .1) (c .is-self .ensures)
 
 -- src/method.rt:289:1
 returns-4 : tie.Need-returns-4
-returns-4 c = takes-missing (c .before .before .before .read-step .ensures) (c .before .before .before .before .before .before .args .names .now) (c .before .before .before .before .before .before .args .output) (c .before .before .before .before .before .before .args .lowerer) (c .before .enum-told .given .1) (c .refused .ensures)
+returns-4 c =
+    let at-read-step = c .before .before .before in
+    let s = at-read-step .before .before .before in
+    takes-missing (at-read-step .read-step .ensures) (s .args .names .now) (s .args .output) (s .args .lowerer) (c .before .enum-told .given .1) (c .refused .ensures)
 
 pub lower-step-at-spec : {M : Type 1} → statement M
 lower-step-at-spec =

@@ -23,7 +23,10 @@ refused-lowering-requires : tie.Need-refused-lowering-requires
 refused-lowering-requires c κs = search needs
 
 returns : tie.Need-returns
-returns c = measure-shape (c .before .before .before .before .before .before .before .before .args .env) (c .before .before .before .before .before .before .before .before .args .receiver .now) (c .before .before .before .before .before .before .before .before .args .steps .now) (c .before .before .before .before .before .before .before .before .args .returns .now) (c .before .before .before .before .shape-of .ensures) (c .before .before .shape .given .1) (c .refused-lowering .ensures)
+returns c =
+    let at-shape-of = c .before .before .before .before in
+    let s = at-shape-of .before .before .before .before in
+    measure-shape (s .args .env) (s .args .receiver .now) (s .args .steps .now) (s .args .returns .now) (at-shape-of .shape-of .ensures) (c .before .before .shape .given .1) (c .refused-lowering .ensures)
 
 enum-told : tie.Need-enum-told
 enum-told c = search needs
@@ -38,7 +41,12 @@ refused-lowering-requires-2 : tie.Need-refused-lowering-requires-2
 refused-lowering-requires-2 c κs = search needs
 
 returns-2 : tie.Need-returns-2
-returns-2 c = measure-env (c .before .before .before .before .before .before .before .before .before .before .before .args .env) (c .before .before .before .before .before .before .before .before .before .before .before .args .receiver .now) (c .before .before .before .before .before .before .before .before .before .before .before .args .steps .now) (c .before .before .before .before .before .before .before .before .before .before .before .args .returns .now) (c .before .before .before .before .before .before .before .shape-of .ensures) (c .before .before .before .before .before .enum-told .given .1) (refused-first (c .before .before .before .before .before .before .before .before .before .before .before .args .env) _ (envChecks (c .before .before .before .before .before .before .before .before .before .before .before .args .env)) (sym (c .before .before .before .before .check .ensures) ∙ c .before .before .valid .given .1)) (c .refused-lowering2 .ensures)
+returns-2 c =
+    let at-check = c .before .before .before .before in
+    let at-enum-told = at-check .before in
+    let at-shape-of = at-enum-told .before .before in
+    let s = at-shape-of .before .before .before .before in
+    measure-env (s .args .env) (s .args .receiver .now) (s .args .steps .now) (s .args .returns .now) (at-shape-of .shape-of .ensures) (at-enum-told .enum-told .given .1) (refused-first (s .args .env) _ (envChecks (s .args .env)) (sym (at-check .check .ensures) ∙ c .before .before .valid .given .1)) (c .refused-lowering2 .ensures)
 
 enum-told-2 : tie.Need-enum-told-2
 enum-told-2 c = search needs
@@ -50,10 +58,18 @@ part-judge-start : tie.Need-part-judge-start
 part-judge-start c = search needs
 
 part-judge-end : tie.Need-part-judge-end
-part-judge-end c = omega (arith, full (c .before .before .before .before .before .before .before .before .before .before .before), few-names (c .before .before .before .before .before .before .before .before .before .before .before .args .env) (accepted-none (c .before .before .before .before .before .before .before .before .before .before .before .args .env) (envChecks (c .before .before .before .before .before .before .before .before .before .before .before .args .env)) (sym (c .before .before .before .before .check .ensures) ∙ c .before .before .enum-told2 .given .1)))
+part-judge-end c =
+    let at-check = c .before .before .before .before in
+    let at-before = at-check .before .before .before .before .before .before in
+    let s = at-before .before in
+    omega (arith, full (at-before .before), few-names (s .args .env) (accepted-none (s .args .env) (envChecks (s .args .env)) (sym (at-check .check .ensures) ∙ c .before .before .enum-told2 .given .1)))
 
 judge-requires : tie.Need-judge-requires
-judge-requires c κs = measure-shaped (c .before .before .before .before .before .before .before .before .before .before .before .before .args .env) (c .before .before .before .before .before .before .before .before .before .before .before .before .args .receiver .now) (c .before .before .before .before .before .before .before .before .before .before .before .before .args .steps .now) (c .before .before .before .before .before .before .before .before .before .before .before .before .args .returns .now) (c .before .before .before .before .before .before .before .before .shape-of .ensures) (c .before .before .before .before .before .before .enum-told .given .1)
+judge-requires c κs =
+    let at-enum-told = c .before .before .before .before .before .before in
+    let at-shape-of = at-enum-told .before .before in
+    let s = at-shape-of .before .before .before .before in
+    measure-shaped (s .args .env) (s .args .receiver .now) (s .args .steps .now) (s .args .returns .now) (at-shape-of .shape-of .ensures) (at-enum-told .enum-told .given .1)
 
 enum-known-verdict : tie.Need-enum-known-verdict
 enum-known-verdict c = search needs
@@ -62,13 +78,27 @@ refused-lowering-requires-3 : tie.Need-refused-lowering-requires-3
 refused-lowering-requires-3 c κs = search needs
 
 returns-3 : tie.Need-returns-3
-returns-3 c = measure-refused (c .before .before .before .before .before .before .before .before .before .before .before .before .before .before .before .before .before .args .env) (c .before .before .before .before .before .before .before .before .before .before .before .before .before .before .before .before .before .args .receiver .now) (c .before .before .before .before .before .before .before .before .before .before .before .before .before .before .before .before .before .args .steps .now) (c .before .before .before .before .before .before .before .before .before .before .before .before .before .before .before .before .before .args .returns .now) (c .before .before .before .before .before .before .before .before .before .before .before .before .before .shape-of .ensures) (c .before .before .before .before .before .before .before .before .before .before .before .enum-told .given .1) (accepted-none (c .before .before .before .before .before .before .before .before .before .before .before .before .before .before .before .before .before .args .env) (envChecks (c .before .before .before .before .before .before .before .before .before .before .before .before .before .before .before .before .before .args .env)) (sym (c .before .before .before .before .before .before .before .before .before .before .check .ensures) ∙ c .before .before .before .before .before .before .before .before .enum-told2 .given .1)) (c .before .before .before .before .judge .ensures) (c .before .before .verdict .given .1) (c .refused-lowering3 .ensures)
+returns-3 c =
+    let at-judge = c .before .before .before .before in
+    let at-enum-told2 = at-judge .before .before .before .before in
+    let at-check = at-enum-told2 .before .before in
+    let at-enum-told = at-check .before in
+    let at-shape-of = at-enum-told .before .before in
+    let s = at-shape-of .before .before .before .before in
+    measure-refused (s .args .env) (s .args .receiver .now) (s .args .steps .now) (s .args .returns .now) (at-shape-of .shape-of .ensures) (at-enum-told .enum-told .given .1) (accepted-none (s .args .env) (envChecks (s .args .env)) (sym (at-check .check .ensures) ∙ at-enum-told2 .enum-told2 .given .1)) (at-judge .judge .ensures) (c .before .before .verdict .given .1) (c .refused-lowering3 .ensures)
 
 enum-told-3 : tie.Need-enum-told-3
 enum-told-3 c = search needs
 
 returns-4 : tie.Need-returns-4
-returns-4 c = measure-all (c .before .before .before .before .before .before .before .before .before .before .before .before .before .before .before .before .args .env) (c .before .before .before .before .before .before .before .before .before .before .before .before .before .before .before .before .args .receiver .now) (c .before .before .before .before .before .before .before .before .before .before .before .before .before .before .before .before .args .steps .now) (c .before .before .before .before .before .before .before .before .before .before .before .before .before .before .before .before .args .returns .now) (c .before .before .before .before .before .before .before .before .before .before .before .before .shape-of .ensures) (c .before .before .before .before .before .before .before .before .before .before .enum-told .given .1) (accepted-none (c .before .before .before .before .before .before .before .before .before .before .before .before .before .before .before .before .args .env) (envChecks (c .before .before .before .before .before .before .before .before .before .before .before .before .before .before .before .before .args .env)) (sym (c .before .before .before .before .before .before .before .before .before .check .ensures) ∙ c .before .before .before .before .before .before .before .enum-told2 .given .1)) (c .before .before .before .judge .ensures) (c .before .enum-told3 .given .1)
+returns-4 c =
+    let at-judge = c .before .before .before in
+    let at-enum-told2 = at-judge .before .before .before .before in
+    let at-check = at-enum-told2 .before .before in
+    let at-enum-told = at-check .before in
+    let at-shape-of = at-enum-told .before .before in
+    let s = at-shape-of .before .before .before .before in
+    measure-all (s .args .env) (s .args .receiver .now) (s .args .steps .now) (s .args .returns .now) (at-shape-of .shape-of .ensures) (at-enum-told .enum-told .given .1) (accepted-none (s .args .env) (envChecks (s .args .env)) (sym (at-check .check .ensures) ∙ at-enum-told2 .enum-told2 .given .1)) (at-judge .judge .ensures) (c .before .enum-told3 .given .1)
 
 pub measure-spec : {M : Type 1} → statement M
 measure-spec =

@@ -14,7 +14,10 @@ same-length : tie.Need-same-length
 same-length c = search needs
 
 returns : tie.Need-returns
-returns c = given-puts _ (c .before .before .before .before .before .before .before .before .before .args .output) _ _ _ _ _ _ (c .before .before .before .before .before .standing-in .ensures) (c .before .before .before .before .before .before .before .before .before .pre .2) (c .before .before .before .put-words .ensures)
+returns c =
+    let at-standing-in = c .before .before .before .before .before in
+    let s = at-standing-in .before .before .before .before in
+    given-puts _ (s .args .output) _ _ _ _ _ _ (at-standing-in .standing-in .ensures) (s .pre .2) (c .before .before .before .put-words .ensures)
 
 pub put-given-spec : {M : Type 1} → statement M
 put-given-spec = tie.close (tie.spec standing-in-requires put-words-requires same-length returns)

@@ -33,7 +33,11 @@ loop-less : tie.Need-loop-less Inv-loop μ-loop
 loop-less c = search needs
 
 loop-again : tie.Need-loop-again Inv-loop μ-loop
-loop-again c = storing-more (c .before .before .before .before .before .before .loop .inv) (c .before .before .before .before .before .before .before .before .pre .0) (c .before .before .before .before .before .loop-test .taken) (c .before .before .store .ensures)
+loop-again c =
+    let at-loop-test = c .before .before .before .before .before in
+    let at-loop = at-loop-test .before in
+    let s = at-loop .before .before in
+    storing-more (at-loop .loop .inv) (s .pre .0) (at-loop-test .loop-test .taken) (c .before .before .store .ensures)
 
 same-length : tie.Need-same-length Inv-loop μ-loop
 same-length c = search needs

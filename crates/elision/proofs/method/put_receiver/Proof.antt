@@ -18,7 +18,10 @@ enum-known-verdict : tie.Need-enum-known-verdict
 enum-known-verdict c = search needs
 
 returns-2 : tie.Need-returns-2
-returns-2 c = (omega arith, receiver-refused _ (c .before .before .before .before .before .before .before .before .before .args .receiver .now) (c .before .before .before .before .before .if1 .left) (c .before .before .before .lower-word .ensures) (c .before .verdict .given .1))
+returns-2 c =
+    let at-if1 = c .before .before .before .before .before in
+    let s = at-if1 .before .before .before .before in
+    (omega arith, receiver-refused _ (s .args .receiver .now) (at-if1 .if1 .left) (c .before .before .before .lower-word .ensures) (c .before .verdict .given .1))
 
 enum-told : tie.Need-enum-told
 enum-told c = search needs
@@ -33,7 +36,13 @@ same-length : tie.Need-same-length
 same-length c = search needs
 
 returns-3 : tie.Need-returns-3
-returns-3 c = (omega arith, receiver-given _ (c .before .before .before .before .before .before .before .before .before .before .before .before .before .before .args .receiver .now) (c .before .before .before .before .before .before .before .before .before .before .if1 .left) (c .before .before .before .before .before .before .before .before .lower-word .ensures) (c .before .before .before .before .before .before .enum-told .given .1) (c .before .before .before .word-of .ensures) (c .before .before .store .ensures))
+returns-3 c =
+    let at-word-of = c .before .before .before in
+    let at-enum-told = at-word-of .before .before .before in
+    let at-lower-word = at-enum-told .before .before in
+    let at-if1 = at-lower-word .before .before in
+    let s = at-if1 .before .before .before .before in
+    (omega arith, receiver-given _ (s .args .receiver .now) (at-if1 .if1 .left) (at-lower-word .lower-word .ensures) (at-enum-told .enum-told .given .1) (at-word-of .word-of .ensures) (c .before .before .store .ensures))
 
 pub put-receiver-spec : {M : Type 1} → statement M
 put-receiver-spec =

@@ -14,7 +14,10 @@ same-length : tie.Need-same-length
 same-length c = search needs
 
 returns : tie.Need-returns
-returns c = self-again _ _ _ _ _ _ _ (c .before .before .before .before .before .if1 .taken) (c .before .before .before .before .before .before .before .before .before .pre .1) (c .before .before .put-list .ensures)
+returns c =
+    let at-if1 = c .before .before .before .before .before in
+    let s = at-if1 .before .before .before .before in
+    self-again _ _ _ _ _ _ _ (at-if1 .if1 .taken) (s .pre .1) (c .before .before .put-list .ensures)
 
 put-words-requires : tie.Need-put-words-requires
 put-words-requires c κs = search needs
@@ -23,7 +26,10 @@ enum-known-verdict : tie.Need-enum-known-verdict
 enum-known-verdict c = search needs
 
 returns-2 : tie.Need-returns-2
-returns-2 c = self-refused _ _ _ _ _ _ _ (c .before .before .before .before .before .if1 .left) (c .before .before .before .before .before .before .before .before .before .pre .1) (c .before .before .before .put-words .ensures) (c .before .verdict .given .1)
+returns-2 c =
+    let at-if1 = c .before .before .before .before .before in
+    let s = at-if1 .before .before .before .before in
+    self-refused _ _ _ _ _ _ _ (at-if1 .if1 .left) (s .pre .1) (c .before .before .before .put-words .ensures) (c .before .verdict .given .1)
 
 enum-told : tie.Need-enum-told
 enum-told c = search needs
@@ -38,7 +44,12 @@ same-length-2 : tie.Need-same-length-2
 same-length-2 c = search needs
 
 returns-3 : tie.Need-returns-3
-returns-3 c = self-first _ _ _ _ _ _ _ (c .before .before .before .before .before .before .before .before .before .before .if1 .left) (c .before .before .before .before .before .before .before .before .before .before .before .before .before .before .pre .1) (c .before .before .before .before .before .before .before .before .put-words .ensures) (c .before .before .before .before .before .before .enum-told .given .1) (c .before .before .put-list2 .ensures)
+returns-3 c =
+    let at-enum-told = c .before .before .before .before .before .before in
+    let at-put-words = at-enum-told .before .before in
+    let at-if1 = at-put-words .before .before in
+    let s = at-if1 .before .before .before .before in
+    self-first _ _ _ _ _ _ _ (at-if1 .if1 .left) (s .pre .1) (at-put-words .put-words .ensures) (at-enum-told .enum-told .given .1) (c .before .before .put-list2 .ensures)
 
 pub put-self-spec : {M : Type 1} → statement M
 put-self-spec =

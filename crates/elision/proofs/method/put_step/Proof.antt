@@ -28,7 +28,11 @@ part-put-given-end : tie.Need-part-put-given-end
 part-put-given-end c = let p = few-lifetime (c .before .before .before .read-step .ensures) (c .before .step .given .1) in omega (arith, p .0, p .1)
 
 put-given-requires : tie.Need-put-given-requires
-put-given-requires c κs = (few-lifetime (c .before .before .before .before .before .read-step .ensures) (c .before .before .before .step .given .1) .2, omega arith, c .before .before .before .before .before .before .before .before .before .pre .0, c .before .before .before .before .before .before .before .before .before .pre .1)
+put-given-requires c κs =
+    let at-step = c .before .before .before in
+    let at-read-step = at-step .before .before in
+    let s = at-read-step .before .before .before .before in
+    (few-lifetime (at-read-step .read-step .ensures) (at-step .step .given .1) .2, omega arith, s .pre .0, s .pre .1)
 
 enum-known-step-2 : tie.Need-enum-known-step-2
 enum-known-step-2 c = search needs
@@ -46,7 +50,10 @@ part-put-given-end-2 : tie.Need-part-put-given-end-2
 part-put-given-end-2 c = let p = part-generics (c .before .before .before .read-step .ensures) (c .before .step2 .given .1) in omega (arith, p .0, p .1)
 
 put-given-requires-2 : tie.Need-put-given-requires-2
-put-given-requires-2 c κs = let p = few-generics (c .before .before .before .before .before .read-step .ensures) (c .before .before .before .step2 .given .1) in (p .0, p .1, c .before .before .before .before .before .before .before .before .before .pre .0, c .before .before .before .before .before .before .before .before .before .pre .1)
+put-given-requires-2 c κs =
+    let at-read-step = c .before .before .before .before .before in
+    let s = at-read-step .before .before .before .before in
+    let p = few-generics (at-read-step .read-step .ensures) (c .before .before .before .step2 .given .1) in (p .0, p .1, s .pre .0, s .pre .1)
 
 enum-known-step-3 : tie.Need-enum-known-step-3
 enum-known-step-3 c = search needs
@@ -64,7 +71,11 @@ part-put-self-end : tie.Need-part-put-self-end
 part-put-self-end c = let p = part-self (c .before .before .before .read-step .ensures) (c .before .step3 .given .1) in omega (arith, p .0, p .1)
 
 put-self-requires : tie.Need-put-self-requires
-put-self-requires c κs = (few-self (c .before .before .before .before .before .before .read-step .ensures) (c .before .before .before .before .step3 .given .1), c .before .before .before .before .before .before .before .before .before .before .pre .0, c .before .before .before .before .before .before .before .before .before .before .pre .1)
+put-self-requires c κs =
+    let at-step3 = c .before .before .before .before in
+    let at-read-step = at-step3 .before .before in
+    let s = at-read-step .before .before .before .before in
+    (few-self (at-read-step .read-step .ensures) (at-step3 .step3 .given .1), s .pre .0, s .pre .1)
 
 enum-told : tie.Need-enum-told
 enum-told c = search needs
@@ -73,19 +84,28 @@ same-length : tie.Need-same-length
 same-length c = search needs
 
 returns : tie.Need-returns
-returns c = puts-lifetime (c .before .before .before .before .before .before .before .before .read-step .ensures) _ _ _ _ _ _ _ (c .before .before .before .before .before .before .step .given .1) (c .before .before .put-given .ensures _)
+returns c =
+    let at-step = c .before .before .before .before .before .before in
+    let at-read-step = at-step .before .before in
+    puts-lifetime (at-read-step .read-step .ensures) _ _ _ _ _ _ _ (at-step .step .given .1) (c .before .before .put-given .ensures _)
 
 same-length-2 : tie.Need-same-length-2
 same-length-2 c = search needs
 
 returns-2 : tie.Need-returns-2
-returns-2 c = puts-generics (c .before .before .before .before .before .before .before .before .read-step .ensures) _ _ _ _ _ _ _ (c .before .before .before .before .before .before .step2 .given .1) (c .before .before .put-given2 .ensures _)
+returns-2 c =
+    let at-step2 = c .before .before .before .before .before .before in
+    let at-read-step = at-step2 .before .before in
+    puts-generics (at-read-step .read-step .ensures) _ _ _ _ _ _ _ (at-step2 .step2 .given .1) (c .before .before .put-given2 .ensures _)
 
 same-length-3 : tie.Need-same-length-3
 same-length-3 c = search needs
 
 returns-3 : tie.Need-returns-3
-returns-3 c = puts-self (c .before .before .before .before .before .before .before .before .before .read-step .ensures) _ _ _ _ _ _ _ (c .before .before .before .before .before .before .before .step3 .given .1) (c .before .before .put-self .ensures)
+returns-3 c =
+    let at-step3 = c .before .before .before .before .before .before .before in
+    let at-read-step = at-step3 .before .before in
+    puts-self (at-read-step .read-step .ensures) _ _ _ _ _ _ _ (at-step3 .step3 .given .1) (c .before .before .put-self .ensures)
 
 returns-4 : tie.Need-returns-4
 returns-4 c = puts-missing (c .before .before .read-step .ensures) _ _ _ _ _ _ _ (c .enum-told .given .1) (c .before .before .before .before .before .before .pre .0)

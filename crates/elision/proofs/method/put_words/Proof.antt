@@ -51,7 +51,14 @@ loop-less : tie.Need-loop-less Inv-loop μ-loop
 loop-less c = search needs
 
 loop-again : tie.Need-loop-again Inv-loop μ-loop
-loop-again c = putting-more (c .before .before .before .before .before .before .before .before .before .before .before .loop .inv) (c .before .before .before .before .before .before .before .before .before .before .loop-test .taken) (c .before .before .before .before .before .before .before .before .before .word-or-anonymous .ensures) (c .before .before .before .before .before .before .before .before .lower-word .ensures) (c .before .before .before .before .before .before .enum-told .given .1) (c .before .before .before .word-of .ensures) (c .before .before .store .ensures)
+loop-again c =
+    let at-word-of = c .before .before .before in
+    let at-enum-told = at-word-of .before .before .before in
+    let at-lower-word = at-enum-told .before .before in
+    let at-word-or-anonymous = at-lower-word .before in
+    let at-loop-test = at-word-or-anonymous .before in
+    let at-loop = at-loop-test .before in
+    putting-more (at-loop .loop .inv) (at-loop-test .loop-test .taken) (at-word-or-anonymous .word-or-anonymous .ensures) (at-lower-word .lower-word .ensures) (at-enum-told .enum-told .given .1) (at-word-of .word-of .ensures) (c .before .before .store .ensures)
 
 add-t16 : tie.Need-add-t16 Inv-loop μ-loop
 add-t16 c = search needs

@@ -21,14 +21,18 @@ same-length c = search needs
 
 returns : tie.Need-returns
 returns c =
-    let s = c .before .before .before .before .before .before .before .before .before .before .before .before .before .before .before in
-    all-first (s .args .names .now) (receiverOf (s .args .receiver .now)) (stepsOf (s .args .steps .now)) (stepsOf (s .args .returns .now)) (replicate 16 0) refl (c .before .before .before .before .before .before .put-receiver .ensures .1) (c .before .before .one .given .1) (c .refused-totals .ensures)
+    let at-put-receiver = c .before .before .before .before .before .before in
+    let s = at-put-receiver .before .before .before .before .before .before .before .before .before in
+    all-first (s .args .names .now) (receiverOf (s .args .receiver .now)) (stepsOf (s .args .steps .now)) (stepsOf (s .args .returns .now)) (replicate 16 0) refl (at-put-receiver .put-receiver .ensures .1) (c .before .before .one .given .1) (c .refused-totals .ensures)
 
 enum-told : tie.Need-enum-told
 enum-told c = search needs
 
-put-inputs-requires : tie.Need-put-inputs-requires
-put-inputs-requires c κs = (c .before .before .before .before .before .before .before .before .before .before .before .before .before .before .before .before .pre .0, c .before .before .before .before .before .before .before .put-receiver .ensures .0)
+put-record-requires : tie.Need-put-record-requires
+put-record-requires c κs =
+    let at-put-receiver = c .before .before .before .before .before .before .before in
+    let s = at-put-receiver .before .before .before .before .before .before .before .before .before in
+    (s .pre .0, at-put-receiver .put-receiver .ensures .0)
 
 enum-known-two : tie.Need-enum-known-two
 enum-known-two c = search needs
@@ -44,16 +48,20 @@ same-length-3 c = search needs
 
 returns-2 : tie.Need-returns-2
 returns-2 c =
-    let s = c .before .before .before .before .before .before .before .before .before .before .before .before .before .before .before .before .before .before .before .before .before .before .before in
-    all-second (s .args .names .now) (receiverOf (s .args .receiver .now)) (stepsOf (s .args .steps .now)) (stepsOf (s .args .returns .now)) (replicate 16 0) refl (c .before .before .before .before .before .before .before .before .before .before .before .before .before .before .put-receiver .ensures .1) (c .before .before .before .before .before .before .before .before .before .before .enum-told .given .1) (c .before .before .before .before .before .before .put-inputs .ensures .1) (c .before .before .two .given .1) (c .refused-totals2 .ensures)
+    let at-second = c .before .before .before .before .before .before in
+    let at-enum-told = at-second .before .before .before .before in
+    let at-put-receiver = at-enum-told .before .before .before .before in
+    let s = at-put-receiver .before .before .before .before .before .before .before .before .before in
+    all-second (s .args .names .now) (receiverOf (s .args .receiver .now)) (stepsOf (s .args .steps .now)) (stepsOf (s .args .returns .now)) (replicate 16 0) refl (at-put-receiver .put-receiver .ensures .1) (at-enum-told .enum-told .given .1) (at-second .put-record .ensures .1) (c .before .before .two .given .1) (c .refused-totals2 .ensures)
 
 enum-told-2 : tie.Need-enum-told-2
 enum-told-2 c = search needs
 
-put-outputs-requires : tie.Need-put-outputs-requires
-put-outputs-requires c κs =
-    let s = c .before .before .before .before .before .before .before .before .before .before .before .before .before .before .before .before .before .before .before .before .before .before .before .before in
-    (s .pre .1, c .before .before .before .before .before .before .before .put-inputs .ensures .0)
+put-record-requires-2 : tie.Need-put-record-requires-2
+put-record-requires-2 c κs =
+    let at-second = c .before .before .before .before .before .before .before in
+    let s = at-second .before .before .before .before .before .before .before .before .before .before .before .before .before .before .before .before .before in
+    (s .pre .1, at-second .put-record .ensures .0)
 
 enum-known-three : tie.Need-enum-known-three
 enum-known-three c = search needs
@@ -62,7 +70,9 @@ refused-totals-requires-3 : tie.Need-refused-totals-requires-3
 refused-totals-requires-3 c κs = search needs
 
 same-length-4 : tie.Need-same-length-4
-same-length-4 c = c .before .before .before .before .before .before .before .before .before .before .before .before .before .before .before .before .before .before .before .before .before .own .given
+same-length-4 c =
+    let at-own = c .before .before .before .before .before .before .before .before .before .before .before .before .before .before .before .before .before .before .before .before .before in
+    at-own .own .given
 
 same-length-5 : tie.Need-same-length-5
 same-length-5 c = search needs
@@ -72,14 +82,21 @@ same-length-6 c = search needs
 
 returns-3 : tie.Need-returns-3
 returns-3 c =
-    let s = c .before .before .before .before .before .before .before .before .before .before .before .before .before .before .before .before .before .before .before .before .before .before .before .before .before .before .before .before .before .before .before in
-    all-third (s .args .names .now) (receiverOf (s .args .receiver .now)) (stepsOf (s .args .steps .now)) (stepsOf (s .args .returns .now)) (replicate 16 0) refl (c .before .before .before .before .before .before .before .before .before .before .before .before .before .before .before .before .before .before .before .before .before .before .put-receiver .ensures .1) (c .before .before .before .before .before .before .before .before .before .before .before .before .before .before .before .before .before .before .enum-told .given .1) (c .before .before .before .before .before .before .before .before .before .before .before .before .before .before .put-inputs .ensures .1) (c .before .before .before .before .before .before .before .before .before .before .enum-told2 .given .1) (c .before .before .before .before .before .before .put-outputs .ensures .1) (c .before .before .three .given .1) (c .refused-totals3 .ensures)
+    let at-third = c .before .before .before .before .before .before in
+    let at-enum-told2 = at-third .before .before .before .before in
+    let at-second = at-enum-told2 .before .before .before .before in
+    let at-enum-told = at-second .before .before .before .before in
+    let at-put-receiver = at-enum-told .before .before .before .before in
+    let s = at-put-receiver .before .before .before .before .before .before .before .before .before in
+    all-third (s .args .names .now) (receiverOf (s .args .receiver .now)) (stepsOf (s .args .steps .now)) (stepsOf (s .args .returns .now)) (replicate 16 0) refl (at-put-receiver .put-receiver .ensures .1) (at-enum-told .enum-told .given .1) (at-second .put-record .ensures .1) (at-enum-told2 .enum-told2 .given .1) (at-third .put-record2 .ensures .1) (c .before .before .three .given .1) (c .refused-totals3 .ensures)
 
 enum-told-3 : tie.Need-enum-told-3
 enum-told-3 c = search needs
 
 same-length-7 : tie.Need-same-length-7
-same-length-7 c = c .before .before .before .before .before .before .before .before .before .before .before .before .before .before .before .before .before .before .before .before .own .given
+same-length-7 c =
+    let at-own = c .before .before .before .before .before .before .before .before .before .before .before .before .before .before .before .before .before .before .before .before in
+    at-own .own .given
 
 same-length-8 : tie.Need-same-length-8
 same-length-8 c = search needs
@@ -89,8 +106,13 @@ same-length-9 c = search needs
 
 returns-4 : tie.Need-returns-4
 returns-4 c =
-    let s = c .before .before .before .before .before .before .before .before .before .before .before .before .before .before .before .before .before .before .before .before .before .before .before .before .before .before .before .before .before .before in
-    all-given (s .args .names .now) (receiverOf (s .args .receiver .now)) (stepsOf (s .args .steps .now)) (stepsOf (s .args .returns .now)) (replicate 16 0) refl (c .before .before .before .before .before .before .before .before .before .before .before .before .before .before .before .before .before .before .before .before .before .put-receiver .ensures .1) (c .before .before .before .before .before .before .before .before .before .before .before .before .before .before .before .before .before .enum-told .given .1) (c .before .before .before .before .before .before .before .before .before .before .before .before .before .put-inputs .ensures .1) (c .before .before .before .before .before .before .before .before .before .enum-told2 .given .1) (c .before .before .before .before .before .put-outputs .ensures .1) (c .before .enum-told3 .given .1)
+    let at-third = c .before .before .before .before .before in
+    let at-enum-told2 = at-third .before .before .before .before in
+    let at-second = at-enum-told2 .before .before .before .before in
+    let at-enum-told = at-second .before .before .before .before in
+    let at-put-receiver = at-enum-told .before .before .before .before in
+    let s = at-put-receiver .before .before .before .before .before .before .before .before .before in
+    all-given (s .args .names .now) (receiverOf (s .args .receiver .now)) (stepsOf (s .args .steps .now)) (stepsOf (s .args .returns .now)) (replicate 16 0) refl (at-put-receiver .put-receiver .ensures .1) (at-enum-told .enum-told .given .1) (at-second .put-record .ensures .1) (at-enum-told2 .enum-told2 .given .1) (at-third .put-record2 .ensures .1) (c .before .enum-told3 .given .1)
 
 pub run-spec : {M : Type 1} → statement M
 run-spec =
@@ -102,14 +124,14 @@ run-spec =
     same-length
     returns
     enum-told
-    put-inputs-requires
+    put-record-requires
     enum-known-two
     refused-totals-requires-2
     same-length-2
     same-length-3
     returns-2
     enum-told-2
-    put-outputs-requires
+    put-record-requires-2
     enum-known-three
     refused-totals-requires-3
     same-length-4

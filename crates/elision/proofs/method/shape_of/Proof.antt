@@ -19,7 +19,9 @@ enum-told-2 c = search needs
 
 -- src/method.rt:212:9
 returns : tie.Need-returns
-returns c = shape-first (selfInShape (c .before .before .before .before .before .before .args .receiver .now)) ((stepsInShape (c .before .before .before .before .before .before .args .steps .now)) && (stepsInShape (c .before .before .before .before .before .before .args .returns .now))) (c .before .before .self-shape .ensures) (c .enum-told2 .given .1)
+returns c =
+    let s = c .before .before .before .before .before .before in
+    shape-first (selfInShape (s .args .receiver .now)) ((stepsInShape (s .args .steps .now)) && (stepsInShape (s .args .returns .now))) (c .before .before .self-shape .ensures) (c .enum-told2 .given .1)
 
 -- src/method.rt:214:9
 steps-shape-requires : tie.Need-steps-shape-requires
@@ -34,7 +36,11 @@ enum-told-4 c = search needs
 
 -- src/method.rt:216:9
 returns-2 : tie.Need-returns-2
-returns-2 c = shape-next (selfInShape (c .before .before .before .before .before .before .before .before .before .args .receiver .now)) ((stepsInShape (c .before .before .before .before .before .before .before .before .before .args .steps .now)) && (stepsInShape (c .before .before .before .before .before .before .before .before .before .args .returns .now))) (c .before .before .before .before .before .self-shape .ensures) (c .before .before .before .enum-told .given .1) (shape-first (stepsInShape (c .before .before .before .before .before .before .before .before .before .args .steps .now)) (stepsInShape (c .before .before .before .before .before .before .before .before .before .args .returns .now)) (c .before .before .steps-shape .ensures) (c .enum-told4 .given .1))
+returns-2 c =
+    let at-enum-told = c .before .before .before in
+    let at-self-shape = at-enum-told .before .before in
+    let s = at-self-shape .before .before .before .before in
+    shape-next (selfInShape (s .args .receiver .now)) ((stepsInShape (s .args .steps .now)) && (stepsInShape (s .args .returns .now))) (at-self-shape .self-shape .ensures) (at-enum-told .enum-told .given .1) (shape-first (stepsInShape (s .args .steps .now)) (stepsInShape (s .args .returns .now)) (c .before .before .steps-shape .ensures) (c .enum-told4 .given .1))
 
 -- src/method.rt:218:5
 steps-shape-requires-2 : tie.Need-steps-shape-requires-2
@@ -42,7 +48,12 @@ steps-shape-requires-2 c κs = search needs
 
 -- src/method.rt:207:1
 returns-3 : tie.Need-returns-3
-returns-3 c = shape-next (selfInShape (c .before .before .before .before .before .before .before .before .before .before .args .receiver .now)) ((stepsInShape (c .before .before .before .before .before .before .before .before .before .before .args .steps .now)) && (stepsInShape (c .before .before .before .before .before .before .before .before .before .before .args .returns .now))) (c .before .before .before .before .before .before .self-shape .ensures) (c .before .before .before .before .enum-told .given .1) (shape-next (stepsInShape (c .before .before .before .before .before .before .before .before .before .before .args .steps .now)) (stepsInShape (c .before .before .before .before .before .before .before .before .before .before .args .returns .now)) (c .before .before .before .steps-shape .ensures) (c .before .enum-told3 .given .1) (c .steps-shape2 .ensures))
+returns-3 c =
+    let at-steps-shape = c .before .before .before in
+    let at-enum-told = at-steps-shape .before in
+    let at-self-shape = at-enum-told .before .before in
+    let s = at-self-shape .before .before .before .before in
+    shape-next (selfInShape (s .args .receiver .now)) ((stepsInShape (s .args .steps .now)) && (stepsInShape (s .args .returns .now))) (at-self-shape .self-shape .ensures) (at-enum-told .enum-told .given .1) (shape-next (stepsInShape (s .args .steps .now)) (stepsInShape (s .args .returns .now)) (at-steps-shape .steps-shape .ensures) (c .before .enum-told3 .given .1) (c .steps-shape2 .ensures))
 
 pub shape-of-spec : {M : Type 1} → statement M
 shape-of-spec =

@@ -75,7 +75,12 @@ enum-told c = search needs
 
 -- src/steps.rt:92:13
 returns-6 : tie.Need-returns-6
-returns-6 c = generics-none _ _ (c .before .before .before .before .before .before .before .before .before .if1 .left) (c .before .before .before .before .before .before .if4 .taken) (c .before .before .before .before .before .if5 .left) (c .before .before .before .if6 .left) (ends-told (lifetimes-end _ _ (c .before .before .lifetimes-end .ensures)) (c .enum-told .given .1))
+returns-6 c =
+    let at-if6 = c .before .before .before in
+    let at-if5 = at-if6 .before .before in
+    let at-if4 = at-if5 .before in
+    let at-if1 = at-if4 .before .before .before in
+    generics-none _ _ (at-if1 .if1 .left) (at-if4 .if4 .taken) (at-if5 .if5 .left) (at-if6 .if6 .left) (ends-told (lifetimes-end _ _ (c .before .before .lifetimes-end .ensures)) (c .enum-told .given .1))
 
 -- src/steps.rt:96:19
 add-t24 : tie.Need-add-t24
@@ -83,7 +88,13 @@ add-t24 c = search needs
 
 -- src/steps.rt:94:9
 returns-7 : tie.Need-returns-7
-returns-7 c = generics-whole _ _ (c .before .before .before .before .before .before .before .before .before .before .if1 .left) (c .before .before .before .before .before .before .before .if4 .taken) (c .before .before .before .before .before .before .if5 .left) (c .before .before .before .before .if6 .left) (ends-told (lifetimes-end _ _ (c .before .before .before .lifetimes-end .ensures)) (c .before .end .given .1))
+returns-7 c =
+    let at-lifetimes-end = c .before .before .before in
+    let at-if6 = at-lifetimes-end .before in
+    let at-if5 = at-if6 .before .before in
+    let at-if4 = at-if5 .before in
+    let at-if1 = at-if4 .before .before .before in
+    generics-whole _ _ (at-if1 .if1 .left) (at-if4 .if4 .taken) (at-if5 .if5 .left) (at-if6 .if6 .left) (ends-told (lifetimes-end _ _ (at-lifetimes-end .lifetimes-end .ensures)) (c .before .end .given .1))
 
 -- src/steps.rt:101:13
 lifetimes-end-requires-2 : tie.Need-lifetimes-end-requires-2
@@ -107,7 +118,10 @@ add-t25 c = search needs
 
 -- src/steps.rt:105:9
 returns-9 : tie.Need-returns-9
-returns-9 c = self-whole _ _ (c .before .before .before .before .before .before .before .before .if1 .left) (c .before .before .before .before .if7 .taken) (ends-told (lifetimes-end _ _ (c .before .before .before .lifetimes-end2 .ensures)) (c .before .end2 .given .1))
+returns-9 c =
+    let at-if7 = c .before .before .before .before in
+    let at-if1 = at-if7 .before .before .before .before in
+    self-whole _ _ (at-if1 .if1 .left) (at-if7 .if7 .taken) (ends-told (lifetimes-end _ _ (c .before .before .before .lifetimes-end2 .ensures)) (c .before .end2 .given .1))
 
 -- src/steps.rt:63:1
 returns-10 : tie.Need-returns-10

@@ -35,13 +35,21 @@ same-length-2 : tie.Need-same-length-2
 same-length-2 c = search needs
 
 returns-2 : tie.Need-returns-2
-returns-2 c = listed-given (c .before .before .before .before .before .before .before .before .before .before .before .args .sheet .now) (c .before .before .before .before .before .before .before .before .before .before .before .args .out .now) (c .before .before .before .before .before .before .before .before .before .before .before .args .written .now) (c .before .before .before .before .before .before .before .if1 .left) (c .before .before .before .before .before .listing .ensures .0) (c .before .before .before .before .before .listing .ensures .1) (c .before .answer .given .1)
+returns-2 c =
+    let at-listing = c .before .before .before .before .before in
+    let at-if1 = at-listing .before .before in
+    let s = at-if1 .before .before .before .before in
+    listed-given (s .args .sheet .now) (s .args .out .now) (s .args .written .now) (at-if1 .if1 .left) (at-listing .listing .ensures .0) (at-listing .listing .ensures .1) (c .before .answer .given .1)
 
 same-length-3 : tie.Need-same-length-3
 same-length-3 c = search needs
 
 returns-3 : tie.Need-returns-3
-returns-3 c = listed-refused (c .before .before .before .before .before .before .before .before .before .before .before .before .args .sheet .now) (c .before .before .before .before .before .before .before .before .before .before .before .before .args .out .now) (c .before .before .before .before .before .before .before .before .before .before .before .before .args .written .now) (c .before .before .before .before .before .before .before .before .if1 .left) (c .before .before .before .before .before .before .listing .ensures .0) (c .before .before .before .before .before .before .listing .ensures .1) (c .before .before .answer2 .given .1) (c .number2 .ensures)
+returns-3 c =
+    let at-listing = c .before .before .before .before .before .before in
+    let at-if1 = at-listing .before .before in
+    let s = at-if1 .before .before .before .before in
+    listed-refused (s .args .sheet .now) (s .args .out .now) (s .args .written .now) (at-if1 .if1 .left) (at-listing .listing .ensures .0) (at-listing .listing .ensures .1) (c .before .before .answer2 .given .1) (c .number2 .ensures)
 
 pub borrows-listing-spec : {M : Type 1} → statement M
 borrows-listing-spec =

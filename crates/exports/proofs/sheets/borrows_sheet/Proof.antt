@@ -11,7 +11,9 @@ number-requires : tie.Need-number-requires
 number-requires c κs = search needs
 
 returns : tie.Need-returns
-returns c = no-places (c .before .before .before .before .before .before .before .before .args .sheet .now) (c .before .before .before .before .before .before .before .before .args .used .now) (c .before .before .before .before .before .before .before .before .args .answers .now) (c .before .before .before .before .before .before .before .before .args .edges .now) (c .before .before .before .before .before .before .before .before .args .counts .now) (c .before .unborrowed .ensures) (c .before .before .if1 .taken) (c .number .ensures)
+returns c =
+    let s = c .before .before .before .before .before .before .before .before in
+    no-places (s .args .sheet .now) (s .args .used .now) (s .args .answers .now) (s .args .edges .now) (s .args .counts .now) (c .before .unborrowed .ensures) (c .before .before .if1 .taken) (c .number .ensures)
 
 borrow-sheet-requires : tie.Need-borrow-sheet-requires
 borrow-sheet-requires c κs = search needs
@@ -32,7 +34,11 @@ same-length-3 : tie.Need-same-length-3
 same-length-3 c = search needs
 
 returns-2 : tie.Need-returns-2
-returns-2 c = borrowed-refused (c .before .before .before .before .before .before .before .before .before .before .before .before .before .before .before .before .before .before .before .before .args .sheet .now) (c .before .before .before .before .before .before .before .before .before .before .before .before .before .before .before .before .before .before .before .before .args .used .now) (c .before .before .before .before .before .before .before .before .before .before .before .before .before .before .before .before .before .before .before .before .args .answers .now) (c .before .before .before .before .before .before .before .before .before .before .before .before .before .before .before .before .before .before .before .before .args .edges .now) (c .before .before .before .before .before .before .before .before .before .before .before .before .before .before .before .before .before .before .before .before .args .counts .now) (c .before .before .before .before .before .before .before .before .before .before .before .before .before .before .if1 .left) (c .before .before .before .before .before .before .before .before .before .before .borrow-sheet .ensures .0) (c .before .before .before .before .before .before .before .before .before .before .borrow-sheet .ensures .1 .0) (c .before .before .before .before .before .before .before .before .before .before .borrow-sheet .ensures .1 .1 .0) (c .before .before .before .before .before .before .before .before .before .before .borrow-sheet .ensures .1 .1 .1 .0) (c .before .before .verdict .given .1) (c .number2 .ensures)
+returns-2 c =
+    let at-borrow-sheet = c .before .before .before .before .before .before .before .before .before .before in
+    let at-if1 = at-borrow-sheet .before .before .before .before in
+    let s = at-if1 .before .before .before .before .before .before in
+    borrowed-refused (s .args .sheet .now) (s .args .used .now) (s .args .answers .now) (s .args .edges .now) (s .args .counts .now) (at-if1 .if1 .left) (at-borrow-sheet .borrow-sheet .ensures .0) (at-borrow-sheet .borrow-sheet .ensures .1 .0) (at-borrow-sheet .borrow-sheet .ensures .1 .1 .0) (at-borrow-sheet .borrow-sheet .ensures .1 .1 .1 .0) (c .before .before .verdict .given .1) (c .number2 .ensures)
 
 enum-told : tie.Need-enum-told
 enum-told c = search needs
@@ -53,7 +59,12 @@ same-length-7 : tie.Need-same-length-7
 same-length-7 c = search needs
 
 returns-3 : tie.Need-returns-3
-returns-3 c = borrowed-given (c .before .before .before .before .before .before .before .before .before .before .before .before .before .before .before .before .before .before .before .before .before .before .args .sheet .now) (c .before .before .before .before .before .before .before .before .before .before .before .before .before .before .before .before .before .before .before .before .before .before .args .used .now) (c .before .before .before .before .before .before .before .before .before .before .before .before .before .before .before .before .before .before .before .before .before .before .args .answers .now) (c .before .before .before .before .before .before .before .before .before .before .before .before .before .before .before .before .before .before .before .before .before .before .args .edges .now) (c .before .before .before .before .before .before .before .before .before .before .before .before .before .before .before .before .before .before .before .before .before .before .args .counts .now) (c .before .before .before .before .before .before .before .before .before .before .before .before .before .before .before .before .if1 .left) (c .before .before .before .before .before .before .before .before .before .before .before .before .borrow-sheet .ensures .0) (c .before .before .before .before .before .before .before .before .before .before .before .before .borrow-sheet .ensures .1 .0) (c .before .before .before .before .before .before .before .before .before .before .before .before .borrow-sheet .ensures .1 .1 .0) (c .before .before .before .before .before .before .before .before .before .before .before .before .borrow-sheet .ensures .1 .1 .1 .0) (c .before .before .before .before .enum-told .given .1) (c .before .before .store-counts .ensures)
+returns-3 c =
+    let at-enum-told = c .before .before .before .before in
+    let at-borrow-sheet = at-enum-told .before .before .before .before .before .before .before .before in
+    let at-if1 = at-borrow-sheet .before .before .before .before in
+    let s = at-if1 .before .before .before .before .before .before in
+    borrowed-given (s .args .sheet .now) (s .args .used .now) (s .args .answers .now) (s .args .edges .now) (s .args .counts .now) (at-if1 .if1 .left) (at-borrow-sheet .borrow-sheet .ensures .0) (at-borrow-sheet .borrow-sheet .ensures .1 .0) (at-borrow-sheet .borrow-sheet .ensures .1 .1 .0) (at-borrow-sheet .borrow-sheet .ensures .1 .1 .1 .0) (at-enum-told .enum-told .given .1) (c .before .before .store-counts .ensures)
 
 pub borrows-sheet-spec : {M : Type 1} → statement M
 borrows-sheet-spec =

@@ -23,10 +23,16 @@ enum-known-verdict : tie.Need-enum-known-verdict
 enum-known-verdict c = search needs
 
 returns : tie.Need-returns
-returns c = unborrowed-given (c .before .before .before .before .before .before .before .before .before .before .args .sheet .now) (c .before .before .before .before .before .borrow-sheet .result) (c .before .before .before .before .before .borrow-sheet .ensures .0) (c .enum-told .given .1)
+returns c =
+    let at-borrow-sheet = c .before .before .before .before .before in
+    let s = at-borrow-sheet .before .before .before .before .before in
+    unborrowed-given (s .args .sheet .now) (at-borrow-sheet .borrow-sheet .result) (at-borrow-sheet .borrow-sheet .ensures .0) (c .enum-told .given .1)
 
 returns-2 : tie.Need-returns-2
-returns-2 c = unborrowed-refused (c .before .before .before .before .before .before .before .before .before .before .before .args .sheet .now) (c .before .before .before .before .before .before .borrow-sheet .result) (c .before .verdict .given .0 .0) (c .before .before .before .before .before .before .borrow-sheet .ensures .0) (c .before .verdict .given .1)
+returns-2 c =
+    let at-borrow-sheet = c .before .before .before .before .before .before in
+    let s = at-borrow-sheet .before .before .before .before .before in
+    unborrowed-refused (s .args .sheet .now) (at-borrow-sheet .borrow-sheet .result) (c .before .verdict .given .0 .0) (at-borrow-sheet .borrow-sheet .ensures .0) (c .before .verdict .given .1)
 
 pub unborrowed-spec : {M : Type 1} → statement M
 unborrowed-spec =

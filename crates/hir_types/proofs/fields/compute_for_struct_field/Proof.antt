@@ -37,11 +37,17 @@ refused-requires-2 c κs = search needs
 
 returns-2 : tie.Need-returns-2
 returns-2 c =
-    c .refused2 .ensures ∙ compute-other (c .before .before .before .before .before .before .before .before .before .args .structs .now) (c .before .before .before .before .before .before .before .before .before .args .row) (c .before .before .before .before .before .before .before .before .before .args .field) (c .before .before .before .before .before .before .before .structs-shape .ensures) (c .before .before .before .before .before .shape .given .1) (c .before .before .before .field-at .ensures) (c .before .enum-told2 .given .1)
+    let at-shape = c .before .before .before .before .before in
+    let at-structs-shape = at-shape .before .before in
+    let s = at-structs-shape .before .before in
+    c .refused2 .ensures ∙ compute-other (s .args .structs .now) (s .args .row) (s .args .field) (at-structs-shape .structs-shape .ensures) (at-shape .shape .given .1) (c .before .before .before .field-at .ensures) (c .before .enum-told2 .given .1)
 
 index-rows-requires : tie.Need-index-rows-requires
 index-rows-requires c κs =
-    (in-order (c .before .before .before .before .before .before .before .before .before .before .before .args .structs .now) (c .before .before .before .before .before .before .before .before .before .before .before .args .row) (c .before .before .before .before .before .before .before .before .before .before .before .args .field) (c .before .before .before .before .before .before .before .before .before .structs-shape .ensures) (c .before .before .before .before .before .before .before .shape .given .1), (refl, refl))
+    let at-shape = c .before .before .before .before .before .before .before in
+    let at-structs-shape = at-shape .before .before in
+    let s = at-structs-shape .before .before in
+    (in-order (s .args .structs .now) (s .args .row) (s .args .field) (at-structs-shape .structs-shape .ensures) (at-shape .shape .given .1), (refl, refl))
 
 enum-known-verdict : tie.Need-enum-known-verdict
 enum-known-verdict c = search needs
@@ -54,34 +60,71 @@ enum-told-3 c = search needs
 
 mul-declared : tie.Need-mul-declared
 mul-declared c =
-    omega (arith, few-rows (c .before .before .before .before .before .before .before .before .before .before .before .before .before .before .args .structs .now) (c .before .before .before .before .before .before .before .before .before .before .before .before .before .before .args .row) (c .before .before .before .before .before .before .before .before .before .before .before .before .before .before .args .field) (c .before .before .before .before .before .before .before .before .before .before .before .before .structs-shape .ensures) (c .before .before .before .before .before .before .before .before .before .before .shape .given .1) (c .before .before .before .before .before .before .before .before .field-at .ensures) (c .before .before .before .before .before .before .found .given .1) (c .before .before .index-rows .ensures) (c .enum-told3 .given .1) .0)
+    let at-found = c .before .before .before .before .before .before in
+    let at-field-at = at-found .before .before in
+    let at-shape = at-field-at .before .before in
+    let at-structs-shape = at-shape .before .before in
+    let s = at-structs-shape .before .before in
+    omega (arith, few-rows (s .args .structs .now) (s .args .row) (s .args .field) (at-structs-shape .structs-shape .ensures) (at-shape .shape .given .1) (at-field-at .field-at .ensures) (at-found .found .given .1) (c .before .before .index-rows .ensures) (c .enum-told3 .given .1) .0)
 
 array-read-declared : tie.Need-array-read-declared
 array-read-declared c =
-    few-rows (c .before .before .before .before .before .before .before .before .before .before .before .before .before .before .args .structs .now) (c .before .before .before .before .before .before .before .before .before .before .before .before .before .before .args .row) (c .before .before .before .before .before .before .before .before .before .before .before .before .before .before .args .field) (c .before .before .before .before .before .before .before .before .before .before .before .before .structs-shape .ensures) (c .before .before .before .before .before .before .before .before .before .before .shape .given .1) (c .before .before .before .before .before .before .before .before .field-at .ensures) (c .before .before .before .before .before .before .found .given .1) (c .before .before .index-rows .ensures) (c .enum-told3 .given .1) .0
+    let at-found = c .before .before .before .before .before .before in
+    let at-field-at = at-found .before .before in
+    let at-shape = at-field-at .before .before in
+    let at-structs-shape = at-shape .before .before in
+    let s = at-structs-shape .before .before in
+    few-rows (s .args .structs .now) (s .args .row) (s .args .field) (at-structs-shape .structs-shape .ensures) (at-shape .shape .given .1) (at-field-at .field-at .ensures) (at-found .found .given .1) (c .before .before .index-rows .ensures) (c .enum-told3 .given .1) .0
 
 mul-linked : tie.Need-mul-linked
 mul-linked c =
-    omega (arith, few-rows (c .before .before .before .before .before .before .before .before .before .before .before .before .before .before .args .structs .now) (c .before .before .before .before .before .before .before .before .before .before .before .before .before .before .args .row) (c .before .before .before .before .before .before .before .before .before .before .before .before .before .before .args .field) (c .before .before .before .before .before .before .before .before .before .before .before .before .structs-shape .ensures) (c .before .before .before .before .before .before .before .before .before .before .shape .given .1) (c .before .before .before .before .before .before .before .before .field-at .ensures) (c .before .before .before .before .before .before .found .given .1) (c .before .before .index-rows .ensures) (c .enum-told3 .given .1) .1)
+    let at-found = c .before .before .before .before .before .before in
+    let at-field-at = at-found .before .before in
+    let at-shape = at-field-at .before .before in
+    let at-structs-shape = at-shape .before .before in
+    let s = at-structs-shape .before .before in
+    omega (arith, few-rows (s .args .structs .now) (s .args .row) (s .args .field) (at-structs-shape .structs-shape .ensures) (at-shape .shape .given .1) (at-field-at .field-at .ensures) (at-found .found .given .1) (c .before .before .index-rows .ensures) (c .enum-told3 .given .1) .1)
 
 array-read-linked : tie.Need-array-read-linked
 array-read-linked c =
-    few-rows (c .before .before .before .before .before .before .before .before .before .before .before .before .before .before .args .structs .now) (c .before .before .before .before .before .before .before .before .before .before .before .before .before .before .args .row) (c .before .before .before .before .before .before .before .before .before .before .before .before .before .before .args .field) (c .before .before .before .before .before .before .before .before .before .before .before .before .structs-shape .ensures) (c .before .before .before .before .before .before .before .before .before .before .shape .given .1) (c .before .before .before .before .before .before .before .before .field-at .ensures) (c .before .before .before .before .before .before .found .given .1) (c .before .before .index-rows .ensures) (c .enum-told3 .given .1) .1
+    let at-found = c .before .before .before .before .before .before in
+    let at-field-at = at-found .before .before in
+    let at-shape = at-field-at .before .before in
+    let at-structs-shape = at-shape .before .before in
+    let s = at-structs-shape .before .before in
+    few-rows (s .args .structs .now) (s .args .row) (s .args .field) (at-structs-shape .structs-shape .ensures) (at-shape .shape .given .1) (at-field-at .field-at .ensures) (at-found .found .given .1) (c .before .before .index-rows .ensures) (c .enum-told3 .given .1) .1
 
 path-words-requires : tie.Need-path-words-requires
 path-words-requires c κs = search needs
 
 pairs-of-requires : tie.Need-pairs-of-requires
 pairs-of-requires c κs =
-    path-linked (c .before .before .before .before .before .before .before .before .before .before .before .before .before .before .before .args .structs .now) (c .before .before .before .before .before .before .before .before .before .before .before .before .before .before .before .args .row) (c .before .before .before .before .before .before .before .before .before .before .before .before .before .before .before .args .field) (c .before .before .before .before .before .before .before .before .before .before .before .before .before .structs-shape .ensures) (c .before .before .before .before .before .before .before .before .before .before .before .shape .given .1) (c .before .before .before .before .before .before .before .before .before .field-at .ensures) (c .before .before .before .before .before .before .before .found .given .1) (c .before .before .before .index-rows .ensures) (c .before .enum-told3 .given .1) (c .path-words .ensures)
+    let at-found = c .before .before .before .before .before .before .before in
+    let at-field-at = at-found .before .before in
+    let at-shape = at-field-at .before .before in
+    let at-structs-shape = at-shape .before .before in
+    let s = at-structs-shape .before .before in
+    path-linked (s .args .structs .now) (s .args .row) (s .args .field) (at-structs-shape .structs-shape .ensures) (at-shape .shape .given .1) (at-field-at .field-at .ensures) (at-found .found .given .1) (c .before .before .before .index-rows .ensures) (c .before .enum-told3 .given .1) (c .path-words .ensures)
 
 returns-3 : tie.Need-returns-3
 returns-3 c =
-    c .refused3 .ensures ∙ compute-refused (c .before .before .before .before .before .before .before .before .before .before .before .before .before .before .before .before .args .structs .now) (c .before .before .before .before .before .before .before .before .before .before .before .before .before .before .before .before .args .row) (c .before .before .before .before .before .before .before .before .before .before .before .before .before .before .before .before .args .field) (c .before .before .before .before .before .before .before .before .before .before .before .before .before .before .structs-shape .ensures) (c .before .before .before .before .before .before .before .before .before .before .before .before .shape .given .1) (c .before .before .before .before .before .before .before .before .before .before .field-at .ensures) (c .before .before .before .before .before .before .before .before .found .given .1) (c .before .before .before .before .index-rows .ensures) (c .before .before .verdict .given .1)
+    let at-index-rows = c .before .before .before .before in
+    let at-found = at-index-rows .before .before .before .before in
+    let at-field-at = at-found .before .before in
+    let at-shape = at-field-at .before .before in
+    let at-structs-shape = at-shape .before .before in
+    let s = at-structs-shape .before .before in
+    c .refused3 .ensures ∙ compute-refused (s .args .structs .now) (s .args .row) (s .args .field) (at-structs-shape .structs-shape .ensures) (at-shape .shape .given .1) (at-field-at .field-at .ensures) (at-found .found .given .1) (at-index-rows .index-rows .ensures) (c .before .before .verdict .given .1)
 
 returns-4 : tie.Need-returns-4
 returns-4 c =
-    compute-given (c .before .before .before .before .before .before .before .before .before .before .before .before .before .before .before .before .args .structs .now) (c .before .before .before .before .before .before .before .before .before .before .before .before .before .before .before .before .args .row) (c .before .before .before .before .before .before .before .before .before .before .before .before .before .before .before .before .args .field) (c .before .before .before .before .before .before .before .before .before .before .before .before .before .before .structs-shape .ensures) (c .before .before .before .before .before .before .before .before .before .before .before .before .shape .given .1) (c .before .before .before .before .before .before .before .before .before .before .field-at .ensures) (c .before .before .before .before .before .before .before .before .found .given .1) (c .before .before .before .before .index-rows .ensures) (c .before .before .enum-told3 .given .1) (c .before .path-words .ensures) (c .pairs-of .ensures)
+    let at-index-rows = c .before .before .before .before in
+    let at-found = at-index-rows .before .before .before .before in
+    let at-field-at = at-found .before .before in
+    let at-shape = at-field-at .before .before in
+    let at-structs-shape = at-shape .before .before in
+    let s = at-structs-shape .before .before in
+    compute-given (s .args .structs .now) (s .args .row) (s .args .field) (at-structs-shape .structs-shape .ensures) (at-shape .shape .given .1) (at-field-at .field-at .ensures) (at-found .found .given .1) (at-index-rows .index-rows .ensures) (c .before .before .enum-told3 .given .1) (c .before .path-words .ensures) (c .pairs-of .ensures)
 
 pub compute-for-struct-field-spec : {M : Type 1} → statement M
 compute-for-struct-field-spec =

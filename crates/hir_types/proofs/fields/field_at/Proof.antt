@@ -45,7 +45,10 @@ enum-told c = search needs
 
 returns-3 : tie.Need-returns-3
 returns-3 c =
-    field-lost (c .before .before .before .before .before .before .before .before .before .args .structs .now) (c .before .before .before .before .before .before .before .before .before .args .row) (c .before .before .before .before .before .before .before .before .before .args .field) (c .before .before .before .before .before .before .row-place .ensures) (c .before .before .before .before .if2 .left) (c .before .before .before .skip-types .result) (c .before .before .before .skip-types .ensures) (missing-told (c .before .before .type-at .ensures .1) (c .enum-told .given .1))
+    let at-if2 = c .before .before .before .before in
+    let at-row-place = at-if2 .before .before in
+    let s = at-row-place .before .before .before in
+    field-lost (s .args .structs .now) (s .args .row) (s .args .field) (at-row-place .row-place .ensures) (at-if2 .if2 .left) (c .before .before .before .skip-types .result) (c .before .before .before .skip-types .ensures) (missing-told (c .before .before .type-at .ensures .1) (c .enum-told .given .1))
 
 enum-known-kind : tie.Need-enum-known-kind
 enum-known-kind c = search needs
@@ -61,19 +64,40 @@ enum-told-4 c = search needs
 
 returns-4 : tie.Need-returns-4
 returns-4 c =
-    field-struct (c .before .before .before .before .before .before .before .before .before .before .before .before .before .args .structs .now) (c .before .before .before .before .before .before .before .before .before .before .before .before .before .args .row) (c .before .before .before .before .before .before .before .before .before .before .before .before .before .args .field) (c .before .before .before .before .before .before .before .before .before .before .row-place .ensures) (c .before .before .before .before .before .before .before .before .if2 .left) (c .before .before .before .before .before .before .before .skip-types .result) (c .before .before .before .before .before .before .before .skip-types .ensures) (found-told (c .before .before .before .before .before .before .type-at .ensures .1) (c .before .before .before .before .found .given .1)) (c .before .kind .given .1)
+    let at-found = c .before .before .before .before in
+    let at-type-at = at-found .before .before in
+    let at-skip-types = at-type-at .before in
+    let at-if2 = at-skip-types .before in
+    let at-row-place = at-if2 .before .before in
+    let s = at-row-place .before .before .before in
+    field-struct (s .args .structs .now) (s .args .row) (s .args .field) (at-row-place .row-place .ensures) (at-if2 .if2 .left) (at-skip-types .skip-types .result) (at-skip-types .skip-types .ensures) (found-told (at-type-at .type-at .ensures .1) (at-found .found .given .1)) (c .before .kind .given .1)
 
 returns-5 : tie.Need-returns-5
 returns-5 c =
-    field-other (c .before .before .before .before .before .before .before .before .before .before .before .before .args .structs .now) (c .before .before .before .before .before .before .before .before .before .before .before .before .args .row) (c .before .before .before .before .before .before .before .before .before .before .before .before .args .field) (c .before .before .before .before .before .before .before .before .before .row-place .ensures) (c .before .before .before .before .before .before .before .if2 .left) (c .before .before .before .before .before .before .skip-types .result) (c .before .before .before .before .before .before .skip-types .ensures) (found-told (c .before .before .before .before .before .type-at .ensures .1) (c .before .before .before .found .given .1)) (ap isStruct (c .enum-told2 .given .1))
+    let at-type-at = c .before .before .before .before .before in
+    let at-skip-types = at-type-at .before in
+    let at-if2 = at-skip-types .before in
+    let at-row-place = at-if2 .before .before in
+    let s = at-row-place .before .before .before in
+    field-other (s .args .structs .now) (s .args .row) (s .args .field) (at-row-place .row-place .ensures) (at-if2 .if2 .left) (at-skip-types .skip-types .result) (at-skip-types .skip-types .ensures) (found-told (at-type-at .type-at .ensures .1) (c .before .before .before .found .given .1)) (ap isStruct (c .enum-told2 .given .1))
 
 returns-6 : tie.Need-returns-6
 returns-6 c =
-    field-other (c .before .before .before .before .before .before .before .before .before .before .before .before .args .structs .now) (c .before .before .before .before .before .before .before .before .before .before .before .before .args .row) (c .before .before .before .before .before .before .before .before .before .before .before .before .args .field) (c .before .before .before .before .before .before .before .before .before .row-place .ensures) (c .before .before .before .before .before .before .before .if2 .left) (c .before .before .before .before .before .before .skip-types .result) (c .before .before .before .before .before .before .skip-types .ensures) (found-told (c .before .before .before .before .before .type-at .ensures .1) (c .before .before .before .found .given .1)) (ap isStruct (c .enum-told3 .given .1))
+    let at-type-at = c .before .before .before .before .before in
+    let at-skip-types = at-type-at .before in
+    let at-if2 = at-skip-types .before in
+    let at-row-place = at-if2 .before .before in
+    let s = at-row-place .before .before .before in
+    field-other (s .args .structs .now) (s .args .row) (s .args .field) (at-row-place .row-place .ensures) (at-if2 .if2 .left) (at-skip-types .skip-types .result) (at-skip-types .skip-types .ensures) (found-told (at-type-at .type-at .ensures .1) (c .before .before .before .found .given .1)) (ap isStruct (c .enum-told3 .given .1))
 
 returns-7 : tie.Need-returns-7
 returns-7 c =
-    field-other (c .before .before .before .before .before .before .before .before .before .before .before .before .args .structs .now) (c .before .before .before .before .before .before .before .before .before .before .before .before .args .row) (c .before .before .before .before .before .before .before .before .before .before .before .before .args .field) (c .before .before .before .before .before .before .before .before .before .row-place .ensures) (c .before .before .before .before .before .before .before .if2 .left) (c .before .before .before .before .before .before .skip-types .result) (c .before .before .before .before .before .before .skip-types .ensures) (found-told (c .before .before .before .before .before .type-at .ensures .1) (c .before .before .before .found .given .1)) (ap isStruct (c .enum-told4 .given .1))
+    let at-type-at = c .before .before .before .before .before in
+    let at-skip-types = at-type-at .before in
+    let at-if2 = at-skip-types .before in
+    let at-row-place = at-if2 .before .before in
+    let s = at-row-place .before .before .before in
+    field-other (s .args .structs .now) (s .args .row) (s .args .field) (at-row-place .row-place .ensures) (at-if2 .if2 .left) (at-skip-types .skip-types .result) (at-skip-types .skip-types .ensures) (found-told (at-type-at .type-at .ensures .1) (c .before .before .before .found .given .1)) (ap isStruct (c .enum-told4 .given .1))
 
 pub field-at-spec : {M : Type 1} → statement M
 field-at-spec =

@@ -55,7 +55,12 @@ loop-less-2 c = search needs
 
 loop-again-2 : tie.Need-loop-again-2 Inv-loop μ-loop
 loop-again-2 c =
-    linking-static (c .before .before .before .before .before .before .before .before .before .before .before .before .args .path .now) (c .before .before .before .before .before .before .before .before .before .before .before .before .args .count) (c .before .before .before .before .before .before .before .before .before .before .before .before .pre .0) (c .before .before .before .before .before .before .before .before .loop .inv) (c .before .before .before .before .before .before .before .loop-test .taken) (c .before .before .before .before .before .before .linked-pair .ensures) (c .before .before .before .before .linked .given .1) (c .before .before .from-word .ensures) (c .enum-told .given .1)
+    let at-linked = c .before .before .before .before in
+    let at-linked-pair = at-linked .before .before in
+    let at-loop-test = at-linked-pair .before in
+    let at-loop = at-loop-test .before in
+    let s = at-loop .before .before .before .before in
+    linking-static (s .args .path .now) (s .args .count) (s .pre .0) (at-loop .loop .inv) (at-loop-test .loop-test .taken) (at-linked-pair .linked-pair .ensures) (at-linked .linked .given .1) (c .before .before .from-word .ensures) (c .enum-told .given .1)
 
 index-requires : tie.Need-index-requires Inv-loop μ-loop
 index-requires c κs = search needs
@@ -65,26 +70,44 @@ loop-less-3 c = search needs
 
 loop-again-3 : tie.Need-loop-again-3 Inv-loop μ-loop
 loop-again-3 c =
-    linking-past (c .before .before .before .before .before .before .before .before .before .before .before .before .before .before .before .args .path .now) (c .before .before .before .before .before .before .before .before .before .before .before .before .before .before .before .args .count) (c .before .before .before .before .before .before .before .before .before .before .before .before .before .before .before .pre .0) (c .before .before .before .before .before .before .before .before .before .before .before .loop .inv) (c .before .before .before .before .before .before .before .before .before .before .loop-test .taken) (c .before .before .before .before .before .before .before .before .before .linked-pair .ensures) (c .before .before .before .before .before .before .before .linked .given .1) (c .before .before .before .before .before .from-word .ensures) (c .before .before .before .lifetime .given .1) (omega (arith, c .before .index .ensures))
+    let at-from-word = c .before .before .before .before .before in
+    let at-linked = at-from-word .before .before in
+    let at-linked-pair = at-linked .before .before in
+    let at-loop-test = at-linked-pair .before in
+    let at-loop = at-loop-test .before in
+    let s = at-loop .before .before .before .before in
+    linking-past (s .args .path .now) (s .args .count) (s .pre .0) (at-loop .loop .inv) (at-loop-test .loop-test .taken) (at-linked-pair .linked-pair .ensures) (at-linked .linked .given .1) (at-from-word .from-word .ensures) (c .before .before .before .lifetime .given .1) (omega (arith, c .before .index .ensures))
 
 mul-pairs : tie.Need-mul-pairs Inv-loop μ-loop
 mul-pairs c =
-    omega (arith, c .before .before .before .before .before .before .before .before .before .before .before .loop .inv .before, c .before .before .before .before .before .before .before .before .before .before .before .before .before .before .before .pre .1)
+    let at-loop = c .before .before .before .before .before .before .before .before .before .before .before in
+    let s = at-loop .before .before .before .before in
+    omega (arith, at-loop .loop .inv .before, s .pre .1)
 
 array-set-from-pairs : tie.Need-array-set-from-pairs Inv-loop μ-loop
 array-set-from-pairs c =
-    omega (arith, c .before .before .before .before .before .before .before .before .before .before .before .loop .inv .before, c .before .before .before .before .before .before .before .before .before .before .before .before .before .before .before .pre .1)
+    let at-loop = c .before .before .before .before .before .before .before .before .before .before .before in
+    let s = at-loop .before .before .before .before in
+    omega (arith, at-loop .loop .inv .before, s .pre .1)
 
 add-n : tie.Need-add-n Inv-loop μ-loop
 add-n c =
-    omega (arith, c .before .before .before .before .before .before .before .before .before .before .before .loop .inv .before, c .before .before .before .before .before .before .before .before .before .before .before .before .before .before .before .pre .1)
+    let at-loop = c .before .before .before .before .before .before .before .before .before .before .before in
+    let s = at-loop .before .before .before .before in
+    omega (arith, at-loop .loop .inv .before, s .pre .1)
 
 loop-less-4 : tie.Need-loop-less-4 Inv-loop μ-loop
 loop-less-4 c = search needs
 
 loop-again-4 : tie.Need-loop-again-4 Inv-loop μ-loop
 loop-again-4 c =
-    linking-more (c .before .before .before .before .before .before .before .before .before .before .before .before .before .before .before .args .path .now) (c .before .before .before .before .before .before .before .before .before .before .before .before .before .before .before .args .count) (c .before .before .before .before .before .before .before .before .before .before .before .before .before .before .before .pre .0) (c .before .before .before .before .before .before .before .before .before .before .before .loop .inv) (c .before .before .before .before .before .before .before .before .before .before .loop-test .taken) (c .before .before .before .before .before .before .before .before .before .linked-pair .ensures) (c .before .before .before .before .before .before .before .linked .given .1) (c .before .before .before .before .before .from-word .ensures) (c .before .before .before .lifetime .given .1) (omega (arith, c .before .index .ensures))
+    let at-from-word = c .before .before .before .before .before in
+    let at-linked = at-from-word .before .before in
+    let at-linked-pair = at-linked .before .before in
+    let at-loop-test = at-linked-pair .before in
+    let at-loop = at-loop-test .before in
+    let s = at-loop .before .before .before .before in
+    linking-more (s .args .path .now) (s .args .count) (s .pre .0) (at-loop .loop .inv) (at-loop-test .loop-test .taken) (at-linked-pair .linked-pair .ensures) (at-linked .linked .given .1) (at-from-word .from-word .ensures) (c .before .before .before .lifetime .given .1) (omega (arith, c .before .index .ensures))
 
 returns : tie.Need-returns Inv-loop μ-loop
 returns c =

@@ -59,7 +59,11 @@ enum-told : tie.Need-enum-told Inv-loop μ-loop
 enum-told c = search needs
 
 returns-2 : tie.Need-returns-2 Inv-loop μ-loop
-returns-2 c = indexing-stops (c .before .before .before .before .before .before .before .before .loop .inv) (omega (arith, c .before .before .before .before .before .before .before .before .before .before .pre .0 .1)) (c .before .before .before .before .before .before .if1 .left) (c .before .before .types-fit .ensures) (c .enum-told .given .1)
+returns-2 c =
+    let at-if1 = c .before .before .before .before .before .before in
+    let at-loop = at-if1 .before .before in
+    let s = at-loop .before .before in
+    indexing-stops (at-loop .loop .inv) (omega (arith, s .pre .0 .1)) (at-if1 .if1 .left) (c .before .before .types-fit .ensures) (c .enum-told .given .1)
 
 add-number : tie.Need-add-number Inv-loop μ-loop
 add-number c = search needs
@@ -68,7 +72,12 @@ loop-less : tie.Need-loop-less Inv-loop μ-loop
 loop-less c = search needs
 
 loop-again : tie.Need-loop-again Inv-loop μ-loop
-loop-again c = indexing-more (c .before .before .before .before .before .before .before .before .before .loop .inv) (omega (arith, c .before .before .before .before .before .before .before .before .before .before .before .pre .0 .1)) (c .before .before .before .before .before .before .before .if1 .left) (c .before .before .before .types-fit .ensures) (c .before .fit .given .1)
+loop-again c =
+    let at-types-fit = c .before .before .before in
+    let at-if1 = at-types-fit .before .before .before .before in
+    let at-loop = at-if1 .before .before in
+    let s = at-loop .before .before in
+    indexing-more (at-loop .loop .inv) (omega (arith, s .pre .0 .1)) (at-if1 .if1 .left) (at-types-fit .types-fit .ensures) (c .before .fit .given .1)
 
 returns-3 : tie.Need-returns-3 Inv-loop μ-loop
 returns-3 c = indexing-end (c .before .loop .inv) (omega (arith, c .before .before .before .pre .0 .1))

@@ -27,7 +27,12 @@ insert-requires : tie.Need-insert-requires
 insert-requires c κs = search needs
 
 returns-2 : tie.Need-returns-2
-returns-2 c = word-declared _ _ (c .before .before .before .before .before .before .before .before .args .word) (c .before .before .before .before .before .before .before .from-word .ensures) (c .before .before .before .before .before .lifetime .given .1) (c .before .before .before .unlinked .ensures) (c .before .before .before .before .before .before .before .before .pre) (omega (arith, c .before .before .index .ensures)) (c .insert .ensures)
+returns-2 c =
+    let at-unlinked = c .before .before .before in
+    let at-lifetime = at-unlinked .before .before in
+    let at-from-word = at-lifetime .before .before in
+    let s = at-from-word .before in
+    word-declared _ _ (s .args .word) (at-from-word .from-word .ensures) (at-lifetime .lifetime .given .1) (at-unlinked .unlinked .ensures) (s .pre) (omega (arith, c .before .before .index .ensures)) (c .insert .ensures)
 
 returns-3 : tie.Need-returns-3
 returns-3 c = word-other _ _ (c .before .before .before .before .before .before .before .args .word) (c .before .before .before .before .before .before .from-word .ensures) (c .before .before .before .before .lifetime .given .1) (c .before .before .unlinked .ensures) (omega (arith, c .before .index .ensures))

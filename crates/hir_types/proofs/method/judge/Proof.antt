@@ -17,22 +17,36 @@ refused-requires : tie.Need-refused-requires
 refused-requires c κs = search needs
 
 returns : tie.Need-returns
-returns c = rw (c .refused .ensures) (judge-torn (c .before .before .before .before .before .before .before .before .args .env) (c .before .before .before .before .before .before .before .before .args .structs .now) (c .before .before .before .before .before .before .before .before .args .params .now) (c .before .before .before .before .before .before .before .before .args .output .now) (c .before .before .before .before .before .before .before .before .args .force .now) (c .before .before .before .method-shape .ensures) (c .before .before .before .before .before .before .before .before .pre) (c .before .enum-told2 .given .1))
+returns c =
+    let at-method-shape = c .before .before .before in
+    let s = at-method-shape .before .before .before .before .before in
+    rw (c .refused .ensures) (judge-torn (s .args .env) (s .args .structs .now) (s .args .params .now) (s .args .output .now) (s .args .force .now) (at-method-shape .method-shape .ensures) (s .pre) (c .before .enum-told2 .given .1))
 
 refused-requires-2 : tie.Need-refused-requires-2
 refused-requires-2 c κs = search needs
 
 returns-2 : tie.Need-returns-2
-returns-2 c = rw (c .refused2 .ensures) (judge-lifetimes (c .before .before .before .before .before .before .before .before .before .args .env) (c .before .before .before .before .before .before .before .before .before .args .structs .now) (c .before .before .before .before .before .before .before .before .before .args .params .now) (c .before .before .before .before .before .before .before .before .before .args .output .now) (c .before .before .before .before .before .before .before .before .before .args .force .now) (c .before .before .before .before .method-shape .ensures) (c .before .before .enum-told .given .1) (c .before .before .before .before .before .before .before .before .before .pre) (c .before .if1 .taken))
+returns-2 c =
+    let at-method-shape = c .before .before .before .before in
+    let s = at-method-shape .before .before .before .before .before in
+    rw (c .refused2 .ensures) (judge-lifetimes (s .args .env) (s .args .structs .now) (s .args .params .now) (s .args .output .now) (s .args .force .now) (at-method-shape .method-shape .ensures) (c .before .before .enum-told .given .1) (s .pre) (c .before .if1 .taken))
 
 refused-requires-3 : tie.Need-refused-requires-3
 refused-requires-3 c κs = search needs
 
 returns-3 : tie.Need-returns-3
-returns-3 c = rw (c .refused3 .ensures) (judge-bounds (c .before .before .before .before .before .before .before .before .before .before .args .env) (c .before .before .before .before .before .before .before .before .before .before .args .structs .now) (c .before .before .before .before .before .before .before .before .before .before .args .params .now) (c .before .before .before .before .before .before .before .before .before .before .args .output .now) (c .before .before .before .before .before .before .before .before .before .before .args .force .now) (c .before .before .before .before .before .method-shape .ensures) (c .before .before .before .enum-told .given .1) (c .before .before .if1 .left) (c .before .before .before .before .before .before .before .before .before .before .pre) (c .before .if2 .taken))
+returns-3 c =
+    let at-enum-told = c .before .before .before in
+    let at-method-shape = at-enum-told .before .before in
+    let s = at-method-shape .before .before .before .before .before in
+    rw (c .refused3 .ensures) (judge-bounds (s .args .env) (s .args .structs .now) (s .args .params .now) (s .args .output .now) (s .args .force .now) (at-method-shape .method-shape .ensures) (at-enum-told .enum-told .given .1) (c .before .before .if1 .left) (s .pre) (c .before .if2 .taken))
 
 judge-places-requires : tie.Need-judge-places-requires
-judge-places-requires c κs = (in-shape (c .before .before .before .before .before .before .before .before .before .before .args .structs .now) (c .before .before .before .before .before .before .before .before .before .before .args .params .now) (c .before .before .before .before .before .before .before .before .before .before .args .output .now) (c .before .before .before .before .before .before .before .before .before .before .args .force .now) (c .before .before .before .before .before .method-shape .ensures) (c .before .before .before .enum-told .given .1), c .before .before .before .before .before .before .before .before .before .before .pre)
+judge-places-requires c κs =
+    let at-enum-told = c .before .before .before in
+    let at-method-shape = at-enum-told .before .before in
+    let s = at-method-shape .before .before .before .before .before in
+    (in-shape (s .args .structs .now) (s .args .params .now) (s .args .output .now) (s .args .force .now) (at-method-shape .method-shape .ensures) (at-enum-told .enum-told .given .1), s .pre)
 
 enum-told-3 : tie.Need-enum-told-3
 enum-told-3 c = search needs
@@ -44,7 +58,14 @@ refused-requires-4 : tie.Need-refused-requires-4
 refused-requires-4 c κs = search needs
 
 returns-4 : tie.Need-returns-4
-returns-4 c = rw (c .refused4 .ensures) (judge-place (c .before .before .before .before .before .before .before .before .before .before .before .before .before .before .args .env) (c .before .before .before .before .before .before .before .before .before .before .before .before .before .before .args .structs .now) (c .before .before .before .before .before .before .before .before .before .before .before .before .before .before .args .params .now) (c .before .before .before .before .before .before .before .before .before .before .before .before .before .before .args .output .now) (c .before .before .before .before .before .before .before .before .before .before .before .before .before .before .args .force .now) (c .before .before .before .before .before .before .before .before .before .method-shape .ensures) (c .before .before .before .before .before .before .before .enum-told .given .1) (c .before .before .before .before .before .before .if1 .left) (c .before .before .before .before .before .if2 .left) (c .before .before .before .judge-places .ensures) (c .before .enum-told4 .given .1))
+returns-4 c =
+    let at-judge-places = c .before .before .before in
+    let at-if2 = at-judge-places .before .before in
+    let at-if1 = at-if2 .before in
+    let at-enum-told = at-if1 .before in
+    let at-method-shape = at-enum-told .before .before in
+    let s = at-method-shape .before .before .before .before .before in
+    rw (c .refused4 .ensures) (judge-place (s .args .env) (s .args .structs .now) (s .args .params .now) (s .args .output .now) (s .args .force .now) (at-method-shape .method-shape .ensures) (at-enum-told .enum-told .given .1) (at-if1 .if1 .left) (at-if2 .if2 .left) (at-judge-places .judge-places .ensures) (c .before .enum-told4 .given .1))
 
 check-requires : tie.Need-check-requires
 check-requires c κs = search needs
@@ -59,7 +80,16 @@ refused-requires-5 : tie.Need-refused-requires-5
 refused-requires-5 c κs = search needs
 
 returns-5 : tie.Need-returns-5
-returns-5 c = rw (c .refused5 .ensures) (judge-env (c .before .before .before .before .before .before .before .before .before .before .before .before .before .before .before .before .before .args .env) (c .before .before .before .before .before .before .before .before .before .before .before .before .before .before .before .before .before .args .structs .now) (c .before .before .before .before .before .before .before .before .before .before .before .before .before .before .before .before .before .args .params .now) (c .before .before .before .before .before .before .before .before .before .before .before .before .before .before .before .before .before .args .output .now) (c .before .before .before .before .before .before .before .before .before .before .before .before .before .before .before .before .before .args .force .now) (c .before .before .before .before .before .before .before .before .before .before .before .before .method-shape .ensures) (c .before .before .before .before .before .before .before .before .before .before .enum-told .given .1) (c .before .before .before .before .before .before .before .before .before .if1 .left) (c .before .before .before .before .before .before .before .before .if2 .left) (c .before .before .before .before .before .before .judge-places .ensures) (c .before .before .before .before .enum-told3 .given .1) (c .before .before .before .check .ensures) (c .before .enum-told6 .given .1))
+returns-5 c =
+    let at-check = c .before .before .before in
+    let at-enum-told3 = at-check .before in
+    let at-judge-places = at-enum-told3 .before .before in
+    let at-if2 = at-judge-places .before .before in
+    let at-if1 = at-if2 .before in
+    let at-enum-told = at-if1 .before in
+    let at-method-shape = at-enum-told .before .before in
+    let s = at-method-shape .before .before .before .before .before in
+    rw (c .refused5 .ensures) (judge-env (s .args .env) (s .args .structs .now) (s .args .params .now) (s .args .output .now) (s .args .force .now) (at-method-shape .method-shape .ensures) (at-enum-told .enum-told .given .1) (at-if1 .if1 .left) (at-if2 .if2 .left) (at-judge-places .judge-places .ensures) (at-enum-told3 .enum-told3 .given .1) (at-check .check .ensures) (c .before .enum-told6 .given .1))
 
 collect-types-requires : tie.Need-collect-types-requires
 collect-types-requires c κs = search needs
@@ -74,10 +104,32 @@ refused-requires-6 : tie.Need-refused-requires-6
 refused-requires-6 c κs = search needs
 
 returns-6 : tie.Need-returns-6
-returns-6 c = rw (c .refused6 .ensures) (judge-outside (c .before .before .before .before .before .before .before .before .before .before .before .before .before .before .before .before .before .before .before .before .args .env) (c .before .before .before .before .before .before .before .before .before .before .before .before .before .before .before .before .before .before .before .before .args .structs .now) (c .before .before .before .before .before .before .before .before .before .before .before .before .before .before .before .before .before .before .before .before .args .params .now) (c .before .before .before .before .before .before .before .before .before .before .before .before .before .before .before .before .before .before .before .before .args .output .now) (c .before .before .before .before .before .before .before .before .before .before .before .before .before .before .before .before .before .before .before .before .args .force .now) (c .before .before .before .before .before .before .before .before .before .before .before .before .before .before .before .method-shape .ensures) (c .before .before .before .before .before .before .before .before .before .before .before .before .before .enum-told .given .1) (c .before .before .before .before .before .before .before .before .before .before .before .before .if1 .left) (c .before .before .before .before .before .before .before .before .before .before .before .if2 .left) (c .before .before .before .before .before .before .before .before .before .judge-places .ensures) (c .before .before .before .before .before .before .before .enum-told3 .given .1) (c .before .before .before .before .before .before .check .ensures) (c .before .before .before .before .enum-told5 .given .1) (c .before .before .before .collect-types .ensures) (c .before .enum-told7 .given .1))
+returns-6 c =
+    let at-collect-types = c .before .before .before in
+    let at-enum-told5 = at-collect-types .before in
+    let at-check = at-enum-told5 .before .before in
+    let at-enum-told3 = at-check .before in
+    let at-judge-places = at-enum-told3 .before .before in
+    let at-if2 = at-judge-places .before .before in
+    let at-if1 = at-if2 .before in
+    let at-enum-told = at-if1 .before in
+    let at-method-shape = at-enum-told .before .before in
+    let s = at-method-shape .before .before .before .before .before in
+    rw (c .refused6 .ensures) (judge-outside (s .args .env) (s .args .structs .now) (s .args .params .now) (s .args .output .now) (s .args .force .now) (at-method-shape .method-shape .ensures) (at-enum-told .enum-told .given .1) (at-if1 .if1 .left) (at-if2 .if2 .left) (at-judge-places .judge-places .ensures) (at-enum-told3 .enum-told3 .given .1) (at-check .check .ensures) (at-enum-told5 .enum-told5 .given .1) (at-collect-types .collect-types .ensures) (c .before .enum-told7 .given .1))
 
 returns-7 : tie.Need-returns-7
-returns-7 c = judge-all (c .before .before .before .before .before .before .before .before .before .before .before .before .before .before .before .before .before .before .before .before .args .env) (c .before .before .before .before .before .before .before .before .before .before .before .before .before .before .before .before .before .before .before .before .args .structs .now) (c .before .before .before .before .before .before .before .before .before .before .before .before .before .before .before .before .before .before .before .before .args .params .now) (c .before .before .before .before .before .before .before .before .before .before .before .before .before .before .before .before .before .before .before .before .args .output .now) (c .before .before .before .before .before .before .before .before .before .before .before .before .before .before .before .before .before .before .before .before .args .force .now) (c .before .before .before .before .before .before .before .before .before .before .before .before .before .before .before .method-shape .ensures) (c .before .before .before .before .before .before .before .before .before .before .before .before .before .enum-told .given .1) (c .before .before .before .before .before .before .before .before .before .before .before .before .if1 .left) (c .before .before .before .before .before .before .before .before .before .before .before .if2 .left) (c .before .before .before .before .before .before .before .before .before .judge-places .ensures) (c .before .before .before .before .before .before .before .enum-told3 .given .1) (c .before .before .before .before .before .before .check .ensures) (c .before .before .before .before .enum-told5 .given .1) (c .before .before .before .collect-types .ensures) (c .before .collected .given .1)
+returns-7 c =
+    let at-collect-types = c .before .before .before in
+    let at-enum-told5 = at-collect-types .before in
+    let at-check = at-enum-told5 .before .before in
+    let at-enum-told3 = at-check .before in
+    let at-judge-places = at-enum-told3 .before .before in
+    let at-if2 = at-judge-places .before .before in
+    let at-if1 = at-if2 .before in
+    let at-enum-told = at-if1 .before in
+    let at-method-shape = at-enum-told .before .before in
+    let s = at-method-shape .before .before .before .before .before in
+    judge-all (s .args .env) (s .args .structs .now) (s .args .params .now) (s .args .output .now) (s .args .force .now) (at-method-shape .method-shape .ensures) (at-enum-told .enum-told .given .1) (at-if1 .if1 .left) (at-if2 .if2 .left) (at-judge-places .judge-places .ensures) (at-enum-told3 .enum-told3 .given .1) (at-check .check .ensures) (at-enum-told5 .enum-told5 .given .1) (at-collect-types .collect-types .ensures) (c .before .collected .given .1)
 
 pub judge-spec : {M : Type 1} → statement M
 judge-spec =

@@ -37,7 +37,12 @@ enum-told : tie.Need-enum-told Inv-loop μ-loop
 enum-told c = search needs
 
 returns : tie.Need-returns Inv-loop μ-loop
-returns c = pathing-stops (c .before .before .before .before .before .before .loop .inv) (c .before .before .before .before .before .before .before .before .pre .1) (c .before .before .before .before .before .loop-test .taken) (c .before .before .before .from-word .ensures) (c .before .before .collect .ensures) (c .enum-told .given .1)
+returns c =
+    let at-from-word = c .before .before .before in
+    let at-loop-test = at-from-word .before .before in
+    let at-loop = at-loop-test .before in
+    let s = at-loop .before .before in
+    pathing-stops (at-loop .loop .inv) (s .pre .1) (at-loop-test .loop-test .taken) (at-from-word .from-word .ensures) (c .before .before .collect .ensures) (c .enum-told .given .1)
 
 add-i : tie.Need-add-i Inv-loop μ-loop
 add-i c = search needs
@@ -46,7 +51,13 @@ loop-less : tie.Need-loop-less Inv-loop μ-loop
 loop-less c = search needs
 
 loop-again : tie.Need-loop-again Inv-loop μ-loop
-loop-again c = pathing-more (c .before .before .before .before .before .before .before .loop .inv) (c .before .before .before .before .before .before .before .before .before .pre .1) (c .before .before .before .before .before .before .loop-test .taken) (c .before .before .before .before .from-word .ensures) (c .before .before .before .collect .ensures) (c .before .one .given .1)
+loop-again c =
+    let at-collect = c .before .before .before in
+    let at-from-word = at-collect .before in
+    let at-loop-test = at-from-word .before .before in
+    let at-loop = at-loop-test .before in
+    let s = at-loop .before .before in
+    pathing-more (at-loop .loop .inv) (s .pre .1) (at-loop-test .loop-test .taken) (at-from-word .from-word .ensures) (at-collect .collect .ensures) (c .before .one .given .1)
 
 returns-2 : tie.Need-returns-2 Inv-loop μ-loop
 returns-2 c = pathing-end (c .before .loop .inv) (c .loop-test .left)

@@ -37,7 +37,12 @@ enum-told-2 : tie.Need-enum-told-2 Inv-loop μ-loop
 enum-told-2 c = search needs
 
 returns-2 : tie.Need-returns-2 Inv-loop μ-loop
-returns-2 c = collecting-past (c .before .before .before .before .before .before .before .before .loop .inv) (c .before .before .before .before .before .before .before .loop-test .taken) (found-told (c .before .before .before .before .before .before .type-at .ensures .1) (c .before .before .before .before .found .given .1)) (c .before .before .collect-path .ensures) (c .enum-told2 .given .1)
+returns-2 c =
+    let at-found = c .before .before .before .before in
+    let at-type-at = at-found .before .before in
+    let at-loop-test = at-type-at .before in
+    let at-loop = at-loop-test .before in
+    collecting-past (at-loop .loop .inv) (at-loop-test .loop-test .taken) (found-told (at-type-at .type-at .ensures .1) (at-found .found .given .1)) (c .before .before .collect-path .ensures) (c .enum-told2 .given .1)
 
 collect-own-requires : tie.Need-collect-own-requires Inv-loop μ-loop
 collect-own-requires c κs = search needs
@@ -49,7 +54,14 @@ enum-told-3 : tie.Need-enum-told-3 Inv-loop μ-loop
 enum-told-3 c = search needs
 
 returns-3 : tie.Need-returns-3 Inv-loop μ-loop
-returns-3 c = collecting-own (c .before .before .before .before .before .before .before .before .before .before .before .before .loop .inv) (c .before .before .before .before .before .before .before .before .before .before .before .loop-test .taken) (found-told (c .before .before .before .before .before .before .before .before .before .before .type-at .ensures .1) (c .before .before .before .before .before .before .before .before .found .given .1)) (c .before .before .before .before .before .before .collect-path .ensures) (c .before .before .before .before .path .given .1) (c .before .before .collect-own .ensures) (c .enum-told3 .given .1)
+returns-3 c =
+    let at-path = c .before .before .before .before in
+    let at-collect-path = at-path .before .before in
+    let at-found = at-collect-path .before .before in
+    let at-type-at = at-found .before .before in
+    let at-loop-test = at-type-at .before in
+    let at-loop = at-loop-test .before in
+    collecting-own (at-loop .loop .inv) (at-loop-test .loop-test .taken) (found-told (at-type-at .type-at .ensures .1) (at-found .found .given .1)) (at-collect-path .collect-path .ensures) (at-path .path .given .1) (c .before .before .collect-own .ensures) (c .enum-told3 .given .1)
 
 add-i : tie.Need-add-i Inv-loop μ-loop
 add-i c = search needs
@@ -58,7 +70,15 @@ loop-less : tie.Need-loop-less Inv-loop μ-loop
 loop-less c = search needs
 
 loop-again : tie.Need-loop-again Inv-loop μ-loop
-loop-again c = collecting-more (c .before .before .before .before .before .before .before .before .before .before .before .before .before .loop .inv) (c .before .before .before .before .before .before .before .before .before .before .before .before .loop-test .taken) (found-told (c .before .before .before .before .before .before .before .before .before .before .before .type-at .ensures .1) (c .before .before .before .before .before .before .before .before .before .found .given .1)) (c .before .before .before .before .before .before .before .collect-path .ensures) (c .before .before .before .before .before .path .given .1) (c .before .before .before .collect-own .ensures) (c .before .last .given .1)
+loop-again c =
+    let at-collect-own = c .before .before .before in
+    let at-path = at-collect-own .before .before in
+    let at-collect-path = at-path .before .before in
+    let at-found = at-collect-path .before .before in
+    let at-type-at = at-found .before .before in
+    let at-loop-test = at-type-at .before in
+    let at-loop = at-loop-test .before in
+    collecting-more (at-loop .loop .inv) (at-loop-test .loop-test .taken) (found-told (at-type-at .type-at .ensures .1) (at-found .found .given .1)) (at-collect-path .collect-path .ensures) (at-path .path .given .1) (at-collect-own .collect-own .ensures) (c .before .last .given .1)
 
 returns-4 : tie.Need-returns-4 Inv-loop μ-loop
 returns-4 c = collecting-end (c .before .loop .inv) (c .loop-test .left)

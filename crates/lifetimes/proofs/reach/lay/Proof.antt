@@ -56,7 +56,9 @@ mul-ends : tie.Need-mul-ends Inv-loop μ-loop
 mul-ends c = omega (arith, slice-write-ends c)
 
 element-write-reach : tie.Need-element-write-reach Inv-loop μ-loop
-element-write-reach c = omega (arith, c .before .before .before .before .before .before .before .before .before .before .before .before .pre .0 .2)
+element-write-reach c =
+    let s = c .before .before .before .before .before .before .before .before .before .before .before .before in
+    omega (arith, s .pre .0 .2)
 
 mul-reach : tie.Need-mul-reach Inv-loop μ-loop
 mul-reach c = omega (arith, element-write-reach c)
@@ -69,10 +71,14 @@ loop-less c = search needs
 
 loop-again : tie.Need-loop-again Inv-loop μ-loop
 loop-again c =
-    let s = c .before .before .before .before .before .before .before .before .before .before .before .before in
-    let l = c .before .before .before .before .before .before .before .before .before .loop in
-    let w = c .before .before .before .before .before .walk in
-    let m = c .before .before .before .before .before .before .before .limit-of .ensures in
+    let at-walk = c .before .before .before .before .before in
+    let at-limit-of = at-walk .before .before in
+    let at-loop-test = at-limit-of .before in
+    let at-loop = at-loop-test .before in
+    let s = at-loop .before .before .before in
+    let l = at-loop .loop in
+    let w = at-walk .walk in
+    let m = at-limit-of .limit-of .ensures in
     let y = c .before .before .copy-to in (
       w .ensures .0 .1,
       ap length (y .ensures) ∙ simp length-sets (l .inv .1),
@@ -82,7 +88,7 @@ loop-again c =
       λ g k h.
           let done = w .ensures .1 g k (λ b i. omega (arith, h b i, m)) in
           rw (y .ensures)
-          (laying-more (l .inv .5 g k h) (c .before .before .before .before .before .before .before .before .loop-test .taken) _ _ _ (done .items)
+          (laying-more (l .inv .5 g k h) (at-loop-test .loop-test .taken) _ _ _ (done .items)
           (sym (length-take-le (w .result .count) _ (omega (arith, w .ensures .0))))
           (done .seen)),
     )

@@ -28,17 +28,21 @@ limit-of-requires c κs = (c .before .before .before .before .pre .0 .1, (holds 
 
 walk-requires : tie.Need-walk-requires
 walk-requires c κs =
-    let s = c .before .before .before .before .before .before .before .before .before in
-    let m = c .before .before .before .before .limit-of .ensures in
-    (((graphIn (orderOf (s .args .ast)) (s .args .longer) (s .args .env), c .before .before .before .before .before .link .ensures, bounds-within (holds s) (orderOf (s .args .ast)) (s .args .longer) _ (m .2)), omega (arith, (holds s) .counted, m), m .0), s .pre .1)
+    let at-limit-of = c .before .before .before .before in
+    let at-link = at-limit-of .before in
+    let s = at-link .before .before .before .before in
+    let m = at-limit-of .limit-of .ensures in
+    (((graphIn (orderOf (s .args .ast)) (s .args .longer) (s .args .env), at-link .link .ensures, bounds-within (holds s) (orderOf (s .args .ast)) (s .args .longer) _ (m .2)), omega (arith, (holds s) .counted, m), m .0), s .pre .1)
 
 returns : tie.Need-returns
 returns c =
-    let s = c .before .before .before .before .before .before .before .before .before .before in
+    let at-limit-of = c .before .before .before .before .before in
+    let at-link = at-limit-of .before in
+    let s = at-link .before .before .before .before in
     let w = c .walk in (
       w .ensures .0 .0,
       w .ensures .0 .1,
-      (w .ensures .1 (graphIn (orderOf (s .args .ast)) (s .args .longer) (s .args .env)) (c .before .before .before .before .before .before .link .ensures) (bounds-within (holds s) (orderOf (s .args .ast)) (s .args .longer) _ (c .before .before .before .before .before .limit-of .ensures .2))) .items ∙ traversal-linked (orderOf (s .args .ast)) (s .args .longer) (boundsOf (s .args .env)) (s .args .start),
+      (w .ensures .1 (graphIn (orderOf (s .args .ast)) (s .args .longer) (s .args .env)) (at-link .link .ensures) (bounds-within (holds s) (orderOf (s .args .ast)) (s .args .longer) _ (at-limit-of .limit-of .ensures .2))) .items ∙ traversal-linked (orderOf (s .args .ast)) (s .args .longer) (boundsOf (s .args .env)) (s .args .start),
     )
 
 pub list-spec : {M : Type 1} → statement M

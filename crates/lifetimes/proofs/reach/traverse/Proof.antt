@@ -42,10 +42,11 @@ list-requires c κs =
 
 returns-3 : tie.Need-returns-3
 returns-3 c =
-    let s = c .before .before .before .before .before .before .before .before .before .before in
+    let at-index = c .before .before .before .before .before in
+    let s = at-index .before .before .before .before .before in
     let l = c .before .list in
-    let i = c .before .before .before .before .before .index .ensures in
-    list-short (orderOf (s .args .ast)) (s .args .longer) (s .args .env) (s .args .lifetime .0) (s .args .out .now) (none (c .before .before .before .before .before .before)) (omega (arith, i, c .before .before .before .if1 .left)) _ (l .result)
+    let i = at-index .index .ensures in
+    list-short (orderOf (s .args .ast)) (s .args .longer) (s .args .env) (s .args .lifetime .0) (s .args .out .now) (none (at-index .before)) (omega (arith, i, c .before .before .before .if1 .left)) _ (l .result)
     (omega (arith, l .ensures)) (rw i at (l .ensures .2)) (c .if2 .taken)
 
 copy-to-requires : tie.Need-copy-to-requires
@@ -56,11 +57,15 @@ same-length c = search needs
 
 returns-4 : tie.Need-returns-4
 returns-4 c =
-    let s = c .before .before .before .before .before .before .before .before .before .before .before .before .before .before .before in
-    let l = c .before .before .before .before .before .before .list in
-    let i = c .before .before .before .before .before .before .before .before .before .before .index .ensures in
-    let a = list-given (orderOf (s .args .ast)) (s .args .longer) (s .args .env) (s .args .lifetime .0) (s .args .out .now) (none (c .before .before .before .before .before .before .before .before .before .before .before)) (omega (arith, i, c .before .before .before .before .before .before .before .before .if1 .left)) _ (l .result)
-    (omega (arith, l .ensures)) (rw i at (l .ensures .2)) (c .before .before .before .before .before .if2 .left) in
+    let at-if2 = c .before .before .before .before .before in
+    let at-list = at-if2 .before in
+    let at-if1 = at-list .before .before in
+    let at-index = at-if1 .before .before in
+    let s = at-index .before .before .before .before .before in
+    let l = at-list .list in
+    let i = at-index .index .ensures in
+    let a = list-given (orderOf (s .args .ast)) (s .args .longer) (s .args .env) (s .args .lifetime .0) (s .args .out .now) (none (at-index .before)) (omega (arith, i, at-if1 .if1 .left)) _ (l .result)
+    (omega (arith, l .ensures)) (rw i at (l .ensures .2)) (at-if2 .if2 .left) in
     (a .0, c .before .before .copy-to .ensures ∙ a .1)
 
 pub traverse-spec : {M : Type 1} → statement M

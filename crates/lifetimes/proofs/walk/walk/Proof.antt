@@ -89,10 +89,14 @@ with-requires-2 : tie.Need-with-requires-2 Inv-loop μ-loop
 with-requires-2 c κs = small c
 
 mul-items : tie.Need-mul-items Inv-loop μ-loop
-mul-items c = omega (arith, c .before .before .before .before .before .before .before .before .before .before .before .pre .0 .1)
+mul-items c =
+    let s = c .before .before .before .before .before .before .before .before .before .before .before in
+    omega (arith, s .pre .0 .1)
 
 element-write-items-2 : tie.Need-element-write-items-2 Inv-loop μ-loop
-element-write-items-2 c = omega (arith, c .before .before .before .before .before .before .before .before .before .before .before .pre .0 .1)
+element-write-items-2 c =
+    let s = c .before .before .before .before .before .before .before .before .before .before .before in
+    omega (arith, s .pre .0 .1)
 
 add-count : tie.Need-add-count Inv-loop μ-loop
 add-count c = search needs

@@ -23,7 +23,9 @@ slice-aggregate-list-within-5 : tie.Need-slice-aggregate-list-within-5
 slice-aggregate-list-within-5 c = search needs
 
 list-within-requires : tie.Need-list-within-requires
-list-within-requires c κs = (any-room (c .before .before .before .before .before .before .before .before .args .sheet .now), omega arith)
+list-within-requires c κs =
+    let s = c .before .before .before .before .before .before .before .before in
+    (any-room (s .args .sheet .now), omega arith)
 
 enum-known-listed : tie.Need-enum-known-listed
 enum-known-listed c = search needs
@@ -35,13 +37,19 @@ same-length : tie.Need-same-length
 same-length c = search needs
 
 returns : tie.Need-returns
-returns c = never-short (c .before .before .before .before .before .before .before .before .before .before .before .before .before .before .before .before .before .before .args .sheet .now) (c .before .before .before .before .before .before .before .before .before .list-within .result) (c .before .before .before .before .before .before .before .before .before .before .before .before .before .before .before .before .before .before .args .out .now) (c .before .before .before .before .before .before .before .before .before .list-within .last .1 .1 .1 .1 .1 .1 .0) (c .before .before .before .before .before .before .before .before .before .list-within .ensures) (c .enum-told .given .1)
+returns c =
+    let at-list-within = c .before .before .before .before .before .before .before .before .before in
+    let s = at-list-within .before .before .before .before .before .before .before .before .before in
+    never-short (s .args .sheet .now) (at-list-within .list-within .result) (s .args .out .now) (at-list-within .list-within .last .1 .1 .1 .1 .1 .1 .0) (at-list-within .list-within .ensures) (c .enum-told .given .1)
 
 same-length-2 : tie.Need-same-length-2
 same-length-2 c = search needs
 
 returns-2 : tie.Need-returns-2
-returns-2 c = tried-done (c .before .before .before .before .before .before .before .before .before .before .before .before .before .before .before .before .before .before .before .args .sheet .now) (Ample 8192 8192 4096 20480) (c .before .before .before .before .before .before .before .before .before .before .list-within .result) _ (c .before .before .before .before .before .before .before .before .before .before .before .before .before .before .before .before .before .before .before .args .out .now) (c .before .before .before .before .before .before .before .before .before .before .list-within .last .1 .1 .1 .1 .1 .1 .0) (c .before .before .before .before .before .before .before .before .before .before .list-within .ensures) (c .before .listed .given .1)
+returns-2 c =
+    let at-list-within = c .before .before .before .before .before .before .before .before .before .before in
+    let s = at-list-within .before .before .before .before .before .before .before .before .before in
+    tried-done (s .args .sheet .now) (Ample 8192 8192 4096 20480) (at-list-within .list-within .result) _ (s .args .out .now) (at-list-within .list-within .last .1 .1 .1 .1 .1 .1 .0) (at-list-within .list-within .ensures) (c .before .listed .given .1)
 
 pub list-any-spec : {M : Type 1} → statement M
 list-any-spec =

@@ -25,8 +25,9 @@ returns c =
 
 returns-2 : tie.Need-returns-2
 returns-2 c =
-    let s = c .before .before .before .before .before .before .before .before .before in
-    let l = c .before .before .before .before .before .list-sheet in
+    let at-list-sheet = c .before .before .before .before .before in
+    let s = at-list-sheet .before .before .before .before in
+    let l = at-list-sheet .list-sheet in
     too-long (s .args .sheet .now) (s .args .out .now) (l .result) [] (l .last .1 .0) (l .ensures) (c .before .before .measured .given .1) (c .if1 .taken)
 
 list-sheet-requires-2 : tie.Need-list-sheet-requires-2
@@ -37,9 +38,12 @@ same-length c = search needs
 
 returns-3 : tie.Need-returns-3
 returns-3 c =
-    let s = c .before .before .before .before .before .before .before .before .before .before .before .before .before in
-    let l = c .before .before .before .before .before .before .before .before .before .list-sheet in
-    listed-so (s .args .sheet .now) (s .args .out .now) (c .before .before .list-sheet2 .result) (c .before .before .list-sheet2 .last .1 .0) (c .before .before .list-sheet2 .ensures) (measured-enough (s .args .sheet .now) (s .args .out .now) (l .result) [] (l .last .1 .0) (l .ensures) (c .before .before .before .before .before .before .measured .given .1) (c .before .before .before .before .if1 .left))
+    let at-if1 = c .before .before .before .before in
+    let at-measured = at-if1 .before .before in
+    let at-list-sheet = at-measured .before .before .before in
+    let s = at-list-sheet .before .before .before .before in
+    let l = at-list-sheet .list-sheet in
+    listed-so (s .args .sheet .now) (s .args .out .now) (c .before .before .list-sheet2 .result) (c .before .before .list-sheet2 .last .1 .0) (c .before .before .list-sheet2 .ensures) (measured-enough (s .args .sheet .now) (s .args .out .now) (l .result) [] (l .last .1 .0) (l .ensures) (at-measured .measured .given .1) (at-if1 .if1 .left))
 
 pub list-tight-spec : {M : Type 1} → statement M
 list-tight-spec =

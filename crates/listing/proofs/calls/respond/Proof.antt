@@ -35,9 +35,11 @@ returns c =
 
 returns-2 : tie.Need-returns-2
 returns-2 c =
-    let s = c .before .before .before .before .before .before .before .before .before .before in
-    let l = c .before .before .before .before .before .before .before .list-sheet in
-    respond-refused (c .before .before .before .before .before .answer2 .given .0 .0) (c .before .before .before .number .ensures) (s .args .sheet .now) (s .args .out .now) (l .result) (l .last .1 .0) (full (c .before .before .before .before .before .before .before .before)) (l .ensures) (c .before .before .before .before .before .answer2 .given .1) (c .put-refusal .ensures)
+    let at-answer2 = c .before .before .before .before .before in
+    let at-list-sheet = at-answer2 .before .before in
+    let s = at-list-sheet .before .before .before in
+    let l = at-list-sheet .list-sheet in
+    respond-refused (at-answer2 .answer2 .given .0 .0) (c .before .before .before .number .ensures) (s .args .sheet .now) (s .args .out .now) (l .result) (l .last .1 .0) (full (at-list-sheet .before)) (l .ensures) (at-answer2 .answer2 .given .1) (c .put-refusal .ensures)
 
 pub respond-spec : {M : Type 1} → statement M
 respond-spec =

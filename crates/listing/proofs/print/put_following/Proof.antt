@@ -26,7 +26,12 @@ shared-slice-read-put-number : tie.Need-shared-slice-read-put-number Inv-loop μ
 shared-slice-read-put-number c = search needs
 
 put-number-requires : tie.Need-put-number-requires Inv-loop μ-loop
-put-number-requires c κs = following-number (c .before .before .before .before .before .before .before .loop .inv) (c .before .before .before .before .before .before .loop-test .taken) (c .before .before .before .before .put .ensures) (c .before .before .before .before .before .before .before .before .before .before .pre)
+put-number-requires c κs =
+    let at-put = c .before .before .before .before in
+    let at-loop-test = at-put .before .before in
+    let at-loop = at-loop-test .before in
+    let s = at-loop .before .before .before in
+    following-number (at-loop .loop .inv) (at-loop-test .loop-test .taken) (at-put .put .ensures) (s .pre)
 
 add-i : tie.Need-add-i Inv-loop μ-loop
 add-i c = search needs
@@ -35,7 +40,11 @@ loop-less : tie.Need-loop-less Inv-loop μ-loop
 loop-less c = search needs
 
 loop-again : tie.Need-loop-again Inv-loop μ-loop
-loop-again c = following-more (c .before .before .before .before .before .before .before .before .before .before .loop .inv) (c .before .before .before .before .before .before .before .before .before .loop-test .taken) (c .before .before .before .before .before .before .before .put .ensures) (c .before .before .put-number .ensures)
+loop-again c =
+    let at-put = c .before .before .before .before .before .before .before in
+    let at-loop-test = at-put .before .before in
+    let at-loop = at-loop-test .before in
+    following-more (at-loop .loop .inv) (at-loop-test .loop-test .taken) (at-put .put .ensures) (c .before .before .put-number .ensures)
 
 put-requires-2 : tie.Need-put-requires-2 Inv-loop μ-loop
 put-requires-2 c κs = following-fits (c .before .before .loop .inv) (c .before .before .before .before .before .pre)

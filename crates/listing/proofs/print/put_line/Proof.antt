@@ -32,13 +32,20 @@ part-put-following-end : tie.Need-part-put-following-end
 part-put-following-end c = search needs
 
 put-following-requires : tie.Need-put-following-requires
-put-following-requires c κs = omega (arith, c .before .before .before .before .put-number .ensures .behind, simp length-append at (ap length (line-some (c .before .before .before .before .before .before .before .before .before .before .args .words .now) (c .before .before .before .before .before .before .before .if1 .left))))
+put-following-requires c κs =
+    let at-put-number = c .before .before .before .before in
+    let at-if1 = at-put-number .before .before .before in
+    let s = at-if1 .before .before .before in
+    omega (arith, at-put-number .put-number .ensures .behind, simp length-append at (ap length (line-some (s .args .words .now) (at-if1 .if1 .left))))
 
 same-length-2 : tie.Need-same-length-2
 same-length-2 c = search needs
 
 returns-2 : tie.Need-returns-2
-returns-2 c = rw (line-some _ (c .before .before .before .before .before .before .before .before .before .before .if1 .left)) (prints-more (c .before .before .before .before .before .before .before .put-number .ensures) (c .before .before .put-following .ensures))
+returns-2 c =
+    let at-put-number = c .before .before .before .before .before .before .before in
+    let at-if1 = at-put-number .before .before .before in
+    rw (line-some _ (at-if1 .if1 .left)) (prints-more (at-put-number .put-number .ensures) (c .before .before .put-following .ensures))
 
 pub put-line-spec : {M : Type 1} → statement M
 put-line-spec =

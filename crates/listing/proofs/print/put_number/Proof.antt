@@ -45,7 +45,11 @@ same-length-2 : tie.Need-same-length-2
 same-length-2 c = search needs
 
 returns-2 : tie.Need-returns-2
-returns-2 c = rw (digits-two (c .before .before .before .before .before .before .before .before .before .if1 .left) (c .before .before .before .before .before .before .before .before .if2 .taken)) (prints-more (c .before .before .before .before .before .before .put2 .ensures) (c .before .before .put3 .ensures))
+returns-2 c =
+    let at-put2 = c .before .before .before .before .before .before in
+    let at-if2 = at-put2 .before .before in
+    let at-if1 = at-if2 .before in
+    rw (digits-two (at-if1 .if1 .left) (at-if2 .if2 .taken)) (prints-more (at-put2 .put2 .ensures) (c .before .before .put3 .ensures))
 
 count-digits-requires : tie.Need-count-digits-requires
 count-digits-requires c κs = search needs

@@ -19,7 +19,10 @@ same-length c = search needs
 
 -- src/sections.rt:18:1
 returns : tie.Need-returns
-returns c = leaves-none (leaves-rest (line (c .before .before .before .before .before .before .before .before .before .before .before .before .args .counts .now)) (leaves-all _ _ _) (c .before .before .before .before .before .before .put-text .ensures)) (c .before .before .put-line .ensures)
+returns c =
+    let at-put-text = c .before .before .before .before .before .before in
+    let s = at-put-text .before .before .before .before .before .before in
+    leaves-none (leaves-rest (line (s .args .counts .now)) (leaves-all _ _ _) (at-put-text .put-text .ensures)) (c .before .before .put-line .ensures)
 
 pub put-counts-spec : {M : Type 1} → statement M
 put-counts-spec = tie.close (tie.spec put-text-requires put-line-requires same-length returns)

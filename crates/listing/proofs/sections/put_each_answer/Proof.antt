@@ -44,7 +44,12 @@ part-put-following-end c = search needs
 
 -- src/sections.rt:114:9
 put-following-requires : tie.Need-put-following-requires Inv-loop μ-loop
-put-following-requires c κs = answer-fits (c .before .before .before .before .before .before .before .loop .inv .0) (omega (arith, c .before .before .before .before .before .before .loop-test .taken, c .before .before .before .before .before .before .before .loop .inv .1)) (c .before .before .before .before .before .before .before .before .before .before .pre) (c .before .before .before .before .put-number .ensures)
+put-following-requires c κs =
+    let at-put-number = c .before .before .before .before in
+    let at-loop-test = at-put-number .before .before in
+    let at-loop = at-loop-test .before in
+    let s = at-loop .before .before .before in
+    answer-fits (at-loop .loop .inv .0) (omega (arith, at-loop-test .loop-test .taken, at-loop .loop .inv .1)) (s .pre) (at-put-number .put-number .ensures)
 
 -- src/sections.rt:115:9
 add-i : tie.Need-add-i Inv-loop μ-loop
@@ -56,7 +61,11 @@ loop-less c = search needs
 
 -- src/sections.rt:112:5
 loop-again : tie.Need-loop-again Inv-loop μ-loop
-loop-again c = (answering-more (c .before .before .before .before .before .before .before .before .before .before .loop .inv .0) (omega (arith, c .before .before .before .before .before .before .before .before .before .loop-test .taken, c .before .before .before .before .before .before .before .before .before .before .loop .inv .1)) (c .before .before .before .before .before .before .before .put-number .ensures) (c .before .before .put-following .ensures), c .before .before .before .before .before .before .before .before .before .before .loop .inv .1)
+loop-again c =
+    let at-put-number = c .before .before .before .before .before .before .before in
+    let at-loop-test = at-put-number .before .before in
+    let at-loop = at-loop-test .before in
+    (answering-more (at-loop .loop .inv .0) (omega (arith, at-loop-test .loop-test .taken, at-loop .loop .inv .1)) (at-put-number .put-number .ensures) (c .before .before .put-following .ensures), at-loop .loop .inv .1)
 
 -- src/sections.rt:105:1
 same-length : tie.Need-same-length Inv-loop μ-loop

@@ -53,7 +53,11 @@ loop-less c = search needs
 
 -- src/sections.rt:136:5
 loop-again : tie.Need-loop-again Inv-loop μ-loop
-loop-again c = edging-more (c .before .before .before .before .before .before .loop .inv) (c .before .before .before .before .before .before .before .before .before .pre .0) (c .before .before .before .before .before .loop-test .taken) (c .before .before .put-line .ensures)
+loop-again c =
+    let at-loop-test = c .before .before .before .before .before in
+    let at-loop = at-loop-test .before in
+    let s = at-loop .before .before .before in
+    edging-more (at-loop .loop .inv) (s .pre .0) (at-loop-test .loop-test .taken) (c .before .before .put-line .ensures)
 
 -- src/sections.rt:130:1
 same-length : tie.Need-same-length Inv-loop μ-loop

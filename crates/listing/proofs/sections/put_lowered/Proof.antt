@@ -15,15 +15,24 @@ put-text-requires c κs = search needs
 
 -- src/sections.rt:40:9
 put-line-requires : tie.Need-put-line-requires
-put-line-requires c κs = let l = first-left (c .before .before .before .before .before .before .before .before .before .before .before .args .own .now) (c .before .before .before .before .before .before .before .before .before .before .before .args .given .now) (c .before .before .before .before .before .before .before .before .before .before .before .args .taken .now) (c .before .before .before .put-text .ensures) in omega (arith, c .before .before .before .before .before .before .before .before .before .before .before .pre, l .behind, length-append (line (c .before .before .before .before .before .before .before .before .before .before .before .args .own .now)) (line (c .before .before .before .before .before .before .before .before .before .before .before .args .given .now) ++ line (c .before .before .before .before .before .before .before .before .before .before .before .args .taken .now)))
+put-line-requires c κs =
+    let s = c .before .before .before .before .before .before .before .before .before .before .before in
+    let l = first-left (s .args .own .now) (s .args .given .now) (s .args .taken .now) (c .before .before .before .put-text .ensures) in omega (arith, s .pre, l .behind, length-append (line (s .args .own .now)) (line (s .args .given .now) ++ line (s .args .taken .now)))
 
 -- src/sections.rt:41:9
 put-line-requires-2 : tie.Need-put-line-requires-2
-put-line-requires-2 c κs = let l = second-left (c .before .before .before .before .before .before .before .before .before .before .before .before .before .before .before .args .own .now) (c .before .before .before .before .before .before .before .before .before .before .before .before .before .before .before .args .given .now) (c .before .before .before .before .before .before .before .before .before .before .before .before .before .before .before .args .taken .now) (c .before .before .before .before .before .before .before .put-text .ensures) (c .before .before .before .put-line .ensures) in omega (arith, c .before .before .before .before .before .before .before .before .before .before .before .before .before .before .before .pre, l .behind, length-append (line (c .before .before .before .before .before .before .before .before .before .before .before .before .before .before .before .args .given .now)) (line (c .before .before .before .before .before .before .before .before .before .before .before .before .before .before .before .args .taken .now)))
+put-line-requires-2 c κs =
+    let at-put-text = c .before .before .before .before .before .before .before in
+    let s = at-put-text .before .before .before .before .before .before .before .before in
+    let l = second-left (s .args .own .now) (s .args .given .now) (s .args .taken .now) (at-put-text .put-text .ensures) (c .before .before .before .put-line .ensures) in omega (arith, s .pre, l .behind, length-append (line (s .args .given .now)) (line (s .args .taken .now)))
 
 -- src/sections.rt:42:5
 put-line-requires-3 : tie.Need-put-line-requires-3
-put-line-requires-3 c κs = let l = third-left (c .before .before .before .before .before .before .before .before .before .before .before .before .before .before .before .before .before .before .before .args .own .now) (c .before .before .before .before .before .before .before .before .before .before .before .before .before .before .before .before .before .before .before .args .given .now) (c .before .before .before .before .before .before .before .before .before .before .before .before .before .before .before .before .before .before .before .args .taken .now) (c .before .before .before .before .before .before .before .before .before .before .before .put-text .ensures) (c .before .before .before .before .before .before .before .put-line .ensures) (c .before .before .before .put-line2 .ensures) in omega (arith, c .before .before .before .before .before .before .before .before .before .before .before .before .before .before .before .before .before .before .before .pre, l .behind)
+put-line-requires-3 c κs =
+    let at-put-line = c .before .before .before .before .before .before .before in
+    let at-put-text = at-put-line .before .before .before .before in
+    let s = at-put-text .before .before .before .before .before .before .before .before in
+    let l = third-left (s .args .own .now) (s .args .given .now) (s .args .taken .now) (at-put-text .put-text .ensures) (at-put-line .put-line .ensures) (c .before .before .before .put-line2 .ensures) in omega (arith, s .pre, l .behind)
 
 -- src/sections.rt:28:1
 same-length : tie.Need-same-length
@@ -31,7 +40,12 @@ same-length c = search needs
 
 -- src/sections.rt:28:1
 returns : tie.Need-returns
-returns c = leaves-none (third-left (c .before .before .before .before .before .before .before .before .before .before .before .before .before .before .before .before .before .before .before .before .before .before .args .own .now) (c .before .before .before .before .before .before .before .before .before .before .before .before .before .before .before .before .before .before .before .before .before .before .args .given .now) (c .before .before .before .before .before .before .before .before .before .before .before .before .before .before .before .before .before .before .before .before .before .before .args .taken .now) (c .before .before .before .before .before .before .before .before .before .before .before .before .before .before .put-text .ensures) (c .before .before .before .before .before .before .before .before .before .before .put-line .ensures) (c .before .before .before .before .before .before .put-line2 .ensures)) (c .before .before .put-line3 .ensures)
+returns c =
+    let at-put-line2 = c .before .before .before .before .before .before in
+    let at-put-line = at-put-line2 .before .before .before .before in
+    let at-put-text = at-put-line .before .before .before .before in
+    let s = at-put-text .before .before .before .before .before .before .before .before in
+    leaves-none (third-left (s .args .own .now) (s .args .given .now) (s .args .taken .now) (at-put-text .put-text .ensures) (at-put-line .put-line .ensures) (at-put-line2 .put-line2 .ensures)) (c .before .before .put-line3 .ensures)
 
 pub put-lowered-spec : {M : Type 1} → statement M
 put-lowered-spec =

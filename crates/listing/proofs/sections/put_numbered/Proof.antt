@@ -30,7 +30,11 @@ put-number-requires c κs = number-fits (c .before .before .before .loop .inv) (
 
 -- src/sections.rt:88:42
 mul-put-following : tie.Need-mul-put-following Inv-loop μ-loop
-mul-put-following c = let p = numbering-inside (c .before .before .before .before .before .before .before .loop .inv) (c .before .before .before .before .before .before .loop-test .taken) in omega (arith, p .0, p .1, c .before .before .before .before .before .before .before .before .before .before .before .fits)
+mul-put-following c =
+    let at-loop-test = c .before .before .before .before .before .before in
+    let at-loop = at-loop-test .before in
+    let at-fits = at-loop .before .before .before .before in
+    let p = numbering-inside (at-loop .loop .inv) (at-loop-test .loop-test .taken) in omega (arith, p .0, p .1, at-fits .fits)
 
 -- src/sections.rt:88:42
 sub-put-following : tie.Need-sub-put-following Inv-loop μ-loop
@@ -46,7 +50,12 @@ part-put-following-end c = omega (arith, numbering-inside (c .before .before .be
 
 -- src/sections.rt:88:9
 put-following-requires : tie.Need-put-following-requires Inv-loop μ-loop
-put-following-requires c κs = list-fits (c .before .before .before .before .before .before .before .before .loop .inv) (c .before .before .before .before .before .before .before .loop-test .taken) (c .before .before .before .before .before .before .before .before .before .before .before .before .pre .1) (c .before .before .before .before .put-number .ensures)
+put-following-requires c κs =
+    let at-put-number = c .before .before .before .before in
+    let at-loop-test = at-put-number .before .before .before in
+    let at-loop = at-loop-test .before in
+    let s = at-loop .before .before .before .before in
+    list-fits (at-loop .loop .inv) (at-loop-test .loop-test .taken) (s .pre .1) (at-put-number .put-number .ensures)
 
 -- src/sections.rt:90:9
 add-i : tie.Need-add-i Inv-loop μ-loop
@@ -58,7 +67,11 @@ loop-less c = search needs
 
 -- src/sections.rt:85:5
 loop-again : tie.Need-loop-again Inv-loop μ-loop
-loop-again c = numbering-more (c .before .before .before .before .before .before .before .before .before .before .before .loop .inv) (c .before .before .before .before .before .before .before .before .before .before .loop-test .taken) (c .before .before .before .before .before .before .before .put-number .ensures) (c .before .before .put-following .ensures)
+loop-again c =
+    let at-put-number = c .before .before .before .before .before .before .before in
+    let at-loop-test = at-put-number .before .before .before in
+    let at-loop = at-loop-test .before in
+    numbering-more (at-loop .loop .inv) (at-loop-test .loop-test .taken) (at-put-number .put-number .ensures) (c .before .before .put-following .ensures)
 
 -- src/sections.rt:72:1
 same-length : tie.Need-same-length Inv-loop μ-loop

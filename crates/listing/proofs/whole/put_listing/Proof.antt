@@ -31,12 +31,19 @@ edges c = edgeLines (edgesIn (getD (c .args .counts .now) 3 0) (c .args .edges .
 -- src/whole.rt:33:9
 put-counts-requires : tie.Need-put-counts-requires
 unfolding sections
-put-counts-requires c κs = first-fits (counts (c .before .before .before .before .before .before .before .before .before)) (lowered (c .before .before .before .before .before .before .before .before .before)) (longer (c .before .before .before .before .before .before .before .before .before)) (answers (c .before .before .before .before .before .before .before .before .before)) (edges (c .before .before .before .before .before .before .before .before .before)) (c .before .before .before .before .before .before .before .before .before .pre .1 .1 .1)
+put-counts-requires c κs =
+    let at-before = c .before .before .before .before .before .before .before .before in
+    let s = at-before .before in
+    first-fits (counts (at-before .before)) (lowered (at-before .before)) (longer (at-before .before)) (answers (at-before .before)) (edges (at-before .before)) (s .pre .1 .1 .1)
 
 -- src/whole.rt:34:9
 put-lowered-requires : tie.Need-put-lowered-requires
 unfolding sections
-put-lowered-requires c κs = second-fits (counts (c .before .before .before .before .before .before .before .before .before .before .before .before .before)) (lowered (c .before .before .before .before .before .before .before .before .before .before .before .before .before)) (longer (c .before .before .before .before .before .before .before .before .before .before .before .before .before)) (answers (c .before .before .before .before .before .before .before .before .before .before .before .before .before)) (edges (c .before .before .before .before .before .before .before .before .before .before .before .before .before)) (c .before .before .before .before .before .before .before .before .before .before .before .before .before .pre .1 .1 .1) (c .before .before .before .put-counts .ensures)
+put-lowered-requires c κs =
+    let at-put-counts = c .before .before .before in
+    let at-before = at-put-counts .before .before .before .before .before .before .before .before .before in
+    let s = at-before .before in
+    second-fits (counts (at-before .before)) (lowered (at-before .before)) (longer (at-before .before)) (answers (at-before .before)) (edges (at-before .before)) (s .pre .1 .1 .1) (at-put-counts .put-counts .ensures)
 
 -- src/whole.rt:35:57
 element-copy-out-put-longer : tie.Need-element-copy-out-put-longer
@@ -45,12 +52,23 @@ element-copy-out-put-longer c = search needs
 -- src/whole.rt:35:9
 put-longer-requires : tie.Need-put-longer-requires
 unfolding sections
-put-longer-requires c κs = (c .before .before .before .before .before .before .before .before .before .before .before .before .before .before .before .before .before .before .before .pre .1 .0, third-fits (counts (c .before .before .before .before .before .before .before .before .before .before .before .before .before .before .before .before .before .before .before)) (lowered (c .before .before .before .before .before .before .before .before .before .before .before .before .before .before .before .before .before .before .before)) (longer (c .before .before .before .before .before .before .before .before .before .before .before .before .before .before .before .before .before .before .before)) (answers (c .before .before .before .before .before .before .before .before .before .before .before .before .before .before .before .before .before .before .before)) (edges (c .before .before .before .before .before .before .before .before .before .before .before .before .before .before .before .before .before .before .before)) (c .before .before .before .before .before .before .before .before .before .before .before .before .before .before .before .before .before .before .before .pre .1 .1 .1) (c .before .before .before .before .before .before .before .before .before .put-counts .ensures) (c .before .before .before .before .before .put-lowered .ensures))
+put-longer-requires c κs =
+    let at-put-lowered = c .before .before .before .before .before in
+    let at-put-counts = at-put-lowered .before .before .before .before in
+    let at-before = at-put-counts .before .before .before .before .before .before .before .before .before in
+    let s = at-before .before in
+    (s .pre .1 .0, third-fits (counts (at-before .before)) (lowered (at-before .before)) (longer (at-before .before)) (answers (at-before .before)) (edges (at-before .before)) (s .pre .1 .1 .1) (at-put-counts .put-counts .ensures) (at-put-lowered .put-lowered .ensures))
 
 -- src/whole.rt:36:9
 put-answers-requires : tie.Need-put-answers-requires
 unfolding sections
-put-answers-requires c κs = fourth-fits (counts (c .before .before .before .before .before .before .before .before .before .before .before .before .before .before .before .before .before .before .before .before .before .before .before)) (lowered (c .before .before .before .before .before .before .before .before .before .before .before .before .before .before .before .before .before .before .before .before .before .before .before)) (longer (c .before .before .before .before .before .before .before .before .before .before .before .before .before .before .before .before .before .before .before .before .before .before .before)) (answers (c .before .before .before .before .before .before .before .before .before .before .before .before .before .before .before .before .before .before .before .before .before .before .before)) (edges (c .before .before .before .before .before .before .before .before .before .before .before .before .before .before .before .before .before .before .before .before .before .before .before)) (c .before .before .before .before .before .before .before .before .before .before .before .before .before .before .before .before .before .before .before .before .before .before .before .pre .1 .1 .1) (c .before .before .before .before .before .before .before .before .before .before .before .before .before .put-counts .ensures) (c .before .before .before .before .before .before .before .before .before .put-lowered .ensures) (c .before .before .before .put-longer .ensures)
+put-answers-requires c κs =
+    let at-put-longer = c .before .before .before in
+    let at-put-lowered = at-put-longer .before .before .before .before .before .before in
+    let at-put-counts = at-put-lowered .before .before .before .before in
+    let at-before = at-put-counts .before .before .before .before .before .before .before .before .before in
+    let s = at-before .before in
+    fourth-fits (counts (at-before .before)) (lowered (at-before .before)) (longer (at-before .before)) (answers (at-before .before)) (edges (at-before .before)) (s .pre .1 .1 .1) (at-put-counts .put-counts .ensures) (at-put-lowered .put-lowered .ensures) (at-put-longer .put-longer .ensures)
 
 -- src/whole.rt:37:34
 element-copy-out-put-edges : tie.Need-element-copy-out-put-edges
@@ -59,7 +77,14 @@ element-copy-out-put-edges c = search needs
 -- src/whole.rt:37:5
 put-edges-requires : tie.Need-put-edges-requires
 unfolding sections
-put-edges-requires c κs = (c .before .before .before .before .before .before .before .before .before .before .before .before .before .before .before .before .before .before .before .before .before .before .before .before .before .before .before .before .pre .1 .1 .0, fifth-fits (counts (c .before .before .before .before .before .before .before .before .before .before .before .before .before .before .before .before .before .before .before .before .before .before .before .before .before .before .before .before)) (lowered (c .before .before .before .before .before .before .before .before .before .before .before .before .before .before .before .before .before .before .before .before .before .before .before .before .before .before .before .before)) (longer (c .before .before .before .before .before .before .before .before .before .before .before .before .before .before .before .before .before .before .before .before .before .before .before .before .before .before .before .before)) (answers (c .before .before .before .before .before .before .before .before .before .before .before .before .before .before .before .before .before .before .before .before .before .before .before .before .before .before .before .before)) (edges (c .before .before .before .before .before .before .before .before .before .before .before .before .before .before .before .before .before .before .before .before .before .before .before .before .before .before .before .before)) (c .before .before .before .before .before .before .before .before .before .before .before .before .before .before .before .before .before .before .before .before .before .before .before .before .before .before .before .before .pre .1 .1 .1) (c .before .before .before .before .before .before .before .before .before .before .before .before .before .before .before .before .before .before .put-counts .ensures) (c .before .before .before .before .before .before .before .before .before .before .before .before .before .before .put-lowered .ensures) (c .before .before .before .before .before .before .before .before .put-longer .ensures) (c .before .before .before .before .put-answers .ensures))
+put-edges-requires c κs =
+    let at-put-answers = c .before .before .before .before in
+    let at-put-longer = at-put-answers .before .before .before .before in
+    let at-put-lowered = at-put-longer .before .before .before .before .before .before in
+    let at-put-counts = at-put-lowered .before .before .before .before in
+    let at-before = at-put-counts .before .before .before .before .before .before .before .before .before in
+    let s = at-before .before in
+    (s .pre .1 .1 .0, fifth-fits (counts (at-before .before)) (lowered (at-before .before)) (longer (at-before .before)) (answers (at-before .before)) (edges (at-before .before)) (s .pre .1 .1 .1) (at-put-counts .put-counts .ensures) (at-put-lowered .put-lowered .ensures) (at-put-longer .put-longer .ensures) (at-put-answers .put-answers .ensures))
 
 -- src/whole.rt:16:1
 same-length : tie.Need-same-length
@@ -68,7 +93,14 @@ same-length c = search needs
 -- src/whole.rt:16:1
 returns : tie.Need-returns
 unfolding sections
-returns c = all-parts (counts (c .before .before .before .before .before .before .before .before .before .before .before .before .before .before .before .before .before .before .before .before .before .before .before .before .before .before .before .before .before .before .before)) (lowered (c .before .before .before .before .before .before .before .before .before .before .before .before .before .before .before .before .before .before .before .before .before .before .before .before .before .before .before .before .before .before .before)) (longer (c .before .before .before .before .before .before .before .before .before .before .before .before .before .before .before .before .before .before .before .before .before .before .before .before .before .before .before .before .before .before .before)) (answers (c .before .before .before .before .before .before .before .before .before .before .before .before .before .before .before .before .before .before .before .before .before .before .before .before .before .before .before .before .before .before .before)) (edges (c .before .before .before .before .before .before .before .before .before .before .before .before .before .before .before .before .before .before .before .before .before .before .before .before .before .before .before .before .before .before .before)) (c .before .before .before .before .before .before .before .before .before .before .before .before .before .before .before .before .before .before .before .before .before .before .before .before .before .before .before .before .before .before .before .pre .1 .1 .1) (c .before .before .before .before .before .before .before .before .before .before .before .before .before .before .before .before .before .before .before .before .before .put-counts .ensures) (c .before .before .before .before .before .before .before .before .before .before .before .before .before .before .before .before .before .put-lowered .ensures) (c .before .before .before .before .before .before .before .before .before .before .before .put-longer .ensures) (c .before .before .before .before .before .before .before .put-answers .ensures) (c .before .before .put-edges .ensures)
+returns c =
+    let at-put-answers = c .before .before .before .before .before .before .before in
+    let at-put-longer = at-put-answers .before .before .before .before in
+    let at-put-lowered = at-put-longer .before .before .before .before .before .before in
+    let at-put-counts = at-put-lowered .before .before .before .before in
+    let at-before = at-put-counts .before .before .before .before .before .before .before .before .before in
+    let s = at-before .before in
+    all-parts (counts (at-before .before)) (lowered (at-before .before)) (longer (at-before .before)) (answers (at-before .before)) (edges (at-before .before)) (s .pre .1 .1 .1) (at-put-counts .put-counts .ensures) (at-put-lowered .put-lowered .ensures) (at-put-longer .put-longer .ensures) (at-put-answers .put-answers .ensures) (c .before .before .put-edges .ensures)
 
 pub put-listing-spec : {M : Type 1} → statement M
 put-listing-spec =

@@ -42,8 +42,18 @@ record-words-requires-10 c κs = search needs
 
 list-records-requires : tie.Need-list-records-requires
 list-records-requires c κs =
-    let s = c .before .before .before .before .before .before .before .before .before .before .before .before .before .before .before .before .before .before .before .before .before in
-    (subst (λ (r : Records). sheetInShape r ≡ true) (sym (ten-found (s .pre .0) (c .before .before .before .before .before .before .before .before .before .before .before .before .before .before .record-words .ensures) (c .before .before .before .before .before .before .before .before .before .before .before .before .before .record-words2 .ensures) (c .before .before .before .before .before .before .before .before .before .before .before .before .record-words3 .ensures) (c .before .before .before .before .before .before .before .before .before .before .before .record-words4 .ensures) (c .before .before .before .before .before .before .before .before .before .before .record-words5 .ensures) (c .before .before .before .before .before .before .before .before .before .record-words6 .ensures) (c .before .before .before .before .before .before .before .before .record-words7 .ensures) (c .before .before .before .before .before .before .before .record-words8 .ensures) (c .before .before .before .before .before .before .record-words9 .ensures) (c .before .before .before .before .before .record-words10 .ensures))) (s .pre .1), s .pre .2)
+    let at-record-words10 = c .before .before .before .before .before in
+    let at-record-words9 = at-record-words10 .before in
+    let at-record-words8 = at-record-words9 .before in
+    let at-record-words7 = at-record-words8 .before in
+    let at-record-words6 = at-record-words7 .before in
+    let at-record-words5 = at-record-words6 .before in
+    let at-record-words4 = at-record-words5 .before in
+    let at-record-words3 = at-record-words4 .before in
+    let at-record-words2 = at-record-words3 .before in
+    let at-record-words = at-record-words2 .before in
+    let s = at-record-words .before .before .before .before .before .before .before in
+    (subst (λ (r : Records). sheetInShape r ≡ true) (sym (ten-found (s .pre .0) (at-record-words .record-words .ensures) (at-record-words2 .record-words2 .ensures) (at-record-words3 .record-words3 .ensures) (at-record-words4 .record-words4 .ensures) (at-record-words5 .record-words5 .ensures) (at-record-words6 .record-words6 .ensures) (at-record-words7 .record-words7 .ensures) (at-record-words8 .record-words8 .ensures) (at-record-words9 .record-words9 .ensures) (at-record-words10 .record-words10 .ensures))) (s .pre .1), s .pre .2)
 
 same-length : tie.Need-same-length
 same-length c = search needs
@@ -62,8 +72,19 @@ same-length-5 c = search needs
 
 returns : tie.Need-returns
 returns c =
-    let s = c .before .before .before .before .before .before .before .before .before .before .before .before .before .before .before .before .before .before .before .before .before .before .before .before .before .before .before .before .before .before .before .before in
-    subst (λ (r : Records). ListsWithin (listedRecords r) (Ample (length (s .args .given .now)) (length (s .args .taken .now)) (length (s .args .lists .now)) (length (s .args .edges .now))) (s .args .out .now) (c .before .before .before .before .before .before .before .before .before .before .list-records .result) (c .before .before .before .before .before .before .before .before .before .before .list-records .last .1 .1 .1 .1 .1 .1 .1 .1 .1 .1 .1 .1 .1 .1 .0)) (ten-found (s .pre .0) (c .before .before .before .before .before .before .before .before .before .before .before .before .before .before .before .before .before .before .before .before .before .before .before .before .before .record-words .ensures) (c .before .before .before .before .before .before .before .before .before .before .before .before .before .before .before .before .before .before .before .before .before .before .before .before .record-words2 .ensures) (c .before .before .before .before .before .before .before .before .before .before .before .before .before .before .before .before .before .before .before .before .before .before .before .record-words3 .ensures) (c .before .before .before .before .before .before .before .before .before .before .before .before .before .before .before .before .before .before .before .before .before .before .record-words4 .ensures) (c .before .before .before .before .before .before .before .before .before .before .before .before .before .before .before .before .before .before .before .before .before .record-words5 .ensures) (c .before .before .before .before .before .before .before .before .before .before .before .before .before .before .before .before .before .before .before .before .record-words6 .ensures) (c .before .before .before .before .before .before .before .before .before .before .before .before .before .before .before .before .before .before .before .record-words7 .ensures) (c .before .before .before .before .before .before .before .before .before .before .before .before .before .before .before .before .before .before .record-words8 .ensures) (c .before .before .before .before .before .before .before .before .before .before .before .before .before .before .before .before .before .record-words9 .ensures) (c .before .before .before .before .before .before .before .before .before .before .before .before .before .before .before .before .record-words10 .ensures)) (c .before .before .before .before .before .before .before .before .before .before .list-records .ensures)
+    let at-list-records = c .before .before .before .before .before .before .before .before .before .before in
+    let at-record-words10 = at-list-records .before .before .before .before .before .before in
+    let at-record-words9 = at-record-words10 .before in
+    let at-record-words8 = at-record-words9 .before in
+    let at-record-words7 = at-record-words8 .before in
+    let at-record-words6 = at-record-words7 .before in
+    let at-record-words5 = at-record-words6 .before in
+    let at-record-words4 = at-record-words5 .before in
+    let at-record-words3 = at-record-words4 .before in
+    let at-record-words2 = at-record-words3 .before in
+    let at-record-words = at-record-words2 .before in
+    let s = at-record-words .before .before .before .before .before .before .before in
+    subst (λ (r : Records). ListsWithin (listedRecords r) (Ample (length (s .args .given .now)) (length (s .args .taken .now)) (length (s .args .lists .now)) (length (s .args .edges .now))) (s .args .out .now) (at-list-records .list-records .result) (at-list-records .list-records .last .1 .1 .1 .1 .1 .1 .1 .1 .1 .1 .1 .1 .1 .1 .0)) (ten-found (s .pre .0) (at-record-words .record-words .ensures) (at-record-words2 .record-words2 .ensures) (at-record-words3 .record-words3 .ensures) (at-record-words4 .record-words4 .ensures) (at-record-words5 .record-words5 .ensures) (at-record-words6 .record-words6 .ensures) (at-record-words7 .record-words7 .ensures) (at-record-words8 .record-words8 .ensures) (at-record-words9 .record-words9 .ensures) (at-record-words10 .record-words10 .ensures)) (at-list-records .list-records .ensures)
 
 pub list-laid-spec : {M : Type 1} → statement M
 list-laid-spec =

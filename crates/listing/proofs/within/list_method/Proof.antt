@@ -47,10 +47,13 @@ same-length-2 c = search needs
 
 returns-2 : tie.Need-returns-2
 returns-2 c =
-    let s = c .before .before .before .before .before .before .before .before .before .before .before .before .before .before .before .before .before .before .before .before .before .before .before .before .before in
-    let a = c .before .before .before .before .before .before .before .before .before .before .before .before .before .all-lists in
-    let b = c .before .before .before .before .before .before .borrow-map in
-    map-refused (s .args .env) (s .args .used) (s .args .structs .now) (s .args .params .now) (s .args .own .now) (s .args .given .now) (s .args .taken .now) (s .pre .0) (s .args .lists .now) (replicate 64 0) refl (c .before .before .before .before .before .before .before .before .before .before .before .before .before .before .before .before .if1 .left) (a .ensures .0) (a .ensures .1 .0) (a .ensures .1 .1) (s .args .edges .now) (replicate 16 0) refl (s .pre .1) (b .ensures .0) _ (s .args .out .now) (c .before .enum-told .given .1) (b .ensures .1 .1) (c .too-many .ensures)
+    let at-borrow-map = c .before .before .before .before .before .before in
+    let at-all-lists = at-borrow-map .before .before .before .before .before .before .before in
+    let at-if1 = at-all-lists .before .before .before in
+    let s = at-if1 .before .before .before .before .before .before .before .before .before in
+    let a = at-all-lists .all-lists in
+    let b = at-borrow-map .borrow-map in
+    map-refused (s .args .env) (s .args .used) (s .args .structs .now) (s .args .params .now) (s .args .own .now) (s .args .given .now) (s .args .taken .now) (s .pre .0) (s .args .lists .now) (replicate 64 0) refl (at-if1 .if1 .left) (a .ensures .0) (a .ensures .1 .0) (a .ensures .1 .1) (s .args .edges .now) (replicate 16 0) refl (s .pre .1) (b .ensures .0) _ (s .args .out .now) (c .before .enum-told .given .1) (b .ensures .1 .1) (c .too-many .ensures)
 
 enum-told-2 : tie.Need-enum-told-2
 enum-told-2 c = search needs
@@ -66,17 +69,26 @@ part-put-listing-start c = search needs
 
 part-put-listing-end : tie.Need-part-put-listing-end
 part-put-listing-end c =
-    let s = c .before .before .before .before .before .before .before .before .before .before .before .before .before .before .before .before .before .before .before .before .before .before .before .before .before .before .before .before .before .before in
-    let a = c .before .before .before .before .before .before .before .before .before .before .before .before .before .before .before .before .before .before .all-lists in
-    let b = c .before .before .before .before .before .before .before .before .before .before .before .borrow-map in
-    params-inside (s .args .env) (s .args .used) (s .args .structs .now) (s .args .params .now) (s .args .own .now) (s .args .given .now) (s .args .taken .now) (s .pre .0) (s .args .lists .now) (replicate 64 0) refl (c .before .before .before .before .before .before .before .before .before .before .before .before .before .before .before .before .before .before .before .before .before .if1 .left) (a .ensures .0) (a .ensures .1 .0) (a .ensures .1 .1) (s .args .edges .now) (replicate 16 0) refl (s .pre .1) (b .ensures .0) (c .before .before .before .before .before .before .enum-told2 .given .1) (b .ensures .1 .0) (b .ensures .1 .1)
+    let at-enum-told2 = c .before .before .before .before .before .before in
+    let at-borrow-map = at-enum-told2 .before .before .before .before .before in
+    let at-all-lists = at-borrow-map .before .before .before .before .before .before .before in
+    let at-if1 = at-all-lists .before .before .before in
+    let s = at-if1 .before .before .before .before .before .before .before .before .before in
+    let a = at-all-lists .all-lists in
+    let b = at-borrow-map .borrow-map in
+    params-inside (s .args .env) (s .args .used) (s .args .structs .now) (s .args .params .now) (s .args .own .now) (s .args .given .now) (s .args .taken .now) (s .pre .0) (s .args .lists .now) (replicate 64 0) refl (at-if1 .if1 .left) (a .ensures .0) (a .ensures .1 .0) (a .ensures .1 .1) (s .args .edges .now) (replicate 16 0) refl (s .pre .1) (b .ensures .0) (at-enum-told2 .enum-told2 .given .1) (b .ensures .1 .0) (b .ensures .1 .1)
 
 put-listing-requires : tie.Need-put-listing-requires
 put-listing-requires c κs =
-    let s = c .before .before .before .before .before .before .before .before .before .before .before .before .before .before .before .before .before .before .before .before .before .before .before .before .before .before .before .before .before .before .before .before in
-    let a = c .before .before .before .before .before .before .before .before .before .before .before .before .before .before .before .before .before .before .before .before .all-lists in
-    let b = c .before .before .before .before .before .before .before .before .before .before .before .before .before .borrow-map in
-    (refl, (lists-ascend (s .args .env) (s .args .used) (s .args .structs .now) (s .args .params .now) (s .args .own .now) (s .args .given .now) (s .args .taken .now) (s .pre .0) (s .args .lists .now) (replicate 64 0) refl (c .before .before .before .before .before .before .before .before .before .before .before .before .before .before .before .before .before .before .before .before .before .before .before .if1 .left) (a .ensures .0) (a .ensures .1 .0) (a .ensures .1 .1), (edges-inside (s .args .env) (s .args .used) (s .args .structs .now) (s .args .params .now) (s .args .own .now) (s .args .given .now) (s .args .taken .now) (s .pre .0) (s .args .lists .now) (replicate 64 0) refl (c .before .before .before .before .before .before .before .before .before .before .before .before .before .before .before .before .before .before .before .before .before .before .before .if1 .left) (a .ensures .0) (a .ensures .1 .0) (a .ensures .1 .1) (s .args .edges .now) (replicate 16 0) refl (s .pre .1) (b .ensures .0) (c .before .before .before .before .before .before .before .before .enum-told2 .given .1) (b .ensures .1 .0) (b .ensures .1 .1), sections-small (s .args .env) (s .args .used) (s .args .structs .now) (s .args .params .now) (s .args .own .now) (s .args .given .now) (s .args .taken .now) (s .pre .0) (s .args .lists .now) (replicate 64 0) refl (c .before .before .before .before .before .before .before .before .before .before .before .before .before .before .before .before .before .before .before .before .before .before .before .if1 .left) (a .ensures .0) (a .ensures .1 .0) (a .ensures .1 .1) (s .args .edges .now) (replicate 16 0) refl (s .pre .1) (b .ensures .0) (c .before .before .before .before .before .before .before .before .enum-told2 .given .1) (b .ensures .1 .0) (b .ensures .1 .1) (c .before .before .before .before .before .before .before .count .ensures))))
+    let at-count = c .before .before .before .before .before .before .before in
+    let at-enum-told2 = at-count .before in
+    let at-borrow-map = at-enum-told2 .before .before .before .before .before in
+    let at-all-lists = at-borrow-map .before .before .before .before .before .before .before in
+    let at-if1 = at-all-lists .before .before .before in
+    let s = at-if1 .before .before .before .before .before .before .before .before .before in
+    let a = at-all-lists .all-lists in
+    let b = at-borrow-map .borrow-map in
+    (refl, (lists-ascend (s .args .env) (s .args .used) (s .args .structs .now) (s .args .params .now) (s .args .own .now) (s .args .given .now) (s .args .taken .now) (s .pre .0) (s .args .lists .now) (replicate 64 0) refl (at-if1 .if1 .left) (a .ensures .0) (a .ensures .1 .0) (a .ensures .1 .1), (edges-inside (s .args .env) (s .args .used) (s .args .structs .now) (s .args .params .now) (s .args .own .now) (s .args .given .now) (s .args .taken .now) (s .pre .0) (s .args .lists .now) (replicate 64 0) refl (at-if1 .if1 .left) (a .ensures .0) (a .ensures .1 .0) (a .ensures .1 .1) (s .args .edges .now) (replicate 16 0) refl (s .pre .1) (b .ensures .0) (at-enum-told2 .enum-told2 .given .1) (b .ensures .1 .0) (b .ensures .1 .1), sections-small (s .args .env) (s .args .used) (s .args .structs .now) (s .args .params .now) (s .args .own .now) (s .args .given .now) (s .args .taken .now) (s .pre .0) (s .args .lists .now) (replicate 64 0) refl (at-if1 .if1 .left) (a .ensures .0) (a .ensures .1 .0) (a .ensures .1 .1) (s .args .edges .now) (replicate 16 0) refl (s .pre .1) (b .ensures .0) (at-enum-told2 .enum-told2 .given .1) (b .ensures .1 .0) (b .ensures .1 .1) (at-count .count .ensures))))
 
 same-length-3 : tie.Need-same-length-3
 same-length-3 c = search needs
@@ -89,10 +101,15 @@ same-length-5 c = search needs
 
 returns-3 : tie.Need-returns-3
 returns-3 c =
-    let s = c .before .before .before .before .before .before .before .before .before .before .before .before .before .before .before .before .before .before .before .before .before .before .before .before .before .before .before .before .before .before .before .before .before .before .before in
-    let a = c .before .before .before .before .before .before .before .before .before .before .before .before .before .before .before .before .before .before .before .before .before .before .before .all-lists in
-    let b = c .before .before .before .before .before .before .before .before .before .before .before .before .before .before .before .before .borrow-map in
-    method-listed (s .args .env) (s .args .used) (s .args .structs .now) (s .args .params .now) (s .args .own .now) (s .args .given .now) (s .args .taken .now) (s .pre .0) (s .args .lists .now) (replicate 64 0) refl (c .before .before .before .before .before .before .before .before .before .before .before .before .before .before .before .before .before .before .before .before .before .before .before .before .before .before .if1 .left) (a .ensures .0) (a .ensures .1 .0) (a .ensures .1 .1) (s .args .edges .now) (replicate 16 0) refl (s .pre .1) (b .ensures .0) (c .before .before .before .before .before .before .before .before .before .before .before .enum-told2 .given .1) (b .ensures .1 .0) (b .ensures .1 .1) (c .before .before .before .before .before .before .before .before .before .before .count .ensures) (c .before .before .put-listing .ensures)
+    let at-count = c .before .before .before .before .before .before .before .before .before .before in
+    let at-enum-told2 = at-count .before in
+    let at-borrow-map = at-enum-told2 .before .before .before .before .before in
+    let at-all-lists = at-borrow-map .before .before .before .before .before .before .before in
+    let at-if1 = at-all-lists .before .before .before in
+    let s = at-if1 .before .before .before .before .before .before .before .before .before in
+    let a = at-all-lists .all-lists in
+    let b = at-borrow-map .borrow-map in
+    method-listed (s .args .env) (s .args .used) (s .args .structs .now) (s .args .params .now) (s .args .own .now) (s .args .given .now) (s .args .taken .now) (s .pre .0) (s .args .lists .now) (replicate 64 0) refl (at-if1 .if1 .left) (a .ensures .0) (a .ensures .1 .0) (a .ensures .1 .1) (s .args .edges .now) (replicate 16 0) refl (s .pre .1) (b .ensures .0) (at-enum-told2 .enum-told2 .given .1) (b .ensures .1 .0) (b .ensures .1 .1) (at-count .count .ensures) (c .before .before .put-listing .ensures)
 
 pub list-method-spec : {M : Type 1} → statement M
 list-method-spec =

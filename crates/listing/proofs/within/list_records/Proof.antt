@@ -14,13 +14,15 @@ sheetIn c =
 
 returns : tie.Need-returns
 returns c =
-    let s = c .before .before .before .before .before .before .before .before .before .before .before .before .before .before .before .before in
-    steps-short (sheetIn (c .before .before .before .before .before .before .before .before .before .before .before .before .before .before .before .before)) (s .pre .0) (length (s .args .given .now)) (length (s .args .taken .now)) (length (s .args .lists .now)) (length (s .args .edges .now)) (c .if1 .taken)
+    let at-before = c .before .before .before .before .before .before .before .before .before .before .before .before .before .before .before in
+    let s = at-before .before in
+    steps-short (sheetIn (at-before .before)) (s .pre .0) (length (s .args .given .now)) (length (s .args .taken .now)) (length (s .args .lists .now)) (length (s .args .edges .now)) (c .if1 .taken)
 
 returns-2 : tie.Need-returns-2
 returns-2 c =
-    let s = c .before .before .before .before .before .before .before .before .before .before .before .before .before .before .before .before .before in
-    returns-short (sheetIn (c .before .before .before .before .before .before .before .before .before .before .before .before .before .before .before .before .before)) (s .pre .0) (length (s .args .given .now)) (length (s .args .taken .now)) (length (s .args .lists .now)) (length (s .args .edges .now)) (c .if2 .taken)
+    let at-before = c .before .before .before .before .before .before .before .before .before .before .before .before .before .before .before .before in
+    let s = at-before .before in
+    returns-short (sheetIn (at-before .before)) (s .pre .0) (length (s .args .given .now)) (length (s .args .taken .now)) (length (s .args .lists .now)) (length (s .args .edges .now)) (c .if2 .taken)
 
 from-method-item-requires : tie.Need-from-method-item-requires
 from-method-item-requires c κs = search needs
@@ -30,8 +32,11 @@ enum-known-declared c = search needs
 
 returns-3 : tie.Need-returns-3
 returns-3 c =
-    let s = c .before .before .before .before .before .before .before .before .before .before .before .before .before .before .before .before .before .before .before .before .before in
-    names-listed (sheetIn (c .before .before .before .before .before .before .before .before .before .before .before .before .before .before .before .before .before .before .before .before .before)) (s .pre .0) (length (s .args .given .now)) (length (s .args .taken .now)) (length (s .args .lists .now)) (length (s .args .edges .now)) (c .before .before .before .before .before .if1 .left) (c .before .before .before .before .if2 .left) (c .before .before .before .from-method-item .ensures) (c .before .declared .given .1)
+    let at-if2 = c .before .before .before .before in
+    let at-if1 = at-if2 .before in
+    let at-before = at-if1 .before .before .before .before .before .before .before .before .before .before .before .before .before .before .before in
+    let s = at-before .before in
+    names-listed (sheetIn (at-before .before)) (s .pre .0) (length (s .args .given .now)) (length (s .args .taken .now)) (length (s .args .lists .now)) (length (s .args .edges .now)) (at-if1 .if1 .left) (at-if2 .if2 .left) (c .before .before .before .from-method-item .ensures) (c .before .declared .given .1)
 
 enum-told : tie.Need-enum-told
 enum-told c = search needs
@@ -53,8 +58,14 @@ same-length-2 c = search needs
 
 returns-4 : tie.Need-returns-4
 returns-4 c =
-    let s = c .before .before .before .before .before .before .before .before .before .before .before .before .before .before .before .before .before .before .before .before .before .before .before .before .before .before .before .before .before .before .before .before in
-    steps-listed (sheetIn (c .before .before .before .before .before .before .before .before .before .before .before .before .before .before .before .before .before .before .before .before .before .before .before .before .before .before .before .before .before .before .before .before)) (s .pre .0) (length (s .args .given .now)) (length (s .args .taken .now)) (length (s .args .lists .now)) (length (s .args .edges .now)) (c .before .before .before .before .before .before .before .before .before .before .before .before .before .before .before .before .if1 .left) (c .before .before .before .before .before .before .before .before .before .before .before .before .before .before .before .if2 .left) (c .before .before .before .before .before .before .before .before .before .before .before .before .before .before .from-method-item .ensures) (c .before .before .before .before .before .before .before .before .before .before .before .before .enum-told .given .1) (c .before .before .before .before .before .before .before .before .lower .ensures .0) (c .before .elided .given .1)
+    let at-lower = c .before .before .before .before .before .before .before .before in
+    let at-enum-told = at-lower .before .before .before .before in
+    let at-from-method-item = at-enum-told .before .before in
+    let at-if2 = at-from-method-item .before in
+    let at-if1 = at-if2 .before in
+    let at-before = at-if1 .before .before .before .before .before .before .before .before .before .before .before .before .before .before .before in
+    let s = at-before .before in
+    steps-listed (sheetIn (at-before .before)) (s .pre .0) (length (s .args .given .now)) (length (s .args .taken .now)) (length (s .args .lists .now)) (length (s .args .edges .now)) (at-if1 .if1 .left) (at-if2 .if2 .left) (at-from-method-item .from-method-item .ensures) (at-enum-told .enum-told .given .1) (at-lower .lower .ensures .0) (c .before .elided .given .1)
 
 enum-told-2 : tie.Need-enum-told-2
 enum-told-2 c = search needs
@@ -76,8 +87,15 @@ part-list-method-start c = search needs
 
 part-list-method-end : tie.Need-part-list-method-end
 part-list-method-end c =
-    let s = c .before .before .before .before .before .before .before .before .before .before .before .before .before .before .before .before .before .before .before .before .before .before .before .before .before .before .before .before .before .before .before .before .before .before .before .before .before in
-    (own-stands (sheetIn (c .before .before .before .before .before .before .before .before .before .before .before .before .before .before .before .before .before .before .before .before .before .before .before .before .before .before .before .before .before .before .before .before .before .before .before .before .before)) (s .pre .0) (length (s .args .given .now)) (length (s .args .taken .now)) (length (s .args .lists .now)) (length (s .args .edges .now)) (c .before .before .before .before .before .before .before .before .before .before .before .before .before .before .before .before .before .before .before .before .before .if1 .left) (c .before .before .before .before .before .before .before .before .before .before .before .before .before .before .before .before .before .before .before .before .if2 .left) (c .before .before .before .before .before .before .before .before .before .before .before .before .before .before .before .before .before .before .before .from-method-item .ensures) (c .before .before .before .before .before .before .before .before .before .before .before .before .before .before .before .before .before .enum-told .given .1) (c .before .before .before .before .before .before .before .before .before .before .before .before .before .lower .ensures .0) (c .before .before .before .before .before .before .enum-told2 .given .1) (replicate 1 0) (c .before .before .before .before .before .before .before .before .before .before .before .before .before .lower .ensures .1 .0)) .0
+    let at-enum-told2 = c .before .before .before .before .before .before in
+    let at-lower = at-enum-told2 .before .before .before .before .before .before .before in
+    let at-enum-told = at-lower .before .before .before .before in
+    let at-from-method-item = at-enum-told .before .before in
+    let at-if2 = at-from-method-item .before in
+    let at-if1 = at-if2 .before in
+    let at-before = at-if1 .before .before .before .before .before .before .before .before .before .before .before .before .before .before .before in
+    let s = at-before .before in
+    (own-stands (sheetIn (at-before .before)) (s .pre .0) (length (s .args .given .now)) (length (s .args .taken .now)) (length (s .args .lists .now)) (length (s .args .edges .now)) (at-if1 .if1 .left) (at-if2 .if2 .left) (at-from-method-item .from-method-item .ensures) (at-enum-told .enum-told .given .1) (at-lower .lower .ensures .0) (at-enum-told2 .enum-told2 .given .1) (replicate 1 0) (at-lower .lower .ensures .1 .0)) .0
 
 sub-list-method-2 : tie.Need-sub-list-method-2
 sub-list-method-2 c = search needs
@@ -87,8 +105,15 @@ part-list-method-start-2 c = search needs
 
 part-list-method-end-2 : tie.Need-part-list-method-end-2
 part-list-method-end-2 c =
-    let s = c .before .before .before .before .before .before .before .before .before .before .before .before .before .before .before .before .before .before .before .before .before .before .before .before .before .before .before .before .before .before .before .before .before .before .before .before .before .before .before in
-    (steps-stand (sheetIn (c .before .before .before .before .before .before .before .before .before .before .before .before .before .before .before .before .before .before .before .before .before .before .before .before .before .before .before .before .before .before .before .before .before .before .before .before .before .before .before)) (s .pre .0) (length (s .args .given .now)) (length (s .args .taken .now)) (length (s .args .lists .now)) (length (s .args .edges .now)) (c .before .before .before .before .before .before .before .before .before .before .before .before .before .before .before .before .before .before .before .before .before .before .before .if1 .left) (c .before .before .before .before .before .before .before .before .before .before .before .before .before .before .before .before .before .before .before .before .before .before .if2 .left) (c .before .before .before .before .before .before .before .before .before .before .before .before .before .before .before .before .before .before .before .before .before .from-method-item .ensures) (c .before .before .before .before .before .before .before .before .before .before .before .before .before .before .before .before .before .before .before .enum-told .given .1) (c .before .before .before .before .before .before .before .before .before .before .before .before .before .before .before .lower .ensures .0) (c .before .before .before .before .before .before .before .before .enum-told2 .given .1) (s .args .given .now) (c .before .before .before .before .before .before .before .before .before .before .before .before .before .before .before .lower .ensures .1 .1 .0)) .0
+    let at-enum-told2 = c .before .before .before .before .before .before .before .before in
+    let at-lower = at-enum-told2 .before .before .before .before .before .before .before in
+    let at-enum-told = at-lower .before .before .before .before in
+    let at-from-method-item = at-enum-told .before .before in
+    let at-if2 = at-from-method-item .before in
+    let at-if1 = at-if2 .before in
+    let at-before = at-if1 .before .before .before .before .before .before .before .before .before .before .before .before .before .before .before in
+    let s = at-before .before in
+    (steps-stand (sheetIn (at-before .before)) (s .pre .0) (length (s .args .given .now)) (length (s .args .taken .now)) (length (s .args .lists .now)) (length (s .args .edges .now)) (at-if1 .if1 .left) (at-if2 .if2 .left) (at-from-method-item .from-method-item .ensures) (at-enum-told .enum-told .given .1) (at-lower .lower .ensures .0) (at-enum-told2 .enum-told2 .given .1) (s .args .given .now) (at-lower .lower .ensures .1 .1 .0)) .0
 
 sub-list-method-3 : tie.Need-sub-list-method-3
 sub-list-method-3 c = search needs
@@ -98,13 +123,29 @@ part-list-method-start-3 c = search needs
 
 part-list-method-end-3 : tie.Need-part-list-method-end-3
 part-list-method-end-3 c =
-    let s = c .before .before .before .before .before .before .before .before .before .before .before .before .before .before .before .before .before .before .before .before .before .before .before .before .before .before .before .before .before .before .before .before .before .before .before .before .before .before .before .before .before in
-    (returns-stand (sheetIn (c .before .before .before .before .before .before .before .before .before .before .before .before .before .before .before .before .before .before .before .before .before .before .before .before .before .before .before .before .before .before .before .before .before .before .before .before .before .before .before .before .before)) (s .pre .0) (length (s .args .given .now)) (length (s .args .taken .now)) (length (s .args .lists .now)) (length (s .args .edges .now)) (c .before .before .before .before .before .before .before .before .before .before .before .before .before .before .before .before .before .before .before .before .before .before .before .before .before .if1 .left) (c .before .before .before .before .before .before .before .before .before .before .before .before .before .before .before .before .before .before .before .before .before .before .before .before .if2 .left) (c .before .before .before .before .before .before .before .before .before .before .before .before .before .before .before .before .before .before .before .before .before .before .before .from-method-item .ensures) (c .before .before .before .before .before .before .before .before .before .before .before .before .before .before .before .before .before .before .before .before .before .enum-told .given .1) (c .before .before .before .before .before .before .before .before .before .before .before .before .before .before .before .before .before .lower .ensures .0) (c .before .before .before .before .before .before .before .before .before .before .enum-told2 .given .1) (s .args .taken .now) (c .before .before .before .before .before .before .before .before .before .before .before .before .before .before .before .before .before .lower .ensures .1 .1 .1)) .0
+    let at-enum-told2 = c .before .before .before .before .before .before .before .before .before .before in
+    let at-lower = at-enum-told2 .before .before .before .before .before .before .before in
+    let at-enum-told = at-lower .before .before .before .before in
+    let at-from-method-item = at-enum-told .before .before in
+    let at-if2 = at-from-method-item .before in
+    let at-if1 = at-if2 .before in
+    let at-before = at-if1 .before .before .before .before .before .before .before .before .before .before .before .before .before .before .before in
+    let s = at-before .before in
+    (returns-stand (sheetIn (at-before .before)) (s .pre .0) (length (s .args .given .now)) (length (s .args .taken .now)) (length (s .args .lists .now)) (length (s .args .edges .now)) (at-if1 .if1 .left) (at-if2 .if2 .left) (at-from-method-item .from-method-item .ensures) (at-enum-told .enum-told .given .1) (at-lower .lower .ensures .0) (at-enum-told2 .enum-told2 .given .1) (s .args .taken .now) (at-lower .lower .ensures .1 .1 .1)) .0
 
 list-method-requires : tie.Need-list-method-requires
 list-method-requires c κs =
-    let s = c .before .before .before .before .before .before .before .before .before .before .before .before .before .before .before .before .before .before .before .before .before .before .before .before .before .before .before .before .before .before .before .before .before .before .before .before .before .before .before .before .before .before .before .before .before in
-    (listable (sheetIn (c .before .before .before .before .before .before .before .before .before .before .before .before .before .before .before .before .before .before .before .before .before .before .before .before .before .before .before .before .before .before .before .before .before .before .before .before .before .before .before .before .before .before .before .before .before)) (s .pre .0) (length (s .args .given .now)) (length (s .args .taken .now)) (length (s .args .lists .now)) (length (s .args .edges .now)) (c .before .before .before .before .before .before .before .before .before .before .before .before .before .before .before .before .before .before .before .before .before .before .before .before .before .before .before .before .before .if1 .left) (c .before .before .before .before .before .before .before .before .before .before .before .before .before .before .before .before .before .before .before .before .before .before .before .before .before .before .before .before .if2 .left) (c .before .before .before .before .before .before .before .before .before .before .before .before .before .before .before .before .before .before .before .before .before .before .before .before .before .before .before .from-method-item .ensures) (c .before .before .before .before .before .before .before .before .before .before .before .before .before .before .before .before .before .before .before .before .before .before .before .before .before .enum-told .given .1) (c .before .before .before .before .before .before .before .before .before .before .before .before .before .before .before .before .before .before .before .before .before .lower .ensures .0) (c .before .before .before .before .before .before .before .before .before .before .before .before .before .before .enum-told2 .given .1) (c .before .before .before .before .before .before .before .before .before .before .before .before .used-method-lifetimes .ensures) (c .before .before .before .before .before .before .before .before .before .before .used2 .given .1) ((own-stands (sheetIn (c .before .before .before .before .before .before .before .before .before .before .before .before .before .before .before .before .before .before .before .before .before .before .before .before .before .before .before .before .before .before .before .before .before .before .before .before .before .before .before .before .before .before .before .before .before)) (s .pre .0) (length (s .args .given .now)) (length (s .args .taken .now)) (length (s .args .lists .now)) (length (s .args .edges .now)) (c .before .before .before .before .before .before .before .before .before .before .before .before .before .before .before .before .before .before .before .before .before .before .before .before .before .before .before .before .before .if1 .left) (c .before .before .before .before .before .before .before .before .before .before .before .before .before .before .before .before .before .before .before .before .before .before .before .before .before .before .before .before .if2 .left) (c .before .before .before .before .before .before .before .before .before .before .before .before .before .before .before .before .before .before .before .before .before .before .before .before .before .before .before .from-method-item .ensures) (c .before .before .before .before .before .before .before .before .before .before .before .before .before .before .before .before .before .before .before .before .before .before .before .before .before .enum-told .given .1) (c .before .before .before .before .before .before .before .before .before .before .before .before .before .before .before .before .before .before .before .before .before .lower .ensures .0) (c .before .before .before .before .before .before .before .before .before .before .before .before .before .before .enum-told2 .given .1) (replicate 1 0) (c .before .before .before .before .before .before .before .before .before .before .before .before .before .before .before .before .before .before .before .before .before .lower .ensures .1 .0)) .1) ((steps-stand (sheetIn (c .before .before .before .before .before .before .before .before .before .before .before .before .before .before .before .before .before .before .before .before .before .before .before .before .before .before .before .before .before .before .before .before .before .before .before .before .before .before .before .before .before .before .before .before .before)) (s .pre .0) (length (s .args .given .now)) (length (s .args .taken .now)) (length (s .args .lists .now)) (length (s .args .edges .now)) (c .before .before .before .before .before .before .before .before .before .before .before .before .before .before .before .before .before .before .before .before .before .before .before .before .before .before .before .before .before .if1 .left) (c .before .before .before .before .before .before .before .before .before .before .before .before .before .before .before .before .before .before .before .before .before .before .before .before .before .before .before .before .if2 .left) (c .before .before .before .before .before .before .before .before .before .before .before .before .before .before .before .before .before .before .before .before .before .before .before .before .before .before .before .from-method-item .ensures) (c .before .before .before .before .before .before .before .before .before .before .before .before .before .before .before .before .before .before .before .before .before .before .before .before .before .enum-told .given .1) (c .before .before .before .before .before .before .before .before .before .before .before .before .before .before .before .before .before .before .before .before .before .lower .ensures .0) (c .before .before .before .before .before .before .before .before .before .before .before .before .before .before .enum-told2 .given .1) (s .args .given .now) (c .before .before .before .before .before .before .before .before .before .before .before .before .before .before .before .before .before .before .before .before .before .lower .ensures .1 .1 .0)) .1) ((returns-stand (sheetIn (c .before .before .before .before .before .before .before .before .before .before .before .before .before .before .before .before .before .before .before .before .before .before .before .before .before .before .before .before .before .before .before .before .before .before .before .before .before .before .before .before .before .before .before .before .before)) (s .pre .0) (length (s .args .given .now)) (length (s .args .taken .now)) (length (s .args .lists .now)) (length (s .args .edges .now)) (c .before .before .before .before .before .before .before .before .before .before .before .before .before .before .before .before .before .before .before .before .before .before .before .before .before .before .before .before .before .if1 .left) (c .before .before .before .before .before .before .before .before .before .before .before .before .before .before .before .before .before .before .before .before .before .before .before .before .before .before .before .before .if2 .left) (c .before .before .before .before .before .before .before .before .before .before .before .before .before .before .before .before .before .before .before .before .before .before .before .before .before .before .before .from-method-item .ensures) (c .before .before .before .before .before .before .before .before .before .before .before .before .before .before .before .before .before .before .before .before .before .before .before .before .before .enum-told .given .1) (c .before .before .before .before .before .before .before .before .before .before .before .before .before .before .before .before .before .before .before .before .before .lower .ensures .0) (c .before .before .before .before .before .before .before .before .before .before .before .before .before .before .enum-told2 .given .1) (s .args .taken .now) (c .before .before .before .before .before .before .before .before .before .before .before .before .before .before .before .before .before .before .before .before .before .lower .ensures .1 .1 .1)) .1), s .pre .1)
+    let at-used2 = c .before .before .before .before .before .before .before .before .before .before in
+    let at-used-method-lifetimes = at-used2 .before .before in
+    let at-enum-told2 = at-used-method-lifetimes .before .before in
+    let at-lower = at-enum-told2 .before .before .before .before .before .before .before in
+    let at-enum-told = at-lower .before .before .before .before in
+    let at-from-method-item = at-enum-told .before .before in
+    let at-if2 = at-from-method-item .before in
+    let at-if1 = at-if2 .before in
+    let at-before = at-if1 .before .before .before .before .before .before .before .before .before .before .before .before .before .before .before in
+    let s = at-before .before in
+    (listable (sheetIn (at-before .before)) (s .pre .0) (length (s .args .given .now)) (length (s .args .taken .now)) (length (s .args .lists .now)) (length (s .args .edges .now)) (at-if1 .if1 .left) (at-if2 .if2 .left) (at-from-method-item .from-method-item .ensures) (at-enum-told .enum-told .given .1) (at-lower .lower .ensures .0) (at-enum-told2 .enum-told2 .given .1) (at-used-method-lifetimes .used-method-lifetimes .ensures) (at-used2 .used2 .given .1) ((own-stands (sheetIn (at-before .before)) (s .pre .0) (length (s .args .given .now)) (length (s .args .taken .now)) (length (s .args .lists .now)) (length (s .args .edges .now)) (at-if1 .if1 .left) (at-if2 .if2 .left) (at-from-method-item .from-method-item .ensures) (at-enum-told .enum-told .given .1) (at-lower .lower .ensures .0) (at-enum-told2 .enum-told2 .given .1) (replicate 1 0) (at-lower .lower .ensures .1 .0)) .1) ((steps-stand (sheetIn (at-before .before)) (s .pre .0) (length (s .args .given .now)) (length (s .args .taken .now)) (length (s .args .lists .now)) (length (s .args .edges .now)) (at-if1 .if1 .left) (at-if2 .if2 .left) (at-from-method-item .from-method-item .ensures) (at-enum-told .enum-told .given .1) (at-lower .lower .ensures .0) (at-enum-told2 .enum-told2 .given .1) (s .args .given .now) (at-lower .lower .ensures .1 .1 .0)) .1) ((returns-stand (sheetIn (at-before .before)) (s .pre .0) (length (s .args .given .now)) (length (s .args .taken .now)) (length (s .args .lists .now)) (length (s .args .edges .now)) (at-if1 .if1 .left) (at-if2 .if2 .left) (at-from-method-item .from-method-item .ensures) (at-enum-told .enum-told .given .1) (at-lower .lower .ensures .0) (at-enum-told2 .enum-told2 .given .1) (s .args .taken .now) (at-lower .lower .ensures .1 .1 .1)) .1), s .pre .1)
 
 same-length-3 : tie.Need-same-length-3
 same-length-3 c = search needs
@@ -114,8 +155,15 @@ same-length-4 c = search needs
 
 returns-5 : tie.Need-returns-5
 returns-5 c =
-    let s = c .before .before .before .before .before .before .before .before .before .before .before .before .before .before .before .before .before .before .before .before .before .before .before .before .before .before .before .before .before .before .before .before .before .before .before .before in
-    used-listed (sheetIn (c .before .before .before .before .before .before .before .before .before .before .before .before .before .before .before .before .before .before .before .before .before .before .before .before .before .before .before .before .before .before .before .before .before .before .before .before)) (s .pre .0) (length (s .args .given .now)) (length (s .args .taken .now)) (length (s .args .lists .now)) (length (s .args .edges .now)) (c .before .before .before .before .before .before .before .before .before .before .before .before .before .before .before .before .before .before .before .before .if1 .left) (c .before .before .before .before .before .before .before .before .before .before .before .before .before .before .before .before .before .before .before .if2 .left) (c .before .before .before .before .before .before .before .before .before .before .before .before .before .before .before .before .before .before .from-method-item .ensures) (c .before .before .before .before .before .before .before .before .before .before .before .before .before .before .before .before .enum-told .given .1) (c .before .before .before .before .before .before .before .before .before .before .before .before .lower .ensures .0) (c .before .before .before .before .before .enum-told2 .given .1) (c .before .before .before .used-method-lifetimes .ensures) (c .before .used .given .1)
+    let at-enum-told2 = c .before .before .before .before .before in
+    let at-lower = at-enum-told2 .before .before .before .before .before .before .before in
+    let at-enum-told = at-lower .before .before .before .before in
+    let at-from-method-item = at-enum-told .before .before in
+    let at-if2 = at-from-method-item .before in
+    let at-if1 = at-if2 .before in
+    let at-before = at-if1 .before .before .before .before .before .before .before .before .before .before .before .before .before .before .before in
+    let s = at-before .before in
+    used-listed (sheetIn (at-before .before)) (s .pre .0) (length (s .args .given .now)) (length (s .args .taken .now)) (length (s .args .lists .now)) (length (s .args .edges .now)) (at-if1 .if1 .left) (at-if2 .if2 .left) (at-from-method-item .from-method-item .ensures) (at-enum-told .enum-told .given .1) (at-lower .lower .ensures .0) (at-enum-told2 .enum-told2 .given .1) (c .before .before .before .used-method-lifetimes .ensures) (c .before .used .given .1)
 
 same-length-5 : tie.Need-same-length-5
 same-length-5 c = search needs
@@ -134,8 +182,18 @@ same-length-9 c = search needs
 
 returns-6 : tie.Need-returns-6
 returns-6 c =
-    let s = c .before .before .before .before .before .before .before .before .before .before .before .before .before .before .before .before .before .before .before .before .before .before .before .before .before .before .before .before .before .before .before .before .before .before .before .before .before .before .before .before .before .before .before .before .before .before .before .before .before .before .before .before in
-    records-listed (sheetIn (c .before .before .before .before .before .before .before .before .before .before .before .before .before .before .before .before .before .before .before .before .before .before .before .before .before .before .before .before .before .before .before .before .before .before .before .before .before .before .before .before .before .before .before .before .before .before .before .before .before .before .before .before)) (s .pre .0) (length (s .args .given .now)) (length (s .args .taken .now)) (length (s .args .lists .now)) (length (s .args .edges .now)) (c .before .before .before .before .before .before .before .before .before .before .before .before .before .before .before .before .before .before .before .before .before .before .before .before .before .before .before .before .before .before .before .before .before .before .before .before .if1 .left) (c .before .before .before .before .before .before .before .before .before .before .before .before .before .before .before .before .before .before .before .before .before .before .before .before .before .before .before .before .before .before .before .before .before .before .before .if2 .left) (c .before .before .before .before .before .before .before .before .before .before .before .before .before .before .before .before .before .before .before .before .before .before .before .before .before .before .before .before .before .before .before .before .before .before .from-method-item .ensures) (c .before .before .before .before .before .before .before .before .before .before .before .before .before .before .before .before .before .before .before .before .before .before .before .before .before .before .before .before .before .before .before .before .enum-told .given .1) (c .before .before .before .before .before .before .before .before .before .before .before .before .before .before .before .before .before .before .before .before .before .before .before .before .before .before .before .before .lower .ensures .0) (c .before .before .before .before .before .before .before .before .before .before .before .before .before .before .before .before .before .before .before .before .before .enum-told2 .given .1) (c .before .before .before .before .before .before .before .before .before .before .before .before .before .before .before .before .before .before .before .used-method-lifetimes .ensures) (c .before .before .before .before .before .before .before .before .before .before .before .before .before .before .before .before .before .used2 .given .1) ((own-stands (sheetIn (c .before .before .before .before .before .before .before .before .before .before .before .before .before .before .before .before .before .before .before .before .before .before .before .before .before .before .before .before .before .before .before .before .before .before .before .before .before .before .before .before .before .before .before .before .before .before .before .before .before .before .before .before)) (s .pre .0) (length (s .args .given .now)) (length (s .args .taken .now)) (length (s .args .lists .now)) (length (s .args .edges .now)) (c .before .before .before .before .before .before .before .before .before .before .before .before .before .before .before .before .before .before .before .before .before .before .before .before .before .before .before .before .before .before .before .before .before .before .before .before .if1 .left) (c .before .before .before .before .before .before .before .before .before .before .before .before .before .before .before .before .before .before .before .before .before .before .before .before .before .before .before .before .before .before .before .before .before .before .before .if2 .left) (c .before .before .before .before .before .before .before .before .before .before .before .before .before .before .before .before .before .before .before .before .before .before .before .before .before .before .before .before .before .before .before .before .before .before .from-method-item .ensures) (c .before .before .before .before .before .before .before .before .before .before .before .before .before .before .before .before .before .before .before .before .before .before .before .before .before .before .before .before .before .before .before .before .enum-told .given .1) (c .before .before .before .before .before .before .before .before .before .before .before .before .before .before .before .before .before .before .before .before .before .before .before .before .before .before .before .before .lower .ensures .0) (c .before .before .before .before .before .before .before .before .before .before .before .before .before .before .before .before .before .before .before .before .before .enum-told2 .given .1) (replicate 1 0) (c .before .before .before .before .before .before .before .before .before .before .before .before .before .before .before .before .before .before .before .before .before .before .before .before .before .before .before .before .lower .ensures .1 .0)) .1) ((steps-stand (sheetIn (c .before .before .before .before .before .before .before .before .before .before .before .before .before .before .before .before .before .before .before .before .before .before .before .before .before .before .before .before .before .before .before .before .before .before .before .before .before .before .before .before .before .before .before .before .before .before .before .before .before .before .before .before)) (s .pre .0) (length (s .args .given .now)) (length (s .args .taken .now)) (length (s .args .lists .now)) (length (s .args .edges .now)) (c .before .before .before .before .before .before .before .before .before .before .before .before .before .before .before .before .before .before .before .before .before .before .before .before .before .before .before .before .before .before .before .before .before .before .before .before .if1 .left) (c .before .before .before .before .before .before .before .before .before .before .before .before .before .before .before .before .before .before .before .before .before .before .before .before .before .before .before .before .before .before .before .before .before .before .before .if2 .left) (c .before .before .before .before .before .before .before .before .before .before .before .before .before .before .before .before .before .before .before .before .before .before .before .before .before .before .before .before .before .before .before .before .before .before .from-method-item .ensures) (c .before .before .before .before .before .before .before .before .before .before .before .before .before .before .before .before .before .before .before .before .before .before .before .before .before .before .before .before .before .before .before .before .enum-told .given .1) (c .before .before .before .before .before .before .before .before .before .before .before .before .before .before .before .before .before .before .before .before .before .before .before .before .before .before .before .before .lower .ensures .0) (c .before .before .before .before .before .before .before .before .before .before .before .before .before .before .before .before .before .before .before .before .before .enum-told2 .given .1) (s .args .given .now) (c .before .before .before .before .before .before .before .before .before .before .before .before .before .before .before .before .before .before .before .before .before .before .before .before .before .before .before .before .lower .ensures .1 .1 .0)) .1) ((returns-stand (sheetIn (c .before .before .before .before .before .before .before .before .before .before .before .before .before .before .before .before .before .before .before .before .before .before .before .before .before .before .before .before .before .before .before .before .before .before .before .before .before .before .before .before .before .before .before .before .before .before .before .before .before .before .before .before)) (s .pre .0) (length (s .args .given .now)) (length (s .args .taken .now)) (length (s .args .lists .now)) (length (s .args .edges .now)) (c .before .before .before .before .before .before .before .before .before .before .before .before .before .before .before .before .before .before .before .before .before .before .before .before .before .before .before .before .before .before .before .before .before .before .before .before .if1 .left) (c .before .before .before .before .before .before .before .before .before .before .before .before .before .before .before .before .before .before .before .before .before .before .before .before .before .before .before .before .before .before .before .before .before .before .before .if2 .left) (c .before .before .before .before .before .before .before .before .before .before .before .before .before .before .before .before .before .before .before .before .before .before .before .before .before .before .before .before .before .before .before .before .before .before .from-method-item .ensures) (c .before .before .before .before .before .before .before .before .before .before .before .before .before .before .before .before .before .before .before .before .before .before .before .before .before .before .before .before .before .before .before .before .enum-told .given .1) (c .before .before .before .before .before .before .before .before .before .before .before .before .before .before .before .before .before .before .before .before .before .before .before .before .before .before .before .before .lower .ensures .0) (c .before .before .before .before .before .before .before .before .before .before .before .before .before .before .before .before .before .before .before .before .before .enum-told2 .given .1) (s .args .taken .now) (c .before .before .before .before .before .before .before .before .before .before .before .before .before .before .before .before .before .before .before .before .before .before .before .before .before .before .before .before .lower .ensures .1 .1 .1)) .1) (c .before .before .before .before .before .before .list-method .result) (s .args .out .now) (c .before .before .before .before .before .before .list-method .last .1 .1 .1 .1 .1 .1 .1 .1 .1 .0) (c .before .before .before .before .before .before .list-method .ensures)
+    let at-list-method = c .before .before .before .before .before .before in
+    let at-used2 = at-list-method .before .before .before .before .before .before .before .before .before .before .before in
+    let at-used-method-lifetimes = at-used2 .before .before in
+    let at-enum-told2 = at-used-method-lifetimes .before .before in
+    let at-lower = at-enum-told2 .before .before .before .before .before .before .before in
+    let at-enum-told = at-lower .before .before .before .before in
+    let at-from-method-item = at-enum-told .before .before in
+    let at-if2 = at-from-method-item .before in
+    let at-if1 = at-if2 .before in
+    let at-before = at-if1 .before .before .before .before .before .before .before .before .before .before .before .before .before .before .before in
+    let s = at-before .before in
+    records-listed (sheetIn (at-before .before)) (s .pre .0) (length (s .args .given .now)) (length (s .args .taken .now)) (length (s .args .lists .now)) (length (s .args .edges .now)) (at-if1 .if1 .left) (at-if2 .if2 .left) (at-from-method-item .from-method-item .ensures) (at-enum-told .enum-told .given .1) (at-lower .lower .ensures .0) (at-enum-told2 .enum-told2 .given .1) (at-used-method-lifetimes .used-method-lifetimes .ensures) (at-used2 .used2 .given .1) ((own-stands (sheetIn (at-before .before)) (s .pre .0) (length (s .args .given .now)) (length (s .args .taken .now)) (length (s .args .lists .now)) (length (s .args .edges .now)) (at-if1 .if1 .left) (at-if2 .if2 .left) (at-from-method-item .from-method-item .ensures) (at-enum-told .enum-told .given .1) (at-lower .lower .ensures .0) (at-enum-told2 .enum-told2 .given .1) (replicate 1 0) (at-lower .lower .ensures .1 .0)) .1) ((steps-stand (sheetIn (at-before .before)) (s .pre .0) (length (s .args .given .now)) (length (s .args .taken .now)) (length (s .args .lists .now)) (length (s .args .edges .now)) (at-if1 .if1 .left) (at-if2 .if2 .left) (at-from-method-item .from-method-item .ensures) (at-enum-told .enum-told .given .1) (at-lower .lower .ensures .0) (at-enum-told2 .enum-told2 .given .1) (s .args .given .now) (at-lower .lower .ensures .1 .1 .0)) .1) ((returns-stand (sheetIn (at-before .before)) (s .pre .0) (length (s .args .given .now)) (length (s .args .taken .now)) (length (s .args .lists .now)) (length (s .args .edges .now)) (at-if1 .if1 .left) (at-if2 .if2 .left) (at-from-method-item .from-method-item .ensures) (at-enum-told .enum-told .given .1) (at-lower .lower .ensures .0) (at-enum-told2 .enum-told2 .given .1) (s .args .taken .now) (at-lower .lower .ensures .1 .1 .1)) .1) (at-list-method .list-method .result) (s .args .out .now) (at-list-method .list-method .last .1 .1 .1 .1 .1 .1 .1 .1 .1 .0) (at-list-method .list-method .ensures)
 
 pub list-records-spec : {M : Type 1} → statement M
 list-records-spec =

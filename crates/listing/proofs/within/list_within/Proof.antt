@@ -18,16 +18,19 @@ same-length c = search needs
 
 returns : tie.Need-returns
 returns c =
-    let s = c .before .before .before .before .before .before .before .before .before .before .before .before .before .before in
-    text-refused (s .args .sheet .now) (s .args .words .now) (s .pre .0) (c .before .before .before .before .before .read-sheet .ensures .0) (c .before .before .before .before .before .read-sheet .ensures .1) (c .before .verdict .given .1)
+    let at-read-sheet = c .before .before .before .before .before in
+    let s = at-read-sheet .before .before .before .before .before .before .before .before .before in
+    text-refused (s .args .sheet .now) (s .args .words .now) (s .pre .0) (at-read-sheet .read-sheet .ensures .0) (at-read-sheet .read-sheet .ensures .1) (c .before .verdict .given .1)
 
 enum-told : tie.Need-enum-told
 enum-told c = search needs
 
 list-laid-requires : tie.Need-list-laid-requires
 list-laid-requires c κs =
-    let s = c .before .before .before .before .before .before .before .before .before .before .before .before .before .before .before .before .before .before .before .before in
-    (judge-shape (s .args .sheet .now) (s .args .words .now) (s .pre .0) (c .before .before .before .before .before .before .before .before .before .before .before .read-sheet .ensures .0) (c .before .before .before .before .before .before .before .before .before .before .before .read-sheet .ensures .1) (c .before .before .before .before .before .before .before .enum-told .given .1) .0, judge-shape (s .args .sheet .now) (s .args .words .now) (s .pre .0) (c .before .before .before .before .before .before .before .before .before .before .before .read-sheet .ensures .0) (c .before .before .before .before .before .before .before .before .before .before .before .read-sheet .ensures .1) (c .before .before .before .before .before .before .before .enum-told .given .1) .1, s .pre .1)
+    let at-enum-told = c .before .before .before .before .before .before .before in
+    let at-read-sheet = at-enum-told .before .before .before .before in
+    let s = at-read-sheet .before .before .before .before .before .before .before .before .before in
+    (judge-shape (s .args .sheet .now) (s .args .words .now) (s .pre .0) (at-read-sheet .read-sheet .ensures .0) (at-read-sheet .read-sheet .ensures .1) (at-enum-told .enum-told .given .1) .0, judge-shape (s .args .sheet .now) (s .args .words .now) (s .pre .0) (at-read-sheet .read-sheet .ensures .0) (at-read-sheet .read-sheet .ensures .1) (at-enum-told .enum-told .given .1) .1, s .pre .1)
 
 same-length-2 : tie.Need-same-length-2
 same-length-2 c = search needs
@@ -49,8 +52,11 @@ same-length-7 c = search needs
 
 returns-2 : tie.Need-returns-2
 returns-2 c =
-    let s = c .before .before .before .before .before .before .before .before .before .before .before .before .before .before .before .before .before .before .before .before .before .before .before .before .before .before .before .before .before .before .before in
-    text-listed (s .args .sheet .now) (s .args .words .now) (s .pre .0) (c .before .before .before .before .before .before .before .before .before .before .before .before .before .before .before .before .before .before .before .before .before .before .read-sheet .ensures .0) (c .before .before .before .before .before .before .before .before .before .before .before .before .before .before .before .before .before .before .before .before .before .before .read-sheet .ensures .1) (c .before .before .before .before .before .before .before .before .before .before .before .before .before .before .before .before .before .before .enum-told .given .1) (Ample (length (s .args .given .now)) (length (s .args .taken .now)) (length (s .args .lists .now)) (length (s .args .edges .now))) (c .before .before .before .before .before .before .before .before .before .before .list-laid .result) (s .args .out .now) (c .before .before .before .before .before .before .before .before .before .before .list-laid .last .1 .1 .1 .1 .1 .1 .0) (c .before .before .before .before .before .before .before .before .before .before .list-laid .ensures)
+    let at-list-laid = c .before .before .before .before .before .before .before .before .before .before in
+    let at-enum-told = at-list-laid .before .before .before .before .before .before .before .before in
+    let at-read-sheet = at-enum-told .before .before .before .before in
+    let s = at-read-sheet .before .before .before .before .before .before .before .before .before in
+    text-listed (s .args .sheet .now) (s .args .words .now) (s .pre .0) (at-read-sheet .read-sheet .ensures .0) (at-read-sheet .read-sheet .ensures .1) (at-enum-told .enum-told .given .1) (Ample (length (s .args .given .now)) (length (s .args .taken .now)) (length (s .args .lists .now)) (length (s .args .edges .now))) (at-list-laid .list-laid .result) (s .args .out .now) (at-list-laid .list-laid .last .1 .1 .1 .1 .1 .1 .0) (at-list-laid .list-laid .ensures)
 
 pub list-within-spec : {M : Type 1} → statement M
 list-within-spec =

@@ -18,7 +18,10 @@ malformed-requires : tie.Need-malformed-requires
 malformed-requires c κs = search needs
 
 returns : tie.Need-returns
-returns c = c .malformed .ensures ∙ method-structs (c .before .before .before .before .before .before .before .before .args .structs .now) (c .before .before .before .before .before .before .before .before .args .params .now) (c .before .before .before .before .before .before .before .before .args .output .now) (c .before .before .before .before .before .before .before .before .args .force .now) (c .before .before .before .structs-shape .ensures) (c .before .enum-told .given .1)
+returns c =
+    let at-structs-shape = c .before .before .before in
+    let s = at-structs-shape .before .before .before .before .before in
+    c .malformed .ensures ∙ method-structs (s .args .structs .now) (s .args .params .now) (s .args .output .now) (s .args .force .now) (at-structs-shape .structs-shape .ensures) (c .before .enum-told .given .1)
 
 params-shape-requires : tie.Need-params-shape-requires
 params-shape-requires c κs = search needs
@@ -33,7 +36,12 @@ malformed-requires-2 : tie.Need-malformed-requires-2
 malformed-requires-2 c κs = search needs
 
 returns-2 : tie.Need-returns-2
-returns-2 c = c .malformed2 .ensures ∙ method-params (c .before .before .before .before .before .before .before .before .before .before .before .before .args .structs .now) (c .before .before .before .before .before .before .before .before .before .before .before .before .args .params .now) (c .before .before .before .before .before .before .before .before .before .before .before .before .args .output .now) (c .before .before .before .before .before .before .before .before .before .before .before .before .args .force .now) (c .before .before .before .before .before .before .before .structs-shape .ensures) (c .before .before .before .before .before .first .given .1) (c .before .before .before .params-shape .ensures) (c .before .enum-told2 .given .1)
+returns-2 c =
+    let at-params-shape = c .before .before .before in
+    let at-first = at-params-shape .before .before in
+    let at-structs-shape = at-first .before .before in
+    let s = at-structs-shape .before .before .before .before .before in
+    c .malformed2 .ensures ∙ method-params (s .args .structs .now) (s .args .params .now) (s .args .output .now) (s .args .force .now) (at-structs-shape .structs-shape .ensures) (at-first .first .given .1) (at-params-shape .params-shape .ensures) (c .before .enum-told2 .given .1)
 
 output-shape-requires : tie.Need-output-shape-requires
 output-shape-requires c κs = search needs
@@ -48,7 +56,14 @@ malformed-requires-3 : tie.Need-malformed-requires-3
 malformed-requires-3 c κs = search needs
 
 returns-3 : tie.Need-returns-3
-returns-3 c = c .malformed3 .ensures ∙ method-output (c .before .before .before .before .before .before .before .before .before .before .before .before .before .before .before .before .args .structs .now) (c .before .before .before .before .before .before .before .before .before .before .before .before .before .before .before .before .args .params .now) (c .before .before .before .before .before .before .before .before .before .before .before .before .before .before .before .before .args .output .now) (c .before .before .before .before .before .before .before .before .before .before .before .before .before .before .before .before .args .force .now) (c .before .before .before .before .before .before .before .before .before .before .before .structs-shape .ensures) (c .before .before .before .before .before .before .before .before .before .first .given .1) (c .before .before .before .before .before .before .before .params-shape .ensures) (c .before .before .before .before .before .second .given .1) (c .before .before .before .output-shape .ensures) (c .before .enum-told3 .given .1)
+returns-3 c =
+    let at-output-shape = c .before .before .before in
+    let at-second = at-output-shape .before .before in
+    let at-params-shape = at-second .before .before in
+    let at-first = at-params-shape .before .before in
+    let at-structs-shape = at-first .before .before in
+    let s = at-structs-shape .before .before .before .before .before in
+    c .malformed3 .ensures ∙ method-output (s .args .structs .now) (s .args .params .now) (s .args .output .now) (s .args .force .now) (at-structs-shape .structs-shape .ensures) (at-first .first .given .1) (at-params-shape .params-shape .ensures) (at-second .second .given .1) (at-output-shape .output-shape .ensures) (c .before .enum-told3 .given .1)
 
 force-shape-requires : tie.Need-force-shape-requires
 force-shape-requires c κs = search needs
@@ -63,10 +78,27 @@ malformed-requires-4 : tie.Need-malformed-requires-4
 malformed-requires-4 c κs = search needs
 
 returns-4 : tie.Need-returns-4
-returns-4 c = c .malformed4 .ensures ∙ method-force (c .before .before .before .before .before .before .before .before .before .before .before .before .before .before .before .before .before .before .before .before .args .structs .now) (c .before .before .before .before .before .before .before .before .before .before .before .before .before .before .before .before .before .before .before .before .args .params .now) (c .before .before .before .before .before .before .before .before .before .before .before .before .before .before .before .before .before .before .before .before .args .output .now) (c .before .before .before .before .before .before .before .before .before .before .before .before .before .before .before .before .before .before .before .before .args .force .now) (c .before .before .before .before .before .before .before .before .before .before .before .before .before .before .before .structs-shape .ensures) (c .before .before .before .before .before .before .before .before .before .before .before .before .before .first .given .1) (c .before .before .before .before .before .before .before .before .before .before .before .params-shape .ensures) (c .before .before .before .before .before .before .before .before .before .second .given .1) (c .before .before .before .before .before .before .before .output-shape .ensures) (c .before .before .before .before .before .third .given .1) (c .before .before .before .force-shape .ensures) (c .before .enum-told5 .given .1)
+returns-4 c =
+    let at-force-shape = c .before .before .before in
+    let at-third = at-force-shape .before .before in
+    let at-output-shape = at-third .before .before in
+    let at-second = at-output-shape .before .before in
+    let at-params-shape = at-second .before .before in
+    let at-first = at-params-shape .before .before in
+    let at-structs-shape = at-first .before .before in
+    let s = at-structs-shape .before .before .before .before .before in
+    c .malformed4 .ensures ∙ method-force (s .args .structs .now) (s .args .params .now) (s .args .output .now) (s .args .force .now) (at-structs-shape .structs-shape .ensures) (at-first .first .given .1) (at-params-shape .params-shape .ensures) (at-second .second .given .1) (at-output-shape .output-shape .ensures) (at-third .third .given .1) (at-force-shape .force-shape .ensures) (c .before .enum-told5 .given .1)
 
 returns-5 : tie.Need-returns-5
-returns-5 c = method-whole (c .before .before .before .before .before .before .before .before .before .before .before .before .before .before .before .before .before .before .before .args .structs .now) (c .before .before .before .before .before .before .before .before .before .before .before .before .before .before .before .before .before .before .before .args .params .now) (c .before .before .before .before .before .before .before .before .before .before .before .before .before .before .before .before .before .before .before .args .output .now) (c .before .before .before .before .before .before .before .before .before .before .before .before .before .before .before .before .before .before .before .args .force .now) (c .before .before .before .before .before .before .before .before .before .before .before .before .before .before .structs-shape .ensures) (c .before .before .before .before .before .before .before .before .before .before .before .before .first .given .1) (c .before .before .before .before .before .before .before .before .before .before .params-shape .ensures) (c .before .before .before .before .before .before .before .before .second .given .1) (c .before .before .before .before .before .before .output-shape .ensures) (c .before .before .before .before .third .given .1) (c .before .before .force-shape .ensures) (c .enum-told4 .given .1)
+returns-5 c =
+    let at-third = c .before .before .before .before in
+    let at-output-shape = at-third .before .before in
+    let at-second = at-output-shape .before .before in
+    let at-params-shape = at-second .before .before in
+    let at-first = at-params-shape .before .before in
+    let at-structs-shape = at-first .before .before in
+    let s = at-structs-shape .before .before .before .before .before in
+    method-whole (s .args .structs .now) (s .args .params .now) (s .args .output .now) (s .args .force .now) (at-structs-shape .structs-shape .ensures) (at-first .first .given .1) (at-params-shape .params-shape .ensures) (at-second .second .given .1) (at-output-shape .output-shape .ensures) (at-third .third .given .1) (c .before .before .force-shape .ensures) (c .enum-told4 .given .1)
 
 pub method-shape-spec : {M : Type 1} → statement M
 method-shape-spec =

@@ -41,13 +41,20 @@ enum-told : tie.Need-enum-told
 enum-told c = search needs
 
 returns-3 : tie.Need-returns-3
-returns-3 c = opaque-missing _ _ _ (c .before .before .before .before .before .if1 .left) (c .before .before .before .if2 .left) (path-missing (c .before .before .before .before .before .before .before .args .words .now) (c .before .before .before .before .before .before .before .args .at + 2) (c .before .before .lifetimes-end .ensures) (c .enum-told .given .1))
+returns-3 c =
+    let at-if2 = c .before .before .before in
+    let at-if1 = at-if2 .before .before in
+    let s = at-if1 .before .before in
+    opaque-missing _ _ _ (at-if1 .if1 .left) (at-if2 .if2 .left) (path-missing (s .args .words .now) (s .args .at + 2) (c .before .before .lifetimes-end .ensures) (c .enum-told .given .1))
 
 returns-4 : tie.Need-returns-4
 returns-4 c = opaque-unowned _ _ _ (c .before .before .before .before .before .before .before .if1 .left) (c .before .before .before .before .before .if2 .left) ((path-at _ _ (c .before .before .before .before .lifetimes-end .ensures) (c .before .before .path .given .1)) .1) (c .if3 .taken)
 
 sub-count : tie.Need-sub-count
-sub-count c = omega (arith, path-past (c .before .before .before .before .before .before .before .before .before .args .words .now) (c .before .before .before .before .before .before .before .before .before .args .at + 2) (c .before .before .before .before .lifetimes-end .ensures) (c .before .before .path .given .1))
+sub-count c =
+    let at-lifetimes-end = c .before .before .before .before in
+    let s = at-lifetimes-end .before .before .before .before .before in
+    omega (arith, path-past (s .args .words .now) (s .args .at + 2) (at-lifetimes-end .lifetimes-end .ensures) (c .before .before .path .given .1))
 
 mul-borrowed : tie.Need-mul-borrowed
 mul-borrowed c = search needs
@@ -59,16 +66,33 @@ add-next : tie.Need-add-next
 add-next c = search needs
 
 returns-5 : tie.Need-returns-5
-returns-5 c = opaque-owned _ _ _ (c .before .before .before .before .before .before .before .before .before .if1 .left) (c .before .before .before .before .before .before .before .if2 .left) ((path-at _ _ (c .before .before .before .before .before .before .lifetimes-end .ensures) (c .before .before .before .before .path .given .1)) .1) (c .before .before .if3 .left) (c .if4 .taken)
+returns-5 c =
+    let at-path = c .before .before .before .before in
+    let at-lifetimes-end = at-path .before .before in
+    let at-if2 = at-lifetimes-end .before in
+    let at-if1 = at-if2 .before .before in
+    opaque-owned _ _ _ (at-if1 .if1 .left) (at-if2 .if2 .left) ((path-at _ _ (at-lifetimes-end .lifetimes-end .ensures) (at-path .path .given .1)) .1) (c .before .before .if3 .left) (c .if4 .taken)
 
 returns-6 : tie.Need-returns-6
-returns-6 c = opaque-no-owner _ _ _ (c .before .before .before .before .before .before .before .before .before .before .if1 .left) (c .before .before .before .before .before .before .before .before .if2 .left) ((path-at _ _ (c .before .before .before .before .before .before .before .lifetimes-end .ensures) (c .before .before .before .before .before .path .given .1)) .1) (c .before .before .before .if3 .left) (c .if5 .taken)
+returns-6 c =
+    let at-if3 = c .before .before .before in
+    let at-path = at-if3 .before .before in
+    let at-lifetimes-end = at-path .before .before in
+    let at-if2 = at-lifetimes-end .before in
+    let at-if1 = at-if2 .before .before in
+    opaque-no-owner _ _ _ (at-if1 .if1 .left) (at-if2 .if2 .left) ((path-at _ _ (at-lifetimes-end .lifetimes-end .ensures) (at-path .path .given .1)) .1) (at-if3 .if3 .left) (c .if5 .taken)
 
 add-if6 : tie.Need-add-if6
 add-if6 c = search needs
 
 returns-7 : tie.Need-returns-7
-returns-7 c = opaque-lost _ _ _ (c .before .before .before .before .before .before .before .before .before .before .before .if1 .left) (c .before .before .before .before .before .before .before .before .before .if2 .left) ((path-at _ _ (c .before .before .before .before .before .before .before .before .lifetimes-end .ensures) (c .before .before .before .before .before .before .path .given .1)) .1) (c .before .before .before .before .if3 .left) (c .before .before .if4 .left) (c .before .if5 .left) (c .if6 .taken)
+returns-7 c =
+    let at-if3 = c .before .before .before .before in
+    let at-path = at-if3 .before .before in
+    let at-lifetimes-end = at-path .before .before in
+    let at-if2 = at-lifetimes-end .before in
+    let at-if1 = at-if2 .before .before in
+    opaque-lost _ _ _ (at-if1 .if1 .left) (at-if2 .if2 .left) ((path-at _ _ (at-lifetimes-end .lifetimes-end .ensures) (at-path .path .given .1)) .1) (at-if3 .if3 .left) (c .before .before .if4 .left) (c .before .if5 .left) (c .if6 .taken)
 
 add-word : tie.Need-add-word
 add-word c = search needs
@@ -83,7 +107,14 @@ add-end : tie.Need-add-end
 add-end c = search needs
 
 returns-8 : tie.Need-returns-8
-returns-8 c = opaque-borrowed _ _ _ (c .before .before .before .before .before .before .before .before .before .before .before .before .if1 .left) (c .before .before .before .before .before .before .before .before .before .before .if2 .left) ((path-at _ _ (c .before .before .before .before .before .before .before .before .before .lifetimes-end .ensures) (c .before .before .before .before .before .before .before .path .given .1)) .1) (c .before .before .before .before .before .if3 .left) (c .before .before .before .if4 .left) (c .before .before .if5 .left) (c .before .if6 .left)
+returns-8 c =
+    let at-if4 = c .before .before .before in
+    let at-if3 = at-if4 .before .before in
+    let at-path = at-if3 .before .before in
+    let at-lifetimes-end = at-path .before .before in
+    let at-if2 = at-lifetimes-end .before in
+    let at-if1 = at-if2 .before .before in
+    opaque-borrowed _ _ _ (at-if1 .if1 .left) (at-if2 .if2 .left) ((path-at _ _ (at-lifetimes-end .lifetimes-end .ensures) (at-path .path .given .1)) .1) (at-if3 .if3 .left) (at-if4 .if4 .left) (c .before .before .if5 .left) (c .before .if6 .left)
 
 pub opaque-at-spec : {M : Type 1} → statement M
 opaque-at-spec =

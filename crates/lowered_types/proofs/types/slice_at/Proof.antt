@@ -56,13 +56,24 @@ enum-told : tie.Need-enum-told
 enum-told c = search needs
 
 returns-6 : tie.Need-returns-6
-returns-6 c = slice-missing _ _ _ (c .before .before .before .before .before .before .before .before .if1 .left) (c .before .before .before .if6 .taken) (path-missing (c .before .before .before .before .before .before .before .before .before .before .args .words .now) (c .before .before .before .before .before .before .before .before .before .before .args .at + 2) (c .before .before .lifetimes-end .ensures) (c .enum-told .given .1))
+returns-6 c =
+    let at-if6 = c .before .before .before in
+    let at-if1 = at-if6 .before .before .before .before .before in
+    let s = at-if1 .before .before in
+    slice-missing _ _ _ (at-if1 .if1 .left) (at-if6 .if6 .taken) (path-missing (s .args .words .now) (s .args .at + 2) (c .before .before .lifetimes-end .ensures) (c .enum-told .given .1))
 
 returns-7 : tie.Need-returns-7
-returns-7 c = slice-unowned _ _ _ (c .before .before .before .before .before .before .before .before .before .before .if1 .left) (c .before .before .before .before .before .if6 .taken) ((path-at _ _ (c .before .before .before .before .lifetimes-end .ensures) (c .before .before .path .given .1)) .1) (c .if7 .taken)
+returns-7 c =
+    let at-lifetimes-end = c .before .before .before .before in
+    let at-if6 = at-lifetimes-end .before in
+    let at-if1 = at-if6 .before .before .before .before .before in
+    slice-unowned _ _ _ (at-if1 .if1 .left) (at-if6 .if6 .taken) ((path-at _ _ (at-lifetimes-end .lifetimes-end .ensures) (c .before .before .path .given .1)) .1) (c .if7 .taken)
 
 sub-count : tie.Need-sub-count
-sub-count c = omega (arith, path-past (c .before .before .before .before .before .before .before .before .before .before .before .before .args .words .now) (c .before .before .before .before .before .before .before .before .before .before .before .before .args .at + 2) (c .before .before .before .before .lifetimes-end .ensures) (c .before .before .path .given .1))
+sub-count c =
+    let at-lifetimes-end = c .before .before .before .before in
+    let s = at-lifetimes-end .before .before .before .before .before .before .before .before in
+    omega (arith, path-past (s .args .words .now) (s .args .at + 2) (at-lifetimes-end .lifetimes-end .ensures) (c .before .before .path .given .1))
 
 mul-last : tie.Need-mul-last
 mul-last c = search needs
@@ -74,7 +85,12 @@ add-next : tie.Need-add-next
 add-next c = search needs
 
 returns-8 : tie.Need-returns-8
-returns-8 c = slice-opaques _ _ _ (c .before .before .before .before .before .before .before .before .before .before .before .if1 .left) (c .before .before .before .before .before .before .if6 .taken) ((path-at _ _ (c .before .before .before .before .before .lifetimes-end .ensures) (c .before .before .before .path .given .1)) .1) (c .before .if7 .left)
+returns-8 c =
+    let at-path = c .before .before .before in
+    let at-lifetimes-end = at-path .before .before in
+    let at-if6 = at-lifetimes-end .before in
+    let at-if1 = at-if6 .before .before .before .before .before in
+    slice-opaques _ _ _ (at-if1 .if1 .left) (at-if6 .if6 .taken) ((path-at _ _ (at-lifetimes-end .lifetimes-end .ensures) (at-path .path .given .1)) .1) (c .before .if7 .left)
 
 returns-9 : tie.Need-returns-9
 returns-9 c = slice-no-code _ _ _ (c .before .before .before .before .before .if1 .left) (c .before .before .before .if2 .left) (c .before .before .if3 .left) (c .before .if5 .left) (c .if6 .left)

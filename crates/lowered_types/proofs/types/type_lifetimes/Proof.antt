@@ -28,7 +28,11 @@ mul-word : tie.Need-mul-word
 mul-word c = let f = found-told (c .before .before .before .before .before .type-at .ensures .1) (c .before .before .before .found .given .1) in omega (arith, path-inside (f .stands) (c .before .before .before .before .before .before .before .args .index) (c .if2 .taken))
 
 shared-slice-read-word : tie.Need-shared-slice-read-word
-shared-slice-read-word c = let f = found-told (c .before .before .before .before .before .before .type-at .ensures .1) (c .before .before .before .before .found .given .1) in omega (arith, path-inside (f .stands) (c .before .before .before .before .before .before .before .before .args .index) (c .before .if2 .taken))
+shared-slice-read-word c =
+    let at-found = c .before .before .before .before in
+    let at-type-at = at-found .before .before in
+    let s = at-type-at .before .before in
+    let f = found-told (at-type-at .type-at .ensures .1) (at-found .found .given .1) in omega (arith, path-inside (f .stands) (s .args .index) (c .before .if2 .taken))
 
 from-word-requires : tie.Need-from-word-requires
 from-word-requires c κs = search needs

@@ -60,7 +60,10 @@ put-requires : tie.Need-put-requires Inv-loop μ-loop
 put-requires c κs = search needs
 
 add-count : tie.Need-add-count Inv-loop μ-loop
-add-count c = let l = c .before .before .before .before .before .before .before .before .before .before .loop .inv in omega (arith, l .counts, l .place, l .inside, c .before .before .before .before .before .before .before .before .before .before .before .before .before .before .before .before .pre)
+add-count c =
+    let at-loop = c .before .before .before .before .before .before .before .before .before .before in
+    let s = at-loop .before .before .before .before .before .before in
+    let l = at-loop .loop .inv in omega (arith, l .counts, l .place, l .inside, s .pre)
 
 add-i-2 : tie.Need-add-i-2 Inv-loop μ-loop
 add-i-2 c =
@@ -68,20 +71,27 @@ add-i-2 c =
     omega (arith, (found-number _ _ (f .found .given .1) (f .before .before .word .ensures)) .inside)
 
 same-length-3 : tie.Need-same-length-3 Inv-loop μ-loop
-same-length-3 c = c .before .before .before .put .kept .0 ∙ wording-size (c .before .before .before .before .before .before .before .before .before .before .before .loop .inv)
+same-length-3 c =
+    let at-loop = c .before .before .before .before .before .before .before .before .before .before .before in
+    c .before .before .before .put .kept .0 ∙ wording-size (at-loop .loop .inv)
 
 returns-5 : tie.Need-returns-5 Inv-loop μ-loop
 returns-5 c =
-    let f = c .before .before .before .before .before .before .before .before in
-    wording-end (f .before .before .before .loop .inv) (found-number _ _ (f .found .given .1) (f .before .before .word .ensures)) (c .before .before .before .before .before .before .if3 .left) (c .before .before .before .put .ensures) (c .if4 .taken)
+    let at-if3 = c .before .before .before .before .before .before in
+    let f = at-if3 .before .before in
+    wording-end (f .before .before .before .loop .inv) (found-number _ _ (f .found .given .1) (f .before .before .word .ensures)) (at-if3 .if3 .left) (c .before .before .before .put .ensures) (c .if4 .taken)
 
 same-length-4 : tie.Need-same-length-4 Inv-loop μ-loop
-same-length-4 c = c .before .before .before .before .put .kept .0 ∙ wording-size (c .before .before .before .before .before .before .before .before .before .before .before .before .loop .inv)
+same-length-4 c =
+    let at-put = c .before .before .before .before in
+    let at-loop = at-put .before .before .before .before .before .before .before .before in
+    at-put .put .kept .0 ∙ wording-size (at-loop .loop .inv)
 
 returns-6 : tie.Need-returns-6 Inv-loop μ-loop
 returns-6 c =
-    let f = c .before .before .before .before .before .before .before .before .before in
-    inr (wording-bad (f .before .before .before .loop .inv) (found-number _ _ (f .found .given .1) (f .before .before .word .ensures)) (c .before .before .before .before .before .before .before .if3 .left) (c .before .if4 .left) (c .if5 .taken))
+    let at-if3 = c .before .before .before .before .before .before .before in
+    let f = at-if3 .before .before in
+    inr (wording-bad (f .before .before .before .loop .inv) (found-number _ _ (f .found .given .1) (f .before .before .word .ensures)) (at-if3 .if3 .left) (c .before .if4 .left) (c .if5 .taken))
 
 loop-less : tie.Need-loop-less Inv-loop μ-loop
 loop-less c =
@@ -90,8 +100,10 @@ loop-less c =
 
 loop-again : tie.Need-loop-again Inv-loop μ-loop
 loop-again c =
-    let f = c .before .before .before .before .before .before .before .before .before in
-    wording-more (f .before .before .before .loop .inv) (found-number _ _ (f .found .given .1) (f .before .before .word .ensures)) (c .before .before .before .before .before .before .before .if3 .left) (c .before .before .before .before .put .ensures) (c .if5 .left)
+    let at-put = c .before .before .before .before in
+    let at-if3 = at-put .before .before .before in
+    let f = at-if3 .before .before in
+    wording-more (f .before .before .before .loop .inv) (found-number _ _ (f .found .given .1) (f .before .before .word .ensures)) (at-if3 .if3 .left) (at-put .put .ensures) (c .if5 .left)
 
 pub line-spec : {M : Type 1} → statement M
 line-spec =

@@ -1,9 +1,9 @@
 -- `read_within` meets its contract: refused as the text is, refused for a shape, refused for want of room, or written.
 use mathlib.Core.Path.{_∙_}
 use borrow.Author.Tests.{not-true, not-false}
-use Rattle.sheet.proofs.Answers.{sheet-refused, sheet-malformed, sheet-short, sheet-wrote}
-use Rattle.sheet.proofs.Placing.{scanned-laid, scanned-shape, scanned-copy}
 use borrow.Author.Needs.{needs}
+use Rattle.sheet.proofs.Answers.{sheet-refused, sheet-malformed}
+use Rattle.sheet.proofs.Placing.{scanned-laid, scanned-shape, scanned-short, scanned-wrote}
 use Rattle.sheet.proofs.sheet.read_within.Statement.{statement}
 use Rattle.sheet.proofs.sheet.read_within.Tie as tie
 
@@ -20,14 +20,16 @@ same-length : tie.Need-same-length
 same-length c = search needs
 
 returns : tie.Need-returns
-returns c = let j = c .before .before .before .before in sheet-refused _ (c .before .before .before .before .before .before .before .before .before .args .words .now) (j .scan .result) (j .scan .ensures .0) (c .enum-told2 .given .1)
+returns c =
+    let j = c .before .before .before .before in
+    let s = j .before .before .before .before .before in
+    sheet-refused _ (s .args .words .now) (j .scan .result) (j .scan .ensures .0) (c .enum-told2 .given .1)
 
 laid-in-shape-requires : tie.Need-laid-in-shape-requires
 laid-in-shape-requires c κs =
     let j = c .before .before .before .before .before .before in
-    let s = c .before .before .before .before .before .before .before .before .before .before .before in
-    let e = c .before .before .enum-told .given .1 in
-    scanned-laid (s .args .sheet .now) (s .args .scratch .now) (s .pre) (j .scan .ensures .0) e (j .scan .ensures .1)
+    let s = j .before .before .before .before .before in
+    scanned-laid (s .args .sheet .now) (s .args .scratch .now) (s .pre) (j .scan .ensures .0) (c .before .before .enum-told .given .1) (j .scan .ensures .1)
 
 refused-requires : tie.Need-refused-requires
 refused-requires c κs = search needs
@@ -38,16 +40,23 @@ same-length-2 c = search needs
 returns-2 : tie.Need-returns-2
 returns-2 c =
     let j = c .before .before .before .before .before .before .before .before .before in
-    let s = c .before .before .before .before .before .before .before .before .before .before .before .before .before .before in
+    let s = j .before .before .before .before .before in
     let e = c .before .before .before .before .before .enum-told .given .1 in
-    let a = sheet-malformed _ (s .args .words .now) (j .scan .result) (j .scan .ensures .0) e (scanned-shape (s .args .sheet .now) (s .args .scratch .now) (s .pre) (j .scan .ensures .0) e (j .scan .ensures .1) (c .before .before .laid-in-shape .ensures)) (not-true _ (c .before .if1 .taken)) in
+    let shape = scanned-shape (s .args .sheet .now) (s .args .scratch .now) (s .pre) (j .scan .ensures .0) e (j .scan .ensures .1) (c .before .before .laid-in-shape .ensures) in
+    let a = sheet-malformed _ (s .args .words .now) (j .scan .result) (j .scan .ensures .0) e shape (not-true _ (c .before .if1 .taken)) in
     (c .refused .ensures ∙ a .0, a .1)
 
-array-read-copy-all : tie.Need-array-read-copy-all
-array-read-copy-all c = search needs
+array-read-copy-words : tie.Need-array-read-copy-words
+array-read-copy-words c = search needs
 
-copy-all-requires : tie.Need-copy-all-requires
-copy-all-requires c κs = search needs
+copy-words-requires : tie.Need-copy-words-requires
+copy-words-requires c κs = search needs
+
+enum-told-3 : tie.Need-enum-told-3
+enum-told-3 c = search needs
+
+enum-told-4 : tie.Need-enum-told-4
+enum-told-4 c = search needs
 
 refused-requires-2 : tie.Need-refused-requires-2
 refused-requires-2 c κs = search needs
@@ -60,16 +69,12 @@ same-length-4 c = search needs
 
 returns-3 : tie.Need-returns-3
 returns-3 c =
-    let w = c .before .before .before .before in
+    let w = c .before .before .before .before .before in
     let i = w .before .before .before .before in
     let j = i .before .before .before .before .before .before .before in
     let s = j .before .before .before .before .before in
-    let e = i .before .before .before .enum-told .given .1 in
-    let a = sheet-short _ (s .args .words .now) (j .scan .result) (j .scan .ensures .0) e (scanned-shape (s .args .sheet .now) (s .args .scratch .now) (s .pre) (j .scan .ensures .0) e (j .scan .ensures .1) (i .laid-in-shape .ensures))
-    (not-false _ (w .before .before .before .if1 .left))
-    (w .copy-all .ensures .0)
-    (scanned-copy (s .args .sheet .now) (s .args .scratch .now) (s .pre) (j .scan .ensures .0) e (j .scan .ensures .1) (s .args .words .now) (w .copy-all .result) (w .copy-all .ensures .1))
-    (not-true _ (c .before .if2 .taken)) in
+    let a = scanned-short (s .args .sheet .now) (s .args .scratch .now) (s .pre) (j .scan .ensures .0) (i .before .before .before .enum-told .given .1) (j .scan .ensures .1)
+    (i .laid-in-shape .ensures) (not-false _ (w .before .before .before .if1 .left)) (s .args .words .now) (w .copy-words .ensures .1) (w .copy-words .ensures .0) (c .before .enum-told4 .given .1) in
     (c .refused2 .ensures ∙ a .0, a .1)
 
 same-length-5 : tie.Need-same-length-5
@@ -80,16 +85,12 @@ same-length-6 c = search needs
 
 returns-4 : tie.Need-returns-4
 returns-4 c =
-    let w = c .before .before .before in
+    let w = c .before .before .before .before in
     let i = w .before .before .before .before in
     let j = i .before .before .before .before .before .before .before in
     let s = j .before .before .before .before .before in
-    let e = i .before .before .before .enum-told .given .1 in
-    sheet-wrote _ (s .args .words .now) (j .scan .result) (j .scan .ensures .0) e (scanned-shape (s .args .sheet .now) (s .args .scratch .now) (s .pre) (j .scan .ensures .0) e (j .scan .ensures .1) (i .laid-in-shape .ensures))
-    (not-false _ (w .before .before .before .if1 .left))
-    (w .copy-all .ensures .0)
-    (scanned-copy (s .args .sheet .now) (s .args .scratch .now) (s .pre) (j .scan .ensures .0) e (j .scan .ensures .1) (s .args .words .now) (w .copy-all .result) (w .copy-all .ensures .1))
-    (not-false _ (c .if2 .left))
+    scanned-wrote (s .args .sheet .now) (s .args .scratch .now) (s .pre) (j .scan .ensures .0) (i .before .before .before .enum-told .given .1) (j .scan .ensures .1)
+    (i .laid-in-shape .ensures) (not-false _ (w .before .before .before .if1 .left)) (s .args .words .now) (w .copy-words .ensures .1) (w .copy-words .ensures .0) (c .enum-told3 .given .1)
 
 pub read-within-spec : {M : Type 1} → statement M
 read-within-spec =
@@ -104,8 +105,10 @@ read-within-spec =
     refused-requires
     same-length-2
     returns-2
-    array-read-copy-all
-    copy-all-requires
+    array-read-copy-words
+    copy-words-requires
+    enum-told-3
+    enum-told-4
     refused-requires-2
     same-length-3
     same-length-4

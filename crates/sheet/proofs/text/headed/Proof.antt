@@ -39,8 +39,10 @@ loop-less c = omega arith
 
 loop-again : tie.Need-loop-again Inv-loop μ-loop
 loop-again c =
-    let l = c .before .before .before .before .loop in
-    (comparing-more heading (c .before .before .before .before .before .before .before .before .args .bytes .now) (l .i) (l .same) (l .inv .0) (c .before .before .before .loop-test .taken) (c .both .result) (c .both .ensures), refl)
+    let at-loop = c .before .before .before .before in
+    let s = at-loop .before .before .before .before in
+    let l = at-loop .loop in
+    (comparing-more heading (s .args .bytes .now) (l .i) (l .same) (l .inv .0) (c .before .before .before .loop-test .taken) (c .both .result) (c .both .ensures), refl)
 
 returns-2 : tie.Need-returns-2 Inv-loop μ-loop
 returns-2 c =

@@ -41,7 +41,11 @@ cast-if4 : tie.Need-cast-if4 Inv-loop μ-loop
 cast-if4 c = search needs
 
 returns-4 : tie.Need-returns-4 Inv-loop μ-loop
-returns-4 c = checking-shorter (c .before .before .before .before .before .before .loop .inv) (full (c .before .before .before .before .before .before .before .before .before)) (c .before .before .before .before .before .loop-test .taken) refl (c .before .before .if3 .left) refl (c .if4 .taken)
+returns-4 c =
+    let at-loop-test = c .before .before .before .before .before in
+    let at-loop = at-loop-test .before in
+    let at-before = at-loop .before .before in
+    checking-shorter (at-loop .loop .inv) (full (at-before .before)) (at-loop-test .loop-test .taken) refl (c .before .before .if3 .left) refl (c .if4 .taken)
 
 add-i : tie.Need-add-i Inv-loop μ-loop
 add-i c = search needs
@@ -50,7 +54,11 @@ loop-less : tie.Need-loop-less Inv-loop μ-loop
 loop-less c = search needs
 
 loop-again : tie.Need-loop-again Inv-loop μ-loop
-loop-again c = checking-more (c .before .before .before .before .before .before .loop .inv) (full (c .before .before .before .before .before .before .before .before .before)) (c .before .before .before .before .before .loop-test .taken) refl (c .before .before .if3 .left) refl (c .if4 .left)
+loop-again c =
+    let at-loop-test = c .before .before .before .before .before in
+    let at-loop = at-loop-test .before in
+    let at-before = at-loop .before .before in
+    checking-more (at-loop .loop .inv) (full (at-before .before)) (at-loop-test .loop-test .taken) refl (c .before .before .if3 .left) refl (c .if4 .left)
 
 returns-5 : tie.Need-returns-5 Inv-loop μ-loop
 returns-5 c = checking-end (c .before .loop .inv) (c .loop-test .left)

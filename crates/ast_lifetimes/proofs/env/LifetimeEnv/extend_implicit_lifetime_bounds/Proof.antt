@@ -38,8 +38,11 @@ extended-requires c κs =
 
 returns-3 : tie.Need-returns-3
 returns-3 c =
-    let s = c .before .before .before .before .before .before .before .before .args in
-    c .extended .ensures ∙ extend-given (s .self) (s .types .now) (c .before .before .before .before .before .before .types-shape .ensures) (c .before .before .before .before .enum-told .given .1) (valid (s .self) (c .before .before .before .check .ensures) (c .before .enum-told3 .given .1))
+    let at-enum-told = c .before .before .before .before in
+    let at-types-shape = at-enum-told .before .before in
+    let s = at-types-shape .before .before in
+    let s = s .args in
+    c .extended .ensures ∙ extend-given (s .self) (s .types .now) (at-types-shape .types-shape .ensures) (at-enum-told .enum-told .given .1) (valid (s .self) (c .before .before .before .check .ensures) (c .before .enum-told3 .given .1))
 
 pub extend-implicit-lifetime-bounds-spec : {M : Type 1} → statement M
 extend-implicit-lifetime-bounds-spec =

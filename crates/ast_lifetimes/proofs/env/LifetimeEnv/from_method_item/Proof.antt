@@ -35,8 +35,10 @@ refused-requires-2 c κs = search needs
 
 returns-2 : tie.Need-returns-2
 returns-2 c =
+    let at-enum-told = c .before .before .before .before .before .before .before in
+    let at-shape-of = at-enum-told .before .before in
     c .refused2 .ensures
-    ∙ place-refused _ _ _ (c .before .before .before .before .before .before .before .before .before .shape-of .ensures) (c .before .before .before .before .before .before .before .enum-told .given .1) (c .before .before .before .build .ensures) (c .before .enum-told4 .given .1)
+    ∙ place-refused _ _ _ (at-shape-of .shape-of .ensures) (at-enum-told .enum-told .given .1) (c .before .before .before .build .ensures) (c .before .enum-told4 .given .1)
 
 assembled-requires : tie.Need-assembled-requires
 assembled-requires c κs =
@@ -46,7 +48,11 @@ assembled-requires c κs =
 
 returns-3 : tie.Need-returns-3
 returns-3 c =
-    method-given _ _ _ (c .before .before .before .before .before .before .before .before .before .before .before .before .shape-of .ensures) (c .before .before .before .before .before .before .before .before .before .before .enum-told .given .1) (c .before .before .before .before .before .before .build .ensures) (c .before .before .before .before .enum-told3 .given .1) (c .assembled .ensures)
+    let at-enum-told3 = c .before .before .before .before in
+    let at-build = at-enum-told3 .before .before in
+    let at-enum-told = at-build .before .before .before .before in
+    let at-shape-of = at-enum-told .before .before in
+    method-given _ _ _ (at-shape-of .shape-of .ensures) (at-enum-told .enum-told .given .1) (at-build .build .ensures) (at-enum-told3 .enum-told3 .given .1) (c .assembled .ensures)
 
 pub from-method-item-spec : {M : Type 1} → statement M
 from-method-item-spec =

@@ -6,8 +6,8 @@ use borrow.Author.Needs.{needs}
 use Rattle.borrowing_param.proofs.visitor.BorrowingParamVisitor.borrow_map.Statement.{statement}
 use Rattle.borrowing_param.proofs.visitor.BorrowingParamVisitor.borrow_map.Tie as tie
 
-check-params-requires : tie.Need-check-params-requires
-check-params-requires c κs = search needs
+check-structs-and-params-requires : tie.Need-check-structs-and-params-requires
+check-structs-and-params-requires c κs = search needs
 
 enum-known-verdict : tie.Need-enum-known-verdict
 enum-known-verdict c = search needs
@@ -19,12 +19,17 @@ enum-told : tie.Need-enum-told
 enum-told c = search needs
 
 map-params-requires : tie.Need-map-params-requires
-map-params-requires c κs = are-params (c .before .before .before .before .before .before .before .before .before .args .structs .now) (c .before .before .before .before .before .before .before .before .before .args .params .now) (map-none (c .before .before .before .before .before .before .before .before .before .args .self) (c .before .before .before .before .before .before .before .before .before .args .structs .now) (c .before .before .before .before .before .before .before .before .before .args .params .now) (length (c .before .before .before .before .before .before .before .before .before .args .answers .now)) (length (c .before .before .before .before .before .before .before .before .before .args .edges .now)) (c .before .before .before .before .check-params .ensures) (c .before .before .enum-told .given .1))
+map-params-requires c κs =
+    let at-check-structs-and-params = c .before .before .before .before in
+    let s = at-check-structs-and-params .before .before .before .before .before in
+    are-params (s .args .structs .now) (s .args .params .now) (map-none (s .args .self) (s .args .structs .now) (s .args .params .now) (length (s .args .answers .now)) (length (s .args .edges .now)) (at-check-structs-and-params .check-structs-and-params .ensures) (c .before .before .enum-told .given .1))
 
 returns : tie.Need-returns
 returns c =
-    let gone = map-refused (c .before .before .before .before .before .before .before .before .before .args .self) (c .before .before .before .before .before .before .before .before .before .args .structs .now) (c .before .before .before .before .before .before .before .before .before .args .params .now) (length (c .before .before .before .before .before .before .before .before .before .args .answers .now)) (length (c .before .before .before .before .before .before .before .before .before .args .edges .now)) (c .before .before .before .before .check-params .ensures) (c .before .before .verdict .given .1) in
-    told gone (maps-refused (c .before .before .before .before .before .before .before .before .before .args .answers .now) (c .before .before .before .before .before .before .before .before .before .args .edges .now) refl (c .unmapped .ensures))
+    let at-check-structs-and-params = c .before .before .before .before in
+    let s = at-check-structs-and-params .before .before .before .before .before in
+    let gone = map-refused (s .args .self) (s .args .structs .now) (s .args .params .now) (length (s .args .answers .now)) (length (s .args .edges .now)) (at-check-structs-and-params .check-structs-and-params .ensures) (c .before .before .verdict .given .1) in
+    told gone (maps-refused (s .args .answers .now) (s .args .edges .now) refl (c .unmapped .ensures))
 
 same-length : tie.Need-same-length
 same-length c = search needs
@@ -33,13 +38,18 @@ same-length-2 : tie.Need-same-length-2
 same-length-2 c = search needs
 
 returns-2 : tie.Need-returns-2
-returns-2 c = told (map-given (c .before .before .before .before .before .before .before .before .before .before .before .before .before .before .args .self) (c .before .before .before .before .before .before .before .before .before .before .before .before .before .before .args .structs .now) (c .before .before .before .before .before .before .before .before .before .before .before .before .before .before .args .params .now) (length (c .before .before .before .before .before .before .before .before .before .before .before .before .before .before .args .answers .now)) (length (c .before .before .before .before .before .before .before .before .before .before .before .before .before .before .args .edges .now)) (c .before .before .before .before .before .before .before .before .before .check-params .ensures) (c .before .before .before .before .before .before .before .enum-told .given .1)) (c .before .before .before .before .map-params .ensures)
+returns-2 c =
+    let at-map-params = c .before .before .before .before in
+    let at-enum-told = at-map-params .before .before .before in
+    let at-check-structs-and-params = at-enum-told .before .before in
+    let s = at-check-structs-and-params .before .before .before .before .before in
+    told (map-given (s .args .self) (s .args .structs .now) (s .args .params .now) (length (s .args .answers .now)) (length (s .args .edges .now)) (at-check-structs-and-params .check-structs-and-params .ensures) (at-enum-told .enum-told .given .1)) (at-map-params .map-params .ensures)
 
 pub borrow-map-spec : {M : Type 1} → statement M
 borrow-map-spec =
     tie.close
     (tie.spec
-    check-params-requires
+    check-structs-and-params-requires
     enum-known-verdict
     unmapped-requires
     enum-told

@@ -19,13 +19,23 @@ reach-sets-requires : tie.Need-reach-sets-requires
 reach-sets-requires c κs = search needs
 
 keep-used-requires : tie.Need-keep-used-requires
-keep-used-requires c κs = (sets-size (c .before .before .before .before .before .before .before .before .before .before .before .before .args .env) (c .before .before .before .reach-sets .ensures), refl)
+keep-used-requires c κs =
+    let s = c .before .before .before .before .before .before .before .before .before .before .before .before in
+    (sets-size (s .args .env) (c .before .before .before .reach-sets .ensures), refl)
 
 returns : tie.Need-returns
-returns c = new-refused (c .before .before .before .before .before .before .before .before .args .env) (c .before .before .before .before .before .before .before .before .args .structs .now) (c .before .before .before .before .before .before .before .before .args .params .now) (c .before .before .before .before .before .before .before .before .args .output .now) (c .before .before .before .before .before .before .before .before .args .force .now) (c .before .before .before .used-method-lifetimes .ensures) (c .before .lifetimes .given .1)
+returns c =
+    let at-used-method-lifetimes = c .before .before .before in
+    let s = at-used-method-lifetimes .before .before .before .before .before in
+    new-refused (s .args .env) (s .args .structs .now) (s .args .params .now) (s .args .output .now) (s .args .force .now) (at-used-method-lifetimes .used-method-lifetimes .ensures) (c .before .lifetimes .given .1)
 
 returns-2 : tie.Need-returns-2
-returns-2 c = new-given (c .before .before .before .before .before .before .before .before .before .before .before .before .before .args .env) (c .before .before .before .before .before .before .before .before .before .before .before .before .before .args .structs .now) (c .before .before .before .before .before .before .before .before .before .before .before .before .before .args .params .now) (c .before .before .before .before .before .before .before .before .before .before .before .before .before .args .output .now) (c .before .before .before .before .before .before .before .before .before .before .before .before .before .args .force .now) (c .before .before .before .before .before .before .before .before .used-method-lifetimes .ensures) (c .before .before .before .before .before .before .lifetimes2 .given .1) (c .before .before .before .before .reach-sets .ensures) (c .keep-used .ensures)
+returns-2 c =
+    let at-reach-sets = c .before .before .before .before in
+    let at-lifetimes2 = at-reach-sets .before .before in
+    let at-used-method-lifetimes = at-lifetimes2 .before .before in
+    let s = at-used-method-lifetimes .before .before .before .before .before in
+    new-given (s .args .env) (s .args .structs .now) (s .args .params .now) (s .args .output .now) (s .args .force .now) (at-used-method-lifetimes .used-method-lifetimes .ensures) (at-lifetimes2 .lifetimes2 .given .1) (at-reach-sets .reach-sets .ensures) (c .keep-used .ensures)
 
 pub new-spec : {M : Type 1} → statement M
 new-spec =

@@ -27,8 +27,8 @@ returns c =
     let answer = ap (λ (x : Visited). outcome (x .info) (state (x .visitor) (s .edges .now))) (c .refused .ensures) in
     answer ∙ sym (visit-refuses (s .structs .now) (s .params .now) (state (s .self) (s .edges .now)) (s .param) (nowhere-refused (s .structs .now) (s .params .now) (s .param) (missing-told (c .before .before .before .param-at .ensures .found) (c .before .enum-told .given .1))))
 
-check-params-requires : tie.Need-check-params-requires
-check-params-requires c κs = search needs
+check-structs-and-params-requires : tie.Need-check-structs-and-params-requires
+check-structs-and-params-requires c κs = search needs
 
 enum-known-verdict : tie.Need-enum-known-verdict
 enum-known-verdict c = search needs
@@ -40,23 +40,36 @@ enum-told-2 : tie.Need-enum-told-2
 enum-told-2 c = search needs
 
 visit-parts-requires : tie.Need-visit-parts-requires
-visit-parts-requires c κs = parts-short (c .before .before .before .before .before .before .before .before .before .before .before .args .param) (found-told (c .before .before .before .before .before .before .before .param-at .ensures .found) (c .before .before .before .before .before .found .given .1))
+visit-parts-requires c κs =
+    let at-found = c .before .before .before .before .before in
+    let at-param-at = at-found .before .before in
+    let s = at-param-at .before .before .before .before in
+    parts-short (s .args .param) (found-told (at-param-at .param-at .ensures .found) (at-found .found .given .1))
 
 returns-2 : tie.Need-returns-2
 returns-2 c =
-    let s = c .before .before .before .before .before .before .before .before .before .before .before .before .args in
+    let at-check-structs-and-params = c .before .before .before .before in
+    let at-found = at-check-structs-and-params .before .before in
+    let at-param-at = at-found .before .before in
+    let s = at-param-at .before .before .before .before in
+    let s = s .args in
     let answer = ap (λ (x : Visited). outcome (x .info) (state (x .visitor) (s .edges .now))) (c .refused2 .ensures) in
-    let f = found-told (c .before .before .before .before .before .before .before .before .param-at .ensures .found) (c .before .before .before .before .before .before .found .given .1) in
-    answer ∙ sym (visit-refuses (s .structs .now) (s .params .now) (state (s .self) (s .edges .now)) (s .param) (records-refused (s .structs .now) (s .params .now) (s .param) (f .reads) (c .before .before .before .before .check-params .ensures) (c .before .before .verdict .given .1)))
+    let f = found-told (at-param-at .param-at .ensures .found) (at-found .found .given .1) in
+    answer ∙ sym (visit-refuses (s .structs .now) (s .params .now) (state (s .self) (s .edges .now)) (s .param) (records-refused (s .structs .now) (s .params .now) (s .param) (f .reads) (at-check-structs-and-params .check-structs-and-params .ensures) (c .before .before .verdict .given .1)))
 
 same-length : tie.Need-same-length
 same-length c = search needs
 
 returns-3 : tie.Need-returns-3
 returns-3 c =
-    let s = c .before .before .before .before .before .before .before .before .before .before .before .before .before .before .args in
-    let f = found-told (c .before .before .before .before .before .before .before .before .before .before .param-at .ensures .found) (c .before .before .before .before .before .before .before .before .found .given .1) in
-    let a = records-accepted (s .structs .now) (s .params .now) (s .param) (f .reads) (c .before .before .before .before .before .before .check-params .ensures) (c .before .before .before .before .enum-told2 .given .1) in
+    let at-enum-told2 = c .before .before .before .before in
+    let at-check-structs-and-params = at-enum-told2 .before .before in
+    let at-found = at-check-structs-and-params .before .before in
+    let at-param-at = at-found .before .before in
+    let s = at-param-at .before .before .before .before in
+    let s = s .args in
+    let f = found-told (at-param-at .param-at .ensures .found) (at-found .found .given .1) in
+    let a = records-accepted (s .structs .now) (s .params .now) (s .param) (f .reads) (at-check-structs-and-params .check-structs-and-params .ensures) (at-enum-told2 .enum-told2 .given .1) in
     c .before .before .visit-parts .ensures ∙ sym (visit-goes-on (s .structs .now) (s .params .now) (state (s .self) (s .edges .now)) (s .param) (f .stands) (a .0) (a .1))
 
 pub visit-param-spec : {M : Type 1} → statement M
@@ -68,7 +81,7 @@ visit-param-spec =
     enum-told
     refused-requires
     returns
-    check-params-requires
+    check-structs-and-params-requires
     enum-known-verdict
     refused-requires-2
     enum-told-2

@@ -34,14 +34,22 @@ refused-requires-2 c κs = search needs
 
 -- src/lowerer.rt:178:13
 returns-3 : tie.Need-returns-3
-returns-3 c = rw (c .refused2 .ensures) (type-refused _ _ _ _ (c .before .before .before .before .before .before .before .before .if1 .left) (c .before .before .before .before .before .before .if2 .left) (c .before .before .before .before .lower-words .ensures) (c .before .before .verdict .given .1))
+returns-3 c =
+    let at-lower-words = c .before .before .before .before in
+    let at-if2 = at-lower-words .before .before in
+    let at-if1 = at-if2 .before .before in
+    rw (c .refused2 .ensures) (type-refused _ _ _ _ (at-if1 .if1 .left) (at-if2 .if2 .left) (at-lower-words .lower-words .ensures) (c .before .before .verdict .given .1))
 
 enum-told : tie.Need-enum-told
 enum-told c = search needs
 
 -- src/lowerer.rt:160:5
 returns-4 : tie.Need-returns-4
-returns-4 c = type-given _ _ _ _ (c .before .before .before .before .before .before .before .before .if1 .left) (c .before .before .before .before .before .before .if2 .left) (c .before .before .before .before .lower-words .ensures) (c .before .before .enum-told .given .1)
+returns-4 c =
+    let at-lower-words = c .before .before .before .before in
+    let at-if2 = at-lower-words .before .before in
+    let at-if1 = at-if2 .before .before in
+    type-given _ _ _ _ (at-if1 .if1 .left) (at-if2 .if2 .left) (at-lower-words .lower-words .ensures) (c .before .before .enum-told .given .1)
 
 pub is-self-spec : {M : Type 1} → statement M
 is-self-spec =

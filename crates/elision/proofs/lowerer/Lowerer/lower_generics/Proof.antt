@@ -38,14 +38,25 @@ refused-requires-3 c κs = search needs
 
 -- src/lowerer.rt:141:13
 returns-3 : tie.Need-returns-3
-returns-3 c = rw (c .refused3 .ensures) (generics-refused _ _ _ _ _ (c .before .before .before .before .before .before .before .before .if1 .left) (c .before .before .before .before .before .before .before .if2 .left) (c .before .before .before .before .before .standing-in .ensures) (c .before .before .before .before .lower-words .ensures) (c .before .before .verdict .given .1))
+returns-3 c =
+    let at-lower-words = c .before .before .before .before in
+    let at-standing-in = at-lower-words .before in
+    let at-if2 = at-standing-in .before .before in
+    let at-if1 = at-if2 .before in
+    rw (c .refused3 .ensures) (generics-refused _ _ _ _ _ (at-if1 .if1 .left) (at-if2 .if2 .left) (at-standing-in .standing-in .ensures) (at-lower-words .lower-words .ensures) (c .before .before .verdict .given .1))
 
 enum-told : tie.Need-enum-told
 enum-told c = search needs
 
 -- src/lowerer.rt:128:5
 returns-4 : tie.Need-returns-4
-returns-4 c = generics-given _ _ _ _ _ (c .before .before .before .before .before .before .before .before .before .if1 .left) (c .before .before .before .before .before .before .before .before .if2 .left) (c .before .before .before .before .before .before .standing-in .ensures) (c .before .before .before .before .before .lower-words .ensures) (c .before .before .before .enum-told .given .1)
+returns-4 c =
+    let at-enum-told = c .before .before .before in
+    let at-lower-words = at-enum-told .before .before in
+    let at-standing-in = at-lower-words .before in
+    let at-if2 = at-standing-in .before .before in
+    let at-if1 = at-if2 .before in
+    generics-given _ _ _ _ _ (at-if1 .if1 .left) (at-if2 .if2 .left) (at-standing-in .standing-in .ensures) (at-lower-words .lower-words .ensures) (at-enum-told .enum-told .given .1)
 
 pub lower-generics-spec : {M : Type 1} → statement M
 lower-generics-spec =

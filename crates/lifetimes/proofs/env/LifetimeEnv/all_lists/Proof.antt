@@ -32,8 +32,10 @@ holds c = valid (c .before .before .before .before .before .args .self) (none c)
 -- whether the words have room
 fit : (c : tie.After-all-fit) → let s = c .before .before .before .before .before .before .before .before .before .before .before .before .before .before in Fits (graphOf (s .args .longer) (s .args .self)) (s .args .self .count) (length (s .args .words .now)) (c .all-fit .result)
 fit c =
-    let s = c .before .before .before .before .before .before .before .before .before .before .before .before .before .before in
-    c .all-fit .ensures (graphOf (s .args .longer) (s .args .self)) (c .before .before .before .before .link .ensures) (bounds-within (holds (c .before .before .before .before .before .before .before .before .before)) LastFirst (s .args .longer) _ (omega arith))
+    let at-link = c .before .before .before .before in
+    let at-before = at-link .before .before .before .before in
+    let s = at-before .before .before .before .before .before .before in
+    c .all-fit .ensures (graphOf (s .args .longer) (s .args .self)) (at-link .link .ensures) (bounds-within (holds (at-before .before)) LastFirst (s .args .longer) _ (omega arith))
 
 check-requires : tie.Need-check-requires
 check-requires c κs = search needs
@@ -62,26 +64,31 @@ link-requires c κs =
 
 all-fit-requires : tie.Need-all-fit-requires
 all-fit-requires c κs =
-    let s = c .before .before .before .before .before .before .before .before .before .before .before .before .before in
-    let v = holds (c .before .before .before .before .before .before .before .before) in
+    let at-before = c .before .before .before .before .before .before .before in
+    let s = at-before .before .before .before .before .before .before in
+    let v = holds (at-before .before) in
     ((graphOf (s .args .longer) (s .args .self), c .before .before .before .link .ensures, bounds-within v LastFirst (s .args .longer) _ (omega arith)), v .declares, v .counted)
 
 returns-3 : tie.Need-returns-3
 returns-3 c =
-    let s = c .before .before .before .before .before .before .before .before .before .before .before .before .before .before .before in
-    parts (lists-no-words (s .args .longer) (s .args .self) (s .args .words .now) (s .args .ends .now) (none (c .before .before .before .before .before .before .before .before .before .before)) (c .before .before .before .before .before .before .before .before .before .if1 .left)
+    let at-before = c .before .before .before .before .before .before .before .before .before in
+    let s = at-before .before .before .before .before .before .before in
+    parts (lists-no-words (s .args .longer) (s .args .self) (s .args .words .now) (s .args .ends .now) (none (at-before .before)) (at-before .if1 .left)
     (leb-false _ _ (sym ((fit (c .before)) .fits) ∙ not-true _ (c .if2 .taken))))
 
 lay-requires : tie.Need-lay-requires
 lay-requires c κs =
-    let s = c .before .before .before .before .before .before .before .before .before .before .before .before .before .before .before .before .before .before .before .before .before in
-    let v = holds (c .before .before .before .before .before .before .before .before .before .before .before .before .before .before .before .before) in (
+    let at-before = c .before .before .before .before .before .before in
+    let at-link = at-before .before .before .before .before .before in
+    let at-before-2 = at-link .before .before .before .before in
+    let s = at-before-2 .before .before .before .before .before .before in
+    let v = holds (at-before-2 .before) in (
       (
-        (graphOf (s .args .longer) (s .args .self), c .before .before .before .before .before .before .before .before .before .before .before .link .ensures, bounds-within v LastFirst (s .args .longer) _ (omega arith), leb-true _ _ (sym ((fit (c .before .before .before .before .before .before .before)) .fits) ∙ not-false _ (c .before .before .before .before .before .before .if2 .left))),
+        (graphOf (s .args .longer) (s .args .self), at-link .link .ensures, bounds-within v LastFirst (s .args .longer) _ (omega arith), leb-true _ _ (sym ((fit (at-before .before)) .fits) ∙ not-false _ (at-before .if2 .left))),
         v .declares,
         v .counted,
       ),
-      (c .before .before .before .before .before .before .before .before .before .before .before .before .before .before .before .if1 .left, refl),
+      (at-before-2 .if1 .left, refl),
     )
 
 same-length : tie.Need-same-length
@@ -92,10 +99,14 @@ same-length-2 c = search needs
 
 returns-4 : tie.Need-returns-4
 returns-4 c =
-    let s = c .before .before .before .before .before .before .before .before .before .before .before .before .before .before .before .before .before .before .before .before .before .before .before .before .before .before in
-    parts (lists-given (s .args .longer) (s .args .self) (s .args .words .now) (s .args .ends .now) (none (c .before .before .before .before .before .before .before .before .before .before .before .before .before .before .before .before .before .before .before .before .before)) (c .before .before .before .before .before .before .before .before .before .before .before .before .before .before .before .before .before .before .before .before .if1 .left)
-    (leb-true _ _ (sym ((fit (c .before .before .before .before .before .before .before .before .before .before .before .before)) .fits) ∙ not-false _ (c .before .before .before .before .before .before .before .before .before .before .before .if2 .left)))
-    (c .before .before .before .before .lay .ensures (graphOf (s .args .longer) (s .args .self)) (c .before .before .before .before .before .before .before .before .before .before .before .before .before .before .before .before .link .ensures) (bounds-within (holds (c .before .before .before .before .before .before .before .before .before .before .before .before .before .before .before .before .before .before .before .before .before)) LastFirst (s .args .longer) _ (omega arith))))
+    let at-lay = c .before .before .before .before in
+    let at-before = at-lay .before .before .before .before .before .before .before in
+    let at-link = at-before .before .before .before .before .before in
+    let at-before-2 = at-link .before .before .before .before in
+    let s = at-before-2 .before .before .before .before .before .before in
+    parts (lists-given (s .args .longer) (s .args .self) (s .args .words .now) (s .args .ends .now) (none (at-before-2 .before)) (at-before-2 .if1 .left)
+    (leb-true _ _ (sym ((fit (at-before .before)) .fits) ∙ not-false _ (at-before .if2 .left)))
+    (at-lay .lay .ensures (graphOf (s .args .longer) (s .args .self)) (at-link .link .ensures) (bounds-within (holds (at-before-2 .before)) LastFirst (s .args .longer) _ (omega arith))))
 
 pub all-lists-spec : {M : Type 1} → statement M
 all-lists-spec =

@@ -46,8 +46,9 @@ both-below-requires c κs = search needs
 
 returns-4 : tie.Need-returns-4 Inv-loop μ-loop
 returns-4 c =
-    let s = c .before .before .before .before .before .before .before .before in
-    let l = c .before .before .before .before .loop in
+    let at-loop = c .before .before .before .before in
+    let s = at-loop .before .before .before .before in
+    let l = at-loop .loop in
     checking-refused (l .inv) (full s) (c .before .before .before .loop-test .taken) (sym (c .before .both-below .ensures) ∙ not-true _ (c .if4 .taken))
 
 add-i : tie.Need-add-i Inv-loop μ-loop
@@ -58,8 +59,9 @@ loop-less c = search needs
 
 loop-again : tie.Need-loop-again Inv-loop μ-loop
 loop-again c =
-    let s = c .before .before .before .before .before .before .before .before in
-    let l = c .before .before .before .before .loop in
+    let at-loop = c .before .before .before .before in
+    let s = at-loop .before .before .before .before in
+    let l = at-loop .loop in
     checking-more (l .inv) (full s) (c .before .before .before .loop-test .taken) (sym (c .before .both-below .ensures) ∙ not-false _ (c .if4 .left))
 
 returns-5 : tie.Need-returns-5 Inv-loop μ-loop

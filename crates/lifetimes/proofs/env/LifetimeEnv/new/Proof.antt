@@ -61,14 +61,18 @@ refused-requires-5 c κs = search needs
 
 returns-5 : tie.Need-returns-5
 returns-5 c =
-    let a = c .before .before .before .before .before .before .before .before .args in
+    let at-if3 = c .before .before .before .before in
+    let at-if2 = at-if3 .before in
+    let at-if1 = at-if2 .before in
+    let s = at-if1 .before .before in
+    let a = s .args in
     let outside = sym (c .before .before .pairs-below .ensures) ∙ not-true _ (c .before .if5 .taken) in
     new-refused
     (a .declared)
     (a .count)
     (a .pairs .now)
-    (c .before .before .before .before .before .before .if1 .left)
-    (side-due _ _ _ _ (c .before .before .before .before .before .if2 .left) (c .before .before .before .before .if3 .left) (c .before .before .before .if4 .left) outside)
+    (at-if1 .if1 .left)
+    (side-due _ _ _ _ (at-if2 .if2 .left) (at-if3 .if3 .left) (c .before .before .before .if4 .left) outside)
     (c .refused5 .ensures)
 
 filled-requires : tie.Need-filled-requires
@@ -79,14 +83,18 @@ filled-requires c κs =
 
 returns-6 : tie.Need-returns-6
 returns-6 c =
-    let a = c .before .before .before .before .before .before .before .before .args in
+    let at-if3 = c .before .before .before .before in
+    let at-if2 = at-if3 .before in
+    let at-if1 = at-if2 .before in
+    let s = at-if1 .before .before in
+    let a = s .args in
     let below = sym (c .before .before .pairs-below .ensures) ∙ not-false _ (c .before .if5 .left) in
     new-given
     (a .declared)
     (a .count)
     (a .pairs .now)
-    (c .before .before .before .before .before .before .if1 .left)
-    (none-due _ _ _ _ (c .before .before .before .before .before .if2 .left) (c .before .before .before .before .if3 .left) (c .before .before .before .if4 .left) below)
+    (at-if1 .if1 .left)
+    (none-due _ _ _ _ (at-if2 .if2 .left) (at-if3 .if3 .left) (c .before .before .before .if4 .left) below)
     (c .filled .ensures)
 
 pub new-spec : {M : Type 1} → statement M

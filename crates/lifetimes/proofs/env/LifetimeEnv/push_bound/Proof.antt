@@ -33,10 +33,20 @@ numbers-below-requires : tie.Need-numbers-below-requires
 numbers-below-requires c κs = search needs
 
 returns-3 : tie.Need-returns-3
-returns-3 c = let a = c .before .before .before .before .before .before .before .before .args in let f : bothBelow (a .self .declared) (above (a .longer .0) (a .shorter .0)) ≡ false = rw (c .before .before .before .index .ensures, c .before .before .index2 .ensures) at (sym (c .before .numbers-below .ensures) ∙ not-true _ (c .if2 .taken)) in push-outside (a .self) (above (a .longer .0) (a .shorter .0)) (c .before .before .before .before .before .before .before .if1 .left) (c .before .before .before .before .before .before .check .ensures) (c .before .before .before .before .enum-told .given .1) f
+returns-3 c =
+    let at-enum-told = c .before .before .before .before in
+    let at-check = at-enum-told .before .before in
+    let at-if1 = at-check .before in
+    let s = at-if1 .before in
+    let a = s .args in let f : bothBelow (a .self .declared) (above (a .longer .0) (a .shorter .0)) ≡ false = rw (c .before .before .before .index .ensures, c .before .before .index2 .ensures) at (sym (c .before .numbers-below .ensures) ∙ not-true _ (c .if2 .taken)) in push-outside (a .self) (above (a .longer .0) (a .shorter .0)) (at-if1 .if1 .left) (at-check .check .ensures) (at-enum-told .enum-told .given .1) f
 
 bound-of-requires : tie.Need-bound-of-requires
-bound-of-requires c κs = let a = c .before .before .before .before .before .before .before .before .args in push-small (a .self) (above (c .before .before .before .index .result) (c .before .before .index2 .result)) (c .before .before .before .before .before .before .before .if1 .left) (c .before .before .before .before .before .before .check .ensures) (c .before .before .before .before .enum-told .given .1) (sym (c .before .numbers-below .ensures) ∙ not-false _ (c .if2 .left))
+bound-of-requires c κs =
+    let at-enum-told = c .before .before .before .before in
+    let at-check = at-enum-told .before .before in
+    let at-if1 = at-check .before in
+    let s = at-if1 .before in
+    let a = s .args in push-small (a .self) (above (c .before .before .before .index .result) (c .before .before .index2 .result)) (at-if1 .if1 .left) (at-check .check .ensures) (at-enum-told .enum-told .given .1) (sym (c .before .numbers-below .ensures) ∙ not-false _ (c .if2 .left))
 
 mul-t17 : tie.Need-mul-t17
 mul-t17 c = search needs
@@ -48,7 +58,13 @@ add-env : tie.Need-add-env
 add-env c = search needs
 
 returns-4 : tie.Need-returns-4
-returns-4 c = let a = c .before .before .before .before .before .before .before .before .before .args in let t : bothBelow (a .self .declared) (above (a .longer .0) (a .shorter .0)) ≡ true = rw (c .before .before .before .before .index .ensures, c .before .before .before .index2 .ensures) at (sym (c .before .before .numbers-below .ensures) ∙ not-false _ (c .before .if2 .left)) in rw (c .bound-of .ensures, c .before .before .before .before .index .ensures, c .before .before .before .index2 .ensures) (push-given (a .self) (above (a .longer .0) (a .shorter .0)) (c .before .before .before .before .before .before .before .before .if1 .left) (c .before .before .before .before .before .before .before .check .ensures) (c .before .before .before .before .before .enum-told .given .1) t)
+returns-4 c =
+    let at-index = c .before .before .before .before in
+    let at-enum-told = at-index .before in
+    let at-check = at-enum-told .before .before in
+    let at-if1 = at-check .before in
+    let s = at-if1 .before in
+    let a = s .args in let t : bothBelow (a .self .declared) (above (a .longer .0) (a .shorter .0)) ≡ true = rw (at-index .index .ensures, c .before .before .before .index2 .ensures) at (sym (c .before .before .numbers-below .ensures) ∙ not-false _ (c .before .if2 .left)) in rw (c .bound-of .ensures, at-index .index .ensures, c .before .before .before .index2 .ensures) (push-given (a .self) (above (a .longer .0) (a .shorter .0)) (at-if1 .if1 .left) (at-check .check .ensures) (at-enum-told .enum-told .given .1) t)
 
 pub push-bound-spec : {M : Type 1} → statement M
 push-bound-spec =

@@ -47,14 +47,18 @@ link-requires c κs =
 
 measure-requires : tie.Need-measure-requires
 measure-requires c κs =
-    let s = c .before .before .before .before .before .before .before .before .before .before .before in
-    let v = holds (c .before .before .before .before .before .before .before .before) in
-    (((graphOf (s .args .longer) (s .args .self), c .before .before .before .before .link .ensures, bounds-within v LastFirst (s .args .longer) _ (omega arith)), v .declares, v .counted), refl)
+    let at-link = c .before .before .before .before in
+    let at-before = at-link .before .before .before in
+    let s = at-before .before .before .before .before in
+    let v = holds (at-before .before) in
+    (((graphOf (s .args .longer) (s .args .self), at-link .link .ensures, bounds-within v LastFirst (s .args .longer) _ (omega arith)), v .declares, v .counted), refl)
 
 returns-2 : tie.Need-returns-2
 returns-2 c =
-    let s = c .before .before .before .before .before .before .before .before .before .before .before .before in
-    sets-given (s .args .longer) (s .args .self) (none (c .before .before .before .before .before .before .before .before .before)) (c .measure .ensures (graphOf (s .args .longer) (s .args .self)) (c .before .before .before .before .before .link .ensures) (bounds-within (holds (c .before .before .before .before .before .before .before .before .before)) LastFirst (s .args .longer) _ (omega arith)))
+    let at-link = c .before .before .before .before .before in
+    let at-before = at-link .before .before .before in
+    let s = at-before .before .before .before .before in
+    sets-given (s .args .longer) (s .args .self) (none (at-before .before)) (c .measure .ensures (graphOf (s .args .longer) (s .args .self)) (at-link .link .ensures) (bounds-within (holds (at-before .before)) LastFirst (s .args .longer) _ (omega arith)))
 
 pub reach-sets-spec : {M : Type 1} → statement M
 reach-sets-spec =

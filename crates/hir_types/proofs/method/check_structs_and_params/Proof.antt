@@ -1,10 +1,10 @@
--- `check_params` meets its contract: by the shapes of the two records, then by their places.
+-- `check_structs_and_params` meets its contract: by the shapes of the two records, then by their places.
 use mathlib.Core.List.{[], _∷_}
 use mathlib.Core.Path.{refl}
 use Rattle.hir_types.proofs.MethodLaws.{in-shape, params-torn, params-stand}
 use borrow.Author.Needs.{needs}
-use Rattle.hir_types.proofs.method.check_params.Statement.{statement}
-use Rattle.hir_types.proofs.method.check_params.Tie as tie
+use Rattle.hir_types.proofs.method.check_structs_and_params.Statement.{statement}
+use Rattle.hir_types.proofs.method.check_structs_and_params.Tie as tie
 
 slice-aggregate-method-shape : tie.Need-slice-aggregate-method-shape
 slice-aggregate-method-shape c = search needs
@@ -28,13 +28,19 @@ slice-aggregate-judge-places : tie.Need-slice-aggregate-judge-places
 slice-aggregate-judge-places c = search needs
 
 judge-places-requires : tie.Need-judge-places-requires
-judge-places-requires c κs = let s = c .before .before .before .before .before .before .before .before .before .args in (in-shape (s .structs .now) (s .params .now) [] (0 ∷ []) (c .before .before .before .before .method-shape .ensures) (c .before .before .enum-told .given .1), refl)
+judge-places-requires c κs =
+    let at-method-shape = c .before .before .before .before in
+    let s = at-method-shape .before .before .before .before .before in
+    let s = s .args in (in-shape (s .structs .now) (s .params .now) [] (0 ∷ []) (at-method-shape .method-shape .ensures) (c .before .before .enum-told .given .1), refl)
 
 returns-2 : tie.Need-returns-2
-returns-2 c = let s = c .before .before .before .before .before .before .before .before .before .before .args in params-stand (s .structs .now) (s .params .now) (c .before .before .before .before .before .method-shape .ensures) (c .before .before .before .enum-told .given .1) (c .judge-places .ensures)
+returns-2 c =
+    let at-method-shape = c .before .before .before .before .before in
+    let s = at-method-shape .before .before .before .before .before in
+    let s = s .args in params-stand (s .structs .now) (s .params .now) (at-method-shape .method-shape .ensures) (c .before .before .before .enum-told .given .1) (c .judge-places .ensures)
 
-pub check-params-spec : {M : Type 1} → statement M
-check-params-spec =
+pub check-structs-and-params-spec : {M : Type 1} → statement M
+check-structs-and-params-spec =
     tie.close
     (tie.spec
     slice-aggregate-method-shape

@@ -1,9 +1,9 @@
--- `limit_of` meets its contract: a number has no ones above its leading zeros.
+-- `past_last` meets its contract: a number has no ones above its leading zeros.
 use native.Mathlib.Omega.{arith}
 use lib.Count.{leading-le}
 use Rattle.borrowing_param.proofs.Storing.{below-leading}
-use Rattle.borrowing_param.proofs.edges.limit_of.Statement.{statement}
-use Rattle.borrowing_param.proofs.edges.limit_of.Tie as tie
+use Rattle.borrowing_param.proofs.edges.past_last.Statement.{statement}
+use Rattle.borrowing_param.proofs.edges.past_last.Tie as tie
 
 cast-result : tie.Need-cast-result
 cast-result c = omega (arith, leading-le 64 (c .args .set))
@@ -14,5 +14,5 @@ sub-result c = omega (arith, leading-le 64 (c .args .set))
 returns : tie.Need-returns
 returns c = below-leading (c .args .set) (omega arith)
 
-pub limit-of-spec : {M : Type 1} → statement M
-limit-of-spec = tie.close (tie.spec cast-result sub-result returns)
+pub past-last-spec : {M : Type 1} → statement M
+past-last-spec = tie.close (tie.spec cast-result sub-result returns)

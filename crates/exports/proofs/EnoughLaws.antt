@@ -1,0 +1,50 @@
+-- Slices that are always long enough: no further check is due, since what a sheet gives is bounded.
+use Prim.Native.Nat.{ℕ, _≤_}
+use mathlib.Core.Path.{_≡_, refl, ap, _∙_}
+use mathlib.Core.List.{List, [], _∷_, _++_, flatMap}
+use native.Mathlib.Omega.{arith}
+use borrow.Author.Tests.{le-ltb}
+use lib.ListN.{length}
+use Rattle.lifetimes.specs.Refusals.{Check, Outcome, Gives, Refuses, unless, NoneDue, next, end}
+use Rattle.lifetimes.specs.Lent.{roomCheck}
+use Rattle.lifetimes.proofs.RefusalLaws.{due-given, due-refused, given-due, refused-due, first-more, none-more}
+use Rattle.sheet.specs.Text.{Records}
+use Rattle.sheet.specs.Reading.{sheetOf}
+use Rattle.borrowing_param.specs.Edges.{edgeWords}
+use Rattle.borrowing_param.specs.New.{created}
+use Rattle.borrowing_param.specs.Consistent.{Consistent}
+use Rattle.borrowing_param.specs.SheetMethod.{envOfSheet, sheetRefusals}
+use Rattle.borrowing_param.specs.Borrows.{Borrows, sheetBorrows, roomChecks}
+use Rattle.borrowing_param.proofs.Joining.{words-many}
+use Rattle.borrowing_param.proofs.Forcing.{params-none}
+use Rattle.borrowing_param.proofs.Theorems.{listing-in-order, sheets-give-methods}
+use Rattle.exports.specs.Calls.{countWords}
+
+-- further checks of which none is due, if none of the first is
+pub further : {A : Type 0} (a : A) (checks more : List Check) → (NoneDue checks → NoneDue more) → unless (checks ++ more) a ≡ unless checks a
+further {A} a checks more f = go (unless checks a) refl
+  where
+    go : (o : Outcome A) → unless checks a ≡ o → unless (checks ++ more) a ≡ o
+    go (Gives b) e = let n = given-due a b checks e in due-given a (none-more (n .0) (f (n .0))) ∙ ap (λ (x : A). Gives x) (n .1)
+    go (Refuses k) e = due-refused a (first-more more (refused-due a k checks e))
+
+module _ (bytes : List ℕ) where
+  abbrev sheet : Records
+  sheet = sheetOf bytes
+
+  abbrev all : Borrows
+  all = sheetBorrows sheet
+
+  consistent : NoneDue (sheetRefusals bytes) → Consistent (all .used) (all .answers) (all .edges)
+  consistent n =
+      listing-in-order (created (envOfSheet sheet) (sheet .structs) (sheet .params) (sheet .output) (sheet .force) .visitor) (sheet .structs) (sheet .params)
+      (params-none (envOfSheet sheet) (sheet .structs) (sheet .params) (sheet .output) (sheet .force) (sheets-give-methods bytes n))
+
+  pub room : (used answers edges counts : ℕ) → 64 ≤ used → 16 ≤ answers → 81920 ≤ edges → 3 ≤ counts → NoneDue (sheetRefusals bytes)
+      → NoneDue (roomChecks all used answers edges ++ (roomCheck counts (countWords all) ∷ []))
+  room used answers edges counts a b c d n =
+      let k = consistent n in
+      let u : length (all .used) ≤ used = omega (arith, k .few-used, a) in
+      let p : length (all .answers) ≤ answers = omega (arith, k .few-params, b) in
+      let e : length (flatMap edgeWords (all .edges)) ≤ edges = omega (arith, k .few-edges, words-many (all .edges), c) in
+      next (le-ltb used (length (all .used)) u) (next (le-ltb answers (length (all .answers)) p) (next (le-ltb edges (length (flatMap edgeWords (all .edges))) e) (next (le-ltb counts 3 d) end)))

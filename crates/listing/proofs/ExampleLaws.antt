@@ -1,0 +1,74 @@
+-- 01's examples, crate by crate: those below have shown their own, the program's are computed here.
+use mathlib.Core.Path.{refl, ap}
+use mathlib.Core.List.{List, [], _∷_, _++_, map, flatMap, flatten}
+use lib.ListN.{take}
+use Rattle.lifetimes.specs.Refusals.{unless}
+use Rattle.lifetimes.specs.Ranges as ranges
+use Rattle.lifetimes.specs.Sets as sets
+use Rattle.lifetimes.specs.Env as env
+use Rattle.lifetimes.specs.Walk as walk
+use Rattle.lifetimes.specs.Examples as reach
+use Rattle.records.specs.Reading as reading
+use Rattle.ast_lifetimes.specs.Shapes as shapes
+use Rattle.ast_lifetimes.specs.Types as ast-types
+use Rattle.ast_lifetimes.specs.Env as declared
+use Rattle.ast_lifetimes.specs.Examples as ast
+use Rattle.elision.specs.Steps as steps
+use Rattle.elision.specs.Rfc as rfc
+use Rattle.elision.specs.Examples as elision
+use Rattle.lowered_types.specs.LoweredTypes as types
+use Rattle.lowered_types.specs.Rows as rows
+use Rattle.hir_types.specs.Method as method
+use Rattle.hir_types.specs.Used as used
+use Rattle.sheet.specs.Text as text
+use Rattle.sheet.specs.Reading as read
+use Rattle.sheet.specs.Reading.{sheetOf}
+use Rattle.sheet.specs.Shape as shape
+use Rattle.borrowing_param.specs.Brings as brings
+use Rattle.borrowing_param.specs.New as new
+use Rattle.borrowing_param.specs.BorrowMap as map-of
+use Rattle.borrowing_param.specs.SheetMethod as sheets
+use Rattle.borrowing_param.specs.Examples as visits
+use Rattle.listing.specs.Listing as listings
+use Rattle.listing.specs.Listing.{response, listingOf, listingChecks}
+use Rattle.listing.specs.Examples.{Example, reachExample, astExample, elisionExample, visitsExample, programExamples, Right, Reached, Declared, Elided, Visited}
+
+-- the crates below have shown their own examples
+pub right-more : (xs ys : List Example) → Right xs → Right ys → Right (xs ++ ys)
+right-more [] ys p q = q
+right-more (x ∷ xs) ys p q = (p .0, right-more xs ys (p .1) q)
+
+pub reach-right : (xs : List reach.Example) → reach.Right xs → Right (map reachExample xs)
+reach-right [] p = tt
+reach-right (x ∷ xs) p = (ap Reached (p .0), reach-right xs (p .1))
+
+pub ast-right : (xs : List ast.Example) → ast.Right xs → Right (map astExample xs)
+ast-right [] p = tt
+ast-right (x ∷ xs) p = (ap Declared (p .0), ast-right xs (p .1))
+
+pub elision-right : (xs : List elision.Example) → elision.Right xs → Right (map elisionExample xs)
+elision-right [] p = tt
+elision-right (x ∷ xs) p = (ap Elided (p .0), elision-right xs (p .1))
+
+pub visits-right : (xs : List visits.Example) → visits.Right xs → Right (map visitsExample xs)
+visits-right [] p = tt
+visits-right (x ∷ xs) p = (ap Visited (p .0), visits-right xs (p .1))
+
+pub program-right : Right programExamples
+unfolding response unless listingOf listingChecks sheets.sheetRefusals sheets.recordsChecks read.textChecks read.sheetOf read.sheetIn read.linesBehind read.ten read.readLines read.behind read.allShort flatten flatMap text.line text.following text.digits text.digitsFor
+    shape.sheetInShape rows.methodInShape shapes.namesInShape shapes.allNames shapes.boundsInShape shapes.pairsOf ast-types.readType steps.readStep reading.readAll reading.inShape reading.itemsOf
+    declared.nameChecks declared.allPairChecks declared.has declared.implied declared.allImplied declared.envOf declared.place rfc.throughout rfc.anonymous rfc.hasSelfType rfc.ownFrom
+    rows.readKnown rows.readTypes rows.readRow types.readOpaque types.readStruct types.readSlice types.readBare types.readLowered method.typeChecks method.rowChecks method.paramChecks method.anyPast
+    used.usedSet used.numbersOf used.inTypes used.inRows new.created new.newVisitor map-of.listedTo map-of.listedEdges map-of.answersFrom brings.bring brings.anyDrawn brings.structEdges
+    listings.answersFrom env.envOf env.allBelow ranges.ascending ranges.select walk.reachSet walk.traversal walk.walk walk.walkFor walk.unpushed walk.neighbours sets.member sets.insert sets.insertAll sets.members
+program-right = (refl, (refl, tt))
+
+-- the lists one behind another, last first
+abbrev pub fromVisits : List Example
+fromVisits = map visitsExample (take 2 visits.examples) ++ programExamples
+
+abbrev pub fromElision : List Example
+fromElision = map elisionExample elision.examples ++ fromVisits
+
+abbrev pub fromAst : List Example
+fromAst = map astExample ast.examples ++ fromElision
