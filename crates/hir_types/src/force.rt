@@ -193,7 +193,7 @@ fn with_word(word: usize, declared: usize, found: u64) -> u64
     found
 }
 
-// The method's lifetime with the number that stands here. In a field of a definition that is not linked with the words at the use, as the Rust takes it; in the method's own output it is the
+// The method's lifetime with the number that stands here. In a field of a definition that is not linked with the words at the use, as the Rust takes it; in a parameter it is the
 // lifetime itself. Nowhere else is a definition's lifetime made one of the method.
 fn unlinked(def: DefLifetime) -> Lifetime
     ensures { λ r. ⌜ r ≡ lifetime (def .0) ⌝ }

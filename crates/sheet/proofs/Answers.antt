@@ -123,7 +123,7 @@ scan-refused bytes e n =
     let z : _≡_ {A = ℕ} 0 1 =
     let q = ap (λ (x : Text). x .verdict) (e ∙ ap answerOf (due-given (endsFrom 0 (lists (sheetOf bytes))) n)) in cc in absurd (omega arith)
 
--- what `write_all` and `copy_all` leave: all words where they fit, else none
+-- what `write_all` leaves: all words where they fit, else none
 module _ (count : ℕ) (words all : List ℕ) where
   pub left-fitting : leb count (length words) ≡ true → {words′ : List ℕ} → words′ ≡ all → words′ ≡ cond (leb count (length words)) all words
   left-fitting t w = rw t w
