@@ -1,4 +1,4 @@
--- Laws: printing, text after text; the sections; how long a listing can be; a method, ten records and a sheet listed in scratch; what a response is; the examples. The main theorems.
+-- Laws: printing, text after text; the sections; how long a listing can be; a method, ten records and a sheet listed in scratch; what a response is; what visits give; the examples. The main theorems.
 pub mod Printing
 pub mod SectionLaws
 pub mod ListingLaws
@@ -7,5 +7,6 @@ pub mod RecordsListing
 pub mod SheetListing
 pub mod RoomLaws
 pub mod ProgramLaws
+pub mod VisitLaws
 pub mod ExampleLaws
 pub mod Theorems

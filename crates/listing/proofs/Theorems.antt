@@ -17,9 +17,10 @@ use Rattle.borrowing_param.specs.Examples as visits
 use Rattle.borrowing_param.proofs.Theorems as visits-proofs
 use Rattle.listing.specs.Listing.{said, response, listingOf, listingChecks, listing}
 use Rattle.listing.specs.Examples.{reachExample, astExample, elisionExample, visitsExample, programExamples}
-use Rattle.listing.specs.Theorems.{ProgramAnswers, ToldApart, ExamplesHold}
+use Rattle.listing.specs.Theorems.{ProgramAnswers, VisitsAsListed, ToldApart, ExamplesHold}
 use Rattle.listing.proofs.SheetListing.{fits-room}
 use Rattle.listing.proofs.ProgramLaws.{whole, judge, fit}
+use Rattle.listing.proofs.VisitLaws.{as-listed}
 use Rattle.listing.proofs.ExampleLaws.{right-more, reach-right, ast-right, elision-right, visits-right, program-right, fromVisits, fromElision, fromAst}
 
 pub program-answers : ProgramAnswers
@@ -35,6 +36,9 @@ program-answers bytes = record {
 pub told-apart : ToldApart
 unfolding listingOf
 told-apart r k e = let z : _≡_ {A = ℕ} 108 114 = ap (λ (l : List ℕ). getD l 0 0) e in omega arith
+
+pub visits-as-listed : VisitsAsListed
+visits-as-listed bytes edges fine lent = as-listed bytes edges fine lent (program-answers bytes) told-apart
 
 pub examples-hold : ExamplesHold
 examples-hold =
