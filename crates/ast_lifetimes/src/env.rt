@@ -50,8 +50,10 @@ struct Counts {
 }
 
 impl LifetimeEnv {
+    // How many names an environment may have.
     pub const MAX_NAMES: usize = 32;
 
+    // How many bounds it may have.
     pub const MAX_BOUNDS: usize = 256;
 
     // How deep a type may be nested, the outermost counting 1.
@@ -131,7 +133,7 @@ impl LifetimeEnv {
     }
 
     // Write the numbers of the names that outlive a name to a slice, itself first, depth first in list order; nothing for an unknown name. Refused by 4 and 8 as the
-    // environment is, by 9 where the slice is too short.
+    // environment is, by 9 where the slice is too short. In the Rust this call and the next are of `LifetimeTransitivity`.
     pub fn longer_than(self, name: usize, out: &mut [usize]) -> Listed
         ensures { λ r. ⌜ r ≡ counted (listThan true self name (length (now (out .entry)))) ⌝ }
         ensures { λ _. ⌜ now (out .exit) ≡ written (listThan true self name (length (now (out .entry)))) (now (out .entry)) ⌝ }

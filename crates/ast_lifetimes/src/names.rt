@@ -63,7 +63,7 @@ pub(crate) fn position(names: &[usize; 32], named: usize, name: usize) -> usize
 }
 
 // Declare one name behind the first `named`. Refused by 4 for a 33rd, by 2 for one that is declared.
-pub(crate) fn declare(names: &mut [usize; 32], named: usize, name: usize) -> Verdict
+fn declare(names: &mut [usize; 32], named: usize, name: usize) -> Verdict
     requires { ⌜ (named ≤ 32) × (length (now names) ≡ 32) ⌝ }
     ensures { λ r. ⌜ Declares (name ∷ []) (now (names .entry)) (now (names .exit)) named r ⌝ }
 {

@@ -25,7 +25,8 @@ use Rattle.records.proofs.VerdictLaws.{refused-accepted}
 use Rattle.sheet.specs.declared.text.Text.{Text}
 use Rattle.sheet.specs.Text.{Records, lists, wordsOf}
 use Rattle.sheet.specs.Reading.{sheetOf, textChecks}
-use Rattle.sheet.specs.Answer.{endsFrom, recordWords}
+use Rattle.lifetimes.specs.Reach.{endsFrom}
+use Rattle.sheet.specs.Answer.{recordWords}
 use Rattle.sheet.specs.Shape as shape
 use Rattle.sheet.specs.Shape.{sheetInShape, sheetAnswer, sheetEnds, callChecks}
 use Rattle.sheet.specs.Inner.{recordsAt, Laid, Roomy}

@@ -29,6 +29,7 @@ unfoldable pub answersFrom : BorrowingParamVisitor → ℕ → List LoweredType 
 answersFrom v param [] = []
 answersFrom v param (t ∷ ts) = numberOf (t .kind) (bringAll v t param) ∷ answersFrom v (suc param) ts
 
+-- what `borrow_map` gives: the answers by parameter, the edges in listing order
 pub record Mapping : Type 0 where
   pub answers : List ℕ
   pub edges : List LifetimeEdge

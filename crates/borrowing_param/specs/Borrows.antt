@@ -18,6 +18,7 @@ use Rattle.borrowing_param.specs.New.{created}
 use Rattle.borrowing_param.specs.BorrowMap.{listedEdges, answersFrom}
 use Rattle.borrowing_param.specs.SheetMethod.{envOfSheet, sheetRefusals}
 
+-- what a whole method or sheet gives
 pub record Borrows : Type 0 where
   pub used : List ℕ
   pub answers : List ℕ

@@ -1,4 +1,4 @@
--- An edge, and its words in a lent slice. How many words an edge has is said here and nowhere else.
+-- An edge, and its words in a lent slice. `width` is how many they are; in the code it is `EDGE_WORDS`.
 use Prim.Native.Nat.{ℕ, zero, suc}
 use mathlib.Core.List.{List, [], _∷_, filter}
 use native.Mathlib.Decide.{ℕ-discrete}

@@ -16,7 +16,8 @@ use Rattle.elision.specs.Lowering.{finished}
 use Rattle.hir_types.specs.Method.{placeChecks, outputLifetimes, anyPast}
 use Rattle.sheet.specs.Text.{Records, lists, wordsOf}
 use Rattle.sheet.specs.Reading.{sheetOf, textChecks}
-use Rattle.sheet.specs.Answer.{endsFrom, withRoom}
+use Rattle.lifetimes.specs.Reach.{endsFrom}
+use Rattle.sheet.specs.Answer.{withRoom}
 use Rattle.sheet.specs.Shape.{sheetInShape}
 use Rattle.borrowing_param.specs.declared.method.SheetMethod.{SheetMethod}
 

@@ -26,7 +26,7 @@ use lowered_types::Parts;
 use lowered_types::path_words;
 
 // The first lifetime of a type that draws, by its index.
-pub(crate) enum First {
+enum First {
     At(usize),
     Absent,
 }

@@ -32,14 +32,14 @@ pub struct BorrowMap {
 }
 
 // How many parameters there are, and how many edges they bring.
-pub(crate) struct Counted {
-    pub params: usize,
-    pub edges: usize,
+struct Counted {
+    params: usize,
+    edges: usize,
 }
 
 impl BorrowingParamVisitor {
     // All parameters of a method: the numbers of their answers to one slice, and their edges to the used lifetimes, in listing order, to the other. The edges that the visitor has stored do not
-    // matter. Refused by 1, 4 and 7 as the records of a method are, then by 9 where a slice is too short.
+    // matter: the Rust's call of this name gives the edges of the visits made so far, this one visits all parameters itself, with the same edges (Theorems.ListingIsVisits). Refused by 1, 4 and 7 as the records of a method are, then by 9 where a slice is too short.
     pub fn borrow_map(
         self,
         structs: &[usize],
@@ -155,7 +155,7 @@ fn store_listed(used: u64, drawn: &[u64; 64], params: &[usize], edges: &mut [usi
     next
 }
 
-// Store the edges of all parameters to one used lifetime behind so many. Answers how many there are then. The pairs are noted for whoever wants them.
+// Store the edges of all parameters to one used lifetime behind so many. Answers how many there are then. `store_for` notes the pairs of structs too; they are not used here.
 fn store_to(
     set: u64,
     params: &[usize],

@@ -173,7 +173,7 @@ fn refused_env(refusal: Refusal) -> Made
 }
 
 // A refusal, beside no records and an environment without lifetimes.
-pub(crate) fn refused_method(refusal: Refusal) -> SheetMethod
+fn refused_method(refusal: Refusal) -> SheetMethod
     ensures { λ r. ⌜ r ≡ methodAnswer (Refuses refusal) ⌝ }
 {
     let made = refused_env(refusal);

@@ -24,7 +24,7 @@ use lowered_types::Located;
 use lowered_types::Parts;
 use lowered_types::type_at;
 
-// One edge: the values of its line in the listing.
+// One edge: the values of its line in the listing. Kind 1 is the Rust's `OpaqueParam`, 2 `SliceParam`, 3 `StructLifetime`; the used lifetime is the key of its map.
 pub struct LifetimeEdge {
     pub used: usize,
     pub param: usize,
@@ -33,14 +33,15 @@ pub struct LifetimeEdge {
     pub option: usize,
 }
 
-// What a visit answers: whether it is refused; 01's number of the answer, 0 to 4; and for each lifetime of a struct's definition the set of the used lifetimes that it has an edge to.
+// What a visit answers: whether it is refused; 01's number of the answer, 0 to 4; and for each lifetime of a struct's definition the set of the used lifetimes that it has an edge to (the
+// map in the Rust's `StructBorrowInfo`).
 pub struct ParamBorrowInfo {
     pub verdict: Verdict,
     pub number: usize,
     pub pairs: [u64; 16],
 }
 
-// The used lifetimes as a set, for each of them the set of the lifetimes that draw an edge to it, and how many edges are stored.
+// The used lifetimes as a set; for each of them the set of the lifetimes that draw an edge to it, which are those that outlive it (the Rust's `all_longer_lifetimes`); and how many edges are stored.
 pub struct BorrowingParamVisitor {
     pub used: u64,
     pub draws: [u64; 64],
@@ -230,7 +231,7 @@ fn visit_parts(
     }
 }
 
-// The answer's number, by the kind of the parameter and by how many edges it brings.
+// The answer's number, by the kind of the parameter and by how many edges it brings: 0 the Rust's `NotBorrowed`, 1 `TemporarySlice`, 2 `BorrowedSlice`, 3 `Struct`, 4 `BorrowedOpaque`.
 pub(crate) fn number_of(kind: Kind, brought: usize) -> usize
     ensures { λ r. ⌜ r ≡ numberBy kind brought ⌝ }
 {

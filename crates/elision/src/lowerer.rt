@@ -30,10 +30,10 @@ pub struct Lowered {
     pub lifetime: MaybeStatic,
 }
 
-// The lowered lifetimes of one type: the first n of the array.
+// The lowered lifetimes of one type: the first n of the array. In the Rust it is in hir/lifetimes.rs.
 pub struct Lifetimes {
     pub n: usize,
-    pub list: [Lowered; End::MAX_LIFETIMES],
+    pub list: [Lowered; End::MAX_LIST],
 }
 
 // What the lifetimes so far have brought: the source of elision, and how many lifetimes there are, declared and new.
@@ -42,7 +42,8 @@ pub struct Seen {
     pub count: usize,
 }
 
-// What a lowerer knows between two steps. `kept` says whether the `Self` type was there already; `own` are its lifetimes then.
+// What a lowerer knows between two steps. `kept` says whether the `Self` type was there already; `own` are its lifetimes then (in the Rust `self_lifetimes`, and what is seen
+// `elision_source` and `num_lifetimes`).
 pub struct Lowerer {
     pub seen: Seen,
     pub kept: bool,
@@ -134,10 +135,10 @@ impl Lowerer {
     ) -> Stepped
         ensures { λ r. ⌜ r ≡ stepped self (oneStep (now (names .entry)) output (steps.Generics generics (now (words .entry))) self) ⌝ }
     {
-        if End::MAX_LIFETIMES < generics {
+        if End::MAX_LIST < generics {
             return refused(self, Refusal::Malformed);
         }
-        if End::MAX_LIFETIMES < words.len() {
+        if End::MAX_LIST < words.len() {
             return refused(self, Refusal::Malformed);
         }
         let seen = self.seen;
@@ -166,7 +167,7 @@ impl Lowerer {
     pub fn is_self(self, names: &[usize], words: &[usize], output: bool) -> Stepped
         ensures { λ r. ⌜ r ≡ stepped self (oneStep (now (names .entry)) output (steps.SelfType (now (words .entry))) self) ⌝ }
     {
-        if End::MAX_LIFETIMES < words.len() {
+        if End::MAX_LIST < words.len() {
             return refused(self, Refusal::Malformed);
         }
         let own = self.own;
@@ -215,7 +216,7 @@ fn no_lifetimes() -> Lifetimes
     let none = Lowered {
         lifetime: MaybeStatic::Static,
     };
-    let list = [none; End::MAX_LIFETIMES];
+    let list = [none; End::MAX_LIST];
     Lifetimes { n: 0, list }
 }
 
@@ -226,7 +227,7 @@ fn one_lifetime(lifetime: MaybeStatic) -> Lifetimes
     let none = Lowered {
         lifetime: MaybeStatic::Static,
     };
-    let mut list = [none; End::MAX_LIFETIMES];
+    let mut list = [none; End::MAX_LIST];
     list[0] = Lowered { lifetime };
     Lifetimes { n: 1, list }
 }
@@ -239,7 +240,7 @@ fn first_of(own: Lifetimes) -> Lifetimes
     let none = Lowered {
         lifetime: MaybeStatic::Static,
     };
-    let mut list = [none; End::MAX_LIFETIMES];
+    let mut list = [none; End::MAX_LIST];
     let mut i = 0;
     while i < n {
         let lowered = own.list[i];
@@ -253,10 +254,10 @@ fn first_of(own: Lifetimes) -> Lifetimes
 fn at_most_16(n: usize) -> usize
     ensures { λ r. ⌜ r ≡ atMost16 n ⌝ }
 {
-    if n < End::MAX_LIFETIMES {
+    if n < End::MAX_LIST {
         return n;
     }
-    End::MAX_LIFETIMES
+    End::MAX_LIST
 }
 
 // How the lifetimes of kinds 0 and 1 stand.
@@ -284,7 +285,7 @@ fn lower_words(
     let none = Lowered {
         lifetime: MaybeStatic::Static,
     };
-    let mut list = [none; End::MAX_LIFETIMES];
+    let mut list = [none; End::MAX_LIST];
     let mut here = seen;
     let mut i = 0;
     while i < total {

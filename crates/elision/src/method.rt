@@ -1,4 +1,7 @@
 // The whole records `self`, `steps` and `returns`: their lowered words to lent slices, and the method's environment.
+//
+// They do not go by the `Lowerer` of single steps, which has some 300 bytes: between two steps only what is seen and the length of the `Self` type's list are kept, and each word is stored as it
+// comes. Both are proved to be the same machine (specs/Machine.antt).
 ghost use mathlib.Core.Path.{_≡_};
 ghost use mathlib.Core.Bool.{true, false};
 ghost use mathlib.Core.List.{List, []};
@@ -243,7 +246,7 @@ fn run(
     if let Verdict::Refused(refusal) = one {
         return refused_totals(refusal);
     }
-    let mut list = [0usize; End::MAX_LIFETIMES];
+    let mut list = [0usize; End::MAX_LIST];
     let fresh = first.seen;
     let second = put_record(
         names,
@@ -384,7 +387,7 @@ fn put_receiver(names: &[usize], receiver: &[usize], out: &mut [usize]) -> Took
     }
 }
 
-// Lower a record `steps` or `returns` as `put_steps` does. One without words is not worth that call.
+// Lower a record `steps` or `returns` as `put_steps` does. A record without words needs no call.
 fn put_record(
     names: &[usize],
     words: &[usize],
@@ -392,7 +395,7 @@ fn put_record(
     before: Seen,
     was: bool,
     had: usize,
-    list: &mut [usize; End::MAX_LIFETIMES],
+    list: &mut [usize; End::MAX_LIST],
     out: &mut [usize],
 ) -> Took
     requires { ⌜ (stepsInShape (now words) ≡ true) × (had ≤ 16) ⌝ }
@@ -421,7 +424,7 @@ fn put_steps(
     before: Seen,
     was: bool,
     had: usize,
-    list: &mut [usize; End::MAX_LIFETIMES],
+    list: &mut [usize; End::MAX_LIST],
     out: &mut [usize],
 ) -> Took
     requires { ⌜ (stepsInShape (now words) ≡ true) × (had ≤ 16) ⌝ }
@@ -465,7 +468,7 @@ fn put_step(
     kept: bool,
     own: usize,
     n: usize,
-    list: &mut [usize; End::MAX_LIFETIMES],
+    list: &mut [usize; End::MAX_LIST],
     out: &mut [usize],
 ) -> Took
     requires { ⌜ (own ≤ 16) × (n ≤ 65536) ⌝ }
@@ -560,7 +563,7 @@ fn put_self(
     own: usize,
     n: usize,
     to: usize,
-    list: &mut [usize; End::MAX_LIFETIMES],
+    list: &mut [usize; End::MAX_LIST],
     out: &mut [usize],
 ) -> Took
     requires { ⌜ (length (now words) ≤ 16) × (own ≤ 16) × (n ≤ 65536) ⌝ }
@@ -603,7 +606,7 @@ fn put_self(
 }
 
 // Store the first words of a list from a place on, as far as the slice takes them.
-fn put_list(list: &[usize; End::MAX_LIFETIMES], count: usize, at: usize, out: &mut [usize])
+fn put_list(list: &[usize; End::MAX_LIST], count: usize, at: usize, out: &mut [usize])
     requires { ⌜ (count ≤ 16) × (at ≤ 65536) ⌝ }
     ensures { λ _. ⌜ (length (now (list .entry)) ≡ 16 → now (out .exit) ≡ sets (now (out .entry)) at (take count (now (list .entry)))) ⌝ }
 {

@@ -68,7 +68,7 @@ fn next_step(lowerer: Lowerer, names: &[usize], words: &[usize], output: bool) -
 }
 
 // Two steps in a row on a lowerer of its own: one of a parameter, then one of the output, which finds the source of elision as the parameter left it. A refused first step
-// leaves none. The answer is the second's.
+// leaves none. The answer is the second's. It shows how one lowerer is lent to two steps.
 pub fn input_then_output(
     lowerer: Lowerer,
     names: &[usize],

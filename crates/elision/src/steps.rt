@@ -97,7 +97,7 @@ pub(crate) fn read_step(words: &[usize], at: usize) -> StepAt
             return StepAt::Missing;
         }
         let generics = words[next];
-        if End::MAX_LIFETIMES < generics {
+        if End::MAX_LIST < generics {
             return StepAt::Missing;
         }
         let count = next + 1;

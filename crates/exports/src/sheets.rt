@@ -51,7 +51,7 @@ fn store_counts(counts: &mut [usize], used: usize, params: usize, edges: usize)
     counts[2] = edges;
 }
 
-// Why a sheet is refused whose numbers of words have no place.
+// Why a sheet is refused where `counts` has fewer than three words.
 fn unborrowed(sheet: &[u8]) -> Refusal
     ensures { λ r. ⌜ ((used answers edges counts : ℕ) → counts < 3 → sheetTo (now (sheet .entry)) used answers edges counts ≡ Refuses r) ⌝ }
 {

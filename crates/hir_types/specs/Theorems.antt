@@ -34,8 +34,8 @@ pub record FoundByForce (env : LifetimeEnv) (structs params force : List ℕ) (k
   pub given : List·Memᴰ type (typesIn structs params)
   pub found : SliceIn (rowsOf structs) k type
 
--- Used lifetimes (01: "the output's non-static lifetimes, ascending. With force, also the own word (no path word) of each slice in params, where `get_bounds` knows it; a field
--- that is a struct is searched through its own fields, and its numbers are taken unlinked"): of every method that is not refused, and for each number. The set is the one that the code
+-- Used lifetimes (01: "the output's non-static lifetimes, ascending. With force, also the own word (no path word) of each slice in params, where `get_bounds` knows it ..; a field
+-- that is a struct is searched through its own fields, and its numbers are taken unlinked .."): of every method that is not refused, and for each number. The set is the one that the code
 -- gives, which searches each row once.
 abbrev pub UsedLifetimesAre : Type 0
 UsedLifetimesAre = (env : LifetimeEnv) (structs params output force : List ℕ) (set : ℕ) → usedSet env structs params output force ≡ Gives set → (k : ℕ)

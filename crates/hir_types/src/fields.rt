@@ -51,7 +51,7 @@ enum Field {
 }
 
 // The pairs of one struct-typed field of a row, under an option or not. Refused by 1 over the record, for a row or field that is not there and for a field of another type; then by 4 and 7
-// as the rows are. Reads the record three times.
+// as the rows are. Reads the record three times. In the Rust it is of `StructBorrowInfo`, in methods/borrowing_param.rs.
 pub fn compute_for_struct_field(structs: &[usize], row: usize, field: usize) -> FieldLifetimes
     ensures { λ r. ⌜ r ≡ fieldAnswer (fieldPairs (now (structs .entry)) row field) ⌝ }
 {

@@ -1,4 +1,4 @@
-// The search under force: the lifetimes of the slices in a method's parameters, through the fields of their structs.
+// The search under force: the lifetimes of the slices in a method's parameters, through the fields of their structs. The Rust's `add_slices_to_used_lifetimes`.
 //
 // A type that is a struct is searched through its row's fields, and these name earlier rows only: type search and field search call each other, the row falling. A row
 // that was searched is not searched again: a sheet can name the same rows some 10^31 times.

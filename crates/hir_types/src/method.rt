@@ -18,10 +18,10 @@ use lowered_types::method_shape;
 
 // A method that was judged. Accepted: how many rows and parameters there are, and the lifetimes of its output. Refused: 0 for each.
 pub(crate) struct Judged {
-    pub verdict: Verdict,
-    pub rows: usize,
-    pub params: usize,
-    pub used: u64,
+    pub(crate) verdict: Verdict,
+    pub(crate) rows: usize,
+    pub(crate) params: usize,
+    pub(crate) used: u64,
 }
 
 // Whether an environment and four records make a method. Refused by 1 over the records; by 4 as the environment is; by 4 and 7 at the first bad place of `structs`, `params`,

@@ -18,7 +18,7 @@ pub(crate) enum Collected {
     Past,
 }
 
-// Put the lifetimes of so many types, from a place on, into a set.
+// The lifetimes of so many types, which stand at the front of some words, as a set; or that one is past the count.
 pub(crate) fn collect_types(words: &[usize], types: usize, count: usize) -> Collected
     requires { ⌜ count ≤ 64 ⌝ }
     ensures { λ r. ⌜ TypesCollect (now (words .entry)) 0 types count 0 r ⌝ }

@@ -14,7 +14,7 @@ pub enum UsedLifetimes {
 }
 
 // The lifetimes that a method uses: those of its output that are not static; with `force` also the own lifetimes of the slices in its parameters that are declared, through
-// options and through the fields of structs. Refused as the method is. Reads each row once.
+// options and through the fields of structs. Refused as the method is. Reads each row once. The Rust's call of this name gives those of the output; its visitor adds the others.
 pub fn used_method_lifetimes(
     env: LifetimeEnv,
     structs: &[usize],

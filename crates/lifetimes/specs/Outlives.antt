@@ -1,4 +1,4 @@
--- What bounds mean. *Outlives* is the Reference's relation ("'a: 'b means that 'a lasts at least as long as 'b"); *forced above* is the mission's:
+-- What bounds mean. *Outlives* is the Reference's relation ("'a: 'b means that 'a lasts at least as long as 'b"); *forced above* (condition 3) says it by numbers:
 -- whatever numbers the lifetimes are given, as long as they respect the bounds. Theorems.OutlivesIsForced: the two are the same.
 use Prim.Native.Nat.{ℕ, _≤_}
 use mathlib.Core.Bool.{Bool, true, false}

@@ -42,6 +42,7 @@ reachSets d e = record {
 unfoldable pub allLists : Bool → LifetimeEnv → List (List ℕ)
 allLists d e = map (traversal LastFirst d (boundsOf e)) (ascending 0 (e .count))
 
+-- where each of some lists ends, laid one after another from a place on
 unfoldable pub endsFrom : ℕ → List (List ℕ) → List ℕ
 endsFrom at [] = []
 endsFrom at (l ∷ ls) = (at + length l) ∷ endsFrom (at + length l) ls

@@ -27,6 +27,7 @@ pub enum Refusal {
 }
 
 impl Refusal {
+    // 01's number of the refusal.
     pub fn number(self) -> usize
         ensures { λ r. ⌜ r ≡ numberOf self ⌝ }
     {
@@ -51,7 +52,7 @@ pub enum Verdict {
     Refused(Refusal),
 }
 
-// What a call answers that writes words to a lent slice: how many it wrote, or why it is refused.
+// How many words or bytes a call wrote to a lent slice, or how many items it counted; or why it is refused.
 pub enum Listed {
     Count(usize),
     Refused(Refusal),

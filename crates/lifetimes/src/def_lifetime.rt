@@ -6,6 +6,7 @@ ghost use Rattle.lifetimes.specs.Numbers.{defLifetime};
 pub struct DefLifetime(usize);
 
 impl DefLifetime {
+    // The lifetime with this number.
     pub fn new(index: usize) -> Self
         ensures { λ r. ⌜ r ≡ defLifetime index ⌝ }
     {

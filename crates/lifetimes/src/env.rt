@@ -28,7 +28,7 @@ impl Bound {
     }
 
     // Whether both sides are numbered below a limit.
-    pub(crate) fn both_below(self, limit: usize) -> bool
+    fn both_below(self, limit: usize) -> bool
         ensures { λ r. ⌜ r ≡ bothBelow limit self ⌝ }
     {
         numbers_below(self.longer as usize, self.shorter as usize, limit)
@@ -71,8 +71,10 @@ pub struct Made {
 }
 
 impl LifetimeEnv {
+    // How many lifetimes an environment may have, declared and elided.
     pub const MAX_LIFETIMES: usize = 64;
 
+    // How many bounds it may have.
     pub const MAX_BOUNDS: usize = 256;
 
     // An environment made by hand, from a list of pairs longer, shorter. Refused by 1 (half a pair), 4 (65th lifetime, 257th bound), 8 (more declared

@@ -7,6 +7,7 @@ ghost use Rattle.lifetimes.specs.Numbers.{lifetime};
 pub struct Lifetime(usize);
 
 impl Lifetime {
+    // The lifetime with this number.
     pub fn new(index: usize) -> Self
         ensures { λ r. ⌜ r ≡ lifetime index ⌝ }
     {

@@ -18,6 +18,7 @@ pub enum MaybeStatic {
 }
 
 impl MaybeStatic {
+    // What a lowered word stands for: 0 'static, k the lifetime numbered k - 1.
     pub fn from_word(word: usize) -> Self
         ensures { λ r. ⌜ r ≡ fromWord word ⌝ }
     {
@@ -27,6 +28,7 @@ impl MaybeStatic {
         MaybeStatic::NonStatic(Lifetime::new(word - 1))
     }
 
+    // Its lowered word, where there is one.
     pub fn word(self) -> LoweredWord
         ensures { λ r. ⌜ r ≡ wordAnswer self ⌝ }
     {
@@ -44,6 +46,7 @@ pub enum MaybeStaticDef {
 }
 
 impl MaybeStaticDef {
+    // What a lowered word stands for: 0 'static, k the lifetime numbered k - 1.
     pub fn from_word(word: usize) -> Self
         ensures { λ r. ⌜ r ≡ defFromWord word ⌝ }
     {
@@ -53,6 +56,7 @@ impl MaybeStaticDef {
         MaybeStaticDef::NonStatic(DefLifetime::new(word - 1))
     }
 
+    // Its lowered word, where there is one.
     pub fn word(self) -> LoweredWord
         ensures { λ r. ⌜ r ≡ defWordAnswer self ⌝ }
     {

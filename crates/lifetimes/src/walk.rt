@@ -25,7 +25,7 @@ pub(crate) struct Walked {
     pub(crate) seen: u64,
 }
 
-// The next unseen lifetime: pending entries that were seen are passed over.
+// The next unseen lifetime: pending entries that were seen are passed over. The `next` of the Rust's `LifetimeTransitivityIterator`.
 fn advance(
     far: &[u8; 256],
     before: &[u16; 256],

@@ -54,7 +54,7 @@ pub(crate) fn put_text(out: &mut [u8], at: usize, text: &[u8]) -> usize
 }
 
 // The last `count` digits of a number, leading zeros kept; from the last one to the first.
-pub(crate) fn put_places(out: &mut [u8], at: usize, number: usize, count: usize) -> usize
+fn put_places(out: &mut [u8], at: usize, number: usize, count: usize) -> usize
     requires { ⌜ at + count < 2 ^ 64 ⌝ }
     ensures { λ r. ⌜ Prints (places count number) at (now (out .entry)) r (now (out .exit)) ⌝ }
 {

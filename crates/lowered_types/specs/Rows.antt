@@ -58,6 +58,7 @@ forceInShape [] = false
 forceInShape (word ∷ []) = leb word 1
 forceInShape (word ∷ other ∷ words) = false
 
+-- whether force is 1
 abbrev pub forced : List ℕ → Bool
 forced [] = false
 forced (word ∷ words) = eqb word 1

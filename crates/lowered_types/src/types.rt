@@ -21,7 +21,7 @@ pub enum Kind {
 
 impl Kind {
     // Whether the row of a struct is among so many rows; what is no struct names none.
-    pub fn known(self, rows: usize) -> bool
+    pub(crate) fn known(self, rows: usize) -> bool
         ensures { λ r. ⌜ r ≡ knows rows self ⌝ }
     {
         match self {

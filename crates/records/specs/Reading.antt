@@ -15,14 +15,17 @@ pub data Reading (A : Type 0) : Type 0 where
   Read : A → List ℕ → Reading A
   Fails : Reading A
 
+-- reading goes on behind what was read
 abbrev pub onward : {A B : Type 0} → Reading A → (A → List ℕ → Reading B) → Reading B
 onward (Read a rest) next = next a rest
 onward Fails next = Fails
 
+-- whether something was read
 abbrev pub isRead : {A : Type 0} → Reading A → Bool
 isRead (Read a rest) = true
 isRead Fails = false
 
+-- what was read, or another value
 abbrev pub readOr : {A : Type 0} → A → Reading A → A
 readOr other (Read a rest) = a
 readOr other Fails = other

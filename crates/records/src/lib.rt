@@ -1,7 +1,7 @@
 // Records of words, read in place: what the records of a method have in common.
 //
 // A record is a lent slice of words. What is read from it are items, one after another to its end; most of them hold lifetimes, as many as a word in front says. The
-// scope paper ("01") decides what is right. Where an item does not end well no refusal is named here: the call answers that there is none.
+// scope paper ("01") decides what is right. Where the words do not make an item the answer is `Missing`; which refusal that is, the caller says.
 ghost use Prim.Native.Nat.{min};
 ghost use mathlib.Core.Path.{_≡_};
 ghost use lib.ListN.{length, drop};
@@ -22,7 +22,7 @@ impl End {
     pub const MAX_WORDS: usize = 1024;
 
     // How many lifetimes may stand in one list.
-    pub const MAX_LIFETIMES: usize = 16;
+    pub const MAX_LIST: usize = 16;
 }
 
 // Where a list of lifetimes ends: how many they are, at most 16, then they.
@@ -34,7 +34,7 @@ pub fn lifetimes_end(words: &[usize], at: usize) -> End
         return End::Missing;
     }
     let count = words[at];
-    if End::MAX_LIFETIMES < count {
+    if End::MAX_LIST < count {
         return End::Missing;
     }
     let from = at + 1;

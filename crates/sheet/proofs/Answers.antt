@@ -23,7 +23,8 @@ use Rattle.sheet.specs.declared.lines.Judged.{Judged}
 use Rattle.sheet.specs.declared.lines.Judged.the-variants as judged
 use Rattle.sheet.specs.Text.{heading, line, Records, lists, wordsOf, text, mostWord, mostBytes}
 use Rattle.sheet.specs.Reading.{behind, LineStart, recordsOf, ten, linesBehind, sheetIn, sheetOf, isNone, allShort, textChecks}
-use Rattle.sheet.specs.Answer.{endsFrom, answerOf, measured, withRoom, readWords, readEnds, readAnswer}
+use Rattle.lifetimes.specs.Reach.{endsFrom}
+use Rattle.sheet.specs.Answer.{answerOf, measured, withRoom, readWords, readEnds, readAnswer}
 use Rattle.sheet.specs.Shape.{sheetInShape, sheetChecks, sheetWords, sheetEnds, sheetAnswer}
 use Rattle.sheet.specs.Inner.{readFrom, TenAt, LinesRead, Counted}
 use Rattle.sheet.specs.Theorems.{CallGives}

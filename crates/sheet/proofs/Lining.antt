@@ -19,7 +19,7 @@ use Rattle.sheet.specs.declared.lines.Judged.{Judged}
 use Rattle.sheet.specs.declared.lines.Judged.the-variants.{Good, TooLong}
 use Rattle.sheet.specs.Text.{line, mostWord, mostWords}
 use Rattle.sheet.specs.Reading.{LineStart, lineBefore, readLines, ten, allShort}
-use Rattle.sheet.specs.Answer.{endsFrom}
+use Rattle.lifetimes.specs.Reach.{endsFrom}
 use Rattle.sheet.specs.Inner.{readFrom, NoLine, LineAt, LineRead, TenAt, judgedBy, LinesRead}
 use Rattle.sheet.proofs.SpellingLaws.{read-spelt}
 

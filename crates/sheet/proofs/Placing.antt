@@ -31,7 +31,8 @@ use Rattle.lowered_types.specs.Rows.{methodInShape, methodShape, noShape, rowsO
 use Rattle.sheet.specs.Text.{Records, lists, wordsOf}
 use Rattle.sheet.specs.declared.text.Text.{Text}
 use Rattle.sheet.specs.Reading.{sheetOf, textChecks, allShort, readText}
-use Rattle.sheet.specs.Answer.{answerOf, endsFrom, startOf, recordWords, measured}
+use Rattle.lifetimes.specs.Reach.{endsFrom}
+use Rattle.sheet.specs.Answer.{answerOf, startOf, recordWords, measured}
 use Rattle.sheet.specs.Shape.{sheetInShape, sheetAnswer, sheetWords}
 use Rattle.sheet.specs.Inner.{recordAt, recordsAt, Laid, Counted, Roomy, isAccepted}
 use Rattle.sheet.proofs.SheetLaws.{few-all, total-words}

@@ -1,5 +1,5 @@
 -- What `read_text` answers: the words of the ten records one after another in the lent slice, and where each record ends.
-use Prim.Native.Nat.{ℕ, _+_}
+use Prim.Native.Nat.{ℕ}
 use mathlib.Core.Bool.{cond, _&&_}
 use mathlib.Core.List.{List, [], _∷_, _++_}
 use lib.Dec.{leb, ltb}
@@ -7,14 +7,10 @@ use lib.ListN.{length, getD, replicate}
 use lib.Seq.{slice}
 use Rattle.lifetimes.specs.Refusals.{Check, Outcome, unless}
 use Rattle.lifetimes.specs.Lent.{verdictOf, resultOr, roomCheck}
+use Rattle.lifetimes.specs.Reach.{endsFrom}
 use Rattle.sheet.specs.declared.text.Text.{Text}
 use Rattle.sheet.specs.Text.{Records, lists, wordsOf}
 use Rattle.sheet.specs.Reading.{sheetOf, textChecks}
-
--- where each of some lists ends, laid one after another from a place on
-unfoldable pub endsFrom : ℕ → List (List ℕ) → List ℕ
-endsFrom at [] = []
-endsFrom at (l ∷ ls) = (at + length l) ∷ endsFrom (at + length l) ls
 
 -- the words of the record with a number: from where the one before ends to where it ends. None where there is no such record, or where these are no ends of records in the slice
 abbrev pub startOf : List ℕ → ℕ → ℕ

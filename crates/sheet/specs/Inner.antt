@@ -18,7 +18,7 @@ use Rattle.sheet.specs.declared.lines.Judged.{Judged}
 use Rattle.sheet.specs.declared.lines.Judged.the-variants as judged
 use Rattle.sheet.specs.Text.{Records, lists, wordsOf, mostWord}
 use Rattle.sheet.specs.Reading.{Place, LineStart, WordStart, Behind, continues, lineBefore, readLines, ten, allShort, sheetOf, textChecks}
-use Rattle.sheet.specs.Answer.{endsFrom}
+use Rattle.lifetimes.specs.Reach.{endsFrom}
 
 -- reading the bytes from an index on
 abbrev pub readFrom : Place → List ℕ → ℕ → Option (List (List ℕ))

@@ -11,7 +11,8 @@ use Rattle.lowered_types.specs.Rows.{methodInShape}
 use Rattle.sheet.specs.declared.text.Text.{Text}
 use Rattle.sheet.specs.Text.{Records, lists, wordsOf}
 use Rattle.sheet.specs.Reading.{sheetOf, textChecks}
-use Rattle.sheet.specs.Answer.{endsFrom, answerOf, withRoom}
+use Rattle.lifetimes.specs.Reach.{endsFrom}
+use Rattle.sheet.specs.Answer.{answerOf, withRoom}
 
 -- Whether all ten are in shape; the last four are those of a method (`structs`; `params` and `output` beside so many rows; `force`)
 unfoldable pub sheetInShape : Records → Bool

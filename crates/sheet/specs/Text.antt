@@ -4,13 +4,14 @@ use mathlib.Core.Bool.{cond}
 use mathlib.Core.List.{List, [], _∷_, _++_, flatMap, flatten, List·Memᴰ}
 use lib.Dec.{ltb}
 
+-- LF and the blank, as bytes
 abbrev pub newline : ℕ
 newline = 10
 
 abbrev pub space : ℕ
 space = 32
 
--- "decimal, no leading zeros": the digits of a number, each 48 and its value, with enough fuel. DigitsOfNumbers in specs/Theorems.antt has the equations without the fuel.
+-- "decimal .., no leading zeros": the digits of a number, each 48 and its value, with enough fuel. DigitsOfNumbers in specs/Theorems.antt has the equations without the fuel.
 unfoldable pub digitsFor : ℕ → ℕ → List ℕ
 digitsFor zero n = []
 digitsFor (suc fuel) n = let more = digitsFor fuel (n / 10) ++ ((48 + n % 10) ∷ []) in cond (ltb n 10) ((48 + n) ∷ []) more
@@ -56,6 +57,7 @@ lists r = r .names ∷ r .bounds ∷ r .types ∷ r .self ∷ r .steps ∷ r .re
 abbrev pub wordsOf : Records → List ℕ
 wordsOf r = flatten (lists r)
 
+-- the text of a sheet: the heading, then a line for each record
 unfoldable pub text : Records → List ℕ
 text r = heading ++ flatMap line (lists r)
 

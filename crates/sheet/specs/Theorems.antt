@@ -11,7 +11,8 @@ use Rattle.lifetimes.specs.declared.answer.Refusal.the-variants.{Malformed, NoR
 use Rattle.lifetimes.specs.Refusals.{Outcome, Gives, Refuses}
 use Rattle.sheet.specs.Text.{digits, Records, lists, wordsOf, text, mostWord, mostBytes, mostWords, WordsUpTo}
 use Rattle.sheet.specs.Reading.{readText}
-use Rattle.sheet.specs.Answer.{endsFrom, readWords, readEnds}
+use Rattle.lifetimes.specs.Reach.{endsFrom}
+use Rattle.sheet.specs.Answer.{readWords, readEnds}
 use Rattle.sheet.specs.Shape.{sheetInShape, readSheet, sheetWords, sheetEnds}
 use Rattle.sheet.specs.Examples.{examples, sheetExamples, Right}
 
@@ -45,7 +46,7 @@ pub record ReadsBack (bytes : List ℕ) : Type 0 where
 abbrev pub ReadingIsInverse : Type 0
 ReadingIsInverse = (bytes : List ℕ) → ReadsBack bytes
 
--- Reading with the shapes (T-1): gives a sheet exactly if the bytes are that sheet and its records are in shape; refuses with 10 exactly if the bytes are no sheet; with 1 exactly if
+-- Reading with the shapes: gives a sheet exactly if the bytes are that sheet and its records are in shape; refuses with 10 exactly if the bytes are no sheet; with 1 exactly if
 -- they are a sheet whose records are not all in shape (a record above 1,024 words is not); and with nothing else.
 pub record ReadsInShape (bytes : List ℕ) : Type 0 where
   pub given : (r : Records) → (readSheet bytes ≡ Gives r) ↔ (IsSheet bytes r × (sheetInShape r ≡ true))

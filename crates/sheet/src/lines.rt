@@ -9,12 +9,12 @@ ghost use lib.ListN.{length, set};
 ghost use Rattle.sheet.specs.declared.lines.Judged.the-variants.{TooLong};
 ghost use Rattle.sheet.specs.Text.{mostWords};
 ghost use Rattle.sheet.specs.Inner.{LineRead, LinesRead};
-use super::text::Text;
 use super::word::Found;
 use super::word::word;
+use records::End;
 
 // The place behind a line, and how many words are read so far; or none.
-pub(crate) enum Read {
+enum Read {
     Words { at: usize, count: usize },
     Nothing,
 }
@@ -75,7 +75,7 @@ pub(crate) enum Judged {
 fn also(before: Judged, count: usize) -> Judged
     ensures { λ r. ⌜ r ≡ cond (leb count mostWords) before TooLong ⌝ }
 {
-    if Text::MAX_WORDS < count {
+    if End::MAX_WORDS < count {
         return Judged::TooLong;
     }
     before

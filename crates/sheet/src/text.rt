@@ -23,11 +23,10 @@ pub struct Text {
 }
 
 impl Text {
-    // The bytes of a sheet, the words of a record, the bytes of the heading line.
+    // How many bytes a sheet may have.
     pub const MAX_BYTES: usize = 65536;
 
-    pub const MAX_WORDS: usize = 1024;
-
+    // How many bytes the heading line has.
     pub const HEADING: usize = 66;
 }
 
@@ -50,6 +49,7 @@ pub fn read_text(sheet: &[u8], words: &mut [usize]) -> Text
     judged
 }
 
+// A refusal; all ends are 0.
 pub(crate) fn refused(refusal: Refusal) -> Text
     ensures { λ r. ⌜ r ≡ answerOf (Refuses refusal) ⌝ }
 {
@@ -111,7 +111,7 @@ fn write(sheet: &[u8], words: &mut [usize])
     lines(sheet, Text::HEADING, words, &mut ends);
 }
 
-// Whether the first line is the heading. All its bytes are compared, many at a time by the compiler, where it could end at the first that differs.
+// Whether the first line is the heading. All its bytes are compared: without an early end the compiler compares many at a time.
 fn headed(bytes: &[u8]) -> bool
     ensures { λ r. ⌜ behind heading (now (bytes .entry)) ≡ cond r (some (drop 66 (now (bytes .entry)))) none ⌝ }
 {
