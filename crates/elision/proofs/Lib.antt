@@ -7,6 +7,8 @@ pub mod ShapeLaws
 pub mod RfcLaws
 pub mod ReadingLaws
 pub mod Lending
+-- The single steps refuse by the first refusal that is due.
+pub mod StepRefusing
 -- The steps by value: lists of lifetimes, the words of a step, the answers.
 pub mod Filling
 pub mod Running

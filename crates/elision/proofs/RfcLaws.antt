@@ -119,6 +119,15 @@ elided-source [] s = refl
 elided-source (p ∷ []) s = refl
 elided-source (p ∷ q ∷ ps) s = refl
 
+pub unmade : (st : Standing) → (makes st && false) ≡ false
+unmade Input = refl
+unmade Aside = refl
+unmade Output = refl
+
+pub cond-not : {A : Type 0} (t : Bool) (a b : A) → cond t a b ≡ cond (not t) b a
+cond-not true a b = refl
+cond-not false a b = refl
+
 module _ (names : List ℕ) where
   pub count-more : (before : List Occurrence) (o : Occurrence) → countOf names (before ++ (o ∷ [])) ≡ countOf names before + cond (isNew o) 1 0
   count-more before o = omega (arith, anonymous-last before o)
@@ -147,11 +156,6 @@ module _ (names : List ℕ) where
       go (Gives l) = refl
       go (Refuses r) = refl
 
-  unmade : (st : Standing) → (makes st && false) ≡ false
-  unmade Input = refl
-  unmade Aside = refl
-  unmade Output = refl
-
   abbrev AsSaid : Receiver → Standing → List Occurrence → ℕ → Type 0
   AsSaid self st before word =
       lowerWord names st word (seenOf names self before)
@@ -175,12 +179,7 @@ module _ (names : List ℕ) where
   unfolding lowerWord unless
   name-said self st before k =
       rw (seen-more self before st (suc (suc k)), ne-eqb (suc (suc k)) 1 (omega arith), ne-eqb (suc (suc k)) 0 (omega arith), le-leb 2 (suc (suc k)) (omega arith), unmade st, add-zero, not-elided self before st)
-      (go (isDeclared names (suc (suc k))) (NonStatic (lifetime (place names (suc (suc k))))))
-    where
-      go : (t : Bool) (l : MaybeStatic) → cond t (lowers st l (sourceFrom names self before) (countOf names before)) (Refuses Undeclared)
-          ≡ cond (not t) (Refuses Undeclared) (Gives (answer (l ∷ []) (visited st l (sourceFrom names self before) (countOf names before))))
-      go true l = refl
-      go false l = refl
+      (cond-not (isDeclared names (suc (suc k))) (lowers st (NonStatic (lifetime (place names (suc (suc k))))) (sourceFrom names self before) (countOf names before)) (Refuses Undeclared))
 
   pub word-said : (self : Receiver) (st : Standing) (before : List Occurrence) (word : ℕ) → AsSaid self st before word
   word-said self st before zero = static-said self st before

@@ -8,11 +8,13 @@ use Rattle.records.specs.Reading as reading
 use Rattle.ast_lifetimes.specs.Env as env
 use Rattle.elision.specs.Steps as steps
 use Rattle.elision.specs.Rfc as rfc
+use Rattle.elision.specs.Machine as machine
 use Rattle.elision.specs.Lowering as lowering
-use Rattle.elision.specs.Theorems.{ElisionIsRfc141, Rfc141Says, StepsOneByOne, LentSteps, ExamplesHold}
+use Rattle.elision.specs.Theorems.{ElisionIsRfc141, Rfc141Says, StepsOneByOne, LentSteps, StepRefusedIfFirstDue, ExamplesHold}
 use Rattle.elision.proofs.RfcLaws.{method-said}
 use Rattle.elision.proofs.ReadingLaws as laws
 use Rattle.elision.proofs.Lending.{steps-whole, steps-together}
+use Rattle.elision.proofs.StepRefusing.{step-refused, worded-refused, self-refused}
 
 pub elision-is-rfc141 : ElisionIsRfc141
 elision-is-rfc141 = method-said
@@ -44,6 +46,14 @@ lent-steps names out words s = record {
   kept = λ r e. rw e;
 }
 
+pub step-refused-if-first-due : StepRefusedIfFirstDue
+step-refused-if-first-due names out s = record {
+  step = step-refused names out s;
+  worded = worded-refused names out s;
+  self = self-refused names;
+}
+
 pub examples-hold : ExamplesHold
 unfolding lowering.lowerRecords env.envOf env.place hir.allBelow refusals.unless rfc.throughout rfc.anonymous rfc.hasSelfType rfc.ownFrom steps.readStep reading.readAll reading.inShape reading.itemsOf
-examples-hold = (refl, (refl, (refl, (refl, (refl, tt)))))
+    machine.inTurn machine.lowerWord machine.lowerStep machine.oneStep machine.wordedStep machine.unused
+examples-hold = (refl, (refl, (refl, (refl, (refl, (refl, (refl, (refl, tt))))))))

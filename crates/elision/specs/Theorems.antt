@@ -12,11 +12,12 @@ use Rattle.lifetimes.specs.Numbers.{lifetime}
 use Rattle.lifetimes.specs.Refusals.{Gives, Refuses, FirstDue, NoneDue}
 use Rattle.ast_lifetimes.specs.Env.{place}
 use Rattle.elision.specs.declared.lowerer.Standing.{Standing}
-use Rattle.elision.specs.declared.lowerer.Standing.the-variants.{Output}
+use Rattle.elision.specs.declared.lowerer.Standing.the-variants.{Aside, Output}
 use Rattle.elision.specs.declared.lowerer.Lowerer.{Lowerer}
 use Rattle.elision.specs.Steps.{Step, Receiver, wordsOf, allWords, stepsInShape, stepsOf}
 use Rattle.elision.specs.Rfc.{Occurrence, occurs, makes, isNew, anonymous, countOf, sourceAt, valueAt, checksAt, Item, isSelfType, hasSelfType, occurrencesAt, occurrences, ownFrom, loweredAt, inputs, outputs, Method, methodChecks, methodOf, rfc141}
-use Rattle.elision.specs.Machine.{inTurn, oneStep, stepped, wordedStep, runSteps, runMethod}
+use Rattle.elision.specs.Machine.{inTurn, oneStep, unused, selfRef, stepped, wordedStep, runSteps, runMethod}
+use Rattle.elision.specs.StepChecks.{wordChecks, stepChecks, wordedChecks}
 use Rattle.elision.specs.Examples.{examples, Right}
 
 -- The lowerer's steps, one after another from the new lowerer over self, steps and returns, give exactly what RFC 141 says: every lifetime, how many there are, and every refusal.
@@ -60,6 +61,18 @@ pub record Lends (names : List ℕ) (out : Bool) (words : List ℕ) (s : Lowerer
 abbrev pub LentSteps : Type 0
 LentSteps = (names : List ℕ) (out : Bool) (words : List ℕ) (s : Lowerer) → Lends names out words s
 
--- The starred examples
+-- The calls of single steps, on any lowerer, refuse exactly by the first refusal that is due.
+pub record StepRefuses (names : List ℕ) (out : Bool) (s : Lowerer) : Type 0 where
+  -- a step by its parts: `lower_lifetime`, `lower_generics`, `is_self`
+  pub step : (step : Step) (r : Refusal) → (oneStep names out step s ≡ Refuses r) ↔ FirstDue r (stepChecks names out step s)
+  -- a step by its words: `lower_step`, `step`
+  pub worded : (words : List ℕ) (r : Refusal) → (wordedStep names out words s ≡ Refuses r) ↔ FirstDue r (wordedChecks names out words s)
+  -- the first step, `lower_self_ref`: its word is no input position
+  pub self : (word : ℕ) (r : Refusal) → (selfRef names word ≡ Refuses r) ↔ FirstDue r (wordChecks names Aside (unused names .seen) [] word)
+
+abbrev pub StepRefusedIfFirstDue : Type 0
+StepRefusedIfFirstDue = (names : List ℕ) (out : Bool) (s : Lowerer) → StepRefuses names out s
+
+-- The starred examples, and those beside them
 abbrev pub ExamplesHold : Type 0
 ExamplesHold = Right examples

@@ -82,7 +82,7 @@ programExamples =
     ∷ asked (Program []) (Printed (refusalHeading ++ (49 ∷ 48 ∷ newline ∷ [])))
     ∷ []
 
--- of the worked methods the first two are starred
+-- of the worked methods the first two are starred; elision's last three are not, and are here too
 abbrev pub examples : List Example
 examples =
     map reachExample reach.examples
