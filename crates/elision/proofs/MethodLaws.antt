@@ -16,7 +16,7 @@ use Rattle.elision.specs.declared.lowerer.Standing.the-variants.{Aside}
 use Rattle.elision.specs.declared.lowerer.Seen.{Seen}
 use Rattle.elision.specs.declared.lowerer.Worded.{Worded}
 use Rattle.elision.specs.declared.lowerer.Lowerer.{Lowerer}
-use Rattle.elision.specs.declared.method.Took.{Took}
+use Rattle.elision.specs.declared.put.Took.{Took}
 use Rattle.elision.specs.declared.method.Totals.{Totals}
 use Rattle.elision.specs.Steps.{Step, Receiver, receiverOf}
 use Rattle.elision.specs.Rfc.{Method}

@@ -20,7 +20,7 @@ use Rattle.records.proofs.VerdictLaws.{refused-accepted}
 use Rattle.records.proofs.ReadingLaws.{passed}
 use Rattle.elision.specs.declared.lowerer.Lowerer.{Lowerer}
 use Rattle.elision.specs.declared.lowerer.Seen.{Seen}
-use Rattle.elision.specs.declared.method.Took.{Took}
+use Rattle.elision.specs.declared.put.Took.{Took}
 use Rattle.elision.specs.Steps.{Step, readStep, stepsInShape, stepsOf}
 use Rattle.elision.specs.Machine.{Answer, answer, inTurn, fits, lowerStep, oneStep, runSteps}
 use Rattle.elision.specs.Inner.{shown, Shows, Given, Lowers, PutsStep}

@@ -25,8 +25,8 @@ use Rattle.elision.specs.declared.lowerer.Standing.{Standing}
 use Rattle.elision.specs.declared.lowerer.Standing.the-variants.{Aside}
 use Rattle.elision.specs.declared.lowerer.Seen.{Seen}
 use Rattle.elision.specs.declared.lowerer.Lowerer.{Lowerer}
-use Rattle.elision.specs.declared.method.Put.{Put}
-use Rattle.elision.specs.declared.method.Took.{Took}
+use Rattle.elision.specs.declared.put.Put.{Put}
+use Rattle.elision.specs.declared.put.Took.{Took}
 use Rattle.elision.specs.Steps.{Step, Lifetime, Generics, SelfType, readStep}
 use Rattle.elision.specs.Rfc.{padded, standingIn}
 use Rattle.elision.specs.Machine.{Answer, answer, valuesIn, laid, lowerWords, wordsStep, selfStep, lowerStep, fits}

@@ -26,8 +26,8 @@ use Rattle.elision.specs.declared.lowerer.Run.{Run}
 use Rattle.elision.specs.Steps.{Step, Lifetime, Generics, SelfType, readStep}
 use Rattle.elision.specs.declared.lowerer.Lowerer.{Lowerer}
 use Rattle.elision.specs.declared.lowerer.Stepped.{Stepped}
-use Rattle.elision.specs.declared.method.Put.{Put}
-use Rattle.elision.specs.declared.method.Took.{Took}
+use Rattle.elision.specs.declared.put.Put.{Put}
+use Rattle.elision.specs.declared.put.Took.{Took}
 use Rattle.elision.specs.declared.method.Totals.{Totals}
 use Rattle.elision.specs.Rfc.{Method}
 use Rattle.elision.specs.Machine.{Answer, firstOr, valuesIn, laid, lowerStep, oneStep, stepped}

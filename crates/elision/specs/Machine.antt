@@ -54,6 +54,7 @@ visited Input l source count = record { source = visit source l; count = count }
 visited Aside l source count = record { source = source; count = count }
 visited Output l source count = record { source = source; count = count }
 
+-- one lifetime given, and what is seen then
 abbrev pub lowers : Standing → MaybeStatic → ElisionSource → ℕ → Outcome (Answer Seen)
 lowers st l source count = Gives (answer (l ∷ []) (visited st l source count))
 
@@ -73,6 +74,7 @@ lowerAnonymous Input s = newLifetime Input s
 lowerAnonymous Aside s = newLifetime Aside s
 lowerAnonymous Output s = fromSource (s .source) s
 
+-- a declared word: 1 anonymous, 0 'static, else a name; 3 for one that is not declared
 unfoldable pub lowerWord : List ℕ → Standing → ℕ → Seen → Outcome (Answer Seen)
 lowerWord names st word s =
     cond (eqb word 1) (lowerAnonymous st s)
@@ -87,9 +89,11 @@ lowerWords names st words s = inTurn (lowerWord names st) words s
 abbrev pub lowered : MaybeStatic → Lowered
 lowered l = record { lifetime = l }
 
+-- the lifetimes in the first n places
 abbrev pub valuesIn : Lifetimes → List MaybeStatic
 valuesIn ls = map (λ (x : Lowered). x .lifetime) (take (ls .n) (ls .list))
 
+-- a list in 16 places, the rest 'static
 unfoldable pub laid : List MaybeStatic → Lifetimes
 laid ls = record { n = length ls; list = map lowered ls ++ replicate (16 - length ls) (lowered Static) }
 
@@ -123,9 +127,11 @@ oneStep names out step s = cond (fits step) (lowerStep names out step s) (Refuse
 
 -- The first step: `no_self_ref` and `lower_self_ref`
 
+-- the lowerer before its first step
 unfoldable pub unused : List ℕ → Lowerer
 unused names = record { seen = record { source = NoBorrows; count = length names }; kept = false; own = laid [] }
 
+-- the first of a list; 'static where there is none
 abbrev pub firstOr : List MaybeStatic → MaybeStatic
 firstOr [] = Static
 firstOr (l ∷ ls) = l

@@ -61,7 +61,7 @@ madeAt names before word = lifetimeOf names (NonStatic (lifetime (countOf names 
 
 -- The source of elision
 
--- the lifetimes of the input positions
+-- a lifetime, if it stands in an input position
 abbrev pub ifInput : Standing → MaybeStatic → List MaybeStatic
 ifInput Input l = l ∷ []
 ifInput Aside l = []
@@ -70,6 +70,7 @@ ifInput Output l = []
 abbrev pub positionAt : List ℕ → List Occurrence → Occurrence → List MaybeStatic
 positionAt names before o = ifInput (o .standing) (madeAt names before (o .word))
 
+-- the lifetimes of all input positions, in order
 abbrev pub positions : List ℕ → List Occurrence → List MaybeStatic
 positions names l = throughout (positionAt names) [] l
 
@@ -91,11 +92,13 @@ abbrev pub sourceOr : Outcome MaybeStatic → MaybeStatic
 sourceOr (Gives l) = l
 sourceOr (Refuses r) = Static
 
+-- the lifetime of an anonymous word that stands so
 abbrev pub elidedAt : List ℕ → Receiver → List Occurrence → Standing → MaybeStatic
 elidedAt names self before Input = NonStatic (lifetime (countOf names before))
 elidedAt names self before Aside = NonStatic (lifetime (countOf names before))
 elidedAt names self before Output = sourceOr (sourceAt names self before)
 
+-- the lifetime of an occurrence, in view of those before it
 abbrev pub valueAt : List ℕ → Receiver → List Occurrence → Occurrence → MaybeStatic
 valueAt names self before o = lifetimeOf names (elidedAt names self before (o .standing)) (o .word)
 
@@ -208,7 +211,7 @@ loweredReturns names self steps returns = throughout (loweredAt names self) (inp
 abbrev pub countAll : List ℕ → Receiver → List Step → List Step → ℕ
 countAll names self steps returns = countOf names (occurrences self (inputs steps ++ outputs returns))
 
--- by place: self, steps, returns; "within a step" the words in order, then the appended ones
+-- by place: self, steps, returns; within a step the words in order, then the appended ones
 abbrev pub methodChecks : List ℕ → Receiver → List Step → List Step → List Check
 methodChecks names self steps returns =
     checks names self [] (selfOccurrences self)
@@ -230,5 +233,6 @@ methodOf names self steps returns = record {
   count = countAll names self steps returns;
 }
 
+-- what RFC 141 gives for a method, or the first refusal due
 unfoldable pub rfc141 : List ℕ → Receiver → List Step → List Step → Outcome Method
 rfc141 names self steps returns = unless (methodChecks names self steps returns) (methodOf names self steps returns)

@@ -2,12 +2,16 @@
 //
 // "each later step finds the lowerer as the step before left it" (01): a caller keeps one lowerer and lends it to one step after another.
 ghost use mathlib.Core.Path.{_≡_};
+ghost use lib.ListN.{drop};
+ghost use Rattle.elision.specs.Steps.{readStep};
+ghost use Rattle.elision.specs.Inner.{takes};
 ghost use Rattle.elision.specs.Machine.{stepped, wordedStep, stepAnswer, inputThenOutput};
 use super::lowerer::Lifetimes;
 use super::lowerer::Lowerer;
 use super::lowerer::Stepped;
 use super::lowerer::refused;
-use super::method::lower_step_at;
+use super::steps::StepAt;
+use super::steps::read_step;
 use super::steps::step_end;
 use lifetimes::Refusal;
 use lifetimes::Verdict;
@@ -80,4 +84,28 @@ pub fn input_then_output(
     let mut own = lowerer;
     own.step(names, input, false);
     own.step(names, output, true)
+}
+
+// Lower the step that stands at a place.
+fn lower_step_at(
+    lowerer: Lowerer,
+    names: &[usize],
+    words: &[usize],
+    at: usize,
+    output: bool,
+) -> Stepped
+    ensures { λ r. ⌜ r ≡ takes (now (names .entry)) output lowerer (readStep (drop at (now (words .entry)))) ⌝ }
+{
+    let step = read_step(words, at);
+    match step {
+        StepAt::Lifetime { word, to: _ } => lowerer.lower_lifetime(names, word, output),
+        StepAt::Generics { generics, from, to } => lowerer.lower_generics(
+            names,
+            generics,
+            &words[from..to],
+            output,
+        ),
+        StepAt::SelfType { from, to } => lowerer.is_self(names, &words[from..to], output),
+        StepAt::Missing => refused(lowerer, Refusal::Malformed),
+    }
 }

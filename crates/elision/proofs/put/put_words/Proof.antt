@@ -2,8 +2,8 @@
 use Prim.Native.Nat.{_-_}
 use borrow.Author.Needs.{needs}
 use Rattle.elision.proofs.Running.{Putting, putting-start, putting-refused, putting-more, putting-end}
-use Rattle.elision.proofs.method.put_words.Statement.{statement}
-use Rattle.elision.proofs.method.put_words.Tie as tie
+use Rattle.elision.proofs.put.put_words.Statement.{statement}
+use Rattle.elision.proofs.put.put_words.Tie as tie
 
 abbrev Inv-loop : tie.InvT-loop
 Inv-loop names standing words generics seen at out₀ total here₀ i₀ out here i = Putting names standing generics words seen total at out₀ out here i

@@ -2,8 +2,8 @@
 use native.Mathlib.Omega.{arith}
 use Rattle.elision.proofs.Taking.{part-generics, part-self, takes-lifetime, takes-generics, takes-self, takes-missing}
 use borrow.Author.Needs.{needs}
-use Rattle.elision.proofs.method.lower_step_at.Statement.{statement}
-use Rattle.elision.proofs.method.lower_step_at.Tie as tie
+use Rattle.elision.proofs.step.lower_step_at.Statement.{statement}
+use Rattle.elision.proofs.step.lower_step_at.Tie as tie
 
 -- src/method.rt:292:9
 read-step-requires : tie.Need-read-step-requires

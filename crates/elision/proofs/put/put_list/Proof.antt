@@ -2,8 +2,8 @@
 use Prim.Native.Nat.{_-_}
 use borrow.Author.Needs.{needs}
 use Rattle.elision.proofs.Showing.{Storing, storing-start, storing-more, storing-end}
-use Rattle.elision.proofs.method.put_list.Statement.{statement}
-use Rattle.elision.proofs.method.put_list.Tie as tie
+use Rattle.elision.proofs.put.put_list.Statement.{statement}
+use Rattle.elision.proofs.put.put_list.Tie as tie
 
 abbrev Inv-loop : tie.InvT-loop
 Inv-loop list count at out₀ i₀ out i = Storing list count at out₀ out i

@@ -1,7 +1,7 @@
 -- `word_of` meets its contract.
 use borrow.Author.Needs.{needs}
-use Rattle.elision.proofs.method.word_of.Statement.{statement}
-use Rattle.elision.proofs.method.word_of.Tie as tie
+use Rattle.elision.proofs.put.word_of.Statement.{statement}
+use Rattle.elision.proofs.put.word_of.Tie as tie
 
 -- src/method.rt:334:9
 word-requires : tie.Need-word-requires

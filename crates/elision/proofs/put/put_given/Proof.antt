@@ -1,8 +1,8 @@
 -- `put_given` meets its contract, by `given-puts` of proofs/Showing.antt.
 use Rattle.elision.proofs.Showing.{given-puts}
 use borrow.Author.Needs.{needs}
-use Rattle.elision.proofs.method.put_given.Statement.{statement}
-use Rattle.elision.proofs.method.put_given.Tie as tie
+use Rattle.elision.proofs.put.put_given.Statement.{statement}
+use Rattle.elision.proofs.put.put_given.Tie as tie
 
 standing-in-requires : tie.Need-standing-in-requires
 standing-in-requires c κs = search needs

@@ -2,8 +2,8 @@
 use native.Mathlib.Omega.{arith}
 use borrow.Author.Needs.{needs}
 use Rattle.elision.proofs.Recording.{recording-start, recording-end}
-use Rattle.elision.proofs.method.put_record.Statement.{statement}
-use Rattle.elision.proofs.method.put_record.Tie as tie
+use Rattle.elision.proofs.put.put_record.Statement.{statement}
+use Rattle.elision.proofs.put.put_record.Tie as tie
 
 returns : tie.Need-returns
 returns c =

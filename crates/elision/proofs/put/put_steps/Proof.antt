@@ -4,8 +4,8 @@ use native.Mathlib.Omega.{arith}
 use lib.ListN.{length}
 use borrow.Author.Needs.{needs}
 use Rattle.elision.proofs.Recording.{Recording, recording-start, recording-room, recording-refused, recording-less, recording-more, recording-end}
-use Rattle.elision.proofs.method.put_steps.Statement.{statement}
-use Rattle.elision.proofs.method.put_steps.Tie as tie
+use Rattle.elision.proofs.put.put_steps.Statement.{statement}
+use Rattle.elision.proofs.put.put_steps.Tie as tie
 
 abbrev Inv-loop : tie.InvT-loop
 Inv-loop names words output was had list₀ out₀ seen₀ kept₀ own₀ n₀ at₀ list out seen kept own n at =

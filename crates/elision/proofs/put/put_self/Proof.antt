@@ -1,8 +1,8 @@
 -- `put_self` meets its contract: each way out is one law of proofs/Showing.antt.
 use Rattle.elision.proofs.Showing.{self-again, self-refused, self-first}
 use borrow.Author.Needs.{needs}
-use Rattle.elision.proofs.method.put_self.Statement.{statement}
-use Rattle.elision.proofs.method.put_self.Tie as tie
+use Rattle.elision.proofs.put.put_self.Statement.{statement}
+use Rattle.elision.proofs.put.put_self.Tie as tie
 
 put-list-requires : tie.Need-put-list-requires
 put-list-requires c κs = search needs

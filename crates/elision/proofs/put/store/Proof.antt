@@ -2,8 +2,8 @@
 use mathlib.Core.Path.{sym}
 use lib.Seq.{set-out}
 use borrow.Author.Needs.{needs}
-use Rattle.elision.proofs.method.store.Statement.{statement}
-use Rattle.elision.proofs.method.store.Tie as tie
+use Rattle.elision.proofs.put.store.Statement.{statement}
+use Rattle.elision.proofs.put.store.Tie as tie
 
 -- src/method.rt:287:9
 mul-out : tie.Need-mul-out

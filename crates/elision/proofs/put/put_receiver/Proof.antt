@@ -2,8 +2,8 @@
 use native.Mathlib.Omega.{arith}
 use Rattle.elision.proofs.MethodLaws.{receiver-none, receiver-refused, receiver-given}
 use borrow.Author.Needs.{needs}
-use Rattle.elision.proofs.method.put_receiver.Statement.{statement}
-use Rattle.elision.proofs.method.put_receiver.Tie as tie
+use Rattle.elision.proofs.put.put_receiver.Statement.{statement}
+use Rattle.elision.proofs.put.put_receiver.Tie as tie
 
 returns : tie.Need-returns
 returns c = (omega arith, receiver-none _ (c .before .before .before .before .args .receiver .now) _ (c .if1 .taken))

@@ -3,8 +3,8 @@ use native.Mathlib.Omega.{arith}
 use Rattle.elision.proofs.Taking.{part-generics, part-self}
 use Rattle.elision.proofs.Showing.{few-lifetime, few-generics, few-self, puts-lifetime, puts-generics, puts-self, puts-missing}
 use borrow.Author.Needs.{needs}
-use Rattle.elision.proofs.method.put_step.Statement.{statement}
-use Rattle.elision.proofs.method.put_step.Tie as tie
+use Rattle.elision.proofs.put.put_step.Statement.{statement}
+use Rattle.elision.proofs.put.put_step.Tie as tie
 
 read-step-requires : tie.Need-read-step-requires
 read-step-requires c κs = search needs
