@@ -1,0 +1,214 @@
+// Questions for the crate `exports`.
+use super::print;
+use super::same;
+use exports::borrows_listing;
+use exports::borrows_sheet;
+
+// 01's own sheet with its listing of 141 bytes, and a broken sheet.
+pub(crate) fn ask_example(sheet: &[u8], broken: &[u8], listed: &[u8]) {
+    ask_listing(sheet, listed);
+    ask_listing_refused(sheet, broken);
+    ask_sheet(sheet);
+    ask_sheet_short(sheet);
+    ask_sheet_refused(broken);
+}
+
+fn ask_listing(sheet: &[u8], listed: &[u8]) {
+    list(
+        b"borrows_listing of 01's example",
+        sheet,
+        &mut [b'.'; 143],
+        &mut [99; 2],
+        0,
+        listed,
+        &[141],
+    );
+    list(
+        b"borrows_listing of 01's example just fits",
+        sheet,
+        &mut [b'.'; 141],
+        &mut [99; 1],
+        0,
+        listed,
+        &[141],
+    );
+}
+
+// A byte too few is 9, and so is no word for the length. The name again is 2, no bytes at all are 10, also where there is no word for the length.
+fn ask_listing_refused(sheet: &[u8], broken: &[u8]) {
+    list(
+        b"borrows_listing refused by 9, bytes",
+        sheet,
+        &mut [b'.'; 140],
+        &mut [99; 1],
+        9,
+        b"",
+        &[],
+    );
+    list(
+        b"borrows_listing refused by 9, the length",
+        sheet,
+        &mut [b'.'; 141],
+        &mut [],
+        9,
+        b"",
+        &[],
+    );
+    list(
+        b"borrows_listing of a broken sheet refused by 2",
+        broken,
+        &mut [b'.'; 141],
+        &mut [99; 1],
+        2,
+        b"",
+        &[],
+    );
+    list(
+        b"borrows_listing of no bytes refused by 10 before 9",
+        b"",
+        &mut [b'.'; 3],
+        &mut [],
+        10,
+        b"",
+        &[],
+    );
+}
+
+// The listing of a sheet: the status, the bytes that were written, and the word with their number.
+fn list(
+    name: &[u8],
+    sheet: &[u8],
+    out: &mut [u8],
+    length: &mut [usize],
+    status: usize,
+    written: &[u8],
+    counted: &[usize],
+) {
+    let given = borrows_listing(sheet, out, length);
+    print::told(
+        name,
+        given == status && same::bytes(out, written) && same::words(length, counted),
+    );
+}
+
+fn ask_sheet(sheet: &[u8]) {
+    borrow(
+        b"borrows_sheet of 01's example",
+        sheet,
+        &mut [99; 2],
+        &mut [99; 3],
+        &mut [99; 7],
+        &mut [99; 4],
+    );
+    borrow(
+        b"borrows_sheet of 01's example just fits",
+        sheet,
+        &mut [99; 1],
+        &mut [99; 2],
+        &mut [99; 5],
+        &mut [99; 3],
+    );
+}
+
+// One word too few in each slice in turn: 9.
+fn ask_sheet_short(sheet: &[u8]) {
+    not_borrow(
+        b"borrows_sheet refused by 9, used",
+        sheet,
+        &mut [],
+        &mut [99; 2],
+        &mut [99; 5],
+        &mut [99; 3],
+        9,
+    );
+    not_borrow(
+        b"borrows_sheet refused by 9, answers",
+        sheet,
+        &mut [99; 1],
+        &mut [99; 1],
+        &mut [99; 5],
+        &mut [99; 3],
+        9,
+    );
+    not_borrow(
+        b"borrows_sheet refused by 9, edges",
+        sheet,
+        &mut [99; 1],
+        &mut [99; 2],
+        &mut [99; 4],
+        &mut [99; 3],
+        9,
+    );
+    not_borrow(
+        b"borrows_sheet refused by 9, counts",
+        sheet,
+        &mut [99; 1],
+        &mut [99; 2],
+        &mut [99; 5],
+        &mut [99; 2],
+        9,
+    );
+}
+
+// The name again is 2, no bytes at all are 10, also where there is no room for the counts.
+fn ask_sheet_refused(broken: &[u8]) {
+    not_borrow(
+        b"borrows_sheet of a broken sheet refused by 2",
+        broken,
+        &mut [99; 1],
+        &mut [99; 2],
+        &mut [99; 5],
+        &mut [99; 3],
+        2,
+    );
+    not_borrow(
+        b"borrows_sheet of no bytes refused by 10 before 9",
+        b"",
+        &mut [99; 1],
+        &mut [99; 2],
+        &mut [99; 5],
+        &mut [],
+        10,
+    );
+}
+
+// The example is accepted. 01's listing: lifetime 0 is used, the answers are 4 and 1, and there is one edge, `0 0 1 0 0`.
+fn borrow(
+    name: &[u8],
+    sheet: &[u8],
+    used: &mut [usize],
+    answers: &mut [usize],
+    edges: &mut [usize],
+    counts: &mut [usize],
+) {
+    let status = borrows_sheet(sheet, used, answers, edges, counts);
+    print::told(
+        name,
+        status == 0
+            && same::words(used, &[0])
+            && same::words(answers, &[4, 1])
+            && same::words(edges, &[0, 0, 1, 0, 0])
+            && same::words(counts, &[1, 2, 1]),
+    );
+}
+
+// A sheet that is refused.
+fn not_borrow(
+    name: &[u8],
+    sheet: &[u8],
+    used: &mut [usize],
+    answers: &mut [usize],
+    edges: &mut [usize],
+    counts: &mut [usize],
+    number: usize,
+) {
+    let status = borrows_sheet(sheet, used, answers, edges, counts);
+    print::told(
+        name,
+        status == number
+            && same::words(used, &[])
+            && same::words(answers, &[])
+            && same::words(edges, &[])
+            && same::words(counts, &[]),
+    );
+}
