@@ -11,34 +11,24 @@ use lifetimes::set;
 
 pub(crate) fn ask() {
     ask_new();
-    ask_new_limits();
     ask_new_refused();
     ask_push();
-    ask_push_refused();
     ask_get_bounds();
     ask_members();
     ask_word();
 }
 
-// Environments with bounds in push order.
 fn ask_new() {
     // 01, "Checked by hand": bounds 1 above 0, 2 above 0
     new(b"LifetimeEnv::new with two bounds", 3, 3, &[1, 0, 2, 0]);
-    // the same: count 3, two declared
-    new(b"LifetimeEnv::new with an elided lifetime", 2, 3, &[]);
-}
-
-// 01: "64 lifetimes, 256 bounds .. pass", the 65th and the 257th are 4. Reading 34: 64 of them may be declared.
-fn ask_new_limits() {
+    // 01: "64 lifetimes, 256 bounds .. pass"; reading 34: all may be declared
     new(b"LifetimeEnv::new with 64 lifetimes", 64, 64, &[63, 0]);
     new(b"LifetimeEnv::new with 256 bounds", 1, 1, &[0; 512]);
-    not_new(
-        b"LifetimeEnv::new refused by 4, 65 lifetimes",
-        1,
-        65,
-        &[],
-        4,
-    );
+}
+
+fn ask_new_refused() {
+    // 01's table, 4: 65th lifetime, 257th bound; reading 34: 4 before 8
+    not_new(b"LifetimeEnv::new refused by 4 before 8", 66, 65, &[], 4);
     not_new(
         b"LifetimeEnv::new refused by 4, 257 bounds",
         1,
@@ -46,12 +36,9 @@ fn ask_new_limits() {
         &[0; 514],
         4,
     );
-}
-
-fn ask_new_refused() {
-    // 01's table: short
+    // 1: short
     not_new(b"LifetimeEnv::new refused by 1, half a pair", 1, 1, &[0], 1);
-    // 01's table: hand-made bound past the declared, or more declared than the count
+    // 8: hand-made bound past the declared, or more declared than the count
     not_new(
         b"LifetimeEnv::new refused by 8, a bound past the declared",
         2,
@@ -66,8 +53,6 @@ fn ask_new_refused() {
         &[],
         8,
     );
-    // reading 34: 4 where both are due
-    not_new(b"LifetimeEnv::new refused by 4 before 8", 66, 65, &[], 4);
 }
 
 // An environment that is accepted: it has what was given.
@@ -92,97 +77,43 @@ fn not_new(name: &[u8], declared: usize, count: usize, pairs: &[usize], number: 
     );
 }
 
-// 01: "Bounds are pushed in order, repeats kept."
+// To an environment with two declared lifetimes of three. 01: "Bounds are pushed in order, repeats kept". The table, 8: hand-made bound past the declared; 4: 257th bound. Refused, all bounds stay.
 fn ask_push() {
-    push(
-        b"push_bound at the end",
-        made(2, 3, &[1, 0]),
-        0,
-        1,
-        0,
-        2,
-        3,
-        &[1, 0, 0, 1],
-    );
+    push(b"push_bound", &[1, 0], 0, 1, 0, &[1, 0, 0, 1]);
     push(
         b"push_bound again the same",
-        made(2, 3, &[1, 0]),
+        &[1, 0],
         1,
         0,
         0,
-        2,
-        3,
         &[1, 0, 1, 0],
     );
-    push(
-        b"push_bound, the 256th",
-        made(2, 2, &[0; 510]),
-        0,
-        0,
-        0,
-        2,
-        2,
-        &[0; 512],
-    );
+    push(b"push_bound refused by 8", &[1, 0], 2, 0, 8, &[1, 0]);
+    push(b"push_bound refused by 4", &[0; 512], 0, 1, 4, &[0; 512]);
 }
 
-// 01's table: 257th bound 4; hand-made bound past the declared, or more declared than the count, 8. The environment stays.
-fn ask_push_refused() {
-    push(
-        b"push_bound refused by 4, the 257th",
-        made(2, 2, &[0; 512]),
-        0,
-        1,
-        4,
-        2,
-        2,
-        &[0; 512],
-    );
-    push(
-        b"push_bound refused by 8, past the declared",
-        made(2, 3, &[1, 0]),
-        2,
-        0,
-        8,
-        2,
-        3,
-        &[1, 0],
-    );
-    push(
-        b"push_bound refused by 8, more declared than there are",
-        built(3, 2),
-        0,
-        1,
-        8,
-        3,
-        2,
-        &[],
-    );
-}
-
-// A bound pushed to an environment: the number of the refusal or 0, and the environment afterwards.
+// A bound pushed to these: the number of the refusal or 0, and the bounds afterwards.
 fn push(
     name: &[u8],
-    before: LifetimeEnv,
+    pairs: &[usize],
     longer: usize,
     shorter: usize,
     number: usize,
-    declared: usize,
-    count: usize,
-    pairs: &[usize],
+    after: &[usize],
 ) {
-    let after = before.push_bound(Lifetime::new(longer), Lifetime::new(shorter));
-    let verdict = after.verdict;
-    let env = after.env;
+    let before = made(2, 3, pairs);
+    let pushed = before.push_bound(Lifetime::new(longer), Lifetime::new(shorter));
+    let verdict = pushed.verdict;
+    let env = pushed.env;
     print::told(
         name,
-        same::number_of(verdict) == number && env_is(env, declared, count, pairs),
+        same::number_of(verdict) == number && env_is(env, 2, 3, after),
     );
 }
 
-// 01: `get_bounds` knows a lifetime that is declared, not elided; that of `Strs` is outside every environment.
+// 01: `get_bounds` knows a lifetime that is declared, not elided.
 fn ask_get_bounds() {
-    let env = made(2, 3, &[1, 0]);
+    let env = built(2, 3);
     print::told(
         b"get_bounds of a declared lifetime",
         env.get_bounds(Lifetime::new(1)),
@@ -191,41 +122,18 @@ fn ask_get_bounds() {
         b"get_bounds of an elided one",
         !env.get_bounds(Lifetime::new(2)),
     );
-    print::told(
-        b"get_bounds of that of Strs",
-        !env.get_bounds(Lifetime::new(usize::MAX)),
-    );
 }
 
-// Sets as 64 bits, ascending; 01: 9 is "more answers than the lent slice takes".
+// Sets as 64 bits, of 0, 2 and 63 here, ascending. 01: 9 is "more answers than the lent slice takes".
 fn ask_members() {
-    members(
-        b"set::members",
-        9223372036854775813,
-        &mut [99; 4],
-        0,
-        &[0, 2, 63],
-    );
-    members(
-        b"set::members just fits",
-        9223372036854775813,
-        &mut [99; 3],
-        0,
-        &[0, 2, 63],
-    );
-    members(b"set::members of none", set::EMPTY, &mut [99; 1], 0, &[]);
-    members(
-        b"set::members refused by 9",
-        9223372036854775813,
-        &mut [99; 2],
-        9,
-        &[],
-    );
+    members(b"set::members", &mut [99; 4], 0, &[0, 2, 63]);
+    members(b"set::members just fits", &mut [99; 3], 0, &[0, 2, 63]);
+    members(b"set::members refused by 9", &mut [99; 2], 9, &[]);
 }
 
-// The members of a set: the number of the refusal or 0, and the words that were written.
-fn members(name: &[u8], set: u64, out: &mut [usize], number: usize, written: &[usize]) {
-    let listed = set::members(set, out);
+// The members of that set: the number of the refusal or 0, and the words that were written.
+fn members(name: &[u8], out: &mut [usize], number: usize, written: &[usize]) {
+    let listed = set::members(9223372036854775813, out);
     print::told(
         name,
         same::listed(listed, number, written.len()) && same::words(out, written),
@@ -234,44 +142,25 @@ fn members(name: &[u8], set: u64, out: &mut [usize], number: usize, written: &[u
 
 // 01: "A lowered word: 0 static, k the lifetime numbered k - 1". The largest number has none.
 fn ask_word() {
+    let first = MaybeStaticDef::NonStatic(DefLifetime::new(0));
+    let last = MaybeStaticDef::NonStatic(DefLifetime::new(usize::MAX));
     print::told(
         b"MaybeStaticDef::word of static",
         word_is(MaybeStaticDef::Static, 0),
     );
-    print::told(
-        b"MaybeStaticDef::word of lifetime 0",
-        word_is(numbered(0), 1),
-    );
-    print::told(
-        b"MaybeStaticDef::word of lifetime 15",
-        word_is(numbered(15), 16),
-    );
+    print::told(b"MaybeStaticDef::word of lifetime 0", word_is(first, 1));
     print::told(
         b"MaybeStaticDef::word that is absent",
-        wordless(numbered(usize::MAX)),
+        word_is(last, usize::MAX),
     );
 }
 
-// A lifetime of a definition.
-fn numbered(number: usize) -> MaybeStaticDef {
-    MaybeStaticDef::NonStatic(DefLifetime::new(number))
-}
-
-// Whether it has this word.
+// Whether a lifetime of a definition has this word; the largest number stands for none.
 fn word_is(lifetime: MaybeStaticDef, expected: usize) -> bool {
     let answer = lifetime.word();
     match answer {
-        LoweredWord::Word(word) => word == expected,
-        LoweredWord::Absent => false,
-    }
-}
-
-// Whether it has none.
-fn wordless(lifetime: MaybeStaticDef) -> bool {
-    let answer = lifetime.word();
-    match answer {
-        LoweredWord::Word(_) => false,
-        LoweredWord::Absent => true,
+        LoweredWord::Word(word) => word == expected && word != usize::MAX,
+        LoweredWord::Absent => expected == usize::MAX,
     }
 }
 

@@ -19,6 +19,11 @@ pub(crate) fn words(given: &[usize], expected: &[usize]) -> bool {
     true
 }
 
+// Whether nothing was written to a slice.
+pub(crate) fn untouched(given: &[usize]) -> bool {
+    words(given, &[])
+}
+
 // Whether a slice has these bytes in front, and `.` in each place behind them.
 pub(crate) fn bytes(given: &[u8], expected: &[u8]) -> bool {
     if given.len() < expected.len() {

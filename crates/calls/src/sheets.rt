@@ -1,4 +1,5 @@
 // Questions for the crate `borrowing_param`.
+use super::environments::built;
 use super::environments::env_is;
 use super::environments::made;
 use super::print;
@@ -18,9 +19,7 @@ pub(crate) fn ask() {
 // 01's own sheet, and a broken one.
 pub(crate) fn ask_example(sheet: &[u8], broken: &[u8]) {
     ask_lower(sheet, broken);
-    ask_borrow(sheet);
-    ask_borrow_short(sheet);
-    ask_borrow_refused(broken);
+    ask_borrow(sheet, broken);
 }
 
 // The method `worked` of borrowing_param/specs/Examples.antt.
@@ -61,12 +60,6 @@ fn ask_worked_short() {
     );
 }
 
-// 01, "Checked by hand": output `3 2`: 8. It comes before 9.
-fn ask_strs() {
-    strs(b"borrow_method refused by 8", &mut [99; 3]);
-    strs(b"borrow_method refused by 8 before 9", &mut []);
-}
-
 // The method is accepted: lifetime 0 is used, the answers are 4 2 3 1 0, and there are four edges.
 fn worked(name: &[u8], used: &mut [usize], answers: &mut [usize], edges: &mut [usize]) {
     let borrows = borrow_worked(used, answers, edges);
@@ -87,10 +80,7 @@ fn not_worked(name: &[u8], used: &mut [usize], answers: &mut [usize], edges: &mu
     let borrows = borrow_worked(used, answers, edges);
     print::told(
         name,
-        borrows_are(borrows, 9, &[0, 0, 0])
-            && same::words(used, &[])
-            && same::words(answers, &[])
-            && same::words(edges, &[]),
+        borrows_are(borrows, 9, &[0, 0, 0]) && untouched(used, answers, edges),
     );
 }
 
@@ -108,21 +98,18 @@ fn borrow_worked(used: &mut [usize], answers: &mut [usize], edges: &mut [usize])
     )
 }
 
-// A method with that output and one parameter, lent no room for answers and edges.
-fn strs(name: &[u8], used: &mut [usize]) {
-    let borrows = borrow_method(
-        made(1, 1, &[]),
-        &[],
-        &[3, 1, 1],
-        &[3, 2],
-        &[0],
-        used,
-        &mut [],
-        &mut [],
-    );
+// 01, "Checked by hand": output `3 2`: 8. It comes before 9.
+fn ask_strs() {
+    strs(b"borrow_method refused by 8", &mut [99; 3], &mut [99; 3]);
+    strs(b"borrow_method refused by 8 before 9", &mut [], &mut []);
+}
+
+// A method with that output and without parameters.
+fn strs(name: &[u8], used: &mut [usize], edges: &mut [usize]) {
+    let borrows = borrow_method(built(1, 1), &[], &[], &[3, 2], &[0], used, &mut [], edges);
     print::told(
         name,
-        borrows_are(borrows, 8, &[0, 0, 0]) && same::words(used, &[]),
+        borrows_are(borrows, 8, &[0, 0, 0]) && same::untouched(used) && same::untouched(edges),
     );
 }
 
@@ -216,11 +203,12 @@ fn not_lower(name: &[u8], sheet: &[u8], words: &mut [usize], number: usize) {
         same::number_of(verdict) == number
             && same::words(&ends, &[0; 10])
             && env_is(env, 0, 0, &[])
-            && same::words(words, &[]),
+            && same::untouched(words),
     );
 }
 
-fn ask_borrow(sheet: &[u8]) {
+// A word too few is 9, the name again is 2.
+fn ask_borrow(sheet: &[u8], broken: &[u8]) {
     borrow(
         b"borrow_sheet of 01's example",
         sheet,
@@ -235,38 +223,14 @@ fn ask_borrow(sheet: &[u8]) {
         &mut [99; 2],
         &mut [99; 5],
     );
-}
-
-// One word too few in each slice in turn: 9.
-fn ask_borrow_short(sheet: &[u8]) {
     not_borrow(
-        b"borrow_sheet refused by 9, used",
-        sheet,
-        &mut [],
-        &mut [99; 2],
-        &mut [99; 5],
-        9,
-    );
-    not_borrow(
-        b"borrow_sheet refused by 9, answers",
-        sheet,
-        &mut [99; 1],
-        &mut [99; 1],
-        &mut [99; 5],
-        9,
-    );
-    not_borrow(
-        b"borrow_sheet refused by 9, edges",
+        b"borrow_sheet of 01's example refused by 9",
         sheet,
         &mut [99; 1],
         &mut [99; 2],
         &mut [99; 4],
         9,
     );
-}
-
-// The name again is 2, no bytes at all are 10.
-fn ask_borrow_refused(broken: &[u8]) {
     not_borrow(
         b"borrow_sheet of a broken sheet refused by 2",
         broken,
@@ -274,14 +238,6 @@ fn ask_borrow_refused(broken: &[u8]) {
         &mut [99; 2],
         &mut [99; 5],
         2,
-    );
-    not_borrow(
-        b"borrow_sheet of no bytes refused by 10",
-        b"",
-        &mut [99; 1],
-        &mut [99; 2],
-        &mut [99; 5],
-        10,
     );
 }
 
@@ -315,11 +271,13 @@ fn not_borrow(
     let borrows = borrow_sheet(sheet, used, answers, edges);
     print::told(
         name,
-        borrows_are(borrows, number, &[0, 0, 0])
-            && same::words(used, &[])
-            && same::words(answers, &[])
-            && same::words(edges, &[]),
+        borrows_are(borrows, number, &[0, 0, 0]) && untouched(used, answers, edges),
     );
+}
+
+// Whether nothing was written.
+fn untouched(used: &[usize], answers: &[usize], edges: &[usize]) -> bool {
+    same::untouched(used) && same::untouched(answers) && same::untouched(edges)
 }
 
 // Whether a call is refused by this number (0: not), with these numbers of used lifetimes, parameters and edges.

@@ -5,10 +5,13 @@ use Rattle.calls.proofs.lowerers.list_is.Statement.{statement}
 use Rattle.calls.proofs.lowerers.list_is.Tie as tie
 
 abbrev Inv-loop : tie.InvT-loop
-Inv-loop expected lifetimes i₀ i = i ≤ 16
+Inv-loop expected from lifetimes i₀ i = i ≤ 16
 
 abbrev μ-loop : tie.MeasureT-loop
-μ-loop expected lifetimes i₀ i = 16 - i
+μ-loop expected from lifetimes i₀ i = 16 - i
+
+sub-if2 : tie.Need-sub-if2 Inv-loop μ-loop
+sub-if2 c = search needs
 
 returns : tie.Need-returns Inv-loop μ-loop
 returns c = search needs
@@ -24,6 +27,9 @@ element-copy-out-lowered c = search needs
 
 word-of-requires : tie.Need-word-of-requires Inv-loop μ-loop
 word-of-requires c κs = search needs
+
+add-word-or : tie.Need-add-word-or Inv-loop μ-loop
+add-word-or c = search needs
 
 word-or-requires : tie.Need-word-or-requires Inv-loop μ-loop
 word-or-requires c κs = search needs
@@ -49,11 +55,13 @@ list-is-spec =
     (tie.spec
     Inv-loop
     μ-loop
+    sub-if2
     returns
     loop-holds
     mul-lowered
     element-copy-out-lowered
     word-of-requires
+    add-word-or
     word-or-requires
     returns-2
     add-i
