@@ -33,7 +33,7 @@ fn ask_listing(sheet: &[u8], listed: &[u8]) {
     );
 }
 
-// A byte too few is 9, and so is no word for the length. The name again is 2, also where there is no word for the length.
+// 01's table: a byte too few is 9, and so is no word for the length. The name again is 2, also where there is no word for the length, since 9 comes last.
 fn ask_listing_refused(sheet: &[u8], broken: &[u8]) {
     list(
         b"borrows_listing refused by 9, bytes",
@@ -100,7 +100,7 @@ fn ask_sheet(sheet: &[u8]) {
     );
 }
 
-// A word too few is 9. The name again is 2, also where there is no room for the counts.
+// 01's table: a word too few is 9. The name again is 2, also where there is no room for the counts.
 fn ask_sheet_refused(sheet: &[u8], broken: &[u8]) {
     not_borrow(
         b"borrows_sheet refused by 9, edges",

@@ -3,7 +3,7 @@ use super::print;
 use super::same;
 use listing::listing;
 
-// 01's own sheet with its listing of 141 bytes, and a broken sheet. A byte too few is 9, the name again is 2, no bytes at all are 10.
+// 01's own sheet with its listing of 141 bytes, and a broken sheet. 01's table: a byte too few is 9, the name again is 2, no bytes at all are 10.
 pub(crate) fn ask_example(sheet: &[u8], broken: &[u8], listed: &[u8]) {
     list(
         b"listing of 01's example",

@@ -1,5 +1,8 @@
 // Questions for the crate `elision`.
 //
+// What a lowerer is expected to know afterwards is four numbers: its source (0 none, 1 `&self`, 2 one position, 3 several), the lowered word of that, how many lifetimes there are, and 1 if the
+// `Self` type was there. Behind them stand the lowered words of the answer; those of the `Self` type are the same, or none.
+//
 // `Lowerer::step`, on a lowerer that is lent, is asked through `input_then_output`, which makes two of them in a row: the second answers by what the first left.
 ghost use Prim.Native.Nat.{_≤_};
 use super::print;
@@ -223,8 +226,7 @@ fn both(name: &[u8], input: &[usize], output: &[usize], number: usize, lowered: 
     );
 }
 
-// Whether a lowerer knows what is expected: its source (0 none, 1 `&self`, 2 one position, 3 several) and the lowered word of that, how many lifetimes there are, and 1 if the `Self` type was
-// there, whose words are then those that stand behind.
+// Whether a lowerer knows what is expected.
 fn lowerer_is(lowerer: Lowerer, expected: &[usize]) -> bool {
     let seen = lowerer.seen;
     let source = seen.source;

@@ -38,7 +38,7 @@ fn ask_worked() {
     );
 }
 
-// One word too few in each slice in turn: 9.
+// 01's table: a word too few is 9, in each slice in turn.
 fn ask_worked_short() {
     not_worked(
         b"borrow_method refused by 9, used",
@@ -113,7 +113,7 @@ fn strs(name: &[u8], used: &mut [usize], edges: &mut [usize]) {
     );
 }
 
-// The example has 32 words. A word too few is 9, the name again is 2, no bytes at all are 10.
+// The example has 32 words. 01's table: a word too few is 9, the name again is 2, no bytes at all are 10.
 fn ask_lower(sheet: &[u8], broken: &[u8]) {
     lower(b"lower_sheet of 01's example", sheet, &mut [99; 34]);
     lower(
@@ -207,7 +207,7 @@ fn not_lower(name: &[u8], sheet: &[u8], words: &mut [usize], number: usize) {
     );
 }
 
-// A word too few is 9, the name again is 2.
+// 01's table: a word too few is 9, the name again is 2.
 fn ask_borrow(sheet: &[u8], broken: &[u8]) {
     borrow(
         b"borrow_sheet of 01's example",
