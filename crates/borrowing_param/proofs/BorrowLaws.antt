@@ -82,8 +82,8 @@ module _ (v : BorrowingParamVisitor) (structs params used answers edges : List �
   by-used l h = left-alone (refuses (here (lt-ltb (length used) (length (all .used)) (omega (arith, how-many))) refl)) h
 
   module _ (enough : count ≤ length used) {m : BorrowMap} {answers₁ edges₁ : List ℕ} (maps : m ≡ map.mapAnswer (map.borrowMap v structs params (length answers) (length edges)))
-      (answered : answers₁ ≡ written (map.answersIn (map.borrowMap v structs params (length answers) (length edges))) answers)
-      (stored : edges₁ ≡ written (map.edgesIn (map.borrowMap v structs params (length answers) (length edges))) edges) where
+      (answered : answers₁ ≡ written (map.mapAnswers (map.borrowMap v structs params (length answers) (length edges))) answers)
+      (stored : edges₁ ≡ written (map.mapEdges (map.borrowMap v structs params (length answers) (length edges))) edges) where
     abbrev mapped : Outcome map.Mapping
     mapped = map.borrowMap v structs params (length answers) (length edges)
 

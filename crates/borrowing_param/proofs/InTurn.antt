@@ -21,7 +21,7 @@ use Rattle.borrowing_param.specs.declared.visitor.ParamBorrowInfo.{Param
 use Rattle.borrowing_param.specs.declared.visitor.BorrowingParamVisitor.{BorrowingParamVisitor}
 use Rattle.borrowing_param.specs.Edges.{width, edgesIn, edgesOf}
 use Rattle.borrowing_param.specs.Brings.{refuse}
-use Rattle.borrowing_param.specs.Visit.{usedOf, bringTo, bringAll, Outcome}
+use Rattle.borrowing_param.specs.Visit.{usedOf, bringTo, bringAll, VisitOutcome}
 use Rattle.borrowing_param.specs.VisitParam.{typeAt, visitParam}
 use Rattle.borrowing_param.specs.Visits.{filled, kept, Visits}
 use Rattle.borrowing_param.specs.New.{created}
@@ -152,7 +152,7 @@ module _ (structs params : List ℕ) (v : BorrowingParamVisitor) (words : List �
       gone (no n) none = absurd (none (omega arith))
       gone (yes h) none =
           let past = first-past count (length words) 0 (inTurn structs params) (omega arith) (omega (arith, total)) in
-          (past .place, omega (arith, past .below, size), ap (λ (x : Outcome). x .info) (visits .refused (past .place) (past .below) (past .past)))
+          (past .place, omega (arith, past .below, size), ap (λ (x : VisitOutcome). x .info) (visits .refused (past .place) (past .below) (past .past)))
 
 pub as-visited : (env : LifetimeEnv) (structs params output force : List ℕ) → NoneDue (methodChecks env structs params output force) → (words : List ℕ)
     → AsVisited structs params (created env structs params output force .visitor) words

@@ -41,7 +41,7 @@ use Rattle.borrowing_param.specs.declared.visitor.BorrowingParamVisitor.
 use Rattle.borrowing_param.specs.Edges.{width, edgeWords}
 use Rattle.borrowing_param.specs.Brings.{bring, numberOf}
 use Rattle.borrowing_param.specs.Visit.{usedOf, drawsIn, drawsOf, bringTo, bringAll, holding}
-use Rattle.borrowing_param.specs.BorrowMap.{listedTo, listedEdges, answersFrom, Mapping, mappingOf, borrowMap, mapAnswer, answersIn, edgesIn}
+use Rattle.borrowing_param.specs.BorrowMap.{listedTo, listedEdges, answersFrom, Mapping, mappingOf, borrowMap, mapAnswer, mapAnswers, mapEdges}
 use Rattle.borrowing_param.specs.Inner.{Inside, typeIn, numberBy, Below, CountsAll, StoresWords, Stores}
 use Rattle.borrowing_param.specs.InnerMap.{Lists, done, more, paramTypes, Params, visitorIn, bringFrom, CountsParams, roomChecks, mapOf, Maps}
 use Rattle.borrowing_param.proofs.Joining.{join-cons, words-many}
@@ -391,7 +391,7 @@ module _ (v : BorrowingParamVisitor) (types : List LoweredType) (answers edges :
 -- ---- the answers of `borrow_map`
 
 pub told : {o p : Outcome Mapping} {answers edges : List ℕ} {b : BorrowMap} {answers₁ edges₁ : List ℕ} → p ≡ o → Maps o answers edges b answers₁ edges₁
-    → (b ≡ mapAnswer p) × ((answers₁ ≡ written (answersIn p) answers) × (edges₁ ≡ written (edgesIn p) edges))
+    → (b ≡ mapAnswer p) × ((answers₁ ≡ written (mapAnswers p) answers) × (edges₁ ≡ written (mapEdges p) edges))
 told e m = rw e (m .answer, (m .numbers, m .words))
 
 after-none : {A : Type 0} (a : A) {checks : List Check} (others : List Check) → NoneDue checks → unless (checks ++ others) a ≡ unless others a

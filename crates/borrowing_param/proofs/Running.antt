@@ -19,7 +19,7 @@ use Rattle.borrowing_param.specs.declared.visitor.ParamBorrowInfo.{Param
 use Rattle.borrowing_param.specs.declared.visitor.BorrowingParamVisitor.{BorrowingParamVisitor}
 use Rattle.borrowing_param.specs.Edges.{width, edgeWords, edgesOf}
 use Rattle.borrowing_param.specs.Brings.{refuse}
-use Rattle.borrowing_param.specs.Visit.{usedOf, holding, State, state, Outcome, outcome, roomFor, stored, visitWith, after, visitAt}
+use Rattle.borrowing_param.specs.Visit.{usedOf, holding, State, state, VisitOutcome, outcome, roomFor, stored, visitWith, afterVisits, visitAt}
 use Rattle.borrowing_param.specs.Visits.{filled, kept, allOf, many, edgesAfter, NoneRefused, Visits}
 use Rattle.borrowing_param.proofs.Joining.{join-cons, join-append, perm-length, perm-member, join-perm, sets-behind, words-many, words-read, of-append, Once, of-others, of-part}
 
@@ -98,7 +98,7 @@ at-member (p ∷ ps) (suc i) h = List·Memᴰ·tail (at-member ps i (omega arith
 
 -- ---- a run of visits
 
-module _ (visits : State → ℕ → Outcome) (v : BorrowingParamVisitor) (brings : ℕ → ℕ → List LifetimeEdge) (answer : ℕ → ParamBorrowInfo) (few : ℕ)
+module _ (visits : State → ℕ → VisitOutcome) (v : BorrowingParamVisitor) (brings : ℕ → ℕ → List LifetimeEdge) (answer : ℕ → ParamBorrowInfo) (few : ℕ)
     (agrees : (e : ℕ) (words : List ℕ) (p : ℕ) → p < few → visits (state (holding v e) words) p ≡ visitWith (state (holding v e) words) (answer p) (allOf v brings p)) where
   abbrev F : ℕ → List LifetimeEdge
   F p = allOf v brings p
@@ -111,9 +111,9 @@ module _ (visits : State → ℕ → Outcome) (v : BorrowingParamVisitor) (bring
 
   -- the state after a run, from any number of stored edges
   run : (e : ℕ) (words ps : List ℕ) → width * e ≤ length words → Within ps
-      → after visits (state (holding v e) words) ps
+      → afterVisits visits (state (holding v e) words) ps
       ≡ state (holding v (filled κ (length words) e ps)) (sets words (width * e) (flatMap edgeWords (flatMap F (kept κ (length words) e ps))))
-  unfolding after filled kept flatMap
+  unfolding afterVisits filled kept flatMap
   run e words [] h w = refl
   run e words (p ∷ ps) h w =
       go (decLe (width * (e + κ p)) (length words)) (λ r. run (e + κ p) next ps (rw size r) rest) (run e words ps h rest)
@@ -137,15 +137,15 @@ module _ (visits : State → ℕ → Outcome) (v : BorrowingParamVisitor) (bring
       seen = agrees e words p (w p (List·Memᴰ·head refl))
 
       go : Dec (width * (e + κ p) ≤ length words)
-          → (width * (e + κ p) ≤ length words → after visits (state (holding v (e + κ p)) next) ps
+          → (width * (e + κ p) ≤ length words → afterVisits visits (state (holding v (e + κ p)) next) ps
           ≡ state (holding v (filled κ (length next) (e + κ p) ps)) (sets next (width * (e + κ p)) (flatMap edgeWords (flatMap F (kept κ (length next) (e + κ p) ps)))))
-          → after visits (state (holding v e) words) ps
+          → afterVisits visits (state (holding v e) words) ps
           ≡ state (holding v (filled κ (length words) e ps)) (sets words (width * e) (flatMap edgeWords (flatMap F (kept κ (length words) e ps))))
-          → after visits (visits (state (holding v e) words) p .left) ps
+          → afterVisits visits (visits (state (holding v e) words) p .left) ps
           ≡ state (holding v (cond (leb (width * (e + κ p)) (length words)) (filled κ (length words) (e + κ p) ps) (filled κ (length words) e ps)))
           (sets words (width * e) (flatMap edgeWords (flatMap F (cond (leb (width * (e + κ p)) (length words)) (p ∷ kept κ (length words) (e + κ p) ps) (kept κ (length words) e ps)))))
       go (yes r) a b =
-          ap (λ (o : Outcome). after visits (o .left) ps) (seen ∙ visit-stores (state (holding v e) words) (answer p) (F p) r)
+          ap (λ (o : VisitOutcome). afterVisits visits (o .left) ps) (seen ∙ visit-stores (state (holding v e) words) (answer p) (F p) r)
           ∙ a r
           ∙ rw (
             size,
@@ -156,7 +156,7 @@ module _ (visits : State → ℕ → Outcome) (v : BorrowingParamVisitor) (bring
             sets-behind words (width * e) X (flatMap edgeWords (flatMap F (kept κ (length words) (e + κ p) ps))),
           )
       go (no r) a b =
-          ap (λ (o : Outcome). after visits (o .left) ps) (seen ∙ visit-refused (state (holding v e) words) (answer p) (F p) h (omega arith))
+          ap (λ (o : VisitOutcome). afterVisits visits (o .left) ps) (seen ∙ visit-refused (state (holding v e) words) (answer p) (F p) h (omega arith))
           ∙ b
           ∙ rw (lt-leb (width * (e + κ p)) (length words) (omega arith))
 
@@ -166,7 +166,7 @@ module _ (visits : State → ℕ → Outcome) (v : BorrowingParamVisitor) (bring
     abbrev es : List LifetimeEdge
     es = flatMap F (kept κ (length words) 0 ps)
 
-    left-is : after visits (state (holding v 0) words) ps ≡ state (holding v (filled κ (length words) 0 ps)) (sets words 0 (flatMap edgeWords es))
+    left-is : afterVisits visits (state (holding v 0) words) ps ≡ state (holding v (filled κ (length words) 0 ps)) (sets words 0 (flatMap edgeWords es))
     left-is = run 0 words ps (omega arith) w
 
     filled-is : filled κ (length words) 0 ps ≡ length es
@@ -180,7 +180,7 @@ module _ (visits : State → ℕ → Outcome) (v : BorrowingParamVisitor) (bring
     edges-are : edgesAfter visits (holding v 0) brings answer words ps ≡ es
     edges-are = rw (left-is, words-are, filled-is) (words-read es (drop (width * length es) words))
 
-    size-is : length (after visits (state (holding v 0) words) ps .words) ≡ length words
+    size-is : length (afterVisits visits (state (holding v 0) words) ps .words) ≡ length words
     size-is = rw left-is (length-sets words 0 (flatMap edgeWords es))
 
   -- ---- one visit of a list
@@ -204,19 +204,19 @@ module _ (visits : State → ℕ → Outcome) (v : BorrowingParamVisitor) (bring
     long = length-sets words 0 (flatMap edgeWords (es words (take i ps) first))
 
     refused-at : length words < width * (filled κ (length words) 0 (take i ps) + κ q)
-        → visitAt visits (state (holding v 0) words) ps i ≡ outcome (refuse NoRoom) (after visits (state (holding v 0) words) (take i ps))
+        → visitAt visits (state (holding v 0) words) ps i ≡ outcome (refuse NoRoom) (afterVisits visits (state (holding v 0) words) (take i ps))
     refused-at k =
         here ∙ visit-refused s (answer q) (F q) (rw long (filled-fits F (length words) 0 (take i ps) (omega arith))) (rw long k) ∙ ap (outcome (refuse NoRoom)) (sym (left-is words (take i ps) first))
 
     answered-at : width * (filled κ (length words) 0 (take i ps) + κ q) ≤ length words → visitAt visits (state (holding v 0) words) ps i .info ≡ answer q
-    answered-at k = ap (λ (o : Outcome). o .info) (here ∙ visit-stores s (answer q) (F q) (rw long k))
+    answered-at k = ap (λ (o : VisitOutcome). o .info) (here ∙ visit-stores s (answer q) (F q) (rw long k))
 
   -- ---- where none is refused there is room for all, and the other way round
 
   module _ (accepted : (p : ℕ) → p < few → answer p .verdict ≡ Accepted) where
     room-for-all : (e : ℕ) (words ps : List ℕ) → width * e ≤ length words → Within ps
         → ((i : ℕ) → i < length ps → visitAt visits (state (holding v e) words) ps i .info .verdict ≡ Accepted) → width * (e + length (flatMap F ps)) ≤ length words
-    unfolding after flatMap
+    unfolding afterVisits flatMap
     room-for-all e words [] h w a = omega arith
     room-for-all e words (p ∷ ps) h w a =
         go (decLe (width * (e + κ p)) (length words)) (λ k b. room-for-all (e + κ p) (sets words (width * e) (flatMap edgeWords (F p))) ps (rw size k) (λ x m. w x (List·Memᴰ·tail m)) b)
@@ -233,11 +233,11 @@ module _ (visits : State → ℕ → Outcome) (v : BorrowingParamVisitor) (bring
             → width * (e + κ p + length (flatMap F ps)) ≤ length (sets words (width * e) (flatMap edgeWords (F p))))
             → width * (e + length (F p ++ flatMap F ps)) ≤ length words
         go (yes k) r =
-            let m = ap (λ (o : Outcome). o .left) (seen ∙ visit-stores (state (holding v e) words) (answer p) (F p) k) in
+            let m = ap (λ (o : VisitOutcome). o .left) (seen ∙ visit-stores (state (holding v e) words) (answer p) (F p) k) in
             let fits = rw size at (r k (λ i l. subst (λ (t : State). visitAt visits t ps i .info .verdict ≡ Accepted) m (a (suc i) (omega arith)))) in
             rw length-append (omega arith)
         go (no k) r =
-            let m = ap (λ (o : Outcome). o .info .verdict) (seen ∙ visit-refused (state (holding v e) words) (answer p) (F p) h (omega arith)) in
+            let m = ap (λ (o : VisitOutcome). o .info .verdict) (seen ∙ visit-refused (state (holding v e) words) (answer p) (F p) h (omega arith)) in
             let z : Refused NoRoom ≡ Accepted = sym m ∙ a 0 (omega arith) in
             refused-accepted z
 

@@ -47,7 +47,7 @@ pub sheets-give-methods : SheetsGiveMethods
 sheets-give-methods bytes none = sheet-method bytes none
 
 pub examples-hold : ExamplesHold
-unfolding new.created new.newVisitor map.listedTo map.listedEdges map.answersFrom map.borrowMap visit-param.visitParam visit.visit visit.after brings.bring brings.anyDrawn brings.structEdges brings.notes used.usedSet used.numbersOf used.inTypes used.inRows method.typeChecks method.rowChecks method.paramChecks method.anyPast rows.readKnown rows.readTypes rows.readRow rows.methodInShape types.readOpaque types.readStruct types.readSlice types.readBare types.readLowered reading.readAll reading.inShape reading.itemsOf refusals.unless env.envOf env.allBelow ranges.ascending ranges.select walk.reachSet walk.traversal walk.walk walk.walkFor walk.unpushed walk.neighbours sets.member sets.insert sets.insertAll sets.members flatMap
+unfolding new.created new.newVisitor map.listedTo map.listedEdges map.answersFrom map.borrowMap visit-param.visitParam visit.visit visit.afterVisits brings.bring brings.anyDrawn brings.structEdges brings.notes used.usedSet used.numbersOf used.inTypes used.inRows method.typeChecks method.rowChecks method.paramChecks method.anyPast rows.readKnown rows.readTypes rows.readRow rows.methodInShape types.readOpaque types.readStruct types.readSlice types.readBare types.readLowered reading.readAll reading.inShape reading.itemsOf refusals.unless env.envOf env.allBelow ranges.ascending ranges.select walk.reachSet walk.traversal walk.walk walk.walkFor walk.unpushed walk.neighbours sets.member sets.insert sets.insertAll sets.members flatMap
     sheets.lowerSheet sheets.sheetRefusals sheets.recordsChecks read.textChecks read.sheetOf read.sheetIn read.linesBehind read.ten read.readLines read.behind read.allShort flatten text.text text.line text.following text.digits text.digitsFor
     shape.sheetInShape shapes.namesInShape shapes.allNames shapes.boundsInShape shapes.pairsOf ast-types.readType steps.readStep ast.nameChecks ast.allPairChecks ast.has ast.implied ast.allImplied ast.envOf ast.place rfc.throughout rfc.anonymous rfc.hasSelfType rfc.ownFrom
 examples-hold = (refl, (refl, (refl, (refl, (refl, (refl, (refl, (refl, (refl, (refl, (refl, (refl, (refl, (refl, (refl, (refl, (refl, (refl, (refl, (refl, (refl, (refl, (refl, (refl, (refl, (refl, (refl, (refl, (refl, tt)))))))))))))))))))))))))))))

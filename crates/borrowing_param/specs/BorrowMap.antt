@@ -53,10 +53,10 @@ abbrev pub mapAnswer : Outcome Mapping → BorrowMap
 mapAnswer (Gives m) = record { verdict = verdict.Accepted; params = length (m .answers); edges = length (m .edges) }
 mapAnswer (Refuses r) = record { verdict = verdict.Refused r; params = 0; edges = 0 }
 
-abbrev pub answersIn : Outcome Mapping → Outcome (List ℕ)
-answersIn (Gives m) = Gives (m .answers)
-answersIn (Refuses r) = Refuses r
+abbrev pub mapAnswers : Outcome Mapping → Outcome (List ℕ)
+mapAnswers (Gives m) = Gives (m .answers)
+mapAnswers (Refuses r) = Refuses r
 
-abbrev pub edgesIn : Outcome Mapping → Outcome (List ℕ)
-edgesIn (Gives m) = Gives (flatMap edgeWords (m .edges))
-edgesIn (Refuses r) = Refuses r
+abbrev pub mapEdges : Outcome Mapping → Outcome (List ℕ)
+mapEdges (Gives m) = Gives (flatMap edgeWords (m .edges))
+mapEdges (Refuses r) = Refuses r

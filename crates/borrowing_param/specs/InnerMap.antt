@@ -15,7 +15,7 @@ use Rattle.borrowing_param.specs.declared.visitor.LifetimeEdge.{Lifetime
 use Rattle.borrowing_param.specs.declared.visitor.BorrowingParamVisitor.{BorrowingParamVisitor}
 use Rattle.borrowing_param.specs.Edges.{edgeWords}
 use Rattle.borrowing_param.specs.Brings.{bring}
-use Rattle.borrowing_param.specs.BorrowMap.{listedEdges, answersFrom, Mapping, mappingOf, mapAnswer, answersIn, edgesIn}
+use Rattle.borrowing_param.specs.BorrowMap.{listedEdges, answersFrom, Mapping, mappingOf, mapAnswer, mapAnswers, mapEdges}
 
 -- types one after another, to the end of some words
 pub data Lists : List ℕ → List LoweredType → Type 0 where
@@ -59,5 +59,5 @@ mapOf v types answers edges = unless (roomChecks v types answers edges) (mapping
 -- what a call answers and leaves in its two slices
 pub record Maps (o : Outcome Mapping) (answers edges : List ℕ) (r : BorrowMap) (answers₁ edges₁ : List ℕ) : Type 0 where
   pub answer : r ≡ mapAnswer o
-  pub numbers : answers₁ ≡ written (answersIn o) answers
-  pub words : edges₁ ≡ written (edgesIn o) edges
+  pub numbers : answers₁ ≡ written (mapAnswers o) answers
+  pub words : edges₁ ≡ written (mapEdges o) edges

@@ -20,7 +20,7 @@ use Rattle.borrowing_param.specs.declared.visitor.BorrowingParamVisitor.
 use Rattle.borrowing_param.specs.declared.visitor.Created.{Created}
 use Rattle.borrowing_param.specs.Edges.{width, edgesIn, edgesOf}
 use Rattle.borrowing_param.specs.Brings.{answerOf, refuse}
-use Rattle.borrowing_param.specs.Visit.{usedOf, drawsOf, bringTo, bringAll, State, state, after, visitAt}
+use Rattle.borrowing_param.specs.Visit.{usedOf, drawsOf, bringTo, bringAll, State, state, afterVisits, visitAt}
 use Rattle.borrowing_param.specs.VisitParam.{typeAt, visitParam}
 use Rattle.borrowing_param.specs.Visits.{Visits}
 use Rattle.borrowing_param.specs.New.{created}
@@ -71,7 +71,7 @@ abbrev pub visitOf : List ℕ → List ℕ → BorrowingParamVisitor → List �
 visitOf structs params v words p = visitAt (visitParam structs params) (state v words) (inTurn structs params) p .info
 
 abbrev pub visited : List ℕ → List ℕ → BorrowingParamVisitor → List ℕ → State
-visited structs params v words = after (visitParam structs params) (state v words) (inTurn structs params)
+visited structs params v words = afterVisits (visitParam structs params) (state v words) (inTurn structs params)
 
 abbrev pub RoomForAll : List ℕ → List ℕ → BorrowingParamVisitor → List ℕ → Type 0
 RoomForAll structs params v words = width * length (listedEdges v (typesIn structs params)) ≤ length words

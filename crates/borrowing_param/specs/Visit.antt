@@ -46,11 +46,11 @@ abbrev pub state : BorrowingParamVisitor → List ℕ → State
 state v words = record { visitor = v; words = words }
 
 -- what a visit answers and leaves
-pub record Outcome : Type 0 where
+pub record VisitOutcome : Type 0 where
   pub info : ParamBorrowInfo
   pub left : State
 
-abbrev pub outcome : ParamBorrowInfo → State → Outcome
+abbrev pub outcome : ParamBorrowInfo → State → VisitOutcome
 outcome info left = record { info = info; left = left }
 
 -- a visit with this answer that brings these edges: if there is room for them they are stored behind those that are stored; else it is refused by 9, and leaves all as it was. A visit that brings nothing needs no room
@@ -61,19 +61,19 @@ roomFor s (e ∷ es) = leb (width * (s .visitor .stored + length (e ∷ es))) (l
 abbrev pub stored : State → List LifetimeEdge → State
 stored s es = state (holding (s .visitor) (s .visitor .stored + length es)) (sets (s .words) (width * s .visitor .stored) (flatMap edgeWords es))
 
-abbrev pub visitWith : State → ParamBorrowInfo → List LifetimeEdge → Outcome
+abbrev pub visitWith : State → ParamBorrowInfo → List LifetimeEdge → VisitOutcome
 visitWith s info es = cond (roomFor s es) (outcome info (stored s es)) (outcome (refuse NoRoom) s)
 
 -- one visit of a parameter of this type
-unfoldable pub visit : State → LoweredType → ℕ → Outcome
+unfoldable pub visit : State → LoweredType → ℕ → VisitOutcome
 visit s t param = visitWith s (answerOf (t .kind) (bringAll (s .visitor) t param)) (bringAll (s .visitor) t param)
 
 -- Visits one after another, each with the visitor and the words as the one before left them
 
-unfoldable pub after : (State → ℕ → Outcome) → State → List ℕ → State
-after visits s [] = s
-after visits s (p ∷ ps) = after visits (visits s p .left) ps
+unfoldable pub afterVisits : (State → ℕ → VisitOutcome) → State → List ℕ → State
+afterVisits visits s [] = s
+afterVisits visits s (p ∷ ps) = afterVisits visits (visits s p .left) ps
 
 -- the visit with the number i, from 0, of a list
-abbrev pub visitAt : (State → ℕ → Outcome) → State → List ℕ → ℕ → Outcome
-visitAt visits s ps i = visits (after visits s (take i ps)) (getD ps i 0)
+abbrev pub visitAt : (State → ℕ → VisitOutcome) → State → List ℕ → ℕ → VisitOutcome
+visitAt visits s ps i = visits (afterVisits visits s (take i ps)) (getD ps i 0)

@@ -5,15 +5,14 @@ use mathlib.Core.List.{List, [], _∷_}
 use lib.Dec.{leb}
 use lib.ListN.{length, getD}
 use Rattle.lifetimes.specs.declared.answer.Refusal.the-variants.{Malformed}
-use Rattle.lifetimes.specs.Refusals as refusals
-use Rattle.lifetimes.specs.Refusals.{Check, check, unless}
+use Rattle.lifetimes.specs.Refusals.{Check, check, Outcome, Gives, Refuses, unless}
 use Rattle.lifetimes.specs.Env.{envOf}
 use Rattle.lowered_types.specs.declared.types.Kind.the-variants.{Plain}
 use Rattle.lowered_types.specs.declared.types.Own.the-variants.{Absent}
 use Rattle.lowered_types.specs.LoweredTypes.{LoweredType, lowered}
 use Rattle.hir_types.specs.Method.{typesIn, methodChecks}
 use Rattle.borrowing_param.specs.Brings.{refuse}
-use Rattle.borrowing_param.specs.Visit.{State, Outcome, outcome, visit}
+use Rattle.borrowing_param.specs.Visit.{State, VisitOutcome, outcome, visit}
 
 -- the parameter's type
 abbrev pub typeAt : List LoweredType → ℕ → LoweredType
@@ -26,9 +25,9 @@ visitChecks structs params param =
     ∷ methodChecks (envOf 0 0 []) structs params [] (0 ∷ [])
 
 -- refused by these the visit leaves all as it was; else it goes on
-abbrev pub visitIf : refusals.Outcome (Unit {0}) → State → LoweredType → ℕ → Outcome
-visitIf (refusals.Gives u) s t param = visit s t param
-visitIf (refusals.Refuses r) s t param = outcome (refuse r) s
+abbrev pub visitIf : Outcome (Unit {0}) → State → LoweredType → ℕ → VisitOutcome
+visitIf (Gives u) s t param = visit s t param
+visitIf (Refuses r) s t param = outcome (refuse r) s
 
-unfoldable pub visitParam : List ℕ → List ℕ → State → ℕ → Outcome
+unfoldable pub visitParam : List ℕ → List ℕ → State → ℕ → VisitOutcome
 visitParam structs params s param = visitIf (unless (visitChecks structs params param) (tt {0})) s (typeAt (typesIn structs params) param) param

@@ -12,7 +12,7 @@ use Rattle.borrowing_param.specs.declared.visitor.ParamBorrowInfo.{Param
 use Rattle.borrowing_param.specs.declared.visitor.BorrowingParamVisitor.{BorrowingParamVisitor}
 use Rattle.borrowing_param.specs.Edges.{width, edgeWords, edgesIn, edgesOf}
 use Rattle.borrowing_param.specs.Brings.{refuse}
-use Rattle.borrowing_param.specs.Visit.{usedOf, holding, State, state, Outcome, outcome, after, visitAt}
+use Rattle.borrowing_param.specs.Visit.{usedOf, holding, State, state, VisitOutcome, outcome, afterVisits, visitAt}
 
 -- how many edges are stored after some visits, with so many at the start, where a visit of p brings `many p` edges and the slice has `room` words: a visit without room stores none
 unfoldable pub filled : (ℕ → ℕ) → ℕ → ℕ → List ℕ → ℕ
@@ -29,7 +29,7 @@ abbrev pub allOf : BorrowingParamVisitor → (ℕ → ℕ → List LifetimeEdge)
 allOf v brings p = flatMap (λ used. brings used p) (usedOf v)
 
 -- The visits; the visitor at the start; what each parameter brings to each used lifetime; what a visit of each parameter answers
-module _ (visits : State → ℕ → Outcome) (v : BorrowingParamVisitor) (brings : ℕ → ℕ → List LifetimeEdge) (answer : ℕ → ParamBorrowInfo) where
+module _ (visits : State → ℕ → VisitOutcome) (v : BorrowingParamVisitor) (brings : ℕ → ℕ → List LifetimeEdge) (answer : ℕ → ParamBorrowInfo) where
   abbrev pub many : ℕ → ℕ
   many p = length (allOf v brings p)
 
@@ -42,7 +42,7 @@ module _ (visits : State → ℕ → Outcome) (v : BorrowingParamVisitor) (bring
 
   -- what the visits leave, and the edges that then stand in the slice
   abbrev pub leaves : List ℕ → List ℕ → State
-  leaves words ps = after visits (state v words) ps
+  leaves words ps = afterVisits visits (state v words) ps
 
   abbrev pub edgesAfter : List ℕ → List ℕ → List LifetimeEdge
   edgesAfter words ps = edgesIn (leaves words ps .visitor .stored) (leaves words ps .words)

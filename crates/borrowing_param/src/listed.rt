@@ -7,7 +7,7 @@ ghost use Rattle.lifetimes.specs.Refusals.{Refuses};
 ghost use Rattle.lifetimes.specs.Lent.{written};
 ghost use Rattle.borrowing_param.specs.Edges.{width};
 ghost use Rattle.borrowing_param.specs.Visit.{drawsIn};
-ghost use Rattle.borrowing_param.specs.BorrowMap.{listedEdges, borrowMap, mapAnswer, answersIn, edgesIn};
+ghost use Rattle.borrowing_param.specs.BorrowMap.{listedEdges, borrowMap, mapAnswer, mapAnswers, mapEdges};
 ghost use Rattle.borrowing_param.specs.Inner.{Stores, StoresWords};
 ghost use Rattle.borrowing_param.specs.InnerMap.{paramTypes, Params, visitorIn, bringFrom, CountsParams, mapOf, Maps};
 use super::edges::count_all;
@@ -48,8 +48,8 @@ impl BorrowingParamVisitor {
         edges: &mut [usize],
     ) -> BorrowMap
         ensures { λ r. ⌜ r ≡ mapAnswer (borrowMap self (now (structs .entry)) (now (params .entry)) (length (now (answers .entry))) (length (now (edges .entry)))) ⌝ }
-        ensures { λ _. ⌜ now (answers .exit) ≡ written (answersIn (borrowMap self (now (structs .entry)) (now (params .entry)) (length (now (answers .entry))) (length (now (edges .entry))))) (now (answers .entry)) ⌝ }
-        ensures { λ _. ⌜ now (edges .exit) ≡ written (edgesIn (borrowMap self (now (structs .entry)) (now (params .entry)) (length (now (answers .entry))) (length (now (edges .entry))))) (now (edges .entry)) ⌝ }
+        ensures { λ _. ⌜ now (answers .exit) ≡ written (mapAnswers (borrowMap self (now (structs .entry)) (now (params .entry)) (length (now (answers .entry))) (length (now (edges .entry))))) (now (answers .entry)) ⌝ }
+        ensures { λ _. ⌜ now (edges .exit) ≡ written (mapEdges (borrowMap self (now (structs .entry)) (now (params .entry)) (length (now (answers .entry))) (length (now (edges .entry))))) (now (edges .entry)) ⌝ }
     {
         let verdict = check_structs_and_params(structs, params);
         match verdict {

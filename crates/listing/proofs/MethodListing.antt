@@ -36,7 +36,7 @@ use Rattle.borrowing_param.specs.Edges.{width, edgeWords, edgesIn}
 use Rattle.borrowing_param.specs.Visit.{usedOf}
 use Rattle.borrowing_param.specs.New.{drawsTo, newVisitor}
 use Rattle.borrowing_param.specs.BorrowMap as spec
-use Rattle.borrowing_param.specs.BorrowMap.{Mapping, mappingOf, mapChecks, borrowMap, mapAnswer, answersIn, answersFrom, listedEdges}
+use Rattle.borrowing_param.specs.BorrowMap.{Mapping, mappingOf, mapChecks, borrowMap, mapAnswer, mapAnswers, answersFrom, listedEdges}
 use Rattle.borrowing_param.specs.Borrows.{Borrows}
 use Rattle.borrowing_param.proofs.Creating.{at-place, set-there}
 use Rattle.borrowing_param.proofs.Joining.{words-many, words-read}
@@ -203,7 +203,7 @@ module _ (env : LifetimeEnv) (used : ℕ) (structs params own given taken : List
               go : FirstDue k (edgesRoom ∷ []) → length edges < width * length (borrows .edges)
               go (here d e) = omega (arith, ltb-true (length edges) (length (flatMap edgeWords (listedEdges visitor types))) d, words-are)
 
-          pub map-refused : {k : Refusal} (w : Within) (out : List ℕ) {edges₁ : List ℕ} → m .verdict ≡ verdict.Refused k → edges₁ ≡ written (spec.edgesIn mapped) edges → w ≡ tooMany (length edges₁)
+          pub map-refused : {k : Refusal} (w : Within) (out : List ℕ) {edges₁ : List ℕ} → m .verdict ≡ verdict.Refused k → edges₁ ≡ written (spec.mapEdges mapped) edges → w ≡ tooMany (length edges₁)
               → ListsWithin listing ((4096 ≤ length lists) × (20480 ≤ length edges)) out w out
           unfolding listedMethod borrowMap
           map-refused {k} w out {edges₁} v stored e = rw (e, same) (go (ltb (length edges) 20480) refl)
@@ -212,7 +212,7 @@ module _ (env : LifetimeEnv) (used : ℕ) (structs params own given taken : List
               refuses = due-refused (mappingOf visitor types) (refused-first (mappingOf visitor types) k (mapChecks visitor structs params (length answers) (length edges)) (sym verdict-is ∙ v))
 
               same : edges₁ ≡ edges
-              same = stored ∙ ap (λ (o : Outcome Mapping). written (spec.edgesIn o) edges) refuses
+              same = stored ∙ ap (λ (o : Outcome Mapping). written (spec.mapEdges o) edges) refuses
 
               go : (t : Bool) → ltb (length edges) 20480 ≡ t → ListsWithin listing ((4096 ≤ length lists) × (20480 ≤ length edges)) out (cond t within.Short (within.Done (listed.Refused NoRoom))) out
               go true s = (λ a. omega (arith, ltb-true (length edges) 20480 s, a .1), refl)
@@ -220,7 +220,7 @@ module _ (env : LifetimeEnv) (used : ℕ) (structs params own given taken : List
                   let many : mostEdges < length (borrows .edges) = omega (arith, ltb-false (length edges) 20480 s, edges-many v) in
                   (due-refused (methodListing env used structs params own given taken) (here (lt-ltb mostEdges (length (borrows .edges)) many) refl), refl)
 
-          module _ (fine : m .verdict ≡ verdict.Accepted) {answers₁ edges₁ : List ℕ} (noted : answers₁ ≡ written (answersIn mapped) answers) (stored : edges₁ ≡ written (spec.edgesIn mapped) edges) where
+          module _ (fine : m .verdict ≡ verdict.Accepted) {answers₁ edges₁ : List ℕ} (noted : answers₁ ≡ written (mapAnswers mapped) answers) (stored : edges₁ ≡ written (spec.mapEdges mapped) edges) where
             map-none : NoneDue (mapChecks visitor structs params (length answers) (length edges))
             unfolding borrowMap
             map-none = accepted-none (mappingOf visitor types) (mapChecks visitor structs params (length answers) (length edges)) (sym verdict-is ∙ fine)
@@ -238,10 +238,10 @@ module _ (env : LifetimeEnv) (used : ℕ) (structs params own given taken : List
             map-is = maps ∙ ap mapAnswer map-given
 
             answers-stand : answers₁ ≡ borrows .answers ++ drop (length (borrows .answers)) answers
-            answers-stand = noted ∙ ap (λ (o : Outcome Mapping). written (answersIn o) answers) map-given
+            answers-stand = noted ∙ ap (λ (o : Outcome Mapping). written (mapAnswers o) answers) map-given
 
             edges-stand : edges₁ ≡ flatMap edgeWords (borrows .edges) ++ drop (length (flatMap edgeWords (borrows .edges))) edges
-            edges-stand = stored ∙ ap (λ (o : Outcome Mapping). written (spec.edgesIn o) edges) map-given
+            edges-stand = stored ∙ ap (λ (o : Outcome Mapping). written (spec.mapEdges o) edges) map-given
 
             pub params-inside : m .params ≤ length answers₁
             params-inside = rw (map-is, answers-stand, length-append) (omega arith)

@@ -1,17 +1,16 @@
 -- The listing and the visits: with 4,096 edges lent there is room for all exactly where the listing has no more.
 use Prim.Native.Nat.{ℕ, _*_, _≤_, _<_}
 use mathlib.Core.Bool.{Bool, true, false}
-use mathlib.Core.Logic.{_⊎_, inl, inr}
-use mathlib.Core.Path.{_≡_, refl, sym, ap, _∙_}
-use mathlib.Core.List.{List, [], _∷_}
+use mathlib.Core.Path.{_≡_, refl, sym, _∙_}
+use mathlib.Core.List.{List}
 use native.Mathlib.Omega.{arith}
-use borrow.Author.Tests.{lt-ltb, le-ltb, ltb-true, ltb-false}
+use borrow.Author.Tests.{ltb-true, ltb-false}
 use lib.Dec.{ltb}
 use lib.ListN.{length}
 use Rattle.lifetimes.specs.declared.answer.Refusal.the-variants.{NoRoom}
 use Rattle.lifetimes.specs.declared.answer.Verdict.the-variants.{Accepted}
-use Rattle.lifetimes.specs.Refusals.{FirstDue, here, NoneDue, next, end}
-use Rattle.lifetimes.proofs.RefusalLaws.{none-first, none-rest, none-split, none-more, first-after}
+use Rattle.lifetimes.specs.Refusals.{here, NoneDue, next, end}
+use Rattle.lifetimes.proofs.RefusalLaws.{none-first, none-split, none-more, first-after}
 use Rattle.borrowing_param.specs.declared.visitor.ParamBorrowInfo.{ParamBorrowInfo}
 use Rattle.borrowing_param.specs.Brings.{refuse}
 use Rattle.borrowing_param.specs.Edges.{width}
@@ -20,8 +19,8 @@ use Rattle.borrowing_param.specs.Borrows.{sheetBorrows}
 use Rattle.borrowing_param.specs.Theorems.{AsVisited}
 use Rattle.borrowing_param.proofs.Theorems.{listing-is-visits, sheets-give-methods}
 use Rattle.sheet.specs.Reading.{sheetOf}
-use Rattle.listing.specs.Listing.{mostEdges, listingOf, edgesCheck, listingChecks, response}
-use Rattle.listing.specs.Theorems.{Answered, ToldApart, refusalText, visitorOf, paramsOf, visitTo, AsListed}
+use Rattle.listing.specs.Listing.{mostEdges, listingChecks, refusalText, response}
+use Rattle.listing.specs.Theorems.{Answered, ToldApart, visitorOf, paramsOf, visitTo, AsListed}
 
 module _ (bytes edges : List ℕ) (fine : NoneDue (sheetRefusals bytes)) (lent : length edges ≡ width * mostEdges) where
   visits : AsVisited (sheetOf bytes .structs) (sheetOf bytes .params) (visitorOf bytes) edges

@@ -4,6 +4,7 @@ use mathlib.Core.Bool.{true}
 use mathlib.Core.List.{List, [], _∷_, _++_, flatMap}
 use lib.Dec.{ltb}
 use lib.ListN.{length}
+use Rattle.lifetimes.specs.declared.answer.Refusal.{Refusal}
 use Rattle.lifetimes.specs.declared.answer.Refusal.the-variants.{NoRoom}
 use Rattle.lifetimes.specs.declared.env.LifetimeEnv.{LifetimeEnv}
 use Rattle.lifetimes.specs.Ranges.{ascending}
@@ -94,9 +95,12 @@ listing bytes room = unless (listingChecks bytes ++ (roomCheck room (listingOf (
 abbrev pub refusalHeading : List ℕ
 refusalHeading = 114 ∷ 101 ∷ 102 ∷ 117 ∷ 115 ∷ 97 ∷ 108 ∷ newline ∷ []
 
+abbrev pub refusalText : Refusal → List ℕ
+refusalText k = refusalHeading ++ line (numberOf k ∷ [])
+
 abbrev pub said : Outcome (List ℕ) → List ℕ
 said (Gives text) = text
-said (Refuses r) = refusalHeading ++ line (numberOf r ∷ [])
+said (Refuses k) = refusalText k
 
 unfoldable pub response : List ℕ → List ℕ
 response bytes = said (unless (listingChecks bytes) (listingOf (sheetOf bytes)))

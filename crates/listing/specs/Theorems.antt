@@ -2,13 +2,13 @@
 use Prim.Native.Nat.{ℕ, _*_, _≤_, _<_}
 use mathlib.Core.Path.{_≡_}
 use mathlib.Core.Logic.{_⊎_, _↔_}
-use mathlib.Core.List.{List, [], _∷_, _++_}
+use mathlib.Core.List.{List}
 use lib.ListN.{length, getD}
 use Rattle.lifetimes.specs.declared.answer.Refusal.{Refusal}
 use Rattle.lifetimes.specs.declared.answer.Refusal.the-variants.{NoRoom}
 use Rattle.lifetimes.specs.declared.answer.Verdict.the-variants.{Accepted}
-use Rattle.lifetimes.specs.Refusals.{numberOf, Gives, FirstDue, NoneDue}
-use Rattle.sheet.specs.Text.{line, Records}
+use Rattle.lifetimes.specs.Refusals.{Gives, FirstDue, NoneDue}
+use Rattle.sheet.specs.Text.{Records}
 use Rattle.sheet.specs.Reading.{sheetOf}
 use Rattle.hir_types.specs.Method.{typesIn}
 use Rattle.borrowing_param.specs.declared.visitor.BorrowingParamVisitor.{BorrowingParamVisitor}
@@ -20,11 +20,8 @@ use Rattle.borrowing_param.specs.New.{created}
 use Rattle.borrowing_param.specs.SheetMethod.{envOfSheet, sheetRefusals}
 use Rattle.borrowing_param.specs.Borrows.{sheetBorrows}
 use Rattle.borrowing_param.specs.Theorems.{visitOf, visited}
-use Rattle.listing.specs.Listing.{mostEdges, listingOf, listingChecks, listing, refusalHeading, response}
+use Rattle.listing.specs.Listing.{mostEdges, listingOf, listingChecks, listing, refusalText, response}
 use Rattle.listing.specs.Examples.{examples, Right}
-
-abbrev pub refusalText : Refusal → List ℕ
-refusalText k = refusalHeading ++ line (numberOf k ∷ [])
 
 -- Condition 1. Whatever the bytes, a refusal is due on them or none is; what the program answers is that refusal's two lines, or the complete listing
 pub record Answered (bytes : List ℕ) : Type 0 where
