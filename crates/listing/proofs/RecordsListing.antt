@@ -59,13 +59,10 @@ textBy env b own given taken =
     ++ (answerLines (b .answers)
     ++ edgeLines (b .edges))))
 
-module _ (r : Records) (shape : sheetInShape r ≡ true) (given taken lists edges : ℕ) where
-  abbrev Ampl : Type 0
-  Ampl = Ample given taken lists edges
+refuses : (r : Records) {k : Refusal} {out : List ℕ} → FirstDue k (recordsChecks r) → Lists (listedRecords r) out (listed.Refused k) out
+refuses r f = (due-refused (listingOf r) (first-more (edgesCheck r ∷ []) f), refl)
 
-  abbrev Answers : List ℕ → Within → List ℕ → Type 0
-  Answers out w out₁ = ListsWithin (listedRecords r) Ampl out w out₁
-
+module _ (r : Records) (shape : sheetInShape r ≡ true) (given taken : ℕ) where
   -- scratch for the lowered words
   steps-long : length (r .steps) ≤ 1024
   steps-long = shapes-are-short r shape (r .steps) (List·Memᴰ·tail (List·Memᴰ·tail (List·Memᴰ·tail (List·Memᴰ·tail (List·Memᴰ·head refl)))))
@@ -76,19 +73,16 @@ module _ (r : Records) (shape : sheetInShape r ≡ true) (given taken lists edge
   eighth : {room n : ℕ} → room / 8 < n → n ≤ 1024 → 8192 ≤ room → ⊥
   eighth {room} {n} h k a = omega (arith, h, k, a, div-add-mod' room 8, mod-lt room {m = 8} (omega arith))
 
-  pub steps-short : {out : List ℕ} → given / 8 < length (r .steps) → Answers out within.Short out
+  pub steps-short : {lists edges : ℕ} {out : List ℕ} → given / 8 < length (r .steps) → ListsWithin (listedRecords r) (Ample given taken lists edges) out within.Short out
   steps-short h = (λ a. eighth h steps-long (a .0), refl)
 
-  pub returns-short : {out : List ℕ} → taken / 8 < length (r .returns) → Answers out within.Short out
+  pub returns-short : {lists edges : ℕ} {out : List ℕ} → taken / 8 < length (r .returns) → ListsWithin (listedRecords r) (Ample given taken lists edges) out within.Short out
   returns-short h = (λ a. eighth h returns-long (a .1), refl)
-
-  refuses : {k : Refusal} {out : List ℕ} → FirstDue k (recordsChecks r) → Answers out (within.Done (listed.Refused k)) out
-  refuses f = (due-refused (listingOf r) (first-more (edgesCheck r ∷ []) f), refl)
 
   module _ (steps-room : length (r .steps) ≤ given / 8) (returns-room : length (r .returns) ≤ taken / 8)
       {a : ast-made.Made} (is : a ≡ ast.made (ast.envOf [] []) (ast.fromMethodItem (r .names) (r .bounds) (r .types))) where
-    pub names-listed : {k : Refusal} {out : List ℕ} → a .verdict ≡ verdict.Refused k → Answers out (within.Done (listed.Refused k)) out
-    names-listed v = refuses (names-first r shape is v)
+    pub names-listed : {k : Refusal} {out : List ℕ} → a .verdict ≡ verdict.Refused k → Lists (listedRecords r) out (listed.Refused k) out
+    names-listed v = refuses r (names-first r shape is v)
 
     -- with so much room `lower` refuses as `measure` does
     room-none : (e : ast-env.LifetimeEnv) → NoneDue (roomChecks (recordsOf e (r .self) (r .steps) (r .returns)) 1 given taken)
@@ -111,85 +105,115 @@ module _ (r : Records) (shape : sheetInShape r ≡ true) (given taken lists edge
       measures : l ≡ answered (a .env) (measureRecords (a .env) (r .self) (r .steps) (r .returns))
       measures = lowers ∙ ap (answered (a .env)) lower-measures
 
-      pub steps-listed : {k : Refusal} {out : List ℕ} → l .verdict ≡ verdict.Refused k → Answers out (within.Done (listed.Refused k)) out
-      steps-listed v = refuses (steps-first r shape is fine measures v)
+      pub steps-listed : {k : Refusal} {out : List ℕ} → l .verdict ≡ verdict.Refused k → Lists (listedRecords r) out (listed.Refused k) out
+      steps-listed v = refuses r (steps-first r shape is fine measures v)
 
-      module _ (elides : l .verdict ≡ verdict.Accepted) where
-        -- what stands in the scratch
-        lowered-is : lowered ≡ Gives (loweredOf r)
-        unfolding measureRecords
-        lowered-is =
-            lower-measures
-            ∙ ap (λ (e : ast-env.LifetimeEnv). measureRecords e (r .self) (r .steps) (r .returns)) (ast-is r shape is fine)
-            ∙ due-given (recordsOf (astEnvOf r) (r .self) (r .steps) (r .returns)) (measure-none r shape is fine measures elides)
-            ∙ rw (names-are r shape is fine)
+-- What the stages have left when the records are lowered: what `from_method_item` answered, and what `lower` answered and wrote to three slices
+pub record Elided (r : Records) (own given taken : List ℕ) (a : ast-made.Made) (l : Lowering) (own₁ given₁ taken₁ : List ℕ) : Type 0 where
+  pub shape : sheetInShape r ≡ true
+  pub steps-room : length (r .steps) ≤ length given / 8
+  pub returns-room : length (r .returns) ≤ length taken / 8
+  pub names : a ≡ ast.made (ast.envOf [] []) (ast.fromMethodItem (r .names) (r .bounds) (r .types))
+  pub fine : a .verdict ≡ verdict.Accepted
+  pub lowers : l ≡ answered (a .env) (lowerRecords (a .env) (r .self) (r .steps) (r .returns) 1 (length given) (length taken))
+  pub own-written : own₁ ≡ written (ownWords (lowerRecords (a .env) (r .self) (r .steps) (r .returns) 1 (length given) (length taken))) own
+  pub steps-written : given₁ ≡ written (stepWords (lowerRecords (a .env) (r .self) (r .steps) (r .returns) 1 (length given) (length taken))) given
+  pub returns-written : taken₁ ≡ written (returnWords (lowerRecords (a .env) (r .self) (r .steps) (r .returns) 1 (length given) (length taken))) taken
+  pub elides : l .verdict ≡ verdict.Accepted
 
-        answer-is : l ≡ answered (a .env) (Gives (loweredOf r))
-        answer-is = lowers ∙ ap (answered (a .env)) lowered-is
+module _ {r : Records} {own given taken : List ℕ} {a : ast-made.Made} {l : Lowering} {own₁ given₁ taken₁ : List ℕ} (h : Elided r own given taken a l own₁ given₁ taken₁) where
+  abbrev lowering : Outcome rfc.Method
+  lowering = lowerRecords (a .env) (r .self) (r .steps) (r .returns) 1 (length given) (length taken)
 
-        stands : (f : Outcome rfc.Method → Outcome (List ℕ)) (ws : List ℕ) → f (Gives (loweredOf r)) ≡ Gives ws → {n : ℕ} → n ≡ length ws → (slice : List ℕ) {slice₁ : List ℕ} → slice₁ ≡ written (f lowered) slice
-            → (n ≤ length slice₁) × (take (n - 0) (drop 0 slice₁) ≡ ws)
-        stands f ws e {n} size slice {slice₁} wrote =
-            let is-there : slice₁ ≡ ws ++ drop (length ws) slice = wrote ∙ ap (λ (o : Outcome rfc.Method). written (f o) slice) lowered-is ∙ ap (λ (o : Outcome (List ℕ)). written o slice) e in
-            (rw (size, is-there, length-append) (omega arith), rw (sub-zero, size, is-there) (take-append-seam ws (drop (length ws) slice)))
+  measured : l ≡ answered (a .env) (measureRecords (a .env) (r .self) (r .steps) (r .returns))
+  measured = measures r (h .shape) (length given) (length taken) (h .steps-room) (h .returns-room) (h .names) (h .fine) (h .lowers)
 
-        pub own-stands : (own : List ℕ) {own₁ : List ℕ} → own₁ ≡ written (ownWords lowered) own → (l .selves ≤ length own₁) × (take (l .selves - 0) (drop 0 own₁) ≡ words (loweredOf r .self))
-        own-stands = stands ownWords (words (loweredOf r .self)) refl (ap (λ (x : Lowering). x .selves) answer-is)
+  -- what stands in the scratch
+  lowered-is : lowering ≡ Gives (loweredOf r)
+  unfolding measureRecords
+  lowered-is =
+      lower-measures r (h .shape) (length given) (length taken) (h .steps-room) (h .returns-room) (h .names)
+      ∙ ap (λ (e : ast-env.LifetimeEnv). measureRecords e (r .self) (r .steps) (r .returns)) (ast-is r (h .shape) (h .names) (h .fine))
+      ∙ due-given (recordsOf (astEnvOf r) (r .self) (r .steps) (r .returns)) (measure-none r (h .shape) (h .names) (h .fine) measured (h .elides))
+      ∙ rw (names-are r (h .shape) (h .names) (h .fine))
 
-        pub steps-stand : (slice : List ℕ) {slice₁ : List ℕ} → slice₁ ≡ written (stepWords lowered) slice → (l .steps ≤ length slice₁) × (take (l .steps - 0) (drop 0 slice₁) ≡ words (loweredOf r .steps))
-        steps-stand = stands stepWords (words (loweredOf r .steps)) refl (ap (λ (x : Lowering). x .steps) answer-is)
+  answer-is : l ≡ answered (a .env) (Gives (loweredOf r))
+  answer-is = h .lowers ∙ ap (answered (a .env)) lowered-is
 
-        pub returns-stand : (slice : List ℕ) {slice₁ : List ℕ} → slice₁ ≡ written (returnWords lowered) slice → (l .returns ≤ length slice₁) × (take (l .returns - 0) (drop 0 slice₁) ≡ words (loweredOf r .returns))
-        returns-stand = stands returnWords (words (loweredOf r .returns)) refl (ap (λ (x : Lowering). x .returns) answer-is)
+  stands : (f : Outcome rfc.Method → Outcome (List ℕ)) (ws : List ℕ) → f (Gives (loweredOf r)) ≡ Gives ws → {n : ℕ} → n ≡ length ws → (slice : List ℕ) {slice₁ : List ℕ} → slice₁ ≡ written (f lowering) slice
+      → (n ≤ length slice₁) × (take (n - 0) (drop 0 slice₁) ≡ ws)
+  stands f ws e {n} size slice {slice₁} wrote =
+      let is-there : slice₁ ≡ ws ++ drop (length ws) slice = wrote ∙ ap (λ (o : Outcome rfc.Method). written (f o) slice) lowered-is ∙ ap (λ (o : Outcome (List ℕ)). written o slice) e in
+      (rw (size, is-there, length-append) (omega arith), rw (sub-zero, size, is-there) (take-append-seam ws (drop (length ws) slice)))
 
-        -- the used lifetimes
-        module _ {u : UsedLifetimes} (uses : u ≡ usedAnswer (usedSet (l .env) (r .structs) (r .params) (r .output) (r .force))) where
-          pub used-listed : {k : Refusal} {out : List ℕ} → u ≡ answer.Refused k → Answers out (within.Done (listed.Refused k)) out
-          used-listed e = refuses (method-first r shape is fine measures elides (used-refused (l .env) (r .structs) (r .params) (r .output) (r .force) uses e))
+  pub own-stands : (l .selves ≤ length own₁) × (take (l .selves - 0) (drop 0 own₁) ≡ words (loweredOf r .self))
+  own-stands = stands ownWords (words (loweredOf r .self)) refl (ap (λ (x : Lowering). x .selves) answer-is) own (h .own-written)
 
-          module _ {used : ℕ} (e : u ≡ answer.Set used) where
-            none : NoneDue (recordsChecks r)
-            none = method-none r shape is fine measures elides (accepted (l .env) (r .structs) (r .params) (r .output) (r .force) uses e)
+  pub steps-stand : (l .steps ≤ length given₁) × (take (l .steps - 0) (drop 0 given₁) ≡ words (loweredOf r .steps))
+  steps-stand = stands stepWords (words (loweredOf r .steps)) refl (ap (λ (x : Lowering). x .steps) answer-is) given (h .steps-written)
 
-            the-env : l .env ≡ envOfSheet r
-            the-env = env-is r shape is fine measures elides
+  pub returns-stand : (l .returns ≤ length taken₁) × (take (l .returns - 0) (drop 0 taken₁) ≡ words (loweredOf r .returns))
+  returns-stand = stands returnWords (words (loweredOf r .returns)) refl (ap (λ (x : Lowering). x .returns) answer-is) taken (h .returns-written)
 
-            borrows-are : sheetBorrows r ≡ methodBorrows (l .env) used (r .structs) (r .params)
-            unfolding created
-            borrows-are =
-                let g : usedSet (envOfSheet r) (r .structs) (r .params) (r .output) (r .force) ≡ Gives used = rw (← the-env) (gives (l .env) (r .structs) (r .params) (r .output) (r .force) uses e) in
-                rw (g, the-env)
+  -- the used lifetimes
+  module _ {u : UsedLifetimes} (uses : u ≡ usedAnswer (usedSet (l .env) (r .structs) (r .params) (r .output) (r .force))) where
+    pub used-listed : {k : Refusal} {out : List ℕ} → u ≡ answer.Refused k → Lists (listedRecords r) out (listed.Refused k) out
+    used-listed e = refuses r (method-first r (h .shape) (h .names) (h .fine) measured (h .elides) (used-refused (l .env) (r .structs) (r .params) (r .output) (r .force) uses e))
 
-            module _ {own steps returns : List ℕ} (own-are : own ≡ words (loweredOf r .self)) (steps-are : steps ≡ words (loweredOf r .steps)) (returns-are : returns ≡ words (loweredOf r .returns)) where
-              text-is : listingOf r ≡ methodListing (l .env) used (r .structs) (r .params) own steps returns
-              unfolding listingOf methodListing
-              text-is =
-                  ap (λ (b : Borrows). textBy (envOfSheet r) b (words (loweredOf r .self)) (words (loweredOf r .steps)) (words (loweredOf r .returns))) borrows-are
-                  ∙ ap (λ (x : LifetimeEnv). textBy x (methodBorrows (l .env) used (r .structs) (r .params)) (words (loweredOf r .self)) (words (loweredOf r .steps)) (words (loweredOf r .returns))) (sym the-env)
-                  ∙ rw (own-are, steps-are, returns-are)
+    module _ {used : ℕ} (e : u ≡ answer.Set used) where
+      none : NoneDue (recordsChecks r)
+      none = method-none r (h .shape) (h .names) (h .fine) measured (h .elides) (accepted (l .env) (r .structs) (r .params) (r .output) (r .force) uses e)
 
-              pub listable : Listable (l .env) used (r .structs) (r .params) own steps returns
-              listable =
-                  let n = accepted (l .env) (r .structs) (r .params) (r .output) (r .force) uses e in
-                  let g = gives (l .env) (r .structs) (r .params) (r .output) (r .force) uses e in
-                  record {
-                    valid = env-none (l .env) (r .structs) (r .params) (r .output) (r .force) n;
-                    of = params-none (l .env) (r .structs) (r .params) (r .output) (r .force) n;
-                    below = used-below (l .env) (r .structs) (r .params) (r .output) (r .force) n used g;
-                    short = λ h. subst (λ (t : List ℕ). length t ≤ 131072) text-is (listing-short r none (subst (λ (b : Borrows). length (b .edges) ≤ mostEdges) (sym borrows-are) h));
-                  }
+      the-env : l .env ≡ envOfSheet r
+      the-env = env-is r (h .shape) (h .names) (h .fine) measured (h .elides)
 
-              pub records-listed : (w : Within) (out out₁ : List ℕ)
-                  → ListsWithin (listedMethod (l .env) used (r .structs) (r .params) own steps returns) ((4096 ≤ lists) × (20480 ≤ edges)) out w out₁ → Answers out w out₁
-              unfolding listedMethod
-              records-listed w out out₁ h = go w h
-                where
-                  same : listedMethod (l .env) used (r .structs) (r .params) own steps returns ≡ listedRecords r
-                  same =
-                      ap (λ (b : Borrows). unless (check (ltb mostEdges (length (b .edges))) NoRoom ∷ []) (methodListing (l .env) used (r .structs) (r .params) own steps returns)) (sym borrows-are)
-                      ∙ ap (λ (t : List ℕ). unless (edgesCheck r ∷ []) t) (sym text-is)
-                      ∙ sym (unless-after (listingOf r) (edgesCheck r ∷ []) none)
+      borrows-are : sheetBorrows r ≡ methodBorrows (l .env) used (r .structs) (r .params)
+      unfolding created
+      borrows-are =
+          let g : usedSet (envOfSheet r) (r .structs) (r .params) (r .output) (r .force) ≡ Gives used = rw (← the-env) (gives (l .env) (r .structs) (r .params) (r .output) (r .force) uses e) in
+          rw (g, the-env)
 
-                  go : (w : Within) → ListsWithin (listedMethod (l .env) used (r .structs) (r .params) own steps returns) ((4096 ≤ lists) × (20480 ≤ edges)) out w out₁ → Answers out w out₁
-                  go (within.Done x) h = subst (λ (o : Outcome (List ℕ)). Lists o out x out₁) same h
-                  go within.Short h = (λ a. h .0 (a .2, a .3), h .1)
+      -- the lowered words, as the parts of the scratch that are handed on
+      abbrev selves : List ℕ
+      selves = take (l .selves - 0) (drop 0 own₁)
+
+      abbrev inputs : List ℕ
+      inputs = take (l .steps - 0) (drop 0 given₁)
+
+      abbrev outputs : List ℕ
+      outputs = take (l .returns - 0) (drop 0 taken₁)
+
+      text-is : listingOf r ≡ methodListing (l .env) used (r .structs) (r .params) selves inputs outputs
+      unfolding listingOf methodListing
+      text-is =
+          ap (λ (b : Borrows). textBy (envOfSheet r) b (words (loweredOf r .self)) (words (loweredOf r .steps)) (words (loweredOf r .returns))) borrows-are
+          ∙ ap (λ (x : LifetimeEnv). textBy x (methodBorrows (l .env) used (r .structs) (r .params)) (words (loweredOf r .self)) (words (loweredOf r .steps)) (words (loweredOf r .returns))) (sym the-env)
+          ∙ rw (own-stands .1, steps-stand .1, returns-stand .1)
+
+      pub listable : Listable (l .env) used (r .structs) (r .params) selves inputs outputs
+      listable =
+          let n = accepted (l .env) (r .structs) (r .params) (r .output) (r .force) uses e in
+          let g = gives (l .env) (r .structs) (r .params) (r .output) (r .force) uses e in
+          record {
+            valid = env-none (l .env) (r .structs) (r .params) (r .output) (r .force) n;
+            of = params-none (l .env) (r .structs) (r .params) (r .output) (r .force) n;
+            below = used-below (l .env) (r .structs) (r .params) (r .output) (r .force) n used g;
+            short = λ h. subst (λ (t : List ℕ). length t ≤ 131072) text-is (listing-short r none (subst (λ (b : Borrows). length (b .edges) ≤ mostEdges) (sym borrows-are) h));
+          }
+
+      pub records-listed : (lists edges : ℕ) (w : Within) (out out₁ : List ℕ)
+          → ListsWithin (listedMethod (l .env) used (r .structs) (r .params) selves inputs outputs) ((4096 ≤ lists) × (20480 ≤ edges)) out w out₁
+          → ListsWithin (listedRecords r) (Ample (length given) (length taken) lists edges) out w out₁
+      unfolding listedMethod
+      records-listed lists edges w out out₁ h = go w h
+        where
+          same : listedMethod (l .env) used (r .structs) (r .params) selves inputs outputs ≡ listedRecords r
+          same =
+              ap (λ (b : Borrows). unless (check (ltb mostEdges (length (b .edges))) NoRoom ∷ []) (methodListing (l .env) used (r .structs) (r .params) selves inputs outputs)) (sym borrows-are)
+              ∙ ap (λ (t : List ℕ). unless (edgesCheck r ∷ []) t) (sym text-is)
+              ∙ sym (unless-after (listingOf r) (edgesCheck r ∷ []) none)
+
+          go : (w : Within) → ListsWithin (listedMethod (l .env) used (r .structs) (r .params) selves inputs outputs) ((4096 ≤ lists) × (20480 ≤ edges)) out w out₁
+              → ListsWithin (listedRecords r) (Ample (length given) (length taken) lists edges) out w out₁
+          go (within.Done x) h = subst (λ (o : Outcome (List ℕ)). Lists o out x out₁) same h
+          go within.Short h = (λ a. h .0 (a .2, a .3), h .1)
