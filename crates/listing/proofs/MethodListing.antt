@@ -58,7 +58,23 @@ flatten-map f (a ∷ l) = ap (λ (m : List ℕ). f a ++ m) (flatten-map f l)
 five-same : {a a₁ c c₁ d d₁ e e₁ : List ℕ} (b : List ℕ) → a ≡ a₁ → c ≡ c₁ → d ≡ d₁ → e ≡ e₁ → a ++ (b ++ (c ++ (d ++ e))) ≡ a₁ ++ (b ++ (c₁ ++ (d₁ ++ e₁)))
 five-same b f g h i = rw (f, g, h, i)
 
-module _ (env : LifetimeEnv) (used : ℕ) (structs params own given taken : List ℕ) (can : Listable env used structs params own given taken) where
+-- what `all_lists` leaves in scratch
+pub record AllListed (env : LifetimeEnv) (lists ends : List ℕ) (l : reach.Lists) (lists₁ ends₁ : List ℕ) : Type 0 where
+  pub places : length ends ≡ 64
+  pub room : env .count * env .count ≤ length lists
+  pub is : l ≡ listsAnswer true env (length lists) (length ends)
+  pub wrote : lists₁ ≡ written (listWords true env (length lists) (length ends)) lists
+  pub ended : ends₁ ≡ written (listEnds true env (length lists) (length ends)) ends
+
+-- what `borrow_map` leaves there
+pub record Mapped (v : BorrowingParamVisitor) (structs params answers edges : List ℕ) (m : BorrowMap) (answers₁ edges₁ : List ℕ) : Type 0 where
+  pub sixteen : length answers ≡ 16
+  pub most : length edges ≤ 20480
+  pub maps : m ≡ mapAnswer (borrowMap v structs params (length answers) (length edges))
+  pub noted : answers₁ ≡ written (mapAnswers (borrowMap v structs params (length answers) (length edges))) answers
+  pub stored : edges₁ ≡ written (spec.mapEdges (borrowMap v structs params (length answers) (length edges))) edges
+
+module _ {env : LifetimeEnv} {used : ℕ} {structs params own given taken : List ℕ} (can : Listable env used structs params own given taken) where
   abbrev borrows : Borrows
   borrows = methodBorrows env used structs params
 
@@ -95,193 +111,193 @@ module _ (env : LifetimeEnv) (used : ℕ) (structs params own given taken : List
   unfolding allLists
   lists-many = rw length-map (length-ascending 0 (env .count))
 
-  module _ (lists ends : List ℕ) where
-    pub lists-short : {edges : ℕ} {out : List ℕ} → length lists < env .count * env .count → ListsWithin listing ((4096 ≤ length lists) × (20480 ≤ edges)) out within.Short out
-    lists-short h = (λ a. omega (arith, h, mul-le-mul few few, a .0), refl)
+  pub lists-short : (lists : List ℕ) {edges : ℕ} {out : List ℕ} → length lists < env .count * env .count → ListsWithin listing ((4096 ≤ length lists) × (20480 ≤ edges)) out within.Short out
+  lists-short lists h = (λ a. omega (arith, h, mul-le-mul few few, a .0), refl)
 
-    module _ (places : length ends ≡ 64) (room : env .count * env .count ≤ length lists) where
-      lists-fit : length (flatten (allLists true env)) ≤ length lists
-      lists-fit = omega (arith, lists-few, room)
+  module _ {lists ends : List ℕ} {l : reach.Lists} {lists₁ ends₁ : List ℕ} (all : AllListed env lists ends l lists₁ ends₁) where
+    open AllListed all using (places, room, is, wrote, ended)
 
-      lists-none : NoneDue (listsChecks true env (length lists) (length ends))
-      lists-none =
-          none-more (can .valid)
-          (next (le-ltb (length ends) (length (endsFrom 0 (allLists true env))) (omega (arith, length-ends 0 (allLists true env), lists-many, few, places)))
-          (next (le-ltb (length lists) (length (flatten (allLists true env))) lists-fit) end))
+    lists-fit : length (flatten (allLists true env)) ≤ length lists
+    lists-fit = omega (arith, lists-few, room)
 
-      module _ {l : reach.Lists} (is : l ≡ listsAnswer true env (length lists) (length ends)) {lists₁ ends₁ : List ℕ}
-          (wrote : lists₁ ≡ written (listWords true env (length lists) (length ends)) lists) (ended : ends₁ ≡ written (listEnds true env (length lists) (length ends)) ends) where
-        sets-are : l .sets ≡ allSets true env
-        unfolding listsAnswer
-        sets-are = ap (λ (x : reach.Lists). x .sets) is ∙ ap (resultOr noSets) (due-given (allSets true env) lists-none)
+    lists-none : NoneDue (listsChecks true env (length lists) (length ends))
+    lists-none =
+        none-more (can .valid)
+        (next (le-ltb (length ends) (length (endsFrom 0 (allLists true env))) (omega (arith, length-ends 0 (allLists true env), lists-many, few, places)))
+        (next (le-ltb (length lists) (length (flatten (allLists true env))) lists-fit) end))
 
-        abbrev behind : List ℕ
-        behind = drop (length (flatten (allLists true env))) lists
+    sets-are : l .sets ≡ allSets true env
+    unfolding listsAnswer
+    sets-are = ap (λ (x : reach.Lists). x .sets) is ∙ ap (resultOr noSets) (due-given (allSets true env) lists-none)
 
-        abbrev past : List ℕ
-        past = drop (length (endsFrom 0 (allLists true env))) ends
+    abbrev behind : List ℕ
+    behind = drop (length (flatten (allLists true env))) lists
 
-        lists-are : lists₁ ≡ flatten (allLists true env) ++ behind
-        unfolding listWords
-        lists-are = wrote ∙ ap (λ (o : Outcome (List ℕ)). written o lists) (due-given (flatten (allLists true env)) lists-none)
+    abbrev past : List ℕ
+    past = drop (length (endsFrom 0 (allLists true env))) ends
 
-        ends-are : ends₁ ≡ endsFrom 0 (allLists true env) ++ past
-        unfolding listEnds
-        ends-are = ended ∙ ap (λ (o : Outcome (List ℕ)). written o ends) (due-given (endsFrom 0 (allLists true env)) lists-none)
+    lists-are : lists₁ ≡ flatten (allLists true env) ++ behind
+    unfolding listWords
+    lists-are = wrote ∙ ap (λ (o : Outcome (List ℕ)). written o lists) (due-given (flatten (allLists true env)) lists-none)
 
-        pub lists-ascend : Ascend 0 (length lists₁) ends₁ (env .count)
-        lists-ascend =
-            let k : 0 + length (flatten (allLists true env)) ≤ length lists₁ = rw (lists-are, length-append) (omega arith) in
-            subst (λ (n : ℕ). Ascend 0 (length lists₁) ends₁ n) lists-many (rw ends-are (ends-ascend 0 (length lists₁) (allLists true env) past k))
+    ends-are : ends₁ ≡ endsFrom 0 (allLists true env) ++ past
+    unfolding listEnds
+    ends-are = ended ∙ ap (λ (o : Outcome (List ℕ)). written o ends) (due-given (endsFrom 0 (allLists true env)) lists-none)
 
-        lists-cut : cutFrom 0 lists₁ ends₁ (env .count) ≡ allLists true env
-        lists-cut = subst (λ (n : ℕ). cutFrom 0 lists₁ ends₁ n ≡ allLists true env) lists-many (rw (lists-are, ends-are) (cut-lists [] (allLists true env) behind past))
+    pub lists-ascend : Ascend 0 (length lists₁) ends₁ (env .count)
+    lists-ascend =
+        let k : 0 + length (flatten (allLists true env)) ≤ length lists₁ = rw (lists-are, length-append) (omega arith) in
+        subst (λ (n : ℕ). Ascend 0 (length lists₁) ends₁ n) lists-many (rw ends-are (ends-ascend 0 (length lists₁) (allLists true env) past k))
 
-        longer-are : longerHeading ++ numbered 0 (cutFrom 0 lists₁ ends₁ (env .count)) ≡ longerLines env
-        unfolding allLists
-        longer-are = rw lists-cut (ap (λ (t : List ℕ). longerHeading ++ t) (numbered-map (traversal LastFirst true (boundsOf env)) 0 (env .count)))
+    lists-cut : cutFrom 0 lists₁ ends₁ (env .count) ≡ allLists true env
+    lists-cut = subst (λ (n : ℕ). cutFrom 0 lists₁ ends₁ n ≡ allLists true env) lists-many (rw (lists-are, ends-are) (cut-lists [] (allLists true env) behind past))
 
-        -- ---- the answers and the edges
+    longer-are : longerHeading ++ numbered 0 (cutFrom 0 lists₁ ends₁ (env .count)) ≡ longerLines env
+    unfolding allLists
+    longer-are = rw lists-cut (ap (λ (t : List ℕ). longerHeading ++ t) (numbered-map (traversal LastFirst true (boundsOf env)) 0 (env .count)))
 
-        abbrev visitor : BorrowingParamVisitor
-        visitor = record { used = used; draws = l .sets; stored = 0 }
+    -- ---- the answers and the edges
 
-        same-used : visitor .used ≡ new .used
-        unfolding newVisitor
-        same-used = refl
+    abbrev visitor : BorrowingParamVisitor
+    visitor = record { used = used; draws = l .sets; stored = 0 }
 
-        same-draws : (x : ℕ) → List·Memᴰ x (usedOf new) → getD (visitor .draws) x 0 ≡ getD (new .draws) x 0
-        unfolding newVisitor
-        same-draws x m =
-            let in-used = (members-has used x) .0 m in
-            let there : getD (new .draws) x 0 ≡ reachSet true (boundsOf env) x =
-            at-place (drawsTo used (boundsOf env)) 0 64 x (in-used .0) ∙ ap (drawsTo used (boundsOf env)) (zero-add x) ∙ rw (in-used .1) in
-            ap (λ (s : List ℕ). getD s x 0) sets-are ∙ set-there env x (can .below x (in-used .1)) ∙ sym there
+    same-used : visitor .used ≡ new .used
+    unfolding newVisitor
+    same-used = refl
 
-        edges-are : listedEdges visitor types ≡ borrows .edges
-        edges-are = edges-same visitor new same-used same-draws types
+    same-draws : (x : ℕ) → List·Memᴰ x (usedOf new) → getD (visitor .draws) x 0 ≡ getD (new .draws) x 0
+    unfolding newVisitor
+    same-draws x m =
+        let in-used = (members-has used x) .0 m in
+        let there : getD (new .draws) x 0 ≡ reachSet true (boundsOf env) x =
+        at-place (drawsTo used (boundsOf env)) 0 64 x (in-used .0) ∙ ap (drawsTo used (boundsOf env)) (zero-add x) ∙ rw (in-used .1) in
+        ap (λ (s : List ℕ). getD s x 0) sets-are ∙ set-there env x (can .below x (in-used .1)) ∙ sym there
 
-        answers-are : answersFrom visitor 0 types ≡ borrows .answers
-        answers-are = answers-same visitor new same-used same-draws 0 types
+    edges-are : listedEdges visitor types ≡ borrows .edges
+    edges-are = edges-same visitor new same-used same-draws types
 
-        mapping-is : mappingOf visitor types ≡ record { answers = borrows .answers; edges = borrows .edges }
-        mapping-is = rw (edges-are, answers-are)
+    answers-are : answersFrom visitor 0 types ≡ borrows .answers
+    answers-are = answers-same visitor new same-used same-draws 0 types
 
-        few-answers : length (answersFrom visitor 0 types) ≤ 16
-        few-answers = listing-consistent visitor structs params (can .of) .few-params
+    mapping-is : mappingOf visitor types ≡ record { answers = borrows .answers; edges = borrows .edges }
+    mapping-is = rw (edges-are, answers-are)
 
-        module _ (edges answers : List ℕ) (sixteen : length answers ≡ 16) (most : length edges ≤ 20480) {m : BorrowMap}
-            (maps : m ≡ mapAnswer (borrowMap visitor structs params (length answers) (length edges))) where
-          abbrev mapped : Outcome Mapping
-          mapped = borrowMap visitor structs params (length answers) (length edges)
+    few-answers : length (answersFrom visitor 0 types) ≤ 16
+    few-answers = listing-consistent visitor structs params (can .of) .few-params
 
-          abbrev answersRoom : Check
-          answersRoom = roomCheck (length answers) (answersFrom visitor 0 types)
+    module _ {answers edges : List ℕ} {m : BorrowMap} {answers₁ edges₁ : List ℕ} (map : Mapped visitor structs params answers edges m answers₁ edges₁) where
+      open Mapped map using (sixteen, most, maps, noted, stored)
 
-          abbrev edgesRoom : Check
-          edgesRoom = roomCheck (length edges) (flatMap edgeWords (listedEdges visitor types))
+      abbrev mapped : Outcome Mapping
+      mapped = borrowMap visitor structs params (length answers) (length edges)
 
-          verdict-is : m .verdict ≡ verdictOf mapped
-          verdict-is = ap (λ (x : BorrowMap). x .verdict) maps ∙ go mapped
-            where
-              go : (o : Outcome Mapping) → mapAnswer o .verdict ≡ verdictOf o
-              go (Gives x) = refl
-              go (Refuses k) = refl
+      abbrev answersRoom : Check
+      answersRoom = roomCheck (length answers) (answersFrom visitor 0 types)
 
-          answers-fit : answersRoom .due ≡ false
-          answers-fit = le-ltb (length answers) (length (answersFrom visitor 0 types)) (omega (arith, few-answers, sixteen))
+      abbrev edgesRoom : Check
+      edgesRoom = roomCheck (length edges) (flatMap edgeWords (listedEdges visitor types))
 
-          words-are : length (flatMap edgeWords (listedEdges visitor types)) ≡ width * length (borrows .edges)
-          words-are = words-many (listedEdges visitor types) ∙ ap (λ (es : List LifetimeEdge). width * length es) edges-are
+      verdict-is : m .verdict ≡ verdictOf mapped
+      verdict-is = ap (λ (x : BorrowMap). x .verdict) maps ∙ go mapped
+        where
+          go : (o : Outcome Mapping) → mapAnswer o .verdict ≡ verdictOf o
+          go (Gives x) = refl
+          go (Refuses k) = refl
 
-          -- more than so many words of edges
-          edges-many : {k : Refusal} → m .verdict ≡ verdict.Refused k → length edges < width * length (borrows .edges)
-          unfolding borrowMap
-          edges-many {k} v =
-              go (first-behind (next answers-fit end) (first-behind (can .of) (refused-first (mappingOf visitor types) k (mapChecks visitor structs params (length answers) (length edges)) (sym verdict-is ∙ v))))
-            where
-              go : FirstDue k (edgesRoom ∷ []) → length edges < width * length (borrows .edges)
-              go (here d e) = omega (arith, ltb-true (length edges) (length (flatMap edgeWords (listedEdges visitor types))) d, words-are)
+      answers-fit : answersRoom .due ≡ false
+      answers-fit = le-ltb (length answers) (length (answersFrom visitor 0 types)) (omega (arith, few-answers, sixteen))
 
-          pub map-refused : {k : Refusal} (w : Within) (out : List ℕ) {edges₁ : List ℕ} → m .verdict ≡ verdict.Refused k → edges₁ ≡ written (spec.mapEdges mapped) edges → w ≡ tooMany (length edges₁)
-              → ListsWithin listing ((4096 ≤ length lists) × (20480 ≤ length edges)) out w out
-          unfolding listedMethod borrowMap
-          map-refused {k} w out {edges₁} v stored e = rw (e, same) (go (ltb (length edges) 20480) refl)
-            where
-              refuses : mapped ≡ Refuses k
-              refuses = due-refused (mappingOf visitor types) (refused-first (mappingOf visitor types) k (mapChecks visitor structs params (length answers) (length edges)) (sym verdict-is ∙ v))
+      words-are : length (flatMap edgeWords (listedEdges visitor types)) ≡ width * length (borrows .edges)
+      words-are = words-many (listedEdges visitor types) ∙ ap (λ (es : List LifetimeEdge). width * length es) edges-are
 
-              same : edges₁ ≡ edges
-              same = stored ∙ ap (λ (o : Outcome Mapping). written (spec.mapEdges o) edges) refuses
+      -- more than so many words of edges
+      edges-many : {k : Refusal} → m .verdict ≡ verdict.Refused k → length edges < width * length (borrows .edges)
+      unfolding borrowMap
+      edges-many {k} v =
+          go (first-behind (next answers-fit end) (first-behind (can .of) (refused-first (mappingOf visitor types) k (mapChecks visitor structs params (length answers) (length edges)) (sym verdict-is ∙ v))))
+        where
+          go : FirstDue k (edgesRoom ∷ []) → length edges < width * length (borrows .edges)
+          go (here d e) = omega (arith, ltb-true (length edges) (length (flatMap edgeWords (listedEdges visitor types))) d, words-are)
 
-              go : (t : Bool) → ltb (length edges) 20480 ≡ t → ListsWithin listing ((4096 ≤ length lists) × (20480 ≤ length edges)) out (cond t within.Short (within.Done (listed.Refused NoRoom))) out
-              go true s = (λ a. omega (arith, ltb-true (length edges) 20480 s, a .1), refl)
-              go false s =
-                  let many : mostEdges < length (borrows .edges) = omega (arith, ltb-false (length edges) 20480 s, edges-many v) in
-                  (due-refused (methodListing env used structs params own given taken) (here (lt-ltb mostEdges (length (borrows .edges)) many) refl), refl)
+      pub map-refused : {k : Refusal} (w : Within) (out : List ℕ) → m .verdict ≡ verdict.Refused k → w ≡ tooMany (length edges₁)
+          → ListsWithin listing ((4096 ≤ length lists) × (20480 ≤ length edges)) out w out
+      unfolding listedMethod borrowMap
+      map-refused {k} w out v e = rw (e, same) (go (ltb (length edges) 20480) refl)
+        where
+          refuses : mapped ≡ Refuses k
+          refuses = due-refused (mappingOf visitor types) (refused-first (mappingOf visitor types) k (mapChecks visitor structs params (length answers) (length edges)) (sym verdict-is ∙ v))
 
-          module _ (fine : m .verdict ≡ verdict.Accepted) {answers₁ edges₁ : List ℕ} (noted : answers₁ ≡ written (mapAnswers mapped) answers) (stored : edges₁ ≡ written (spec.mapEdges mapped) edges) where
-            map-none : NoneDue (mapChecks visitor structs params (length answers) (length edges))
-            unfolding borrowMap
-            map-none = accepted-none (mappingOf visitor types) (mapChecks visitor structs params (length answers) (length edges)) (sym verdict-is ∙ fine)
+          same : edges₁ ≡ edges
+          same = stored ∙ ap (λ (o : Outcome Mapping). written (spec.mapEdges o) edges) refuses
 
-            map-given : mapped ≡ Gives (record { answers = borrows .answers; edges = borrows .edges })
-            unfolding borrowMap
-            map-given = due-given (mappingOf visitor types) map-none ∙ ap Gives mapping-is
+          go : (t : Bool) → ltb (length edges) 20480 ≡ t → ListsWithin listing ((4096 ≤ length lists) × (20480 ≤ length edges)) out (cond t within.Short (within.Done (listed.Refused NoRoom))) out
+          go true s = (λ a. omega (arith, ltb-true (length edges) 20480 s, a .1), refl)
+          go false s =
+              let many : mostEdges < length (borrows .edges) = omega (arith, ltb-false (length edges) 20480 s, edges-many v) in
+              (due-refused (methodListing env used structs params own given taken) (here (lt-ltb mostEdges (length (borrows .edges)) many) refl), refl)
 
-            edges-fit : width * length (borrows .edges) ≤ length edges
-            edges-fit =
-                let n = none-split (methodChecks (envOf 0 0 []) structs params [] (0 ∷ [])) (answersRoom ∷ edgesRoom ∷ []) map-none .1 in
-                omega (arith, ltb-false (length edges) (length (flatMap edgeWords (listedEdges visitor types))) (none-first (none-rest n)), words-are)
+      module _ (fine : m .verdict ≡ verdict.Accepted) where
+        map-none : NoneDue (mapChecks visitor structs params (length answers) (length edges))
+        unfolding borrowMap
+        map-none = accepted-none (mappingOf visitor types) (mapChecks visitor structs params (length answers) (length edges)) (sym verdict-is ∙ fine)
 
-            map-is : m ≡ mapAnswer (Gives (record { answers = borrows .answers; edges = borrows .edges }))
-            map-is = maps ∙ ap mapAnswer map-given
+        map-given : mapped ≡ Gives (record { answers = borrows .answers; edges = borrows .edges })
+        unfolding borrowMap
+        map-given = due-given (mappingOf visitor types) map-none ∙ ap Gives mapping-is
 
-            answers-stand : answers₁ ≡ borrows .answers ++ drop (length (borrows .answers)) answers
-            answers-stand = noted ∙ ap (λ (o : Outcome Mapping). written (mapAnswers o) answers) map-given
+        edges-fit : width * length (borrows .edges) ≤ length edges
+        edges-fit =
+            let n = none-split (methodChecks (envOf 0 0 []) structs params [] (0 ∷ [])) (answersRoom ∷ edgesRoom ∷ []) map-none .1 in
+            omega (arith, ltb-false (length edges) (length (flatMap edgeWords (listedEdges visitor types))) (none-first (none-rest n)), words-are)
 
-            edges-stand : edges₁ ≡ flatMap edgeWords (borrows .edges) ++ drop (length (flatMap edgeWords (borrows .edges))) edges
-            edges-stand = stored ∙ ap (λ (o : Outcome Mapping). written (spec.mapEdges o) edges) map-given
+        map-is : m ≡ mapAnswer (Gives (record { answers = borrows .answers; edges = borrows .edges }))
+        map-is = maps ∙ ap mapAnswer map-given
 
-            pub params-inside : m .params ≤ length answers₁
-            params-inside = rw (map-is, answers-stand, length-append) (omega arith)
+        answers-stand : answers₁ ≡ borrows .answers ++ drop (length (borrows .answers)) answers
+        answers-stand = noted ∙ ap (λ (o : Outcome Mapping). written (mapAnswers o) answers) map-given
 
-            pub edges-inside : width * m .edges ≤ length edges₁
-            edges-inside = rw (map-is, edges-stand, length-append, words-many (borrows .edges)) (omega arith)
+        edges-stand : edges₁ ≡ flatMap edgeWords (borrows .edges) ++ drop (length (flatMap edgeWords (borrows .edges))) edges
+        edges-stand = stored ∙ ap (λ (o : Outcome Mapping). written (spec.mapEdges o) edges) map-given
 
-            -- ---- the whole
+        pub params-inside : m .params ≤ length answers₁
+        params-inside = rw (map-is, answers-stand, length-append) (omega arith)
 
-            abbrev counts : ℕ → List ℕ
-            counts many = env .count ∷ many ∷ m .params ∷ m .edges ∷ []
+        pub edges-inside : width * m .edges ≤ length edges₁
+        edges-inside = rw (map-is, edges-stand, length-append, words-many (borrows .edges)) (omega arith)
 
-            abbrev answers₂ : List ℕ
-            answers₂ = take (m .params - 0) (drop 0 answers₁)
+        -- ---- the whole
 
-            answers₂-are : answers₂ ≡ borrows .answers
-            answers₂-are = rw (sub-zero, map-is, answers-stand) (take-append-seam (borrows .answers) _)
+        abbrev counts : ℕ → List ℕ
+        counts many = env .count ∷ many ∷ m .params ∷ m .edges ∷ []
 
-            edges₂-are : edgesIn (m .edges) edges₁ ≡ borrows .edges
-            edges₂-are = rw (map-is, edges-stand) (words-read (borrows .edges) _)
+        abbrev answers₂ : List ℕ
+        answers₂ = take (m .params - 0) (drop 0 answers₁)
 
-            few-edges : length (borrows .edges) ≤ mostEdges
-            few-edges = omega (arith, edges-fit, most)
+        answers₂-are : answers₂ ≡ borrows .answers
+        answers₂-are = rw (sub-zero, map-is, answers-stand) (take-append-seam (borrows .answers) _)
 
-            module _ {many : ℕ} (counted : many ≡ sets.count used) where
-              sections-are : sections (counts many) own given taken lists₁ ends₁ answers₂ edges₁ ≡ methodListing env used structs params own given taken
-              unfolding sections methodListing sets.count newVisitor
-              sections-are =
-                  five-same (loweredHeading ++ (line own ++ (line given ++ line taken)))
-                  (ap (λ (ns : List ℕ). countHeading ++ line ns) (rw (counted, map-is)))
-                  longer-are (ap answerLines answers₂-are) (ap edgeLines edges₂-are)
+        edges₂-are : edgesIn (m .edges) edges₁ ≡ borrows .edges
+        edges₂-are = rw (map-is, edges-stand) (words-read (borrows .edges) _)
 
-              pub sections-small : length (sections (counts many) own given taken lists₁ ends₁ answers₂ edges₁) < 2 ^ 64
-              sections-small = rw sections-are (omega (arith, can .short few-edges))
+        few-edges : length (borrows .edges) ≤ mostEdges
+        few-edges = omega (arith, edges-fit, most)
 
-              pub method-listed : {n : ℕ} {out out₁ : List ℕ} → Prints (sections (counts many) own given taken lists₁ ends₁ answers₂ edges₁) 0 out n out₁
-                  → ListsWithin listing ((4096 ≤ length lists) × (20480 ≤ length edges)) out (within.Done (listed.Count n)) out₁
-              unfolding listedMethod
-              method-listed p = (
-                methodListing env used structs params own given taken,
-                due-given (methodListing env used structs params own given taken) (next (le-ltb mostEdges (length (borrows .edges)) few-edges) end),
-                rw sections-are at p,
-              )
+        module _ {many : ℕ} (counted : many ≡ sets.count used) where
+          sections-are : sections (counts many) own given taken lists₁ ends₁ answers₂ edges₁ ≡ methodListing env used structs params own given taken
+          unfolding sections methodListing sets.count newVisitor
+          sections-are =
+              five-same (loweredHeading ++ (line own ++ (line given ++ line taken)))
+              (ap (λ (ns : List ℕ). countHeading ++ line ns) (rw (counted, map-is)))
+              longer-are (ap answerLines answers₂-are) (ap edgeLines edges₂-are)
+
+          pub sections-small : length (sections (counts many) own given taken lists₁ ends₁ answers₂ edges₁) < 2 ^ 64
+          sections-small = rw sections-are (omega (arith, can .short few-edges))
+
+          pub method-listed : {n : ℕ} {out out₁ : List ℕ} → Prints (sections (counts many) own given taken lists₁ ends₁ answers₂ edges₁) 0 out n out₁
+              → ListsWithin listing ((4096 ≤ length lists) × (20480 ≤ length edges)) out (within.Done (listed.Count n)) out₁
+          unfolding listedMethod
+          method-listed p = (
+            methodListing env used structs params own given taken,
+            due-given (methodListing env used structs params own given taken) (next (le-ltb mostEdges (length (borrows .edges)) few-edges) end),
+            rw sections-are at p,
+          )

@@ -46,6 +46,14 @@ module _ {text : List ℕ} {at : ℕ} {out : List ℕ} {s : List ℕ} {at₁ at�
         stored = p .stored ∙ l .stored;
       }
 
+-- where the whole fits, so does the next part, and the last
+module _ {text : List ℕ} {at : ℕ} {out : List ℕ} {at₁ : ℕ} {out₁ : List ℕ} (small : at + length text < 2 ^ 64) where
+  pub next-fits : (s rest : List ℕ) → Leaves text at out (s ++ rest) at₁ out₁ → at₁ + length s < 2 ^ 64
+  next-fits s rest l = omega (arith, small, l .behind, length-append s rest)
+
+  pub last-fits : {s : List ℕ} → Leaves text at out s at₁ out₁ → at₁ + length s < 2 ^ 64
+  last-fits l = omega (arith, small, l .behind)
+
 pub leaves-size : {text : List ℕ} {at : ℕ} {out : List ℕ} {rest : List ℕ} {at₁ : ℕ} {out₁ : List ℕ} → Leaves text at out rest at₁ out₁ → length out₁ ≡ length out
 leaves-size {text} {at} {out} {rest} {at₁} {out₁} l = sym (length-sets out₁ at₁ rest) ∙ ap length (l .stored) ∙ length-sets out at text
 

@@ -5,32 +5,15 @@ use mathlib.Core.List.{List, [], _∷_, _++_, flatMap, append-assoc}
 use native.Mathlib.Nat.{sub-zero}
 use native.Mathlib.Omega.{arith}
 use native.Mathlib.Numerals.{add-one}
-use lib.ListN.{length, getD, take, drop, length-append, length-drop, drop-of-length-le}
+use lib.ListN.{length, getD, take, drop, length-drop, drop-of-length-le}
 use lib.Seq.{drop-cons, drop-drop}
 use Rattle.sheet.specs.Text.{digits, following, line}
 use Rattle.sheet.proofs.Placing.{part-is}
 use Rattle.borrowing_param.specs.Edges.{width, edgeWords, edgeAt, edgesIn}
-use Rattle.listing.specs.Listing.{loweredHeading, answersFrom, edgeLine}
+use Rattle.listing.specs.Listing.{answersFrom, edgeLine}
 use Rattle.listing.specs.InnerPrint.{Prints}
 use Rattle.listing.specs.InnerSections.{numbered, cutFrom, Ascend}
-use Rattle.listing.proofs.Printing.{Leaves, leaves-all, leaves-rest, leaves-none, leaves-size}
-
--- ---- `put_lowered`
-
-module _ (own given taken : List ℕ) where
-  abbrev lowered : List ℕ
-  lowered = loweredHeading ++ (line own ++ (line given ++ line taken))
-
-  module _ {at : ℕ} {out : List ℕ} {at₁ : ℕ} {out₁ : List ℕ} (first : Prints loweredHeading at out at₁ out₁) where
-    pub first-left : Leaves lowered at out (line own ++ (line given ++ line taken)) at₁ out₁
-    first-left = leaves-rest (line own ++ (line given ++ line taken)) (leaves-all lowered at out) first
-
-    module _ {at₂ : ℕ} {out₂ : List ℕ} (second : Prints (line own) at₁ out₁ at₂ out₂) where
-      pub second-left : Leaves lowered at out (line given ++ line taken) at₂ out₂
-      second-left = leaves-rest (line given ++ line taken) first-left second
-
-      pub third-left : {at₃ : ℕ} {out₃ : List ℕ} → Prints (line given) at₂ out₂ at₃ out₃ → Leaves lowered at out (line taken) at₃ out₃
-      third-left third = leaves-rest (line taken) second-left third
+use Rattle.listing.proofs.Printing.{Leaves, leaves-all, leaves-rest, leaves-none, leaves-size, next-fits}
 
 -- ---- `put_numbered`: lists by their ends
 
@@ -101,11 +84,11 @@ module _ {words ends : List ℕ} {count at : ℕ} {out : List ℕ} {next : ℕ} 
     -- no place is past 2^64
     module _ (small : at + length (numbered 0 (cutFrom 0 words ends count)) < 2 ^ 64) where
       pub number-fits : next + length (digits i) < 2 ^ 64
-      number-fits = omega (arith, small, left-number .behind, length-append (digits i) (following listed ++ numbered (suc i) (cutFrom to words (drop (suc i) ends) (count - suc i))))
+      number-fits = next-fits small (digits i) (following listed ++ numbered (suc i) (cutFrom to words (drop (suc i) ends) (count - suc i))) left-number
 
       pub list-fits : {start : ℕ} {out₂ : List ℕ} → Prints (digits i) next out₁ start out₂ → start + length (following listed) < 2 ^ 64
       list-fits first =
-          omega (arith, small, left-list first .behind, length-append (following listed) (numbered (suc i) (cutFrom to words (drop (suc i) ends) (count - suc i))))
+          next-fits small (following listed) (numbered (suc i) (cutFrom to words (drop (suc i) ends) (count - suc i))) (left-list first)
 
 pub numbering-size : {words ends : List ℕ} {count at : ℕ} {out : List ℕ} {next : ℕ} {out₁ : List ℕ} {from i : ℕ} → Numbering words ends count at out next out₁ from i → length out₁ ≡ length out
 numbering-size inv = leaves-size (inv .left)
@@ -156,10 +139,10 @@ module _ {answers : List ℕ} {at : ℕ} {out : List ℕ} {next : ℕ} {out₁ :
 
     module _ (small : at + length (answersFrom 0 answers) < 2 ^ 64) where
       pub param-fits : next + length (digits i) < 2 ^ 64
-      param-fits = omega (arith, small, left-param .behind, length-append (digits i) (following one ++ answersFrom (suc i) (drop (suc i) answers)))
+      param-fits = next-fits small (digits i) (following one ++ answersFrom (suc i) (drop (suc i) answers)) left-param
 
       pub answer-fits : {start : ℕ} {out₂ : List ℕ} → Prints (digits i) next out₁ start out₂ → start + length (following one) < 2 ^ 64
-      answer-fits first = omega (arith, small, left-answer first .behind, length-append (following one) (answersFrom (suc i) (drop (suc i) answers)))
+      answer-fits first = next-fits small (following one) (answersFrom (suc i) (drop (suc i) answers)) (left-answer first)
 
 -- ---- `put_each_edge`
 
@@ -213,44 +196,4 @@ module _ {edges : List ℕ} {count at : ℕ} {out : List ℕ} {next : ℕ} {out�
     edging-more first = rw (add-one i) (record { here = omega (arith, h); left = leaves-rest _ left-edge first })
 
     pub edge-fits : at + length (flatMap edgeLine (edgesIn count edges)) < 2 ^ 64 → next + length (line five) < 2 ^ 64
-    edge-fits small = omega (arith, small, left-edge .behind, length-append (line five) later)
-
--- ---- `put_listing`: five parts, one after another, from the front
-
-module _ (a b c d e : List ℕ) (small : length (a ++ (b ++ (c ++ (d ++ e)))) < 2 ^ 64) where
-  abbrev parts : List ℕ
-  parts = a ++ (b ++ (c ++ (d ++ e)))
-
-  pub first-fits : 0 + length a < 2 ^ 64
-  first-fits = omega (arith, small, length-append a (b ++ (c ++ (d ++ e))))
-
-  module _ {out : List ℕ} {at₁ : ℕ} {out₁ : List ℕ} (first : Prints a 0 out at₁ out₁) where
-    behind-first : Leaves parts 0 out (b ++ (c ++ (d ++ e))) at₁ out₁
-    behind-first = leaves-rest (b ++ (c ++ (d ++ e))) (leaves-all parts 0 out) first
-
-    pub second-fits : at₁ + length b < 2 ^ 64
-    second-fits = omega (arith, small, behind-first .behind, length-append b (c ++ (d ++ e)))
-
-    module _ {at₂ : ℕ} {out₂ : List ℕ} (second : Prints b at₁ out₁ at₂ out₂) where
-      behind-second : Leaves parts 0 out (c ++ (d ++ e)) at₂ out₂
-      behind-second = leaves-rest (c ++ (d ++ e)) behind-first second
-
-      pub third-fits : at₂ + length c < 2 ^ 64
-      third-fits = omega (arith, small, behind-second .behind, length-append c (d ++ e))
-
-      module _ {at₃ : ℕ} {out₃ : List ℕ} (third : Prints c at₂ out₂ at₃ out₃) where
-        behind-third : Leaves parts 0 out (d ++ e) at₃ out₃
-        behind-third = leaves-rest (d ++ e) behind-second third
-
-        pub fourth-fits : at₃ + length d < 2 ^ 64
-        fourth-fits = omega (arith, small, behind-third .behind, length-append d e)
-
-        module _ {at₄ : ℕ} {out₄ : List ℕ} (fourth : Prints d at₃ out₃ at₄ out₄) where
-          behind-fourth : Leaves parts 0 out e at₄ out₄
-          behind-fourth = leaves-rest e behind-third fourth
-
-          pub fifth-fits : at₄ + length e < 2 ^ 64
-          fifth-fits = omega (arith, small, behind-fourth .behind)
-
-          pub all-parts : {at₅ : ℕ} {out₅ : List ℕ} → Prints e at₄ out₄ at₅ out₅ → Prints parts 0 out at₅ out₅
-          all-parts fifth = leaves-none behind-fourth fifth
+    edge-fits small = next-fits small (line five) later left-edge

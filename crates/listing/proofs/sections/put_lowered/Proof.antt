@@ -1,13 +1,41 @@
 -- `put_lowered` meets its contract: the heading, then three lines.
-use mathlib.Core.List.{_++_}
-use native.Mathlib.Omega.{arith}
-use lib.ListN.{length-append}
+use Prim.Native.Nat.{ℕ}
+use mathlib.Core.List.{List, _++_}
 use Rattle.sheet.specs.Text.{line}
-use Rattle.listing.proofs.Printing.{leaves-none}
-use Rattle.listing.proofs.SectionLaws.{first-left, second-left, third-left}
+use Rattle.listing.specs.Listing.{loweredHeading}
+use Rattle.listing.proofs.Printing.{Leaves, leaves-all, leaves-rest, leaves-none, next-fits, last-fits}
 use borrow.Author.Needs.{needs}
 use Rattle.listing.proofs.sections.put_lowered.Statement.{statement}
 use Rattle.listing.proofs.sections.put_lowered.Tie as tie
+
+abbrev start : tie.After-put-text → tie.Start
+start c = c .before .before .before .before .before .before .before .before
+
+-- the three lines
+abbrev own : tie.Start → List ℕ
+own c = line (c .args .own .now)
+
+abbrev given : tie.Start → List ℕ
+given c = line (c .args .given .now)
+
+abbrev taken : tie.Start → List ℕ
+taken c = line (c .args .taken .now)
+
+-- so much is left of the whole in a slice, from a place on
+abbrev Left : tie.Start → List ℕ → ℕ → List ℕ → Type 0
+Left c rest at out = Leaves (loweredHeading ++ (own c ++ (given c ++ taken c))) (c .args .at) (c .args .out .now) rest at out
+
+behind-heading : (c : tie.After-put-text) → Left (start c) (own (start c) ++ (given (start c) ++ taken (start c))) (c .put-text .result) (c .put-text .last .0)
+behind-heading c = leaves-rest _ (leaves-all _ _ _) (c .put-text .ensures)
+
+abbrev begun : tie.After-put-line → tie.Start
+begun c = start (c .before .before .before .before)
+
+behind-own : (c : tie.After-put-line) → Left (begun c) (given (begun c) ++ taken (begun c)) (c .put-line .result) (c .put-line .last .0)
+behind-own c = leaves-rest _ (behind-heading (c .before .before .before .before)) (c .put-line .ensures)
+
+behind-given : (c : tie.After-put-line2) → Left (begun (c .before .before .before .before)) (taken (begun (c .before .before .before .before))) (c .put-line2 .result) (c .put-line2 .last .0)
+behind-given c = leaves-rest _ (behind-own (c .before .before .before .before)) (c .put-line2 .ensures)
 
 -- src/sections.rt:39:9
 put-text-requires : tie.Need-put-text-requires
@@ -15,24 +43,15 @@ put-text-requires c κs = search needs
 
 -- src/sections.rt:40:9
 put-line-requires : tie.Need-put-line-requires
-put-line-requires c κs =
-    let s = c .before .before .before .before .before .before .before .before .before .before .before in
-    let l = first-left (s .args .own .now) (s .args .given .now) (s .args .taken .now) (c .before .before .before .put-text .ensures) in omega (arith, s .pre, l .behind, length-append (line (s .args .own .now)) (line (s .args .given .now) ++ line (s .args .taken .now)))
+put-line-requires c κs = let s = start (c .before .before .before) in next-fits (s .pre) (own s) (given s ++ taken s) (behind-heading (c .before .before .before))
 
 -- src/sections.rt:41:9
 put-line-requires-2 : tie.Need-put-line-requires-2
-put-line-requires-2 c κs =
-    let at-put-text = c .before .before .before .before .before .before .before in
-    let s = at-put-text .before .before .before .before .before .before .before .before in
-    let l = second-left (s .args .own .now) (s .args .given .now) (s .args .taken .now) (at-put-text .put-text .ensures) (c .before .before .before .put-line .ensures) in omega (arith, s .pre, l .behind, length-append (line (s .args .given .now)) (line (s .args .taken .now)))
+put-line-requires-2 c κs = let s = begun (c .before .before .before) in next-fits (s .pre) (given s) (taken s) (behind-own (c .before .before .before))
 
 -- src/sections.rt:42:5
 put-line-requires-3 : tie.Need-put-line-requires-3
-put-line-requires-3 c κs =
-    let at-put-line = c .before .before .before .before .before .before .before in
-    let at-put-text = at-put-line .before .before .before .before in
-    let s = at-put-text .before .before .before .before .before .before .before .before in
-    let l = third-left (s .args .own .now) (s .args .given .now) (s .args .taken .now) (at-put-text .put-text .ensures) (at-put-line .put-line .ensures) (c .before .before .before .put-line2 .ensures) in omega (arith, s .pre, l .behind)
+put-line-requires-3 c κs = last-fits (begun (c .before .before .before .before .before .before .before) .pre) (behind-given (c .before .before .before))
 
 -- src/sections.rt:28:1
 same-length : tie.Need-same-length
@@ -40,12 +59,7 @@ same-length c = search needs
 
 -- src/sections.rt:28:1
 returns : tie.Need-returns
-returns c =
-    let at-put-line2 = c .before .before .before .before .before .before in
-    let at-put-line = at-put-line2 .before .before .before .before in
-    let at-put-text = at-put-line .before .before .before .before in
-    let s = at-put-text .before .before .before .before .before .before .before .before in
-    leaves-none (third-left (s .args .own .now) (s .args .given .now) (s .args .taken .now) (at-put-text .put-text .ensures) (at-put-line .put-line .ensures) (at-put-line2 .put-line2 .ensures)) (c .before .before .put-line3 .ensures)
+returns c = leaves-none (behind-given (c .before .before .before .before .before .before)) (c .before .before .put-line3 .ensures)
 
 pub put-lowered-spec : {M : Type 1} → statement M
 put-lowered-spec =

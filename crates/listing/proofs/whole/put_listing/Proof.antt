@@ -1,13 +1,14 @@
 -- `put_listing` meets its contract: five parts, one after another.
-use Prim.Native.Nat.{ℕ}
+use Prim.Native.Nat.{ℕ, _+_, _<_, _^_}
 use mathlib.Core.List.{List, _++_}
-use lib.ListN.{getD}
+use native.Mathlib.Omega.{arith}
+use lib.ListN.{length, getD}
 use Rattle.sheet.specs.Text.{line}
 use Rattle.borrowing_param.specs.Edges.{edgesIn}
 use Rattle.listing.specs.Listing.{countHeading, loweredHeading, longerHeading, answerLines, edgeLines}
 use Rattle.listing.specs.InnerSections.{numbered, cutFrom}
 use Rattle.listing.specs.InnerListing.{sections}
-use Rattle.listing.proofs.SectionLaws.{first-fits, second-fits, third-fits, fourth-fits, fifth-fits, all-parts}
+use Rattle.listing.proofs.Printing.{Leaves, leaves-all, leaves-rest, leaves-none, next-fits, last-fits}
 use borrow.Author.Needs.{needs}
 use Rattle.listing.proofs.whole.put_listing.Statement.{statement}
 use Rattle.listing.proofs.whole.put_listing.Tie as tie
@@ -28,22 +29,56 @@ answers c = answerLines (c .args .answers .now)
 abbrev edges : tie.Start → List ℕ
 edges c = edgeLines (edgesIn (getD (c .args .counts .now) 3 0) (c .args .edges .now))
 
+-- the whole from each of them on
+abbrev from-answers : tie.Start → List ℕ
+from-answers c = answers c ++ edges c
+
+abbrev from-longer : tie.Start → List ℕ
+from-longer c = longer c ++ from-answers c
+
+abbrev from-lowered : tie.Start → List ℕ
+from-lowered c = lowered c ++ from-longer c
+
+abbrev whole : tie.Start → List ℕ
+whole c = counts c ++ from-lowered c
+
+small : (c : tie.Start) → 0 + length (whole c) < 2 ^ 64
+unfolding sections
+small c = omega (arith, c .pre .1 .1 .1)
+
+-- the start, from behind each call
+abbrev start : tie.After-put-counts → tie.Start
+start c = c .before .before .before .before .before .before .before .before .before .before
+
+abbrev start-2 : tie.After-put-lowered → tie.Start
+start-2 c = start (c .before .before .before .before)
+
+abbrev start-3 : tie.After-put-longer → tie.Start
+start-3 c = start-2 (c .before .before .before .before .before .before)
+
+abbrev start-4 : tie.After-put-answers → tie.Start
+start-4 c = start-3 (c .before .before .before .before)
+
+-- what is left of the whole there
+behind-counts : (c : tie.After-put-counts) → Leaves (whole (start c)) 0 (start c .args .out .now) (from-lowered (start c)) (c .put-counts .result) (c .put-counts .last .0)
+behind-counts c = leaves-rest _ (leaves-all _ _ _) (c .put-counts .ensures)
+
+behind-lowered : (c : tie.After-put-lowered) → Leaves (whole (start-2 c)) 0 (start-2 c .args .out .now) (from-longer (start-2 c)) (c .put-lowered .result) (c .put-lowered .last .0)
+behind-lowered c = leaves-rest _ (behind-counts (c .before .before .before .before)) (c .put-lowered .ensures)
+
+behind-longer : (c : tie.After-put-longer) → Leaves (whole (start-3 c)) 0 (start-3 c .args .out .now) (from-answers (start-3 c)) (c .put-longer .result) (c .put-longer .last .0)
+behind-longer c = leaves-rest _ (behind-lowered (c .before .before .before .before .before .before)) (c .put-longer .ensures)
+
+behind-answers : (c : tie.After-put-answers) → Leaves (whole (start-4 c)) 0 (start-4 c .args .out .now) (edges (start-4 c)) (c .put-answers .result) (c .put-answers .last .0)
+behind-answers c = leaves-rest _ (behind-longer (c .before .before .before .before)) (c .put-answers .ensures)
+
 -- src/whole.rt:33:9
 put-counts-requires : tie.Need-put-counts-requires
-unfolding sections
-put-counts-requires c κs =
-    let at-before = c .before .before .before .before .before .before .before .before in
-    let s = at-before .before in
-    first-fits (counts (at-before .before)) (lowered (at-before .before)) (longer (at-before .before)) (answers (at-before .before)) (edges (at-before .before)) (s .pre .1 .1 .1)
+put-counts-requires c κs = let s = c .before .before .before .before .before .before .before .before .before in next-fits (small s) (counts s) (from-lowered s) (leaves-all (whole s) 0 (s .args .out .now))
 
 -- src/whole.rt:34:9
 put-lowered-requires : tie.Need-put-lowered-requires
-unfolding sections
-put-lowered-requires c κs =
-    let at-put-counts = c .before .before .before in
-    let at-before = at-put-counts .before .before .before .before .before .before .before .before .before in
-    let s = at-before .before in
-    second-fits (counts (at-before .before)) (lowered (at-before .before)) (longer (at-before .before)) (answers (at-before .before)) (edges (at-before .before)) (s .pre .1 .1 .1) (at-put-counts .put-counts .ensures)
+put-lowered-requires c κs = let s = start (c .before .before .before) in next-fits (small s) (lowered s) (from-longer s) (behind-counts (c .before .before .before))
 
 -- src/whole.rt:35:57
 element-copy-out-put-longer : tie.Need-element-copy-out-put-longer
@@ -51,24 +86,11 @@ element-copy-out-put-longer c = search needs
 
 -- src/whole.rt:35:9
 put-longer-requires : tie.Need-put-longer-requires
-unfolding sections
-put-longer-requires c κs =
-    let at-put-lowered = c .before .before .before .before .before in
-    let at-put-counts = at-put-lowered .before .before .before .before in
-    let at-before = at-put-counts .before .before .before .before .before .before .before .before .before in
-    let s = at-before .before in
-    (s .pre .1 .0, third-fits (counts (at-before .before)) (lowered (at-before .before)) (longer (at-before .before)) (answers (at-before .before)) (edges (at-before .before)) (s .pre .1 .1 .1) (at-put-counts .put-counts .ensures) (at-put-lowered .put-lowered .ensures))
+put-longer-requires c κs = let s = start-2 (c .before .before .before .before .before) in (s .pre .1 .0, next-fits (small s) (longer s) (from-answers s) (behind-lowered (c .before .before .before .before .before)))
 
 -- src/whole.rt:36:9
 put-answers-requires : tie.Need-put-answers-requires
-unfolding sections
-put-answers-requires c κs =
-    let at-put-longer = c .before .before .before in
-    let at-put-lowered = at-put-longer .before .before .before .before .before .before in
-    let at-put-counts = at-put-lowered .before .before .before .before in
-    let at-before = at-put-counts .before .before .before .before .before .before .before .before .before in
-    let s = at-before .before in
-    fourth-fits (counts (at-before .before)) (lowered (at-before .before)) (longer (at-before .before)) (answers (at-before .before)) (edges (at-before .before)) (s .pre .1 .1 .1) (at-put-counts .put-counts .ensures) (at-put-lowered .put-lowered .ensures) (at-put-longer .put-longer .ensures)
+put-answers-requires c κs = let s = start-3 (c .before .before .before) in next-fits (small s) (answers s) (edges s) (behind-longer (c .before .before .before))
 
 -- src/whole.rt:37:34
 element-copy-out-put-edges : tie.Need-element-copy-out-put-edges
@@ -76,15 +98,7 @@ element-copy-out-put-edges c = search needs
 
 -- src/whole.rt:37:5
 put-edges-requires : tie.Need-put-edges-requires
-unfolding sections
-put-edges-requires c κs =
-    let at-put-answers = c .before .before .before .before in
-    let at-put-longer = at-put-answers .before .before .before .before in
-    let at-put-lowered = at-put-longer .before .before .before .before .before .before in
-    let at-put-counts = at-put-lowered .before .before .before .before in
-    let at-before = at-put-counts .before .before .before .before .before .before .before .before .before in
-    let s = at-before .before in
-    (s .pre .1 .1 .0, fifth-fits (counts (at-before .before)) (lowered (at-before .before)) (longer (at-before .before)) (answers (at-before .before)) (edges (at-before .before)) (s .pre .1 .1 .1) (at-put-counts .put-counts .ensures) (at-put-lowered .put-lowered .ensures) (at-put-longer .put-longer .ensures) (at-put-answers .put-answers .ensures))
+put-edges-requires c κs = let s = start-4 (c .before .before .before .before) in (s .pre .1 .1 .0, last-fits (small s) (behind-answers (c .before .before .before .before)))
 
 -- src/whole.rt:16:1
 same-length : tie.Need-same-length
@@ -93,14 +107,7 @@ same-length c = search needs
 -- src/whole.rt:16:1
 returns : tie.Need-returns
 unfolding sections
-returns c =
-    let at-put-answers = c .before .before .before .before .before .before .before in
-    let at-put-longer = at-put-answers .before .before .before .before in
-    let at-put-lowered = at-put-longer .before .before .before .before .before .before in
-    let at-put-counts = at-put-lowered .before .before .before .before in
-    let at-before = at-put-counts .before .before .before .before .before .before .before .before .before in
-    let s = at-before .before in
-    all-parts (counts (at-before .before)) (lowered (at-before .before)) (longer (at-before .before)) (answers (at-before .before)) (edges (at-before .before)) (s .pre .1 .1 .1) (at-put-counts .put-counts .ensures) (at-put-lowered .put-lowered .ensures) (at-put-longer .put-longer .ensures) (at-put-answers .put-answers .ensures) (c .before .before .put-edges .ensures)
+returns c = leaves-none (behind-answers (c .before .before .before .before .before .before .before)) (c .before .before .put-edges .ensures)
 
 pub put-listing-spec : {M : Type 1} → statement M
 put-listing-spec =

@@ -4,11 +4,25 @@ use mathlib.Core.Path.{_≡_, sym, subst}
 use lib.ListN.{length}
 use Rattle.sheet.specs.Text.{Records}
 use Rattle.sheet.specs.Shape.{sheetInShape}
+use Rattle.sheet.specs.Inner.{recordsAt}
+use Rattle.borrowing_param.specs.InnerSheet.{records}
 use Rattle.borrowing_param.proofs.SheetLaws.{ten-found}
 use Rattle.listing.specs.InnerListing.{listedRecords, ListsWithin, Ample}
 use borrow.Author.Needs.{needs}
 use Rattle.listing.proofs.within.list_laid.Statement.{statement}
 use Rattle.listing.proofs.within.list_laid.Tie as tie
+
+-- the start, and the ten slices, from where all are found
+abbrev start : tie.After-record-words10 → tie.Start
+start c = c .before .before .before .before .before .before .before .before .before .before .before .before .before .before .before .before
+
+abbrev sheetIn : tie.After-record-words10 → Records
+sheetIn c =
+    records (c .before .before .before .before .before .before .before .before .before .record-words .result .now) (c .before .before .before .before .before .before .before .before .record-words2 .result .now) (c .before .before .before .before .before .before .before .record-words3 .result .now) (c .before .before .before .before .before .before .record-words4 .result .now) (c .before .before .before .before .before .record-words5 .result .now) (c .before .before .before .before .record-words6 .result .now) (c .before .before .before .record-words7 .result .now) (c .before .before .record-words8 .result .now) (c .before .record-words9 .result .now) (c .record-words10 .result .now)
+
+found : (c : tie.After-record-words10) → sheetIn c ≡ recordsAt (start c .args .words .now) (start c .args .ends)
+found c =
+    ten-found (start c .pre .0) (c .before .before .before .before .before .before .before .before .before .record-words .ensures) (c .before .before .before .before .before .before .before .before .record-words2 .ensures) (c .before .before .before .before .before .before .before .record-words3 .ensures) (c .before .before .before .before .before .before .record-words4 .ensures) (c .before .before .before .before .before .record-words5 .ensures) (c .before .before .before .before .record-words6 .ensures) (c .before .before .before .record-words7 .ensures) (c .before .before .record-words8 .ensures) (c .before .record-words9 .ensures) (c .record-words10 .ensures)
 
 record-words-requires : tie.Need-record-words-requires
 record-words-requires c κs = search needs
@@ -42,18 +56,8 @@ record-words-requires-10 c κs = search needs
 
 list-records-requires : tie.Need-list-records-requires
 list-records-requires c κs =
-    let at-record-words10 = c .before .before .before .before .before in
-    let at-record-words9 = at-record-words10 .before in
-    let at-record-words8 = at-record-words9 .before in
-    let at-record-words7 = at-record-words8 .before in
-    let at-record-words6 = at-record-words7 .before in
-    let at-record-words5 = at-record-words6 .before in
-    let at-record-words4 = at-record-words5 .before in
-    let at-record-words3 = at-record-words4 .before in
-    let at-record-words2 = at-record-words3 .before in
-    let at-record-words = at-record-words2 .before in
-    let s = at-record-words .before .before .before .before .before .before .before in
-    (subst (λ (r : Records). sheetInShape r ≡ true) (sym (ten-found (s .pre .0) (at-record-words .record-words .ensures) (at-record-words2 .record-words2 .ensures) (at-record-words3 .record-words3 .ensures) (at-record-words4 .record-words4 .ensures) (at-record-words5 .record-words5 .ensures) (at-record-words6 .record-words6 .ensures) (at-record-words7 .record-words7 .ensures) (at-record-words8 .record-words8 .ensures) (at-record-words9 .record-words9 .ensures) (at-record-words10 .record-words10 .ensures))) (s .pre .1), s .pre .2)
+    let ten = c .before .before .before .before .before in
+    (subst (λ (r : Records). sheetInShape r ≡ true) (sym (found ten)) (start ten .pre .1), start ten .pre .2)
 
 same-length : tie.Need-same-length
 same-length c = search needs
@@ -72,19 +76,10 @@ same-length-5 c = search needs
 
 returns : tie.Need-returns
 returns c =
-    let at-list-records = c .before .before .before .before .before .before .before .before .before .before in
-    let at-record-words10 = at-list-records .before .before .before .before .before .before in
-    let at-record-words9 = at-record-words10 .before in
-    let at-record-words8 = at-record-words9 .before in
-    let at-record-words7 = at-record-words8 .before in
-    let at-record-words6 = at-record-words7 .before in
-    let at-record-words5 = at-record-words6 .before in
-    let at-record-words4 = at-record-words5 .before in
-    let at-record-words3 = at-record-words4 .before in
-    let at-record-words2 = at-record-words3 .before in
-    let at-record-words = at-record-words2 .before in
-    let s = at-record-words .before .before .before .before .before .before .before in
-    subst (λ (r : Records). ListsWithin (listedRecords r) (Ample (length (s .args .given .now)) (length (s .args .taken .now)) (length (s .args .lists .now)) (length (s .args .edges .now))) (s .args .out .now) (at-list-records .list-records .result) (at-list-records .list-records .last .1 .1 .1 .1 .1 .1 .1 .1 .1 .1 .1 .1 .1 .1 .0)) (ten-found (s .pre .0) (at-record-words .record-words .ensures) (at-record-words2 .record-words2 .ensures) (at-record-words3 .record-words3 .ensures) (at-record-words4 .record-words4 .ensures) (at-record-words5 .record-words5 .ensures) (at-record-words6 .record-words6 .ensures) (at-record-words7 .record-words7 .ensures) (at-record-words8 .record-words8 .ensures) (at-record-words9 .record-words9 .ensures) (at-record-words10 .record-words10 .ensures)) (at-list-records .list-records .ensures)
+    let listed = c .before .before .before .before .before .before .before .before .before .before in
+    let ten = listed .before .before .before .before .before .before in
+    let s = start ten in
+    subst (λ (r : Records). ListsWithin (listedRecords r) (Ample (length (s .args .given .now)) (length (s .args .taken .now)) (length (s .args .lists .now)) (length (s .args .edges .now))) (s .args .out .now) (listed .list-records .result) (listed .list-records .last .1 .1 .1 .1 .1 .1 .1 .1 .1 .1 .1 .1 .1 .1 .0)) (found ten) (listed .list-records .ensures)
 
 pub list-laid-spec : {M : Type 1} → statement M
 list-laid-spec =

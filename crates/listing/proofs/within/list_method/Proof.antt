@@ -1,25 +1,44 @@
 -- `list_method` meets its contract: each way out is one law of proofs/MethodListing.antt.
 use mathlib.Core.Path.{refl}
-use mathlib.Core.List.{[]}
 use native.Mathlib.Nat.{mul-le-mul}
 use native.Mathlib.Omega.{arith}
 use lib.ListN.{replicate}
 use Rattle.listing.proofs.RoomLaws.{lifetimes-few}
-use Rattle.listing.proofs.MethodListing.{lists-short, map-refused, params-inside, lists-ascend, edges-inside, sections-small, method-listed}
+use Rattle.listing.proofs.MethodListing.{AllListed, Mapped, lists-short, map-refused, params-inside, lists-ascend, edges-inside, sections-small, method-listed}
 use borrow.Author.Needs.{needs}
 use Rattle.listing.proofs.within.list_method.Statement.{statement}
 use Rattle.listing.proofs.within.list_method.Tie as tie
 
+-- the start, from the test on, from behind the lists and from behind the map
+abbrev start : tie.After-slice-known3 → tie.Start
+start c = c .before .before .before .before .before .before .before .before
+
+abbrev start-2 : tie.After-all-lists → tie.Start
+start-2 c = start (c .before .before .before .before)
+
+abbrev start-3 : tie.After-borrow-map → tie.Start
+start-3 c = start-2 (c .before .before .before .before .before .before .before)
+
+all-listed : (c : tie.After-all-lists) → AllListed (start-2 c .args .env) (start-2 c .args .lists .now) (replicate 64 0) (c .all-lists .result) (c .all-lists .last .1 .1 .0) (c .all-lists .last .1 .1 .1 .0)
+all-listed c =
+    let a = c .all-lists .ensures in
+    record { places = refl; room = c .before .before .before .if1 .left; is = a .0; wrote = a .1 .0; ended = a .1 .1 }
+
+mapped : (c : tie.After-borrow-map)
+    → Mapped (record { used = start-3 c .args .used; draws = c .before .before .before .before .before .before .before .all-lists .result .sets; stored = 0 }) (start-3 c .args .structs .now) (start-3 c .args .params .now) (replicate 16 0)
+    (start-3 c .args .edges .now) (c .borrow-map .result) (c .borrow-map .last .1 .1 .1 .0) (c .borrow-map .last .1 .1 .1 .1 .0)
+mapped c =
+    let m = c .borrow-map .ensures in
+    record { sixteen = refl; most = start-3 c .pre .1; maps = m .0; noted = m .1 .0; stored = m .1 .1 }
+
 mul-if1 : tie.Need-mul-if1
 mul-if1 c =
-    let s = c .before .before .before .before .before .before .before .before in
+    let s = start c in
     let few = lifetimes-few (s .args .env) (s .pre .0 .valid) in
     omega (arith, mul-le-mul few few)
 
 returns : tie.Need-returns
-returns c =
-    let s = c .before .before .before .before .before .before .before .before .before in
-    lists-short (s .args .env) (s .args .used) (s .args .structs .now) (s .args .params .now) (s .args .own .now) (s .args .given .now) (s .args .taken .now) (s .pre .0) (s .args .lists .now) [] (c .if1 .taken)
+returns c = lists-short (start (c .before) .pre .0) (start (c .before) .args .lists .now) (c .if1 .taken)
 
 slice-aggregate-all-lists : tie.Need-slice-aggregate-all-lists
 slice-aggregate-all-lists c = search needs
@@ -47,13 +66,9 @@ same-length-2 c = search needs
 
 returns-2 : tie.Need-returns-2
 returns-2 c =
-    let at-borrow-map = c .before .before .before .before .before .before in
-    let at-all-lists = at-borrow-map .before .before .before .before .before .before .before in
-    let at-if1 = at-all-lists .before .before .before in
-    let s = at-if1 .before .before .before .before .before .before .before .before .before in
-    let a = at-all-lists .all-lists in
-    let b = at-borrow-map .borrow-map in
-    map-refused (s .args .env) (s .args .used) (s .args .structs .now) (s .args .params .now) (s .args .own .now) (s .args .given .now) (s .args .taken .now) (s .pre .0) (s .args .lists .now) (replicate 64 0) refl (at-if1 .if1 .left) (a .ensures .0) (a .ensures .1 .0) (a .ensures .1 .1) (s .args .edges .now) (replicate 16 0) refl (s .pre .1) (b .ensures .0) _ (s .args .out .now) (c .before .enum-told .given .1) (b .ensures .1 .1) (c .too-many .ensures)
+    let map = c .before .before .before .before .before .before in
+    let s = start-3 map in
+    map-refused (s .pre .0) (all-listed (map .before .before .before .before .before .before .before)) (mapped map) _ (s .args .out .now) (c .before .enum-told .given .1) (c .too-many .ensures)
 
 enum-told-2 : tie.Need-enum-told-2
 enum-told-2 c = search needs
@@ -69,26 +84,18 @@ part-put-listing-start c = search needs
 
 part-put-listing-end : tie.Need-part-put-listing-end
 part-put-listing-end c =
-    let at-enum-told2 = c .before .before .before .before .before .before in
-    let at-borrow-map = at-enum-told2 .before .before .before .before .before in
-    let at-all-lists = at-borrow-map .before .before .before .before .before .before .before in
-    let at-if1 = at-all-lists .before .before .before in
-    let s = at-if1 .before .before .before .before .before .before .before .before .before in
-    let a = at-all-lists .all-lists in
-    let b = at-borrow-map .borrow-map in
-    params-inside (s .args .env) (s .args .used) (s .args .structs .now) (s .args .params .now) (s .args .own .now) (s .args .given .now) (s .args .taken .now) (s .pre .0) (s .args .lists .now) (replicate 64 0) refl (at-if1 .if1 .left) (a .ensures .0) (a .ensures .1 .0) (a .ensures .1 .1) (s .args .edges .now) (replicate 16 0) refl (s .pre .1) (b .ensures .0) (at-enum-told2 .enum-told2 .given .1) (b .ensures .1 .0) (b .ensures .1 .1)
+    let told = c .before .before .before .before .before .before in
+    let map = told .before .before .before .before .before in
+    params-inside (start-3 map .pre .0) (all-listed (map .before .before .before .before .before .before .before)) (mapped map) (told .enum-told2 .given .1)
 
 put-listing-requires : tie.Need-put-listing-requires
 put-listing-requires c κs =
-    let at-count = c .before .before .before .before .before .before .before in
-    let at-enum-told2 = at-count .before in
-    let at-borrow-map = at-enum-told2 .before .before .before .before .before in
-    let at-all-lists = at-borrow-map .before .before .before .before .before .before .before in
-    let at-if1 = at-all-lists .before .before .before in
-    let s = at-if1 .before .before .before .before .before .before .before .before .before in
-    let a = at-all-lists .all-lists in
-    let b = at-borrow-map .borrow-map in
-    (refl, (lists-ascend (s .args .env) (s .args .used) (s .args .structs .now) (s .args .params .now) (s .args .own .now) (s .args .given .now) (s .args .taken .now) (s .pre .0) (s .args .lists .now) (replicate 64 0) refl (at-if1 .if1 .left) (a .ensures .0) (a .ensures .1 .0) (a .ensures .1 .1), (edges-inside (s .args .env) (s .args .used) (s .args .structs .now) (s .args .params .now) (s .args .own .now) (s .args .given .now) (s .args .taken .now) (s .pre .0) (s .args .lists .now) (replicate 64 0) refl (at-if1 .if1 .left) (a .ensures .0) (a .ensures .1 .0) (a .ensures .1 .1) (s .args .edges .now) (replicate 16 0) refl (s .pre .1) (b .ensures .0) (at-enum-told2 .enum-told2 .given .1) (b .ensures .1 .0) (b .ensures .1 .1), sections-small (s .args .env) (s .args .used) (s .args .structs .now) (s .args .params .now) (s .args .own .now) (s .args .given .now) (s .args .taken .now) (s .pre .0) (s .args .lists .now) (replicate 64 0) refl (at-if1 .if1 .left) (a .ensures .0) (a .ensures .1 .0) (a .ensures .1 .1) (s .args .edges .now) (replicate 16 0) refl (s .pre .1) (b .ensures .0) (at-enum-told2 .enum-told2 .given .1) (b .ensures .1 .0) (b .ensures .1 .1) (at-count .count .ensures))))
+    let counted = c .before .before .before .before .before .before .before in
+    let fine = counted .before .enum-told2 .given .1 in
+    let map = counted .before .before .before .before .before .before in
+    let can = start-3 map .pre .0 in
+    let all = all-listed (map .before .before .before .before .before .before .before) in
+    (refl, (lists-ascend can all, (edges-inside can all (mapped map) fine, sections-small can all (mapped map) fine (counted .count .ensures))))
 
 same-length-3 : tie.Need-same-length-3
 same-length-3 c = search needs
@@ -101,15 +108,9 @@ same-length-5 c = search needs
 
 returns-3 : tie.Need-returns-3
 returns-3 c =
-    let at-count = c .before .before .before .before .before .before .before .before .before .before in
-    let at-enum-told2 = at-count .before in
-    let at-borrow-map = at-enum-told2 .before .before .before .before .before in
-    let at-all-lists = at-borrow-map .before .before .before .before .before .before .before in
-    let at-if1 = at-all-lists .before .before .before in
-    let s = at-if1 .before .before .before .before .before .before .before .before .before in
-    let a = at-all-lists .all-lists in
-    let b = at-borrow-map .borrow-map in
-    method-listed (s .args .env) (s .args .used) (s .args .structs .now) (s .args .params .now) (s .args .own .now) (s .args .given .now) (s .args .taken .now) (s .pre .0) (s .args .lists .now) (replicate 64 0) refl (at-if1 .if1 .left) (a .ensures .0) (a .ensures .1 .0) (a .ensures .1 .1) (s .args .edges .now) (replicate 16 0) refl (s .pre .1) (b .ensures .0) (at-enum-told2 .enum-told2 .given .1) (b .ensures .1 .0) (b .ensures .1 .1) (at-count .count .ensures) (c .before .before .put-listing .ensures)
+    let counted = c .before .before .before .before .before .before .before .before .before .before in
+    let map = counted .before .before .before .before .before .before in
+    method-listed (start-3 map .pre .0) (all-listed (map .before .before .before .before .before .before .before)) (mapped map) (counted .before .enum-told2 .given .1) (counted .count .ensures) (c .before .before .put-listing .ensures)
 
 pub list-method-spec : {M : Type 1} → statement M
 list-method-spec =
