@@ -113,12 +113,12 @@ enum-told-2 c = search needs
 
 returns : tie.Need-returns Inv-lifetimes μ-lifetimes
 returns c =
-    let at-before = c .before .before .before .before .before in
-    let at-lifetimes = at-before .before .before .before .before in
+    let at-if1 = c .before .before .before .before .before in
+    let at-lifetimes = at-if1 .before .before .before .before in
     let s = at-lifetimes .before .before .before .before .before in
     let l = at-lifetimes .lifetimes in
     let e = c .enum-told2 .given .1 in
-    run-refused (l .inv .2) _ _ (pushed-next (at-before .before) (at-before .if1 .left)) (extends-refused (c .before .before .push-pair .ensures) e (l .inv .2 .size-reach)) e
+    run-refused (l .inv .2) _ _ (pushed-next (at-if1 .before) (at-if1 .if1 .left)) (extends-refused (c .before .before .push-pair .ensures) e (l .inv .2 .size-reach)) e
 
 position-requires-2 : tie.Need-position-requires-2 Inv-lifetimes μ-lifetimes
 position-requires-2 c κs = search needs
@@ -143,12 +143,12 @@ lifetimes-less-2 c = search needs
 lifetimes-again-2 : tie.Need-lifetimes-again-2 Inv-lifetimes μ-lifetimes
 lifetimes-again-2 c =
     let at-push-pair = c .before .before .before .before .before in
-    let at-before = at-push-pair .before .before .before in
-    let at-lifetimes = at-before .before .before .before .before in
+    let at-if1 = at-push-pair .before .before .before in
+    let at-lifetimes = at-if1 .before .before .before .before in
     let s = at-lifetimes .before .before .before .before .before in
     let l = at-lifetimes .lifetimes in
     let e = c .before .before .before .enum-told .given .1 in
-    (omega arith, omega arith, run-more (l .inv .2) _ _ (pushed-next (at-before .before) (at-before .if1 .left)) (extends-one (at-push-pair .push-pair .ensures) e (joined c) (l .inv .2 .reaches)) e)
+    (omega arith, omega arith, run-more (l .inv .2) _ _ (pushed-next (at-if1 .before) (at-if1 .if1 .left)) (extends-one (at-push-pair .push-pair .ensures) e (joined c) (l .inv .2 .reaches)) e)
 
 returns-2 : tie.Need-returns-2 Inv-lifetimes μ-lifetimes
 returns-2 c =

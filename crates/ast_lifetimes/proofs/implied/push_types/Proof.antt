@@ -92,10 +92,11 @@ words-again-3 c = λ ts e. implying-free (c .before .before .before .before .bef
 push-path-requires : tie.Need-push-path-requires Inv-words μ-words
 push-path-requires c κs =
     let at-if2 = c .before .before .before .before .before in
-    let at-before = at-if2 .before .before .before in
-    let s = at-before .before .before .before in
-    let run = (held (at-before .before)) .run in (
-      (omega arith, implying-fits (held (at-before .before)) (at-before .words-test .taken) (at-if2 .if2 .left)),
+    let at-words-test = at-if2 .before .before .before in
+    let at-words = at-words-test .before in
+    let s = at-words .before .before in
+    let run = (held at-words) .run in (
+      (omega arith, implying-fits (held at-words) (at-words-test .words-test .taken) (at-if2 .if2 .left)),
       (
         s .pre .1 .0,
         (

@@ -45,9 +45,8 @@ store-listed-requires c κs =
     let at-if2 = c .before .before .before .before .before .before .before in
     let at-if1 = at-if2 .before in
     let at-count-params = at-if1 .before in
-    let at-before = at-count-params .before .before .before .before .before .before in
-    let s = at-before .before in
-    (s .pre, full (at-before .before), listed-room (s .args .visitor) (paramTypes (s .args .params .now)) (s .args .answers .now) (s .args .edges .now) (at-count-params .count-params .ensures) (at-if1 .if1 .left) (at-if2 .if2 .left))
+    let s = at-count-params .before .before .before .before .before .before .before in
+    (s .pre, full s, listed-room (s .args .visitor) (paramTypes (s .args .params .now)) (s .args .answers .now) (s .args .edges .now) (at-count-params .count-params .ensures) (at-if1 .if1 .left) (at-if2 .if2 .left))
 
 same-length : tie.Need-same-length
 same-length c = search needs

@@ -1,13 +1,24 @@
 -- `lower_laid` meets its contract: the ten slices are the records.
-use mathlib.Core.Path.{ap, _∙_}
+use mathlib.Core.Path.{_≡_, ap, _∙_}
 use mathlib.Core.List.{[]}
 use Rattle.lifetimes.specs.Env.{envOf, made}
 use Rattle.sheet.specs.Text.{Records}
-use Rattle.borrowing_param.specs.InnerSheet.{methodOf}
+use Rattle.sheet.specs.Inner.{recordsAt}
+use Rattle.borrowing_param.specs.InnerSheet.{records, methodOf}
 use Rattle.borrowing_param.proofs.SheetLaws.{ten-found}
 use borrow.Author.Needs.{needs}
 use Rattle.borrowing_param.proofs.method.lower_laid.Statement.{statement}
 use Rattle.borrowing_param.proofs.method.lower_laid.Tie as tie
+
+-- the start, and the ten slices, from where all are found
+abbrev start : tie.After-record-words10 → tie.Start
+start c = c .before .before .before .before .before .before .before .before .before .before .before
+
+found : (c : tie.After-record-words10)
+    → records (c .before .before .before .before .before .before .before .before .before .record-words .result .now) (c .before .before .before .before .before .before .before .before .record-words2 .result .now) (c .before .before .before .before .before .before .before .record-words3 .result .now) (c .before .before .before .before .before .before .record-words4 .result .now) (c .before .before .before .before .before .record-words5 .result .now) (c .before .before .before .before .record-words6 .result .now) (c .before .before .before .record-words7 .result .now) (c .before .before .record-words8 .result .now) (c .before .record-words9 .result .now) (c .record-words10 .result .now)
+    ≡ recordsAt (start c .args .words .now) (start c .args .ends)
+found c =
+    ten-found (start c .pre .0) (c .before .before .before .before .before .before .before .before .before .record-words .ensures) (c .before .before .before .before .before .before .before .before .record-words2 .ensures) (c .before .before .before .before .before .before .before .record-words3 .ensures) (c .before .before .before .before .before .before .record-words4 .ensures) (c .before .before .before .before .before .record-words5 .ensures) (c .before .before .before .before .record-words6 .ensures) (c .before .before .before .record-words7 .ensures) (c .before .before .record-words8 .ensures) (c .before .record-words9 .ensures) (c .record-words10 .ensures)
 
 record-words-requires : tie.Need-record-words-requires
 record-words-requires c κs = search needs
@@ -40,29 +51,10 @@ record-words-requires-10 : tie.Need-record-words-requires-10
 record-words-requires-10 c κs = search needs
 
 lower-records-requires : tie.Need-lower-records-requires
-lower-records-requires c κs =
-    let at-record-words7 = c .before .before .before in
-    let at-record-words6 = at-record-words7 .before in
-    let at-record-words5 = at-record-words6 .before in
-    let at-record-words4 = at-record-words5 .before in
-    let at-record-words3 = at-record-words4 .before in
-    let at-record-words2 = at-record-words3 .before in
-    let at-record-words = at-record-words2 .before in
-    let s = at-record-words .before .before in
-    rw (ten-found (s .pre .0) (at-record-words .record-words .ensures) (at-record-words2 .record-words2 .ensures) (at-record-words3 .record-words3 .ensures) (at-record-words4 .record-words4 .ensures) (at-record-words5 .record-words5 .ensures) (at-record-words6 .record-words6 .ensures) (at-record-words7 .record-words7 .ensures) (c .before .before .record-words8 .ensures) (c .before .record-words9 .ensures) (c .record-words10 .ensures)) (s .pre .1)
+lower-records-requires c κs = rw (found c) (start c .pre .1)
 
 returns : tie.Need-returns
-returns c =
-    let at-record-words8 = c .before .before .before in
-    let at-record-words7 = at-record-words8 .before in
-    let at-record-words6 = at-record-words7 .before in
-    let at-record-words5 = at-record-words6 .before in
-    let at-record-words4 = at-record-words5 .before in
-    let at-record-words3 = at-record-words4 .before in
-    let at-record-words2 = at-record-words3 .before in
-    let at-record-words = at-record-words2 .before in
-    let s = at-record-words .before .before in
-    c .lower-records .ensures ∙ ap (λ (r : Records). made (envOf 0 0 []) (methodOf r)) (ten-found (s .pre .0) (at-record-words .record-words .ensures) (at-record-words2 .record-words2 .ensures) (at-record-words3 .record-words3 .ensures) (at-record-words4 .record-words4 .ensures) (at-record-words5 .record-words5 .ensures) (at-record-words6 .record-words6 .ensures) (at-record-words7 .record-words7 .ensures) (at-record-words8 .record-words8 .ensures) (c .before .before .record-words9 .ensures) (c .before .record-words10 .ensures))
+returns c = c .lower-records .ensures ∙ ap (λ (r : Records). made (envOf 0 0 []) (methodOf r)) (found (c .before))
 
 pub lower-laid-spec : {M : Type 1} → statement M
 lower-laid-spec =

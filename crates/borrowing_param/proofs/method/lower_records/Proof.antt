@@ -11,6 +11,13 @@ sheetIn c =
     records (c .args .names .now) (c .args .bounds .now) (c .args .types .now) (c .args .receiver .now) (c .args .steps .now) (c .args .returns .now) (c .args .structs .now) (c .args .params .now)
     (c .args .output .now) (c .args .force .now)
 
+-- the start, from behind each answer
+abbrev start : tie.After-from-method-item → tie.Start
+start c = c .before .before .before .before .before .before .before .before .before .before .before
+
+abbrev start-2 : tie.After-measure → tie.Start
+start-2 c = start (c .before .before .before)
+
 from-method-item-requires : tie.Need-from-method-item-requires
 from-method-item-requires c κs = search needs
 
@@ -22,10 +29,8 @@ refused-env-requires c κs = search needs
 
 returns : tie.Need-returns
 returns c =
-    let at-from-method-item = c .before .before .before .before in
-    let at-before = at-from-method-item .before .before .before .before .before .before .before .before .before .before in
-    let s = at-before .before in
-    names-refused (sheetIn (at-before .before)) (s .pre) (at-from-method-item .from-method-item .ensures) (c .before .before .declared .given .1) (c .refused-env .ensures)
+    let ast = c .before .before .before .before in
+    names-refused (sheetIn (start ast)) (start ast .pre) (ast .from-method-item .ensures) (c .before .before .declared .given .1) (c .refused-env .ensures)
 
 enum-told : tie.Need-enum-told
 enum-told c = search needs
@@ -41,12 +46,9 @@ refused-env-requires-2 c κs = search needs
 
 returns-2 : tie.Need-returns-2
 returns-2 c =
-    let at-measure = c .before .before .before .before in
-    let at-enum-told = at-measure .before in
-    let at-from-method-item = at-enum-told .before .before in
-    let at-before = at-from-method-item .before .before .before .before .before .before .before .before .before .before in
-    let s = at-before .before in
-    steps-refused (sheetIn (at-before .before)) (s .pre) (at-from-method-item .from-method-item .ensures) (at-enum-told .enum-told .given .1) (at-measure .measure .ensures) (c .before .before .elided .given .1) (c .refused-env2 .ensures)
+    let lowered = c .before .before .before .before in
+    let s = start-2 lowered in
+    steps-refused (sheetIn s) (s .pre) (lowered .before .before .before .from-method-item .ensures) (lowered .before .enum-told .given .1) (lowered .measure .ensures) (c .before .before .elided .given .1) (c .refused-env2 .ensures)
 
 enum-told-2 : tie.Need-enum-told-2
 enum-told-2 c = search needs
@@ -62,27 +64,20 @@ refused-env-requires-3 c κs = search needs
 
 returns-3 : tie.Need-returns-3
 returns-3 c =
-    let at-check-method = c .before .before .before .before in
-    let at-enum-told2 = at-check-method .before .before in
-    let at-measure = at-enum-told2 .before .before in
-    let at-enum-told = at-measure .before in
-    let at-from-method-item = at-enum-told .before .before in
-    let at-before = at-from-method-item .before .before .before .before .before .before .before .before .before .before in
-    let s = at-before .before in
-    method-refused (sheetIn (at-before .before)) (s .pre) (at-from-method-item .from-method-item .ensures) (at-enum-told .enum-told .given .1) (at-measure .measure .ensures) (at-enum-told2 .enum-told2 .given .1) (at-check-method .check-method .ensures) (c .before .before .verdict .given .1) (c .refused-env3 .ensures)
+    let elided = c .before .before .before .before .before .before in
+    let lowered = elided .before .before in
+    let s = start-2 lowered in
+    method-refused (sheetIn s) (s .pre) (lowered .before .before .before .from-method-item .ensures) (lowered .before .enum-told .given .1) (lowered .measure .ensures) (elided .enum-told2 .given .1) (c .before .before .before .before .check-method .ensures) (c .before .before .verdict .given .1) (c .refused-env3 .ensures)
 
 enum-told-3 : tie.Need-enum-told-3
 enum-told-3 c = search needs
 
 returns-4 : tie.Need-returns-4
 returns-4 c =
-    let at-enum-told2 = c .before .before .before .before in
-    let at-measure = at-enum-told2 .before .before in
-    let at-enum-told = at-measure .before in
-    let at-from-method-item = at-enum-told .before .before in
-    let at-before = at-from-method-item .before .before .before .before .before .before .before .before .before .before in
-    let s = at-before .before in
-    method-given (sheetIn (at-before .before)) (s .pre) (at-from-method-item .from-method-item .ensures) (at-enum-told .enum-told .given .1) (at-measure .measure .ensures) (at-enum-told2 .enum-told2 .given .1) (c .before .before .check-method .ensures) (c .enum-told3 .given .1)
+    let elided = c .before .before .before .before in
+    let lowered = elided .before .before in
+    let s = start-2 lowered in
+    method-given (sheetIn s) (s .pre) (lowered .before .before .before .from-method-item .ensures) (lowered .before .enum-told .given .1) (lowered .measure .ensures) (elided .enum-told2 .given .1) (c .before .before .check-method .ensures) (c .enum-told3 .given .1)
 
 pub lower-records-spec : {M : Type 1} → statement M
 lower-records-spec =

@@ -44,8 +44,7 @@ returns-4 : tie.Need-returns-4 Inv-loop μ-loop
 returns-4 c =
     let at-loop-test = c .before .before .before .before .before in
     let at-loop = at-loop-test .before in
-    let at-before = at-loop .before .before in
-    checking-shorter (at-loop .loop .inv) (full (at-before .before)) (at-loop-test .loop-test .taken) refl (c .before .before .if3 .left) refl (c .if4 .taken)
+    checking-shorter (at-loop .loop .inv) (full (at-loop .before .before .before)) (at-loop-test .loop-test .taken) refl (c .before .before .if3 .left) refl (c .if4 .taken)
 
 add-i : tie.Need-add-i Inv-loop μ-loop
 add-i c = search needs
@@ -57,8 +56,7 @@ loop-again : tie.Need-loop-again Inv-loop μ-loop
 loop-again c =
     let at-loop-test = c .before .before .before .before .before in
     let at-loop = at-loop-test .before in
-    let at-before = at-loop .before .before in
-    checking-more (at-loop .loop .inv) (full (at-before .before)) (at-loop-test .loop-test .taken) refl (c .before .before .if3 .left) refl (c .if4 .left)
+    checking-more (at-loop .loop .inv) (full (at-loop .before .before .before)) (at-loop-test .loop-test .taken) refl (c .before .before .if3 .left) refl (c .if4 .left)
 
 returns-5 : tie.Need-returns-5 Inv-loop μ-loop
 returns-5 c = checking-end (c .before .loop .inv) (c .loop-test .left)
