@@ -208,35 +208,52 @@ pub record Pairing (path : List ℕ) (declared : ℕ) (pairs : List FieldPair) (
 pub pairing-start : (path : List ℕ) (declared : ℕ) {a b : DefLifetime} → a ≡ defLifetime 0 → b ≡ defLifetime 0 → Pairing path declared (replicate 16 (record { def = a; outer = b })) 0 0
 pairing-start path declared e f = record { before = omega arith; size = rw length-replicate; counts = zero-add _; stored = rw (e, f) }
 
+-- the next word is linked with a lifetime of the field's definition
+pub record Linking (path : List ℕ) (declared : ℕ) (pairs : List FieldPair) (n i : ℕ) (def : DefLifetime) (m : MaybeStaticDef) : Type 0 where
+  pub pairing : Pairing path declared pairs n i
+  pub inside : i < length path
+  pub defines : def ≡ defLifetime i
+  pub word : m ≡ defFromWord (getD path i 0)
+
+pub linking : (path : List ℕ) (count : ℕ) → length path ≡ count → {declared : ℕ} {pairs : List FieldPair} {n i : ℕ} → Pairing path declared pairs n i → i < count
+    → {linked : LinkedPair} → linked ≡ pairAnswer (linkedPair path count i) → {word : ℕ} {def : DefLifetime} → linked ≡ Pair word def → {m : MaybeStaticDef} → m ≡ defFromWord word
+    → Linking path declared pairs n i def m
+linking path count same {i = i} inv h e t q =
+    let told = pair-told path count same i h e t in
+    record { pairing = inv; inside = omega arith; defines = told .1; word = q ∙ rw (told .0) }
+
+module _ {path : List ℕ} {declared : ℕ} {pairs : List FieldPair} {n i : ℕ} {def : DefLifetime} {m : MaybeStaticDef} (l : Linking path declared pairs n i def m) where
+  abbrev inv : Pairing path declared pairs n i
+  inv = l .pairing
+
+  here : pairsFrom declared i (drop i path) ≡ filledBy declared i m ++ pairsFrom declared (i + 1) (drop (i + 1) path)
+  unfolding pairsFrom
+  here = rw (l .word, add-one i, drop-cons path i 0 (l .inside))
+
+  skipped : filledBy declared i m ≡ [] → Pairing path declared pairs n (i + 1)
+  skipped e =
+      let s : pairsFrom declared i (drop i path) ≡ pairsFrom declared (i + 1) (drop (i + 1) path) = here ∙ rw e in
+      record { before = omega (arith, inv .before); size = inv .size; counts = rw (← s) (inv .counts); stored = rw (← s) (inv .stored) }
+
+  pub pairing-static : m ≡ Static → Pairing path declared pairs n (i + 1)
+  pairing-static e = skipped (rw e)
+
+  module _ {outer : DefLifetime} (e : m ≡ NonStatic outer) where
+    pub pairing-past : declared ≤ outer .0 → Pairing path declared pairs n (i + 1)
+    pairing-past h = skipped (rw (e, le-ltb (outer .0) declared h))
+
+    pub pairing-more : outer .0 < declared → Pairing path declared (set pairs n (record { def = def; outer = outer })) (n + 1) (i + 1)
+    pairing-more h =
+        let s : pairsFrom declared i (drop i path) ≡ fieldPair i (outer .0) ∷ pairsFrom declared (i + 1) (drop (i + 1) path) = here ∙ rw (e, lt-ltb (outer .0) declared h) in
+        let c : n + suc (length (pairsFrom declared (i + 1) (drop (i + 1) path))) ≡ length (pairsFrom declared 0 path) = rw s at (inv .counts) in
+        record {
+          before = omega (arith, inv .before);
+          size = length-set pairs n (record { def = def; outer = outer }) ∙ inv .size;
+          counts = omega arith;
+          stored = rw (l .defines, add-one n) (rw s at (inv .stored));
+        }
+
 module _ {path : List ℕ} {declared : ℕ} {pairs : List FieldPair} {n i : ℕ} (inv : Pairing path declared pairs n i) where
-  module _ (h : i < length path) {m : MaybeStaticDef} (q : m ≡ defFromWord (getD path i 0)) where
-    here : pairsFrom declared i (drop i path) ≡ filledBy declared i m ++ pairsFrom declared (i + 1) (drop (i + 1) path)
-    unfolding pairsFrom
-    here = rw (q, add-one i, drop-cons path i 0 h)
-
-    skipped : filledBy declared i m ≡ [] → Pairing path declared pairs n (i + 1)
-    skipped e =
-        let s : pairsFrom declared i (drop i path) ≡ pairsFrom declared (i + 1) (drop (i + 1) path) = here ∙ rw e in
-        record { before = omega (arith, inv .before); size = inv .size; counts = rw (← s) (inv .counts); stored = rw (← s) (inv .stored) }
-
-    pub pairing-static : m ≡ Static → Pairing path declared pairs n (i + 1)
-    pairing-static e = skipped (rw e)
-
-    module _ {outer : DefLifetime} (e : m ≡ NonStatic outer) where
-      pub pairing-past : declared ≤ outer .0 → Pairing path declared pairs n (i + 1)
-      pairing-past l = skipped (rw (e, le-ltb (outer .0) declared l))
-
-      pub pairing-more : outer .0 < declared → {def : DefLifetime} → def ≡ defLifetime i → Pairing path declared (set pairs n (record { def = def; outer = outer })) (n + 1) (i + 1)
-      pairing-more l {def} d =
-          let s : pairsFrom declared i (drop i path) ≡ fieldPair i (outer .0) ∷ pairsFrom declared (i + 1) (drop (i + 1) path) = here ∙ rw (e, lt-ltb (outer .0) declared l) in
-          let c : n + suc (length (pairsFrom declared (i + 1) (drop (i + 1) path))) ≡ length (pairsFrom declared 0 path) = rw s at (inv .counts) in
-          record {
-            before = omega (arith, inv .before);
-            size = length-set pairs n (record { def = def; outer = outer }) ∙ inv .size;
-            counts = omega arith;
-            stored = rw (d, add-one n) (rw s at (inv .stored));
-          }
-
   all-stored : length path ≤ 16 → length path ≤ i → (n ≡ length (pairsFrom declared 0 path)) × (pairs ≡ placed (pairsFrom declared 0 path))
   unfolding pairsFrom
   all-stored few h =
@@ -260,31 +277,6 @@ module _ {path : List ℕ} {declared : ℕ} {pairs : List FieldPair} {n i : ℕ}
         go : (l : List FieldPair) → n ≡ length l → pairs ≡ placed l → record { answer = answer.Pairs n; pairs = pairs } ≡ givenPairs l
         go [] k q = absurd (e k)
         go (p ∷ l) k q = rw (k, q)
-
--- the same where the words are linked with the lifetimes of the field's definition, as many as they are
-module _ (path : List ℕ) (count : ℕ) (same : length path ≡ count) {declared : ℕ} {pairs : List FieldPair} {n i : ℕ} (inv : Pairing path declared pairs n i) where
-  module _ (h : i < count) {linked : LinkedPair} (e : linked ≡ pairAnswer (linkedPair path count i)) {word : ℕ} {def : DefLifetime} (t : linked ≡ Pair word def) {m : MaybeStaticDef} (q : m ≡ defFromWord word) where
-    inside : i < length path
-    inside = omega arith
-
-    found : m ≡ defFromWord (getD path i 0)
-    found = q ∙ rw (pair-told path count same i h e t .0)
-
-    pub linking-static : m ≡ Static → Pairing path declared pairs n (i + 1)
-    linking-static k = pairing-static inv inside found k
-
-    pub linking-past : {outer : DefLifetime} → m ≡ NonStatic outer → declared ≤ outer .0 → Pairing path declared pairs n (i + 1)
-    linking-past k l = pairing-past inv inside found k l
-
-    pub linking-more : {outer : DefLifetime} → m ≡ NonStatic outer → outer .0 < declared → Pairing path declared (set pairs n (record { def = def; outer = outer })) (n + 1) (i + 1)
-    linking-more k l = pairing-more inv inside found k l (pair-told path count same i h e t .1)
-
-  module _ (few : count ≤ 16) (h : count ≤ i) where
-    pub linking-none : n ≡ 0 → record { answer = answer.Absent; pairs = pairs } ≡ givenPairs (pairsFrom declared 0 path)
-    linking-none e = pairing-none inv (omega arith) (omega arith) e
-
-    pub linking-some : (n ≡ 0 → ⊥) → record { answer = answer.Pairs n; pairs = pairs } ≡ givenPairs (pairsFrom declared 0 path)
-    linking-some e = pairing-some inv (omega arith) (omega arith) e
 
 -- ---- a field of rows that were accepted: its words are as many as the lifetimes of its definition
 

@@ -19,7 +19,7 @@ start c = c .before .before
 abbrev begun : tie.After-shape → tie.Start
 begun c = start (c .before .before)
 
-in-order : (c : tie.After-shape) → (structsInShape (begun c .args .structs .now) ≡ true) × (length (rowsOf (begun c .args .structs .now)) ≡ c .shape .given .0 .0)
+in-order : (c : tie.After-shape) → let s = begun c .args .structs .now in (structsInShape s ≡ true) × (length (rowsOf s) ≡ c .shape .given .0 .0)
 in-order c = let s = begun c .args .structs .now in counted-shape (structsInShape s) (rowsOf s) (c .before .before .structs-shape .ensures) (c .shape .given .1)
 
 -- the field that is asked for is a struct, from where the rows are indexed
@@ -32,12 +32,13 @@ counted c = c .before .before .before .before
 abbrev first : tie.After-index-rows → tie.Start
 first c = begun (counted (found c))
 
-indexed : (c : tie.After-index-rows) → Indexed (first c .args .structs .now) (first c .args .row) (first c .args .field)
-    (found c .found .given .0 .0) (found c .found .given .0 .1 .0) (found c .found .given .0 .1 .1 .0) (c .index-rows .last .1 .1 .0) (c .index-rows .last .1 .1 .1 .0) (c .index-rows .result)
+indexed : (c : tie.After-index-rows) → let s = first c .args in let f = found c .found .given .0 in
+    Indexed (s .structs .now) (s .row) (s .field) (f .0) (f .1 .0) (f .1 .1 .0) (c .index-rows .last .1 .1 .0) (c .index-rows .last .1 .1 .1 .0) (c .index-rows .result)
 indexed c =
+    let s = first c .args in
     record {
       shape = in-order (counted (found c)) .0;
-      asked = subst (FieldIs (first c .args .structs .now) (first c .args .row) (first c .args .field)) (found c .found .given .1) (found c .before .before .field-at .ensures);
+      asked = subst (FieldIs (s .structs .now) (s .row) (s .field)) (found c .found .given .1) (found c .before .before .field-at .ensures);
       index = c .index-rows .ensures;
     }
 

@@ -15,14 +15,14 @@ use Rattle.hir_types.proofs.fields.field_at.Tie as tie
 abbrev start : tie.After-skip-types → tie.Start
 start c = c .before .before .before .before .before .before
 
-stands : (c : tie.After-skip-types) → FieldStands (start c .args .structs .now) (start c .args .row) (start c .args .field) (c .skip-types .result)
+stands : (c : tie.After-skip-types) → let s = start c .args in FieldStands (s .structs .now) (s .row) (s .field) (c .skip-types .result)
 stands c = field-stands (c .before .before .before .row-place .ensures) (c .before .if2 .left) (c .skip-types .ensures)
 
 -- where the types before the field are skipped, from where it is found
 abbrev skipped : tie.After-found → tie.After-skip-types
 skipped c = c .before .before .before
 
-not-struct : (c : tie.After-found) → isStruct (c .found .given .0 .0 .kind) ≡ false → FieldIs (start (skipped c) .args .structs .now) (start (skipped c) .args .row) (start (skipped c) .args .field) Missing
+not-struct : (c : tie.After-found) → isStruct (c .found .given .0 .0 .kind) ≡ false → let s = start (skipped c) .args in FieldIs (s .structs .now) (s .row) (s .field) Missing
 not-struct c e = field-other (stands (skipped c)) (found-told (c .before .before .type-at .ensures .1) (c .found .given .1)) e
 
 returns : tie.Need-returns

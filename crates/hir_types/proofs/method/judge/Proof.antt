@@ -12,8 +12,8 @@ start c = c .before .before .before .before .before
 abbrev shaped : tie.After-judge-places → tie.After-method-shape
 shaped c = c .before .before .before .before .before .before
 
-judging : (c : tie.After-judge-places) → Judging (start (shaped c) .args .env) (start (shaped c) .args .structs .now) (start (shaped c) .args .params .now) (start (shaped c) .args .output .now)
-    (start (shaped c) .args .force .now) (c .judge-places .last .1 .1 .1 .1 .1 .1 .0) (shaped c .method-shape .result) (c .judge-places .result)
+judging : (c : tie.After-judge-places) → let s = start (shaped c) .args in
+    Judging (s .env) (s .structs .now) (s .params .now) (s .output .now) (s .force .now) (c .judge-places .last .1 .1 .1 .1 .1 .1 .0) (shaped c .method-shape .result) (c .judge-places .result)
 judging c =
     record {
       shape = shaped c .method-shape .ensures;
