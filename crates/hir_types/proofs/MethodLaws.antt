@@ -27,6 +27,7 @@ use Rattle.hir_types.specs.declared.fits.Fit.{Fit}
 use Rattle.hir_types.specs.declared.fits.Fit.the-variants.{To, Misfit}
 use Rattle.hir_types.specs.declared.output.Collected.{Collected}
 use Rattle.hir_types.specs.declared.output.Collected.the-variants.{Set, Past}
+use Rattle.hir_types.specs.declared.method.Judged.{Judged}
 use Rattle.hir_types.specs.Method.{typeChecks, rowChecks, paramChecks, placeChecks, typesIn, outputLifetimes, anyPast, methodChecks}
 use Rattle.hir_types.specs.Used.{outputNumbers}
 use Rattle.hir_types.specs.Inner.{TypesFit, ParamsFit, Indexes, CollectIs, within, past, TypesCollect, InShape, Places, Judges}
@@ -41,15 +42,15 @@ types-read n words e q =
     let r = items-types n 0 (length words) words (typesOf n words) (items-start (λ number. readKnown n) words e) in
     (r .0, rw q (r .1))
 
-refused-places : (structs params output places : List ℕ) {v : Verdict} {r : Refusal} → length places ≡ 32 → v ≡ judged (placeChecks structs params output) → v ≡ Refused r
+refused-places : {structs params output places : List ℕ} {v : Verdict} {r : Refusal} → length places ≡ 32 → v ≡ judged (placeChecks structs params output) → v ≡ Refused r
     → Places structs params output places v
-refused-places structs params output places s e k =
+refused-places s e k =
     record { verdict = e; size = s; few = λ a. refused-accepted (sym k ∙ a); placed = λ a. refused-accepted (sym k ∙ a) }
 
 module _ {structs params output lifetimes places : List ℕ} {rows inputs outputs : ℕ} (s : InShape structs params output rows inputs outputs) {v : Verdict} (x : Indexes structs lifetimes places v) where
   pub places-rows : {r : Refusal} → v ≡ Refused r → Places structs params output places v
   places-rows k =
-      refused-places structs params output places (x .sizes .1)
+      refused-places (x .sizes .1)
       (k ∙ sym (judged-stays (rowChecks (rowsOf structs) 0 (rowsOf structs)) (paramChecks (rowsOf structs) 0 (typesIn structs params) ++ typeChecks (rowsOf structs) (typesIn structs output)) (sym (x .verdict) ∙ k)))
       k
 
@@ -64,7 +65,7 @@ module _ {structs params output lifetimes places : List ℕ} {rows inputs output
 
     pub places-params : {r : Refusal} → w ≡ Refused r → Places structs params output places w
     places-params k =
-        refused-places structs params output places (x .sizes .1)
+        refused-places (x .sizes .1)
         (k ∙ sym (past-rows ∙ judged-stays (paramChecks (rowsOf structs) 0 (typesIn structs params)) (typeChecks (rowsOf structs) (typesIn structs output)) (sym params-judged ∙ k)))
         k
 
@@ -75,7 +76,7 @@ module _ {structs params output lifetimes places : List ℕ} {rows inputs output
       pub places-output : t ≡ Misfit → Places structs params output places (Refused Mismatch)
       places-output k =
           let o = types-read (length (rowsOf structs)) output (s .output-shape) (s .output-count) in
-          refused-places structs params output places (x .sizes .1)
+          refused-places (x .sizes .1)
           (sym (past-params ∙ fit-stops (g (rowsOf structs) (length (rowsOf structs)) (typesIn structs output) (o .0) (x .few a) (x .holding a) (o .1)) k))
           refl
 
@@ -146,9 +147,13 @@ in-shape {structs} {params} {output} force q k =
       output-count = ap (λ (s : Shape). s .outputs) q ∙ rw whole;
     }
 
-refused-judges : (env : LifetimeEnv) (structs params output force places : List ℕ) {v : Verdict} {r : Refusal} → length places ≡ 32
-    → v ≡ judged (methodChecks env structs params output force) → v ≡ Refused r → Judges env structs params output force places (record { verdict = v; rows = 0; params = 0; used = 0 })
-refused-judges env structs params output force places s e k =
+-- a refusal alone
+abbrev only : Verdict → Judged
+only v = record { verdict = v; rows = 0; params = 0; used = 0 }
+
+refused-judges : {env : LifetimeEnv} {structs params output force places : List ℕ} {v : Verdict} {r : Refusal} → length places ≡ 32
+    → v ≡ judged (methodChecks env structs params output force) → v ≡ Refused r → Judges env structs params output force places (only v)
+refused-judges s e k =
     record {
       verdict = e;
       size = s;
@@ -162,21 +167,21 @@ refused-judges env structs params output force places s e k =
 
 module _ {env : LifetimeEnv} {structs params output force : List ℕ} {sh : Shape} (q : sh ≡ methodShape structs params output force) where
   pub judge-torn : {places : List ℕ} → length places ≡ 32 → {r : Refusal} → sh .verdict ≡ Refused r
-      → Judges env structs params output force places (record { verdict = sh .verdict; rows = 0; params = 0; used = 0 })
+      → Judges env structs params output force places (only (sh .verdict))
   unfolding unless
-  judge-torn {places} s k =
+  judge-torn s k =
       let t = torn structs params output force q k in
-      refused-judges env structs params output force places s (t .1 ∙ rw (t .0)) k
+      refused-judges s (t .1 ∙ rw (t .0)) k
 
   module _ (a : sh .verdict ≡ Accepted) where
-    pub judge-lifetimes : {places : List ℕ} → length places ≡ 32 → 64 < env .count → Judges env structs params output force places (record { verdict = Refused Full; rows = 0; params = 0; used = 0 })
+    pub judge-lifetimes : {places : List ℕ} → length places ≡ 32 → 64 < env .count → Judges env structs params output force places (only (Refused Full))
     unfolding unless
-    judge-lifetimes {places} s h = refused-judges env structs params output force places s (rw (shaped structs params output force q a, lt-ltb 64 (env .count) h)) refl
+    judge-lifetimes s h = refused-judges s (rw (shaped structs params output force q a, lt-ltb 64 (env .count) h)) refl
 
     pub judge-bounds : env .count ≤ 64 → {places : List ℕ} → length places ≡ 32 → 256 < env .pushed
-        → Judges env structs params output force places (record { verdict = Refused Full; rows = 0; params = 0; used = 0 })
+        → Judges env structs params output force places (only (Refused Full))
     unfolding unless
-    judge-bounds lifetimes {places} s h = refused-judges env structs params output force places s (rw (shaped structs params output force q a, le-ltb 64 (env .count) lifetimes, lt-ltb 256 (env .pushed) h)) refl
+    judge-bounds lifetimes s h = refused-judges s (rw (shaped structs params output force q a, le-ltb 64 (env .count) lifetimes, lt-ltb 256 (env .pushed) h)) refl
 
 -- a method in shape and within the limits, with a verdict over its places
 pub record Judging (env : LifetimeEnv) (structs params output force places : List ℕ) (sh : Shape) (v : Verdict) : Type 0 where
@@ -197,9 +202,9 @@ module _ {env : LifetimeEnv} {structs params output force places : List ℕ} {sh
   unfolding unless
   past-limits = rw (in-order, le-ltb 64 (env .count) (j .lifetimes), le-ltb 256 (env .pushed) (j .bounds))
 
-  pub judge-place : {r : Refusal} → v ≡ Refused r → Judges env structs params output force places (record { verdict = v; rows = 0; params = 0; used = 0 })
+  pub judge-place : {r : Refusal} → v ≡ Refused r → Judges env structs params output force places (only v)
   judge-place k =
-      refused-judges env structs params output force places (j .by-place .size)
+      refused-judges (j .by-place .size)
       (k ∙ sym (past-limits ∙ judged-stays (placeChecks structs params output) (drop 2 (envChecks env) ++ outside) (sym (j .by-place .verdict) ∙ k)))
       k
 
@@ -211,9 +216,9 @@ module _ {env : LifetimeEnv} {structs params output force places : List ℕ} {sh
     unfolding unless
     env-judged = y ∙ rw (le-ltb 64 (env .count) (j .lifetimes), le-ltb 256 (env .pushed) (j .bounds)) (same-verdict (drop 2 (envChecks env)) env (tt {0}))
 
-    pub judge-env : {r : Refusal} → w ≡ Refused r → Judges env structs params output force places (record { verdict = w; rows = 0; params = 0; used = 0 })
+    pub judge-env : {r : Refusal} → w ≡ Refused r → Judges env structs params output force places (only w)
     judge-env k =
-        refused-judges env structs params output force places (j .by-place .size)
+        refused-judges (j .by-place .size)
         (k ∙ sym (past-places ∙ judged-stays (drop 2 (envChecks env)) outside (sym env-judged ∙ k)))
         k
 
@@ -227,10 +232,10 @@ module _ {env : LifetimeEnv} {structs params output force places : List ℕ} {sh
           let o = types-read (length (rowsOf structs)) output (i .output-shape) (i .output-count) in
           z (length (rowsOf structs)) (typesIn structs output) (o .0) (o .1)
 
-      pub judge-outside : t ≡ Past → Judges env structs params output force places (record { verdict = Refused OutOfRange; rows = 0; params = 0; used = 0 })
+      pub judge-outside : t ≡ Past → Judges env structs params output force places (only (Refused OutOfRange))
       unfolding unless
       judge-outside k =
-          refused-judges env structs params output force places (j .by-place .size) (sym (past-env ∙ rw (go (subst (CollectIs (env .count) 0 (outputLifetimes structs output)) k collected)))) refl
+          refused-judges (j .by-place .size) (sym (past-env ∙ rw (go (subst (CollectIs (env .count) 0 (outputLifetimes structs output)) k collected)))) refl
         where
           go : CollectIs (env .count) 0 (outputLifetimes structs output) Past → anyPast (env .count) (outputLifetimes structs output) ≡ true
           go (past h) = h
