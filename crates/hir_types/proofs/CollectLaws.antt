@@ -174,50 +174,6 @@ module _ {words : List ℕ} {types count at used i : ℕ} (inv : Collecting word
         let x = next-type l in
         fails-read (sym f ∙ (known-read n (drop at words) (x .first)) .reads)
 
-    module _ {p : Parts} (f : Found words at (readLowered (drop at words)) p) where
-      pub path-there : PathThere (length words) (p .from) (p .count)
-      path-there i k = path-inside (f .stands) i k
-
-      module _ {r : Collected} (path : CollectIs count used (map fromWord (pathOf words (p .from) (p .count))) r) where
-        pub collecting-past : r ≡ Past → TypesCollect words 0 types count 0 Past
-        unfolding flatMap
-        collecting-past q n ts rest e =
-            let l = inv .each n ts rest e in
-            let x = next-type l in
-            let s = (same-found f n (x .first)) .stands in
-            let here : CollectIs count used (map fromWord (x .type .path)) Past = rw (s .path) at (collect-told path q) in
-            let type : CollectIs count used (lifetimesOf (x .type)) Past = collect-stops (ownLifetimes (x .type .own)) here in
-            l .onto Past (rw (x .all) (collect-stops (flatMap lifetimesOf (x .more)) type))
-
-        module _ {more : ℕ} (q : r ≡ Set more) {r₂ : Collected} (own : CollectIs count more (ownLifetimes (p .own)) r₂) where
-          whole : (n : ℕ) {t : LoweredType} {behind : List ℕ} {r₃ : Collected} → readKnown n (drop at words) ≡ Read t behind → r₂ ≡ r₃ → CollectIs count used (lifetimesOf t) r₃
-          whole n {t} {behind} {r₃} e k =
-              let s = (same-found f n e) .stands in
-              let here : CollectIs count used (map fromWord (t .path)) (Set more) = rw (s .path) at (collect-told path q) in
-              let mine : CollectIs count more (ownLifetimes (t .own)) r₃ = rw (s .own) at (collect-told own k) in
-              collect-then here mine
-
-          pub collecting-own : r₂ ≡ Past → TypesCollect words 0 types count 0 Past
-          unfolding flatMap
-          collecting-own k n ts rest e =
-              let l = inv .each n ts rest e in
-              let x = next-type l in
-              l .onto Past (rw (x .all) (collect-stops (flatMap lifetimesOf (x .more)) (whole n (x .first) k)))
-
-          pub collecting-more : {all : ℕ} → r₂ ≡ Set all → Collecting words types count (p .next) all (i + 1)
-          unfolding flatMap
-          collecting-more k = record {
-            each = λ n ts rest e.
-                let l = inv .each n ts rest e in
-                let x = next-type l in
-                let s = (same-found f n (x .first)) .stands in
-                record {
-                  left = x .more;
-                  reads = rw (s .left) (x .others);
-                  onto = λ r m. l .onto r (rw (x .all) (collect-then (whole n (x .first) k) m));
-                };
-          }
-
   pub collecting-end : types ≤ i → TypesCollect words 0 types count 0 (Set used)
   unfolding flatMap
   collecting-end h n ts rest e =
@@ -225,3 +181,53 @@ module _ {words : List ℕ} {types count at used i : ℕ} (inv : Collecting word
       let z : types - i ≡ 0 = omega arith in
       let none = types-none n (drop at words) (rw z at (l .reads)) in
       l .onto (Set used) (rw (none .0) (collect-none count used))
+
+-- one more type is there
+pub record Reading (words : List ℕ) (types count at used i : ℕ) (p : Parts) : Type 0 where
+  pub collecting : Collecting words types count at used i
+  pub left : i < types
+  pub found : Found words at (readLowered (drop at words)) p
+
+module _ {words : List ℕ} {types count at used i : ℕ} {p : Parts} (t : Reading words types count at used i p) where
+  pub path-there : PathThere (length words) (p .from) (p .count)
+  path-there i k = path-inside (t .found .stands) i k
+
+  module _ {r : Collected} (path : CollectIs count used (map fromWord (pathOf words (p .from) (p .count))) r) where
+    pub collecting-past : r ≡ Past → TypesCollect words 0 types count 0 Past
+    unfolding flatMap
+    collecting-past q n ts rest e =
+        let l = t .collecting .each n ts rest e in
+        let x = next-type (t .collecting) (t .left) l in
+        let s = (same-found (t .found) n (x .first)) .stands in
+        let here : CollectIs count used (map fromWord (x .type .path)) Past = rw (s .path) at (collect-told path q) in
+        let type : CollectIs count used (lifetimesOf (x .type)) Past = collect-stops (ownLifetimes (x .type .own)) here in
+        l .onto Past (rw (x .all) (collect-stops (flatMap lifetimesOf (x .more)) type))
+
+    module _ {more : ℕ} (q : r ≡ Set more) {r₂ : Collected} (own : CollectIs count more (ownLifetimes (p .own)) r₂) where
+      whole : (n : ℕ) {t₁ : LoweredType} {behind : List ℕ} {r₃ : Collected} → readKnown n (drop at words) ≡ Read t₁ behind → r₂ ≡ r₃ → CollectIs count used (lifetimesOf t₁) r₃
+      whole n {t₁} {behind} {r₃} e k =
+          let s = (same-found (t .found) n e) .stands in
+          let here : CollectIs count used (map fromWord (t₁ .path)) (Set more) = rw (s .path) at (collect-told path q) in
+          let mine : CollectIs count more (ownLifetimes (t₁ .own)) r₃ = rw (s .own) at (collect-told own k) in
+          collect-then here mine
+
+      pub collecting-own : r₂ ≡ Past → TypesCollect words 0 types count 0 Past
+      unfolding flatMap
+      collecting-own k n ts rest e =
+          let l = t .collecting .each n ts rest e in
+          let x = next-type (t .collecting) (t .left) l in
+          l .onto Past (rw (x .all) (collect-stops (flatMap lifetimesOf (x .more)) (whole n (x .first) k)))
+
+      pub collecting-more : {all : ℕ} → r₂ ≡ Set all → Collecting words types count (p .next) all (i + 1)
+      unfolding flatMap
+      collecting-more k = record {
+        each = λ n ts rest e.
+            let l = t .collecting .each n ts rest e in
+            let x = next-type (t .collecting) (t .left) l in
+            let s = (same-found (t .found) n (x .first)) .stands in
+            record {
+              left = x .more;
+              reads = rw (s .left) (x .others);
+              onto = λ r m. l .onto r (rw (x .all) (collect-then (whole n (x .first) k) m));
+            };
+      }

@@ -34,8 +34,7 @@ use Rattle.lowered_types.specs.declared.types.Kind.the-variants.{Struct}
 use Rattle.lowered_types.specs.LoweredTypes.{LoweredType, readLowered}
 use Rattle.lowered_types.specs.Rows.{Row, rowWith, readKnown, readTypes, readRow, rowsOf, structsInShape, howMany}
 use Rattle.lowered_types.proofs.FoundLaws.{Found}
-use Rattle.lowered_types.proofs.ShapeLaws.{counted-shape, refused-shape}
-use Rattle.hir_types.specs.declared.fields.Field.{Field}
+use Rattle.lowered_types.proofs.ShapeLaws.{refused-shape}
 use Rattle.hir_types.specs.declared.fields.Field.the-variants.{Missing}
 use Rattle.hir_types.specs.declared.fields.Field.the-variants as aField
 use Rattle.hir_types.specs.declared.fields.FieldPair.{FieldPair}
@@ -131,43 +130,48 @@ types-pick n (suc i) m words types e =
     let p : fieldIn types (suc i) ≡ fieldIn (x .more) i = ap (λ (l : List LoweredType). fieldIn l (suc i)) (x .all) in
     (r .0, r .1, rw (x .first, r .2, q), rw p (r .3))
 
-module _ (structs : List ℕ) (row field : ℕ) where
+field-parts : {structs : List ℕ} {row place : ℕ} (s : RowStands structs row place) → RowParts row structs place (rowAt (rowsOf structs) row) (s .rest)
+field-parts {structs} {row} {place} s = row-parts row structs place (s .reads)
+
+-- the field asked for is read at a place
+pub record FieldStands (structs : List ℕ) (row field at : ℕ) : Type 0 where
+  pub after : List ℕ
+  pub reads : readKnown row (drop at structs) ≡ Read (fieldAt (rowsOf structs) row field) after
+
+module _ {structs : List ℕ} {row field : ℕ} where
   pub field-no-row : length (rowsOf structs) ≤ row → FieldIs structs row field Missing
   field-no-row h =
       let d : rowAt (rowsOf structs) row ≡ rowWith 0 [] = List·getD-eq-default (rowsOf structs) (rowWith 0 []) h in
       other (rw d)
 
   module _ {place : ℕ} (s : RowStands structs row place) where
-    pub field-parts : RowParts row structs place (rowAt (rowsOf structs) row) (s .rest)
-    field-parts = row-parts row structs place (s .reads)
-
     pub field-past : getD structs (place + 1) 0 ≤ field → FieldIs structs row field Missing
     field-past h =
-        let n = types-length row (getD structs (place + 1) 0) (drop (place + 2) structs) (field-parts .fields) in
+        let n = types-length row (getD structs (place + 1) 0) (drop (place + 2) structs) (field-parts s .fields) in
         let d : fieldAt (rowsOf structs) row field ≡ fieldIn [] 0 = List·getD-eq-default (rowAt (rowsOf structs) row .fields) (fieldIn [] 0) (omega arith) in
         other (rw d)
 
-    module _ (h : field < getD structs (place + 1) 0) (at : ℕ) (f : TypesSkip structs (place + 2) field at) where
-      there : (after : List ℕ) × (readKnown row (drop at structs) ≡ Read (fieldAt (rowsOf structs) row field) after)
-      there =
-          let z : getD structs (place + 1) 0 ≡ field + suc (getD structs (place + 1) 0 - suc field) = omega arith in
-          let e : readTypes row (field + suc (getD structs (place + 1) 0 - suc field)) (drop (place + 2) structs) ≡ Read (rowAt (rowsOf structs) row .fields) (s .rest) = rw (← z) (field-parts .fields) in
-          let p = types-pick row field (getD structs (place + 1) 0 - suc field) (drop (place + 2) structs) (rowAt (rowsOf structs) row .fields) e in
-          let left = f row (take field (rowAt (rowsOf structs) row .fields)) (p .0) (p .2) in
-          (p .1, rw left (p .3))
+    pub field-stands : field < getD structs (place + 1) 0 → {at : ℕ} → TypesSkip structs (place + 2) field at → FieldStands structs row field at
+    field-stands h f =
+        let z : getD structs (place + 1) 0 ≡ field + suc (getD structs (place + 1) 0 - suc field) = omega arith in
+        let e : readTypes row (field + suc (getD structs (place + 1) 0 - suc field)) (drop (place + 2) structs) ≡ Read (rowAt (rowsOf structs) row .fields) (s .rest) = rw (← z) (field-parts s .fields) in
+        let p = types-pick row field (getD structs (place + 1) 0 - suc field) (drop (place + 2) structs) (rowAt (rowsOf structs) row .fields) e in
+        let left = f row (take field (rowAt (rowsOf structs) row .fields)) (p .0) (p .2) in
+        record { after = p .1; reads = rw left (p .3) }
 
-      pub field-lost : readLowered (drop at structs) ≡ Fails → FieldIs structs row field Missing
-      field-lost e = fails-read (sym e ∙ (known-read row (drop at structs) (there .1)) .reads)
+  module _ {at : ℕ} (s : FieldStands structs row field at) where
+    pub field-lost : readLowered (drop at structs) ≡ Fails → FieldIs structs row field Missing
+    field-lost e = fails-read (sym e ∙ (known-read row (drop at structs) (s .reads)) .reads)
 
-      module _ {p : Parts} (g : Found structs at (readLowered (drop at structs)) p) where
-        pub field-other : isStruct (p .kind) ≡ false → FieldIs structs row field Missing
-        field-other e = let t = (same-found g row (there .1)) .stands in other (rw (← t .kind) e)
+    module _ {p : Parts} (g : Found structs at (readLowered (drop at structs)) p) where
+      pub field-other : isStruct (p .kind) ≡ false → FieldIs structs row field Missing
+      field-other e = let t = (same-found g row (s .reads)) .stands in other (rw (← t .kind) e)
 
-        pub field-struct : {inner : ℕ} → p .kind ≡ Struct inner → FieldIs structs row field (aField.Struct inner (p .from) (p .count))
-        field-struct {inner} e =
-            let f = same-found g row (there .1) in
-            let few : length (fieldAt (rowsOf structs) row field .path) ≤ 16 = omega (arith, f .stands .count, f .stands .few) in
-            struct (sym (f .stands .kind) ∙ e) (ltb-true inner row (rw e at (f .known))) few (f .stands .path)
+      pub field-struct : {inner : ℕ} → p .kind ≡ Struct inner → FieldIs structs row field (aField.Struct inner (p .from) (p .count))
+      field-struct {inner} e =
+          let f = same-found g row (s .reads) in
+          let few : length (fieldAt (rowsOf structs) row field .path) ≤ 16 = omega (arith, f .stands .count, f .stands .few) in
+          struct (sym (f .stands .kind) ∙ e) (ltb-true inner row (rw e at (f .known))) few (f .stands .path)
 
 -- ---- `pairs_of`
 
@@ -204,35 +208,52 @@ pub record Pairing (path : List ℕ) (declared : ℕ) (pairs : List FieldPair) (
 pub pairing-start : (path : List ℕ) (declared : ℕ) {a b : DefLifetime} → a ≡ defLifetime 0 → b ≡ defLifetime 0 → Pairing path declared (replicate 16 (record { def = a; outer = b })) 0 0
 pairing-start path declared e f = record { before = omega arith; size = rw length-replicate; counts = zero-add _; stored = rw (e, f) }
 
+-- the next word is linked with a lifetime of the field's definition
+pub record Linking (path : List ℕ) (declared : ℕ) (pairs : List FieldPair) (n i : ℕ) (def : DefLifetime) (m : MaybeStaticDef) : Type 0 where
+  pub pairing : Pairing path declared pairs n i
+  pub inside : i < length path
+  pub defines : def ≡ defLifetime i
+  pub word : m ≡ defFromWord (getD path i 0)
+
+pub linking : (path : List ℕ) (count : ℕ) → length path ≡ count → {declared : ℕ} {pairs : List FieldPair} {n i : ℕ} → Pairing path declared pairs n i → i < count
+    → {linked : LinkedPair} → linked ≡ pairAnswer (linkedPair path count i) → {word : ℕ} {def : DefLifetime} → linked ≡ Pair word def → {m : MaybeStaticDef} → m ≡ defFromWord word
+    → Linking path declared pairs n i def m
+linking path count same {i = i} inv h e t q =
+    let told = pair-told path count same i h e t in
+    record { pairing = inv; inside = omega arith; defines = told .1; word = q ∙ rw (told .0) }
+
+module _ {path : List ℕ} {declared : ℕ} {pairs : List FieldPair} {n i : ℕ} {def : DefLifetime} {m : MaybeStaticDef} (l : Linking path declared pairs n i def m) where
+  abbrev inv : Pairing path declared pairs n i
+  inv = l .pairing
+
+  here : pairsFrom declared i (drop i path) ≡ filledBy declared i m ++ pairsFrom declared (i + 1) (drop (i + 1) path)
+  unfolding pairsFrom
+  here = rw (l .word, add-one i, drop-cons path i 0 (l .inside))
+
+  skipped : filledBy declared i m ≡ [] → Pairing path declared pairs n (i + 1)
+  skipped e =
+      let s : pairsFrom declared i (drop i path) ≡ pairsFrom declared (i + 1) (drop (i + 1) path) = here ∙ rw e in
+      record { before = omega (arith, inv .before); size = inv .size; counts = rw (← s) (inv .counts); stored = rw (← s) (inv .stored) }
+
+  pub pairing-static : m ≡ Static → Pairing path declared pairs n (i + 1)
+  pairing-static e = skipped (rw e)
+
+  module _ {outer : DefLifetime} (e : m ≡ NonStatic outer) where
+    pub pairing-past : declared ≤ outer .0 → Pairing path declared pairs n (i + 1)
+    pairing-past h = skipped (rw (e, le-ltb (outer .0) declared h))
+
+    pub pairing-more : outer .0 < declared → Pairing path declared (set pairs n (record { def = def; outer = outer })) (n + 1) (i + 1)
+    pairing-more h =
+        let s : pairsFrom declared i (drop i path) ≡ fieldPair i (outer .0) ∷ pairsFrom declared (i + 1) (drop (i + 1) path) = here ∙ rw (e, lt-ltb (outer .0) declared h) in
+        let c : n + suc (length (pairsFrom declared (i + 1) (drop (i + 1) path))) ≡ length (pairsFrom declared 0 path) = rw s at (inv .counts) in
+        record {
+          before = omega (arith, inv .before);
+          size = length-set pairs n (record { def = def; outer = outer }) ∙ inv .size;
+          counts = omega arith;
+          stored = rw (l .defines, add-one n) (rw s at (inv .stored));
+        }
+
 module _ {path : List ℕ} {declared : ℕ} {pairs : List FieldPair} {n i : ℕ} (inv : Pairing path declared pairs n i) where
-  module _ (h : i < length path) {m : MaybeStaticDef} (q : m ≡ defFromWord (getD path i 0)) where
-    here : pairsFrom declared i (drop i path) ≡ filledBy declared i m ++ pairsFrom declared (i + 1) (drop (i + 1) path)
-    unfolding pairsFrom
-    here = rw (q, add-one i, drop-cons path i 0 h)
-
-    skipped : filledBy declared i m ≡ [] → Pairing path declared pairs n (i + 1)
-    skipped e =
-        let s : pairsFrom declared i (drop i path) ≡ pairsFrom declared (i + 1) (drop (i + 1) path) = here ∙ rw e in
-        record { before = omega (arith, inv .before); size = inv .size; counts = rw (← s) (inv .counts); stored = rw (← s) (inv .stored) }
-
-    pub pairing-static : m ≡ Static → Pairing path declared pairs n (i + 1)
-    pairing-static e = skipped (rw e)
-
-    module _ {outer : DefLifetime} (e : m ≡ NonStatic outer) where
-      pub pairing-past : declared ≤ outer .0 → Pairing path declared pairs n (i + 1)
-      pairing-past l = skipped (rw (e, le-ltb (outer .0) declared l))
-
-      pub pairing-more : outer .0 < declared → {def : DefLifetime} → def ≡ defLifetime i → Pairing path declared (set pairs n (record { def = def; outer = outer })) (n + 1) (i + 1)
-      pairing-more l {def} d =
-          let s : pairsFrom declared i (drop i path) ≡ fieldPair i (outer .0) ∷ pairsFrom declared (i + 1) (drop (i + 1) path) = here ∙ rw (e, lt-ltb (outer .0) declared l) in
-          let c : n + suc (length (pairsFrom declared (i + 1) (drop (i + 1) path))) ≡ length (pairsFrom declared 0 path) = rw s at (inv .counts) in
-          record {
-            before = omega (arith, inv .before);
-            size = length-set pairs n (record { def = def; outer = outer }) ∙ inv .size;
-            counts = omega arith;
-            stored = rw (d, add-one n) (rw s at (inv .stored));
-          }
-
   all-stored : length path ≤ 16 → length path ≤ i → (n ≡ length (pairsFrom declared 0 path)) × (pairs ≡ placed (pairsFrom declared 0 path))
   unfolding pairsFrom
   all-stored few h =
@@ -257,31 +278,6 @@ module _ {path : List ℕ} {declared : ℕ} {pairs : List FieldPair} {n i : ℕ}
         go [] k q = absurd (e k)
         go (p ∷ l) k q = rw (k, q)
 
--- the same where the words are linked with the lifetimes of the field's definition, as many as they are
-module _ (path : List ℕ) (count : ℕ) (same : length path ≡ count) {declared : ℕ} {pairs : List FieldPair} {n i : ℕ} (inv : Pairing path declared pairs n i) where
-  module _ (h : i < count) {linked : LinkedPair} (e : linked ≡ pairAnswer (linkedPair path count i)) {word : ℕ} {def : DefLifetime} (t : linked ≡ Pair word def) {m : MaybeStaticDef} (q : m ≡ defFromWord word) where
-    inside : i < length path
-    inside = omega arith
-
-    found : m ≡ defFromWord (getD path i 0)
-    found = q ∙ rw (pair-told path count same i h e t .0)
-
-    pub linking-static : m ≡ Static → Pairing path declared pairs n (i + 1)
-    linking-static k = pairing-static inv inside found k
-
-    pub linking-past : {outer : DefLifetime} → m ≡ NonStatic outer → declared ≤ outer .0 → Pairing path declared pairs n (i + 1)
-    linking-past k l = pairing-past inv inside found k l
-
-    pub linking-more : {outer : DefLifetime} → m ≡ NonStatic outer → outer .0 < declared → Pairing path declared (set pairs n (record { def = def; outer = outer })) (n + 1) (i + 1)
-    linking-more k l = pairing-more inv inside found k l (pair-told path count same i h e t .1)
-
-  module _ (few : count ≤ 16) (h : count ≤ i) where
-    pub linking-none : n ≡ 0 → record { answer = answer.Absent; pairs = pairs } ≡ givenPairs (pairsFrom declared 0 path)
-    linking-none e = pairing-none inv (omega arith) (omega arith) e
-
-    pub linking-some : (n ≡ 0 → ⊥) → record { answer = answer.Pairs n; pairs = pairs } ≡ givenPairs (pairsFrom declared 0 path)
-    linking-some e = pairing-some inv (omega arith) (omega arith) e
-
 -- ---- a field of rows that were accepted: its words are as many as the lifetimes of its definition
 
 type-linked : (rows : List Row) (types : List LoweredType) (j : ℕ) → NoneDue (typeChecks rows types) → misfits rows (fieldIn types j) ≡ false
@@ -303,73 +299,71 @@ fits-linked rows t {inner} e h =
 
 -- ---- the ways out
 
-module _ (structs : List ℕ) (row field : ℕ) {sh : Listed} (q : sh ≡ howMany (structsInShape structs) (rowsOf structs)) where
-  pub compute-torn : {r : Refusal} → sh ≡ listed.Refused r → record { answer = answer.Refused Malformed; pairs = placed [] } ≡ fieldAnswer (fieldPairs structs row field)
-  unfolding fieldPairs unless
-  compute-torn e = rw (refused-shape (structsInShape structs) (rowsOf structs) q e)
+pub compute-torn : (structs : List ℕ) (row field : ℕ) {sh : Listed} → sh ≡ howMany (structsInShape structs) (rowsOf structs) → {r : Refusal} → sh ≡ listed.Refused r
+    → record { answer = answer.Refused Malformed; pairs = placed [] } ≡ fieldAnswer (fieldPairs structs row field)
+unfolding fieldPairs unless
+compute-torn structs row field q e = rw (refused-shape (structsInShape structs) (rowsOf structs) q e)
 
-  module _ {rows : ℕ} (e : sh ≡ listed.Count rows) where
-    pub in-order : (structsInShape structs ≡ true) × (length (rowsOf structs) ≡ rows)
-    in-order = counted-shape (structsInShape structs) (rowsOf structs) q e
+pub compute-other : {structs : List ℕ} {row field : ℕ} → structsInShape structs ≡ true → FieldIs structs row field Missing
+    → record { answer = answer.Refused Malformed; pairs = placed [] } ≡ fieldAnswer (fieldPairs structs row field)
+unfolding fieldPairs unless
+compute-other shape (other h) = rw (shape, h)
 
-    module _ {r : Field} (f : FieldIs structs row field r) where
-      pub compute-other : r ≡ Missing → record { answer = answer.Refused Malformed; pairs = placed [] } ≡ fieldAnswer (fieldPairs structs row field)
-      unfolding fieldPairs unless
-      compute-other k = rw (in-order .0, go (subst (FieldIs structs row field) k f))
-        where
-          go : FieldIs structs row field Missing → isStruct (fieldAt (rowsOf structs) row field .kind) ≡ false
-          go (other h) = h
+-- a field that is a struct, and the index of the rows
+pub record Indexed (structs : List ℕ) (row field inner from count : ℕ) (lifetimes places : List ℕ) (v : Verdict) : Type 0 where
+  pub shape : structsInShape structs ≡ true
+  pub asked : FieldIs structs row field (aField.Struct inner from count)
+  pub index : Indexes structs lifetimes places v
 
-      module _ {inner from count : ℕ} (k : r ≡ aField.Struct inner from count) where
-        asked : (fieldAt (rowsOf structs) row field .kind ≡ Struct inner) × (inner < row) × (length (fieldAt (rowsOf structs) row field .path) ≤ 16)
-            × (take count (drop from structs) ≡ fieldAt (rowsOf structs) row field .path)
-        asked = go (subst (FieldIs structs row field) k f)
-          where
-            go : FieldIs structs row field (aField.Struct inner from count)
-                → (fieldAt (rowsOf structs) row field .kind ≡ Struct inner) × (inner < row) × (length (fieldAt (rowsOf structs) row field .path) ≤ 16)
-                × (take count (drop from structs) ≡ fieldAt (rowsOf structs) row field .path)
-            go (struct a b c d) = (a, b, c, d)
+module _ {structs : List ℕ} {row field inner from count : ℕ} {lifetimes places : List ℕ} {v : Verdict} (x : Indexed structs row field inner from count lifetimes places v) where
+  asked : (fieldAt (rowsOf structs) row field .kind ≡ Struct inner) × (inner < row) × (length (fieldAt (rowsOf structs) row field .path) ≤ 16)
+      × (take count (drop from structs) ≡ fieldAt (rowsOf structs) row field .path)
+  asked = go (x .asked)
+    where
+      go : FieldIs structs row field (aField.Struct inner from count)
+          → (fieldAt (rowsOf structs) row field .kind ≡ Struct inner) × (inner < row) × (length (fieldAt (rowsOf structs) row field .path) ≤ 16)
+          × (take count (drop from structs) ≡ fieldAt (rowsOf structs) row field .path)
+      go (struct a b c d) = (a, b, c, d)
 
-        -- there are rows as far as the one asked for
-        asked-row : row < length (rowsOf structs)
-        asked-row = go (ltb row (length (rowsOf structs))) refl
-          where
-            go : (b : Bool) → ltb row (length (rowsOf structs)) ≡ b → row < length (rowsOf structs)
-            go true b = ltb-true row (length (rowsOf structs)) b
-            go false b =
-                let d : rowAt (rowsOf structs) row ≡ rowWith 0 [] = List·getD-eq-default (rowsOf structs) (rowWith 0 []) (ltb-false row (length (rowsOf structs)) b) in
-                let plain : isStruct (fieldAt (rowsOf structs) row field .kind) ≡ false = rw d in
-                let is : isStruct (fieldAt (rowsOf structs) row field .kind) ≡ true = rw (asked .0) in
-                passed (sym plain ∙ is)
+  -- there are rows as far as the one asked for
+  asked-row : row < length (rowsOf structs)
+  asked-row = go (ltb row (length (rowsOf structs))) refl
+    where
+      go : (b : Bool) → ltb row (length (rowsOf structs)) ≡ b → row < length (rowsOf structs)
+      go true b = ltb-true row (length (rowsOf structs)) b
+      go false b =
+          let d : rowAt (rowsOf structs) row ≡ rowWith 0 [] = List·getD-eq-default (rowsOf structs) (rowWith 0 []) (ltb-false row (length (rowsOf structs)) b) in
+          let plain : isStruct (fieldAt (rowsOf structs) row field .kind) ≡ false = rw d in
+          let is : isStruct (fieldAt (rowsOf structs) row field .kind) ≡ true = rw (asked .0) in
+          passed (sym plain ∙ is)
 
-        fine : not (structsInShape structs && isStruct (fieldAt (rowsOf structs) row field .kind)) ≡ false
-        fine = rw (in-order .0, asked .0)
+  fine : not (structsInShape structs && isStruct (fieldAt (rowsOf structs) row field .kind)) ≡ false
+  fine = rw (x .shape, asked .0)
 
-        module _ {lifetimes places : List ℕ} {v : Verdict} (x : Indexes structs lifetimes places v) where
-          pub compute-refused : {s : Refusal} → v ≡ Refused s → record { answer = answer.Refused s; pairs = placed [] } ≡ fieldAnswer (fieldPairs structs row field)
-          unfolding fieldPairs
-          compute-refused {s} z =
-              let due : FirstDue s (fieldChecks structs row field) = later fine (refused-first (tt {0}) s (rowChecks (rowsOf structs) 0 (rowsOf structs)) (sym (x .verdict) ∙ z)) in
-              rw (due-refused (pairsFrom (rowAt (rowsOf structs) row .lifetimes) 0 (fieldAt (rowsOf structs) row field .path)) due)
+  pub compute-refused : {s : Refusal} → v ≡ Refused s → record { answer = answer.Refused s; pairs = placed [] } ≡ fieldAnswer (fieldPairs structs row field)
+  unfolding fieldPairs
+  compute-refused {s} z =
+      let due : FirstDue s (fieldChecks structs row field) = later fine (refused-first (tt {0}) s (rowChecks (rowsOf structs) 0 (rowsOf structs)) (sym (x .index .verdict) ∙ z)) in
+      rw (due-refused (pairsFrom (rowAt (rowsOf structs) row .lifetimes) 0 (fieldAt (rowsOf structs) row field .path)) due)
 
-          module _ (z : v ≡ Accepted) where
-            pub few-rows : (row < 32) × (inner < 32)
-            few-rows = (omega (arith, asked-row, x .few z), omega (arith, asked-row, asked .1, x .few z))
+  module _ (z : v ≡ Accepted) where
+    pub few-rows : (row < 32) × (inner < 32)
+    few-rows = (omega (arith, asked-row, x .index .few z), omega (arith, asked-row, asked .1, x .index .few z))
 
-            rows-none : NoneDue (rowChecks (rowsOf structs) 0 (rowsOf structs))
-            rows-none = accepted-none (tt {0}) (rowChecks (rowsOf structs) 0 (rowsOf structs)) (sym (x .verdict) ∙ z)
+    rows-none : NoneDue (rowChecks (rowsOf structs) 0 (rowsOf structs))
+    rows-none = accepted-none (tt {0}) (rowChecks (rowsOf structs) 0 (rowsOf structs)) (sym (x .index .verdict) ∙ z)
 
-            module _ {path : List ℕ} (p : path ≡ take count (drop from structs)) where
-              pub path-linked : (length path ≡ getD lifetimes inner 0) × (getD lifetimes inner 0 ≤ 16)
-              path-linked =
-                  let l : length (fieldAt (rowsOf structs) row field .path) ≡ rowAt (rowsOf structs) inner .lifetimes =
-                  fits-linked (rowsOf structs) (fieldAt (rowsOf structs) row field) (asked .0)
-                  (type-linked (rowsOf structs) (rowAt (rowsOf structs) row .fields) field (row-linked (rowsOf structs) 0 (rowsOf structs) row rows-none)) in
-                  let d : getD lifetimes inner 0 ≡ rowAt (rowsOf structs) inner .lifetimes = x .holding z inner (omega (arith, asked-row, asked .1)) in
-                  (ap length (p ∙ asked .3) ∙ l ∙ sym d, omega (arith, asked .2))
+    module _ {path : List ℕ} (p : path ≡ take count (drop from structs)) where
+      pub path-linked : (length path ≡ getD lifetimes inner 0) × (getD lifetimes inner 0 ≤ 16)
+      path-linked =
+          let l : length (fieldAt (rowsOf structs) row field .path) ≡ rowAt (rowsOf structs) inner .lifetimes =
+          fits-linked (rowsOf structs) (fieldAt (rowsOf structs) row field) (asked .0)
+          (type-linked (rowsOf structs) (rowAt (rowsOf structs) row .fields) field (row-linked (rowsOf structs) 0 (rowsOf structs) row rows-none)) in
+          let d : getD lifetimes inner 0 ≡ rowAt (rowsOf structs) inner .lifetimes = x .index .holding z inner (omega (arith, asked-row, asked .1)) in
+          (ap length (p ∙ asked .3) ∙ l ∙ sym d, omega (arith, asked .2))
 
-              pub compute-given : {l : FieldLifetimes} → l ≡ givenPairs (pairsFrom (getD lifetimes row 0) 0 path) → l ≡ fieldAnswer (fieldPairs structs row field)
-              unfolding fieldPairs
-              compute-given g =
-                  let none : NoneDue (fieldChecks structs row field) = next fine rows-none in
-                  g ∙ rw (due-given (pairsFrom (rowAt (rowsOf structs) row .lifetimes) 0 (fieldAt (rowsOf structs) row field .path)) none, ← x .holding z row asked-row, p, asked .3)
+      pub compute-given : {l : FieldLifetimes} → l ≡ givenPairs (pairsFrom (getD lifetimes row 0) 0 path) → l ≡ fieldAnswer (fieldPairs structs row field)
+      unfolding fieldPairs
+      compute-given g =
+          let none : NoneDue (fieldChecks structs row field) = next fine rows-none in
+          g ∙ rw (due-given (pairsFrom (rowAt (rowsOf structs) row .lifetimes) 0 (fieldAt (rowsOf structs) row field .path)) none, ← x .index .holding z row asked-row, p, asked .3)

@@ -27,6 +27,7 @@ use Rattle.hir_types.specs.declared.fits.Fit.{Fit}
 use Rattle.hir_types.specs.declared.fits.Fit.the-variants.{To, Misfit}
 use Rattle.hir_types.specs.declared.output.Collected.{Collected}
 use Rattle.hir_types.specs.declared.output.Collected.the-variants.{Set, Past}
+use Rattle.hir_types.specs.declared.method.Judged.{Judged}
 use Rattle.hir_types.specs.Method.{typeChecks, rowChecks, paramChecks, placeChecks, typesIn, outputLifetimes, anyPast, methodChecks}
 use Rattle.hir_types.specs.Used.{outputNumbers}
 use Rattle.hir_types.specs.Inner.{TypesFit, ParamsFit, Indexes, CollectIs, within, past, TypesCollect, InShape, Places, Judges}
@@ -41,15 +42,15 @@ types-read n words e q =
     let r = items-types n 0 (length words) words (typesOf n words) (items-start (λ number. readKnown n) words e) in
     (r .0, rw q (r .1))
 
-refused-places : (structs params output places : List ℕ) {v : Verdict} {r : Refusal} → length places ≡ 32 → v ≡ judged (placeChecks structs params output) → v ≡ Refused r
+refused-places : {structs params output places : List ℕ} {v : Verdict} {r : Refusal} → length places ≡ 32 → v ≡ judged (placeChecks structs params output) → v ≡ Refused r
     → Places structs params output places v
-refused-places structs params output places s e k =
+refused-places s e k =
     record { verdict = e; size = s; few = λ a. refused-accepted (sym k ∙ a); placed = λ a. refused-accepted (sym k ∙ a) }
 
 module _ {structs params output lifetimes places : List ℕ} {rows inputs outputs : ℕ} (s : InShape structs params output rows inputs outputs) {v : Verdict} (x : Indexes structs lifetimes places v) where
   pub places-rows : {r : Refusal} → v ≡ Refused r → Places structs params output places v
   places-rows k =
-      refused-places structs params output places (x .sizes .1)
+      refused-places (x .sizes .1)
       (k ∙ sym (judged-stays (rowChecks (rowsOf structs) 0 (rowsOf structs)) (paramChecks (rowsOf structs) 0 (typesIn structs params) ++ typeChecks (rowsOf structs) (typesIn structs output)) (sym (x .verdict) ∙ k)))
       k
 
@@ -64,7 +65,7 @@ module _ {structs params output lifetimes places : List ℕ} {rows inputs output
 
     pub places-params : {r : Refusal} → w ≡ Refused r → Places structs params output places w
     places-params k =
-        refused-places structs params output places (x .sizes .1)
+        refused-places (x .sizes .1)
         (k ∙ sym (past-rows ∙ judged-stays (paramChecks (rowsOf structs) 0 (typesIn structs params)) (typeChecks (rowsOf structs) (typesIn structs output)) (sym params-judged ∙ k)))
         k
 
@@ -75,7 +76,7 @@ module _ {structs params output lifetimes places : List ℕ} {rows inputs output
       pub places-output : t ≡ Misfit → Places structs params output places (Refused Mismatch)
       places-output k =
           let o = types-read (length (rowsOf structs)) output (s .output-shape) (s .output-count) in
-          refused-places structs params output places (x .sizes .1)
+          refused-places (x .sizes .1)
           (sym (past-params ∙ fit-stops (g (rowsOf structs) (length (rowsOf structs)) (typesIn structs output) (o .0) (x .few a) (x .holding a) (o .1)) k))
           refl
 
@@ -128,26 +129,31 @@ module _ (structs params output force : List ℕ) {sh : Shape} (q : sh ≡ metho
           let z : sh .verdict ≡ Refused Malformed = ap (λ (s : Shape). s .verdict) q ∙ rw e in
           refused-accepted (sym z ∙ k)
 
-  pub in-shape : sh .verdict ≡ Accepted → InShape structs params output (sh .rows) (sh .params) (sh .outputs)
-  unfolding methodShape methodInShape
-  in-shape k =
-      let whole = shaped k in
-      let first = both-true (structsInShape structs) _ whole in
-      let second = both-true (paramsInShape (length (rowsOf structs)) params) _ (first .1) in
-      let third = both-true (outputInShape (length (rowsOf structs)) output) _ (second .1) in
-      let fourth = both-true (paramsInShape (length (rowsOf structs)) output) _ (third .0) in
-      record {
-        structs-shape = first .0;
-        params-shape = second .0;
-        output-shape = fourth .0;
-        row-count = ap (λ (s : Shape). s .rows) q ∙ rw whole;
-        input-count = ap (λ (s : Shape). s .params) q ∙ rw whole;
-        output-count = ap (λ (s : Shape). s .outputs) q ∙ rw whole;
-      }
+pub in-shape : {structs params output : List ℕ} (force : List ℕ) {sh : Shape} → sh ≡ methodShape structs params output force → sh .verdict ≡ Accepted
+    → InShape structs params output (sh .rows) (sh .params) (sh .outputs)
+unfolding methodShape methodInShape
+in-shape {structs} {params} {output} force q k =
+    let whole = shaped structs params output force q k in
+    let first = both-true (structsInShape structs) _ whole in
+    let second = both-true (paramsInShape (length (rowsOf structs)) params) _ (first .1) in
+    let third = both-true (outputInShape (length (rowsOf structs)) output) _ (second .1) in
+    let fourth = both-true (paramsInShape (length (rowsOf structs)) output) _ (third .0) in
+    record {
+      structs-shape = first .0;
+      params-shape = second .0;
+      output-shape = fourth .0;
+      row-count = ap (λ (s : Shape). s .rows) q ∙ rw whole;
+      input-count = ap (λ (s : Shape). s .params) q ∙ rw whole;
+      output-count = ap (λ (s : Shape). s .outputs) q ∙ rw whole;
+    }
 
-refused-judges : (env : LifetimeEnv) (structs params output force places : List ℕ) {v : Verdict} {r : Refusal} → length places ≡ 32
-    → v ≡ judged (methodChecks env structs params output force) → v ≡ Refused r → Judges env structs params output force places (record { verdict = v; rows = 0; params = 0; used = 0 })
-refused-judges env structs params output force places s e k =
+-- a refusal alone
+abbrev only : Verdict → Judged
+only v = record { verdict = v; rows = 0; params = 0; used = 0 }
+
+refused-judges : {env : LifetimeEnv} {structs params output force places : List ℕ} {v : Verdict} {r : Refusal} → length places ≡ 32
+    → v ≡ judged (methodChecks env structs params output force) → v ≡ Refused r → Judges env structs params output force places (only v)
+refused-judges s e k =
     record {
       verdict = e;
       size = s;
@@ -159,96 +165,106 @@ refused-judges env structs params output force places s e k =
       small = λ a. refused-accepted (sym k ∙ a);
     }
 
-module _ (env : LifetimeEnv) (structs params output force : List ℕ) {sh : Shape} (q : sh ≡ methodShape structs params output force) where
+module _ {env : LifetimeEnv} {structs params output force : List ℕ} {sh : Shape} (q : sh ≡ methodShape structs params output force) where
   pub judge-torn : {places : List ℕ} → length places ≡ 32 → {r : Refusal} → sh .verdict ≡ Refused r
-      → Judges env structs params output force places (record { verdict = sh .verdict; rows = 0; params = 0; used = 0 })
+      → Judges env structs params output force places (only (sh .verdict))
   unfolding unless
-  judge-torn {places} s k =
+  judge-torn s k =
       let t = torn structs params output force q k in
-      refused-judges env structs params output force places s (t .1 ∙ rw (t .0)) k
+      refused-judges s (t .1 ∙ rw (t .0)) k
 
   module _ (a : sh .verdict ≡ Accepted) where
-    pub judge-lifetimes : {places : List ℕ} → length places ≡ 32 → 64 < env .count → Judges env structs params output force places (record { verdict = Refused Full; rows = 0; params = 0; used = 0 })
+    pub judge-lifetimes : {places : List ℕ} → length places ≡ 32 → 64 < env .count → Judges env structs params output force places (only (Refused Full))
     unfolding unless
-    judge-lifetimes {places} s h = refused-judges env structs params output force places s (rw (shaped structs params output force q a, lt-ltb 64 (env .count) h)) refl
+    judge-lifetimes s h = refused-judges s (rw (shaped structs params output force q a, lt-ltb 64 (env .count) h)) refl
 
-    module _ (lifetimes : env .count ≤ 64) where
-      pub judge-bounds : {places : List ℕ} → length places ≡ 32 → 256 < env .pushed → Judges env structs params output force places (record { verdict = Refused Full; rows = 0; params = 0; used = 0 })
+    pub judge-bounds : env .count ≤ 64 → {places : List ℕ} → length places ≡ 32 → 256 < env .pushed
+        → Judges env structs params output force places (only (Refused Full))
+    unfolding unless
+    judge-bounds lifetimes s h = refused-judges s (rw (shaped structs params output force q a, le-ltb 64 (env .count) lifetimes, lt-ltb 256 (env .pushed) h)) refl
+
+-- a method in shape and within the limits, with a verdict over its places
+pub record Judging (env : LifetimeEnv) (structs params output force places : List ℕ) (sh : Shape) (v : Verdict) : Type 0 where
+  pub shape : sh ≡ methodShape structs params output force
+  pub accepted : sh .verdict ≡ Accepted
+  pub lifetimes : env .count ≤ 64
+  pub bounds : env .pushed ≤ 256
+  pub by-place : Places structs params output places v
+
+module _ {env : LifetimeEnv} {structs params output force places : List ℕ} {sh : Shape} {v : Verdict} (j : Judging env structs params output force places sh v) where
+  abbrev outside : List Check
+  outside = check (anyPast (env .count) (outputLifetimes structs output)) OutOfRange ∷ []
+
+  in-order : methodInShape structs params output force ≡ true
+  in-order = shaped structs params output force (j .shape) (j .accepted)
+
+  past-limits : judged (methodChecks env structs params output force) ≡ judged (placeChecks structs params output ++ (drop 2 (envChecks env) ++ outside))
+  unfolding unless
+  past-limits = rw (in-order, le-ltb 64 (env .count) (j .lifetimes), le-ltb 256 (env .pushed) (j .bounds))
+
+  pub judge-place : {r : Refusal} → v ≡ Refused r → Judges env structs params output force places (only v)
+  judge-place k =
+      refused-judges (j .by-place .size)
+      (k ∙ sym (past-limits ∙ judged-stays (placeChecks structs params output) (drop 2 (envChecks env) ++ outside) (sym (j .by-place .verdict) ∙ k)))
+      k
+
+  module _ (b : v ≡ Accepted) {w : Verdict} (y : w ≡ verdictOf (unless (envChecks env) env)) where
+    past-places : judged (methodChecks env structs params output force) ≡ judged (drop 2 (envChecks env) ++ outside)
+    past-places = past-limits ∙ judged-after (placeChecks structs params output) (drop 2 (envChecks env) ++ outside) (sym (j .by-place .verdict) ∙ b)
+
+    env-judged : w ≡ judged (drop 2 (envChecks env))
+    unfolding unless
+    env-judged = y ∙ rw (le-ltb 64 (env .count) (j .lifetimes), le-ltb 256 (env .pushed) (j .bounds)) (same-verdict (drop 2 (envChecks env)) env (tt {0}))
+
+    pub judge-env : {r : Refusal} → w ≡ Refused r → Judges env structs params output force places (only w)
+    judge-env k =
+        refused-judges (j .by-place .size)
+        (k ∙ sym (past-places ∙ judged-stays (drop 2 (envChecks env)) outside (sym env-judged ∙ k)))
+        k
+
+    module _ (d : w ≡ Accepted) {t : Collected} (z : TypesCollect output 0 (sh .outputs) (env .count) 0 t) where
+      past-env : judged (methodChecks env structs params output force) ≡ judged outside
+      past-env = past-places ∙ judged-after (drop 2 (envChecks env)) outside (sym env-judged ∙ d)
+
+      collected : CollectIs (env .count) 0 (outputLifetimes structs output) t
+      collected =
+          let i = in-shape force (j .shape) (j .accepted) in
+          let o = types-read (length (rowsOf structs)) output (i .output-shape) (i .output-count) in
+          z (length (rowsOf structs)) (typesIn structs output) (o .0) (o .1)
+
+      pub judge-outside : t ≡ Past → Judges env structs params output force places (only (Refused OutOfRange))
       unfolding unless
-      judge-bounds {places} s h =
-          refused-judges env structs params output force places s (rw (shaped structs params output force q a, le-ltb 64 (env .count) lifetimes, lt-ltb 256 (env .pushed) h)) refl
+      judge-outside k =
+          refused-judges (j .by-place .size) (sym (past-env ∙ rw (go (subst (CollectIs (env .count) 0 (outputLifetimes structs output)) k collected)))) refl
+        where
+          go : CollectIs (env .count) 0 (outputLifetimes structs output) Past → anyPast (env .count) (outputLifetimes structs output) ≡ true
+          go (past h) = h
 
-      module _ (bounds : env .pushed ≤ 256) {places : List ℕ} {v : Verdict} (x : Places structs params output places v) where
-        abbrev outside : List Check
-        outside = check (anyPast (env .count) (outputLifetimes structs output)) OutOfRange ∷ []
-
-        past-limits : judged (methodChecks env structs params output force) ≡ judged (placeChecks structs params output ++ (drop 2 (envChecks env) ++ outside))
-        unfolding unless
-        past-limits = rw (shaped structs params output force q a, le-ltb 64 (env .count) lifetimes, le-ltb 256 (env .pushed) bounds)
-
-        pub judge-place : {r : Refusal} → v ≡ Refused r → Judges env structs params output force places (record { verdict = v; rows = 0; params = 0; used = 0 })
-        judge-place k =
-            refused-judges env structs params output force places (x .size)
-            (k ∙ sym (past-limits ∙ judged-stays (placeChecks structs params output) (drop 2 (envChecks env) ++ outside) (sym (x .verdict) ∙ k)))
-            k
-
-        module _ (b : v ≡ Accepted) {w : Verdict} (y : w ≡ verdictOf (unless (envChecks env) env)) where
-          past-places : judged (methodChecks env structs params output force) ≡ judged (drop 2 (envChecks env) ++ outside)
-          past-places = past-limits ∙ judged-after (placeChecks structs params output) (drop 2 (envChecks env) ++ outside) (sym (x .verdict) ∙ b)
-
-          env-judged : w ≡ judged (drop 2 (envChecks env))
-          unfolding unless
-          env-judged = y ∙ rw (le-ltb 64 (env .count) lifetimes, le-ltb 256 (env .pushed) bounds) (same-verdict (drop 2 (envChecks env)) env (tt {0}))
-
-          pub judge-env : {r : Refusal} → w ≡ Refused r → Judges env structs params output force places (record { verdict = w; rows = 0; params = 0; used = 0 })
-          judge-env k =
-              refused-judges env structs params output force places (x .size)
-              (k ∙ sym (past-places ∙ judged-stays (drop 2 (envChecks env)) outside (sym env-judged ∙ k)))
-              k
-
-          module _ (d : w ≡ Accepted) {t : Collected} (z : TypesCollect output 0 (sh .outputs) (env .count) 0 t) where
-            past-env : judged (methodChecks env structs params output force) ≡ judged outside
-            past-env = past-places ∙ judged-after (drop 2 (envChecks env)) outside (sym env-judged ∙ d)
-
-            collected : CollectIs (env .count) 0 (outputLifetimes structs output) t
-            collected =
-                let i = in-shape structs params output force q a in
-                let o = types-read (length (rowsOf structs)) output (i .output-shape) (i .output-count) in
-                z (length (rowsOf structs)) (typesIn structs output) (o .0) (o .1)
-
-            pub judge-outside : t ≡ Past → Judges env structs params output force places (record { verdict = Refused OutOfRange; rows = 0; params = 0; used = 0 })
-            unfolding unless
-            judge-outside k =
-                refused-judges env structs params output force places (x .size) (sym (past-env ∙ rw (go (subst (CollectIs (env .count) 0 (outputLifetimes structs output)) k collected)))) refl
-              where
-                go : CollectIs (env .count) 0 (outputLifetimes structs output) Past → anyPast (env .count) (outputLifetimes structs output) ≡ true
-                go (past h) = h
-
-            pub judge-all : {used : ℕ} → t ≡ Set used
-                → Judges env structs params output force places (record { verdict = Accepted; rows = sh .rows; params = sh .params; used = used })
-            unfolding unless
-            judge-all {used} k =
-                let i = in-shape structs params output force q a in
-                let g = go (subst (CollectIs (env .count) 0 (outputLifetimes structs output)) k collected) in
-                record {
-                  verdict = sym (past-env ∙ rw (g .0));
-                  size = x .size;
-                  few = λ e. x .few b;
-                  placed = λ e. x .placed b;
-                  shape = λ e. shaped structs params output force q a;
-                  counts = λ e. (i .row-count, i .input-count);
-                  used = λ e. g .1;
-                  small = λ e. omega (arith, (valid env (accepted-none env (envChecks env) (sym y ∙ d))) .declares);
-                }
-              where
-                go : CollectIs (env .count) 0 (outputLifetimes structs output) (Set used)
-                    → (anyPast (env .count) (outputLifetimes structs output) ≡ false) × (used ≡ setOf (outputNumbers structs output))
-                go (within h e) = (h, e)
+      pub judge-all : {used : ℕ} → t ≡ Set used
+          → Judges env structs params output force places (record { verdict = Accepted; rows = sh .rows; params = sh .params; used = used })
+      unfolding unless
+      judge-all {used} k =
+          let i = in-shape force (j .shape) (j .accepted) in
+          let g = go (subst (CollectIs (env .count) 0 (outputLifetimes structs output)) k collected) in
+          record {
+            verdict = sym (past-env ∙ rw (g .0));
+            size = j .by-place .size;
+            few = λ e. j .by-place .few b;
+            placed = λ e. j .by-place .placed b;
+            shape = λ e. in-order;
+            counts = λ e. (i .row-count, i .input-count);
+            used = λ e. g .1;
+            small = λ e. omega (arith, (valid env (accepted-none env (envChecks env) (sym y ∙ d))) .declares);
+          }
+        where
+          go : CollectIs (env .count) 0 (outputLifetimes structs output) (Set used)
+              → (anyPast (env .count) (outputLifetimes structs output) ≡ false) × (used ≡ setOf (outputNumbers structs output))
+          go (within h e) = (h, e)
 
 -- two records of a method without lifetimes and output: all that can be due is due by their shapes and places
 pub params-torn : (structs params : List ℕ) {sh : Shape} → sh ≡ methodShape structs params [] (0 ∷ []) → {r : Refusal} → sh .verdict ≡ Refused r
     → sh .verdict ≡ judged (methodChecks (envOf 0 0 []) structs params [] (0 ∷ []))
-params-torn structs params q k = judge-torn (envOf 0 0 []) structs params [] (0 ∷ []) q {places = replicate 32 0} refl k .verdict
+params-torn structs params q k = judge-torn {env = envOf 0 0 []} q {places = replicate 32 0} refl k .verdict
 
 nothing-past : (structs : List ℕ) → judged (drop 2 (envChecks (envOf 0 0 [])) ++ (check (anyPast (envOf 0 0 [] .count) (outputLifetimes structs [])) OutOfRange ∷ [])) ≡ Accepted
 unfolding unless envOf allBelow itemsOf readAll anyPast flatMap
@@ -257,11 +273,14 @@ nothing-past structs = refl
 pub params-stand : (structs params : List ℕ) {sh : Shape} → sh ≡ methodShape structs params [] (0 ∷ []) → sh .verdict ≡ Accepted → {places : List ℕ} {v : Verdict} → Places structs params [] places v
     → v ≡ judged (methodChecks (envOf 0 0 []) structs params [] (0 ∷ []))
 unfolding unless envOf
-params-stand structs params q a {places} {v} x = go v refl
+params-stand structs params {sh} q a {places} {v} x = go v refl
   where
     none : {n : ℕ} → 0 ≤ n
     none = omega arith
 
+    j : Judging (envOf 0 0 []) structs params [] (0 ∷ []) places sh v
+    j = record { shape = q; accepted = a; lifetimes = none; bounds = none; by-place = x }
+
     go : (w : Verdict) → v ≡ w → v ≡ judged (methodChecks (envOf 0 0 []) structs params [] (0 ∷ []))
-    go (Refused r) k = judge-place (envOf 0 0 []) structs params [] (0 ∷ []) q a none none x k .verdict
-    go Accepted k = k ∙ sym (past-places (envOf 0 0 []) structs params [] (0 ∷ []) q a none none x k refl ∙ nothing-past structs)
+    go (Refused r) k = judge-place j k .verdict
+    go Accepted k = k ∙ sym (past-places j k refl ∙ nothing-past structs)

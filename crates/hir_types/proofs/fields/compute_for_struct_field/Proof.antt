@@ -1,10 +1,49 @@
 -- `compute_for_struct_field` meets its contract: refused by the shape, for the field, at a row, or given.
-use mathlib.Core.Path.{refl, _∙_}
+use Prim.Native.Nat.{_<_}
+use mathlib.Core.Bool.{true}
+use mathlib.Core.Path.{_≡_, refl, subst, _∙_}
+use lib.ListN.{length}
 use native.Mathlib.Omega.{arith}
 use borrow.Author.Needs.{needs}
-use Rattle.hir_types.proofs.FieldLaws.{compute-torn, in-order, compute-other, few-rows, path-linked, compute-refused, compute-given}
+use Rattle.lowered_types.specs.Rows.{rowsOf, structsInShape}
+use Rattle.lowered_types.proofs.ShapeLaws.{counted-shape}
+use Rattle.hir_types.specs.Inner.{FieldIs}
+use Rattle.hir_types.proofs.FieldLaws.{compute-torn, compute-other, Indexed, few-rows, path-linked, compute-refused, compute-given}
 use Rattle.hir_types.proofs.fields.compute_for_struct_field.Statement.{statement}
 use Rattle.hir_types.proofs.fields.compute_for_struct_field.Tie as tie
+
+-- the start, from where the shape is known and from where the rows are counted
+abbrev start : tie.After-structs-shape → tie.Start
+start c = c .before .before
+
+abbrev begun : tie.After-shape → tie.Start
+begun c = start (c .before .before)
+
+in-order : (c : tie.After-shape) → let s = begun c .args .structs .now in (structsInShape s ≡ true) × (length (rowsOf s) ≡ c .shape .given .0 .0)
+in-order c = let s = begun c .args .structs .now in counted-shape (structsInShape s) (rowsOf s) (c .before .before .structs-shape .ensures) (c .shape .given .1)
+
+-- the field that is asked for is a struct, from where the rows are indexed
+abbrev found : tie.After-index-rows → tie.After-found
+found c = c .before .before .before .before
+
+abbrev counted : tie.After-found → tie.After-shape
+counted c = c .before .before .before .before
+
+abbrev first : tie.After-index-rows → tie.Start
+first c = begun (counted (found c))
+
+indexed : (c : tie.After-index-rows) → let s = first c .args in let f = found c .found .given .0 in
+    Indexed (s .structs .now) (s .row) (s .field) (f .0) (f .1 .0) (f .1 .1 .0) (c .index-rows .last .1 .1 .0) (c .index-rows .last .1 .1 .1 .0) (c .index-rows .result)
+indexed c =
+    let s = first c .args in
+    record {
+      shape = in-order (counted (found c)) .0;
+      asked = subst (FieldIs (s .structs .now) (s .row) (s .field)) (found c .found .given .1) (found c .before .before .field-at .ensures);
+      index = c .index-rows .ensures;
+    }
+
+few : (c : tie.After-enum-told3) → (first (c .before .before) .args .row < 32) × (found (c .before .before) .found .given .0 .0 < 32)
+few c = few-rows (indexed (c .before .before)) (c .enum-told3 .given .1)
 
 structs-shape-requires : tie.Need-structs-shape-requires
 structs-shape-requires c κs = search needs
@@ -20,11 +59,11 @@ refused-requires c κs = search needs
 
 returns : tie.Need-returns
 returns c =
-    c .refused .ensures ∙ compute-torn (c .before .before .before .before .before .args .structs .now) (c .before .before .before .before .before .args .row) (c .before .before .before .before .before .args .field) (c .before .before .before .structs-shape .ensures) (c .before .enum-told .given .1)
+    let s = start (c .before .before .before) .args in
+    c .refused .ensures ∙ compute-torn (s .structs .now) (s .row) (s .field) (c .before .before .before .structs-shape .ensures) (c .before .enum-told .given .1)
 
 field-at-requires : tie.Need-field-at-requires
-field-at-requires c κs =
-    in-order (c .before .before .before .before .before .args .structs .now) (c .before .before .before .before .before .args .row) (c .before .before .before .before .before .args .field) (c .before .before .before .structs-shape .ensures) (c .before .shape .given .1)
+field-at-requires c κs = in-order (c .before)
 
 enum-known-found : tie.Need-enum-known-found
 enum-known-found c = search needs
@@ -37,17 +76,12 @@ refused-requires-2 c κs = search needs
 
 returns-2 : tie.Need-returns-2
 returns-2 c =
-    let at-shape = c .before .before .before .before .before in
-    let at-structs-shape = at-shape .before .before in
-    let s = at-structs-shape .before .before in
-    c .refused2 .ensures ∙ compute-other (s .args .structs .now) (s .args .row) (s .args .field) (at-structs-shape .structs-shape .ensures) (at-shape .shape .given .1) (c .before .before .before .field-at .ensures) (c .before .enum-told2 .given .1)
+    let asked = c .before .before .before in
+    let s = begun (asked .before .before) .args in
+    c .refused2 .ensures ∙ compute-other (in-order (asked .before .before) .0) (subst (FieldIs (s .structs .now) (s .row) (s .field)) (c .before .enum-told2 .given .1) (asked .field-at .ensures))
 
 index-rows-requires : tie.Need-index-rows-requires
-index-rows-requires c κs =
-    let at-shape = c .before .before .before .before .before .before .before in
-    let at-structs-shape = at-shape .before .before in
-    let s = at-structs-shape .before .before in
-    (in-order (s .args .structs .now) (s .args .row) (s .args .field) (at-structs-shape .structs-shape .ensures) (at-shape .shape .given .1), (refl, refl))
+index-rows-requires c κs = (in-order (c .before .before .before .before .before .before .before), (refl, refl))
 
 enum-known-verdict : tie.Need-enum-known-verdict
 enum-known-verdict c = search needs
@@ -59,72 +93,28 @@ enum-told-3 : tie.Need-enum-told-3
 enum-told-3 c = search needs
 
 mul-declared : tie.Need-mul-declared
-mul-declared c =
-    let at-found = c .before .before .before .before .before .before in
-    let at-field-at = at-found .before .before in
-    let at-shape = at-field-at .before .before in
-    let at-structs-shape = at-shape .before .before in
-    let s = at-structs-shape .before .before in
-    omega (arith, few-rows (s .args .structs .now) (s .args .row) (s .args .field) (at-structs-shape .structs-shape .ensures) (at-shape .shape .given .1) (at-field-at .field-at .ensures) (at-found .found .given .1) (c .before .before .index-rows .ensures) (c .enum-told3 .given .1) .0)
+mul-declared c = omega (arith, few c .0)
 
 array-read-declared : tie.Need-array-read-declared
-array-read-declared c =
-    let at-found = c .before .before .before .before .before .before in
-    let at-field-at = at-found .before .before in
-    let at-shape = at-field-at .before .before in
-    let at-structs-shape = at-shape .before .before in
-    let s = at-structs-shape .before .before in
-    few-rows (s .args .structs .now) (s .args .row) (s .args .field) (at-structs-shape .structs-shape .ensures) (at-shape .shape .given .1) (at-field-at .field-at .ensures) (at-found .found .given .1) (c .before .before .index-rows .ensures) (c .enum-told3 .given .1) .0
+array-read-declared c = few c .0
 
 mul-linked : tie.Need-mul-linked
-mul-linked c =
-    let at-found = c .before .before .before .before .before .before in
-    let at-field-at = at-found .before .before in
-    let at-shape = at-field-at .before .before in
-    let at-structs-shape = at-shape .before .before in
-    let s = at-structs-shape .before .before in
-    omega (arith, few-rows (s .args .structs .now) (s .args .row) (s .args .field) (at-structs-shape .structs-shape .ensures) (at-shape .shape .given .1) (at-field-at .field-at .ensures) (at-found .found .given .1) (c .before .before .index-rows .ensures) (c .enum-told3 .given .1) .1)
+mul-linked c = omega (arith, few c .1)
 
 array-read-linked : tie.Need-array-read-linked
-array-read-linked c =
-    let at-found = c .before .before .before .before .before .before in
-    let at-field-at = at-found .before .before in
-    let at-shape = at-field-at .before .before in
-    let at-structs-shape = at-shape .before .before in
-    let s = at-structs-shape .before .before in
-    few-rows (s .args .structs .now) (s .args .row) (s .args .field) (at-structs-shape .structs-shape .ensures) (at-shape .shape .given .1) (at-field-at .field-at .ensures) (at-found .found .given .1) (c .before .before .index-rows .ensures) (c .enum-told3 .given .1) .1
+array-read-linked c = few c .1
 
 path-words-requires : tie.Need-path-words-requires
 path-words-requires c κs = search needs
 
 pairs-of-requires : tie.Need-pairs-of-requires
-pairs-of-requires c κs =
-    let at-found = c .before .before .before .before .before .before .before in
-    let at-field-at = at-found .before .before in
-    let at-shape = at-field-at .before .before in
-    let at-structs-shape = at-shape .before .before in
-    let s = at-structs-shape .before .before in
-    path-linked (s .args .structs .now) (s .args .row) (s .args .field) (at-structs-shape .structs-shape .ensures) (at-shape .shape .given .1) (at-field-at .field-at .ensures) (at-found .found .given .1) (c .before .before .before .index-rows .ensures) (c .before .enum-told3 .given .1) (c .path-words .ensures)
+pairs-of-requires c κs = path-linked (indexed (c .before .before .before)) (c .before .enum-told3 .given .1) (c .path-words .ensures)
 
 returns-3 : tie.Need-returns-3
-returns-3 c =
-    let at-index-rows = c .before .before .before .before in
-    let at-found = at-index-rows .before .before .before .before in
-    let at-field-at = at-found .before .before in
-    let at-shape = at-field-at .before .before in
-    let at-structs-shape = at-shape .before .before in
-    let s = at-structs-shape .before .before in
-    c .refused3 .ensures ∙ compute-refused (s .args .structs .now) (s .args .row) (s .args .field) (at-structs-shape .structs-shape .ensures) (at-shape .shape .given .1) (at-field-at .field-at .ensures) (at-found .found .given .1) (at-index-rows .index-rows .ensures) (c .before .before .verdict .given .1)
+returns-3 c = c .refused3 .ensures ∙ compute-refused (indexed (c .before .before .before .before)) (c .before .before .verdict .given .1)
 
 returns-4 : tie.Need-returns-4
-returns-4 c =
-    let at-index-rows = c .before .before .before .before in
-    let at-found = at-index-rows .before .before .before .before in
-    let at-field-at = at-found .before .before in
-    let at-shape = at-field-at .before .before in
-    let at-structs-shape = at-shape .before .before in
-    let s = at-structs-shape .before .before in
-    compute-given (s .args .structs .now) (s .args .row) (s .args .field) (at-structs-shape .structs-shape .ensures) (at-shape .shape .given .1) (at-field-at .field-at .ensures) (at-found .found .given .1) (at-index-rows .index-rows .ensures) (c .before .before .enum-told3 .given .1) (c .before .path-words .ensures) (c .pairs-of .ensures)
+returns-4 c = compute-given (indexed (c .before .before .before .before)) (c .before .before .enum-told3 .given .1) (c .before .path-words .ensures) (c .pairs-of .ensures)
 
 pub compute-for-struct-field-spec : {M : Type 1} → statement M
 compute-for-struct-field-spec =

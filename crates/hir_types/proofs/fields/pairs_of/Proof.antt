@@ -1,12 +1,12 @@
 -- `pairs_of` meets its contract. The loop's invariant is `Pairing` of proofs/FieldLaws.antt; the measure is how many words are left.
-use Prim.Native.Nat.{_-_}
+use Prim.Native.Nat.{_-_, _<_}
 use borrow.Author.Needs.{needs}
 use mathlib.Core.Path.{refl}
 use native.Mathlib.Omega.{arith}
 use denote.Enum.Declared.{tagOf}
 use Rattle.lifetimes.proofs.linked.LinkedPair as LinkedPair
 use Rattle.lifetimes.proofs.LinkedLaws.{pair-only}
-use Rattle.hir_types.proofs.FieldLaws.{Pairing, pairing-start, linking-static, linking-past, linking-more, linking-none, linking-some}
+use Rattle.hir_types.proofs.FieldLaws.{Pairing, pairing-start, Linking, linking, pairing-static, pairing-past, pairing-more, pairing-none, pairing-some}
 use Rattle.hir_types.proofs.fields.pairs_of.Statement.{statement}
 use Rattle.hir_types.proofs.fields.pairs_of.Tie as tie
 
@@ -15,6 +15,25 @@ Inv-loop path count declared pairs₀ n₀ i₀ pairs n i = Pairing path declare
 
 abbrev μ-loop : tie.MeasureT-loop
 μ-loop path count declared pairs₀ n₀ i₀ pairs n i = count - i
+
+-- the start, from the loop's test
+abbrev start : tie.At-loop Inv-loop μ-loop → tie.Start Inv-loop μ-loop
+start c = c .before .before .before .before
+
+-- the loop's test, from where a word's lifetime is read
+abbrev looped : tie.After-from-word Inv-loop μ-loop → tie.At-loop Inv-loop μ-loop
+looped c = c .before .before .before .before .before .before
+
+linked : (c : tie.After-from-word Inv-loop μ-loop) → let s = start (looped c) .args in let l = looped c .loop in
+    Linking (s .path .now) (s .declared) (l .pairs) (l .n) (l .i) (c .before .before .linked .given .0 .1 .0) (c .from-word .result)
+linked c =
+    let s = start (looped c) in
+    let pair = c .before .before .before .before in
+    linking (s .args .path .now) (s .args .count) (s .pre .0) (looped c .loop .inv) (pair .before .loop-test .taken) (pair .linked-pair .ensures) (c .before .before .linked .given .1) (c .from-word .ensures)
+
+-- there is room for one more pair
+room : (c : tie.Else1 Inv-loop μ-loop) → looped (c .before .before .before .before .before) .loop .n < 16
+room c = let l = looped (c .before .before .before .before .before) in omega (arith, l .loop .inv .before, start l .pre .1)
 
 new-requires : tie.Need-new-requires Inv-loop μ-loop
 new-requires c κs = search needs
@@ -39,7 +58,8 @@ loop-less c = search needs
 
 loop-again : tie.Need-loop-again Inv-loop μ-loop
 loop-again c =
-    pair-only (c .before .before .before .before .before .before .before .args .path .now) (c .before .before .before .before .before .before .before .args .count) (c .before .before .before .before .before .before .before .pre .0) (c .before .before .before .loop .i) (c .before .before .loop-test .taken) (c .before .linked-pair .ensures) (tagOf LinkedPair.the-type) refl (c .match .keys2)
+    let s = start (c .before .before .before) in
+    pair-only (s .args .path .now) (s .args .count) (s .pre .0) (c .before .before .before .loop .i) (c .before .before .loop-test .taken) (c .before .linked-pair .ensures) (tagOf LinkedPair.the-type) refl (c .match .keys2)
 
 from-word-requires : tie.Need-from-word-requires Inv-loop μ-loop
 from-word-requires c κs = search needs
@@ -54,13 +74,7 @@ loop-less-2 : tie.Need-loop-less-2 Inv-loop μ-loop
 loop-less-2 c = search needs
 
 loop-again-2 : tie.Need-loop-again-2 Inv-loop μ-loop
-loop-again-2 c =
-    let at-linked = c .before .before .before .before in
-    let at-linked-pair = at-linked .before .before in
-    let at-loop-test = at-linked-pair .before in
-    let at-loop = at-loop-test .before in
-    let s = at-loop .before .before .before .before in
-    linking-static (s .args .path .now) (s .args .count) (s .pre .0) (at-loop .loop .inv) (at-loop-test .loop-test .taken) (at-linked-pair .linked-pair .ensures) (at-linked .linked .given .1) (c .before .before .from-word .ensures) (c .enum-told .given .1)
+loop-again-2 c = pairing-static (linked (c .before .before)) (c .enum-told .given .1)
 
 index-requires : tie.Need-index-requires Inv-loop μ-loop
 index-requires c κs = search needs
@@ -69,53 +83,32 @@ loop-less-3 : tie.Need-loop-less-3 Inv-loop μ-loop
 loop-less-3 c = search needs
 
 loop-again-3 : tie.Need-loop-again-3 Inv-loop μ-loop
-loop-again-3 c =
-    let at-from-word = c .before .before .before .before .before in
-    let at-linked = at-from-word .before .before in
-    let at-linked-pair = at-linked .before .before in
-    let at-loop-test = at-linked-pair .before in
-    let at-loop = at-loop-test .before in
-    let s = at-loop .before .before .before .before in
-    linking-past (s .args .path .now) (s .args .count) (s .pre .0) (at-loop .loop .inv) (at-loop-test .loop-test .taken) (at-linked-pair .linked-pair .ensures) (at-linked .linked .given .1) (at-from-word .from-word .ensures) (c .before .before .before .lifetime .given .1) (omega (arith, c .before .index .ensures))
+loop-again-3 c = pairing-past (linked (c .before .before .before .before .before)) (c .before .before .before .lifetime .given .1) (omega (arith, c .before .index .ensures))
 
 mul-pairs : tie.Need-mul-pairs Inv-loop μ-loop
-mul-pairs c =
-    let at-loop = c .before .before .before .before .before .before .before .before .before .before .before in
-    let s = at-loop .before .before .before .before in
-    omega (arith, at-loop .loop .inv .before, s .pre .1)
+mul-pairs c = omega (arith, room c)
 
 array-set-from-pairs : tie.Need-array-set-from-pairs Inv-loop μ-loop
-array-set-from-pairs c =
-    let at-loop = c .before .before .before .before .before .before .before .before .before .before .before in
-    let s = at-loop .before .before .before .before in
-    omega (arith, at-loop .loop .inv .before, s .pre .1)
+array-set-from-pairs c = omega (arith, room c)
 
 add-n : tie.Need-add-n Inv-loop μ-loop
-add-n c =
-    let at-loop = c .before .before .before .before .before .before .before .before .before .before .before in
-    let s = at-loop .before .before .before .before in
-    omega (arith, at-loop .loop .inv .before, s .pre .1)
+add-n c = omega (arith, room c)
 
 loop-less-4 : tie.Need-loop-less-4 Inv-loop μ-loop
 loop-less-4 c = search needs
 
 loop-again-4 : tie.Need-loop-again-4 Inv-loop μ-loop
-loop-again-4 c =
-    let at-from-word = c .before .before .before .before .before in
-    let at-linked = at-from-word .before .before in
-    let at-linked-pair = at-linked .before .before in
-    let at-loop-test = at-linked-pair .before in
-    let at-loop = at-loop-test .before in
-    let s = at-loop .before .before .before .before in
-    linking-more (s .args .path .now) (s .args .count) (s .pre .0) (at-loop .loop .inv) (at-loop-test .loop-test .taken) (at-linked-pair .linked-pair .ensures) (at-linked .linked .given .1) (at-from-word .from-word .ensures) (c .before .before .before .lifetime .given .1) (omega (arith, c .before .index .ensures))
+loop-again-4 c = pairing-more (linked (c .before .before .before .before .before)) (c .before .before .before .lifetime .given .1) (omega (arith, c .before .index .ensures))
 
 returns : tie.Need-returns Inv-loop μ-loop
 returns c =
-    linking-none (c .before .before .before .before .before .before .args .path .now) (c .before .before .before .before .before .before .args .count) (c .before .before .before .before .before .before .pre .0) (c .before .before .loop .inv) (c .before .before .before .before .before .before .pre .1) (c .before .loop-test .left) (c .if2 .taken)
+    let s = start (c .before .before) in
+    pairing-none (c .before .before .loop .inv) (omega (arith, s .pre)) (omega (arith, s .pre .0, c .before .loop-test .left)) (c .if2 .taken)
 
 returns-2 : tie.Need-returns-2 Inv-loop μ-loop
 returns-2 c =
-    linking-some (c .before .before .before .before .before .before .args .path .now) (c .before .before .before .before .before .before .args .count) (c .before .before .before .before .before .before .pre .0) (c .before .before .loop .inv) (c .before .before .before .before .before .before .pre .1) (c .before .loop-test .left) (c .if2 .left)
+    let s = start (c .before .before) in
+    pairing-some (c .before .before .loop .inv) (omega (arith, s .pre)) (omega (arith, s .pre .0, c .before .loop-test .left)) (c .if2 .left)
 
 pub pairs-of-spec : {M : Type 1} → statement M
 pairs-of-spec =

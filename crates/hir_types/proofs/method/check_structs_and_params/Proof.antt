@@ -28,10 +28,7 @@ slice-aggregate-judge-places : tie.Need-slice-aggregate-judge-places
 slice-aggregate-judge-places c = search needs
 
 judge-places-requires : tie.Need-judge-places-requires
-judge-places-requires c κs =
-    let at-method-shape = c .before .before .before .before in
-    let s = at-method-shape .before .before .before .before .before in
-    let s = s .args in (in-shape (s .structs .now) (s .params .now) [] (0 ∷ []) (at-method-shape .method-shape .ensures) (c .before .before .enum-told .given .1), refl)
+judge-places-requires c κs = (in-shape (0 ∷ []) (c .before .before .before .before .method-shape .ensures) (c .before .before .enum-told .given .1), refl)
 
 returns-2 : tie.Need-returns-2
 returns-2 c =

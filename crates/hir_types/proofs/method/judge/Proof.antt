@@ -1,8 +1,27 @@
 -- `judge` meets its contract: each stage is one law of proofs/MethodLaws.antt.
-use Rattle.hir_types.proofs.MethodLaws.{in-shape, judge-torn, judge-lifetimes, judge-bounds, judge-place, judge-env, judge-outside, judge-all}
+use Rattle.hir_types.proofs.MethodLaws.{in-shape, judge-torn, judge-lifetimes, judge-bounds, Judging, judge-place, judge-env, judge-outside, judge-all}
 use borrow.Author.Needs.{needs}
 use Rattle.hir_types.proofs.method.judge.Statement.{statement}
 use Rattle.hir_types.proofs.method.judge.Tie as tie
+
+-- the start, from where the shape is known
+abbrev start : tie.After-method-shape → tie.Start
+start c = c .before .before .before .before .before
+
+-- where the shape is known, from where the places are judged
+abbrev shaped : tie.After-judge-places → tie.After-method-shape
+shaped c = c .before .before .before .before .before .before
+
+judging : (c : tie.After-judge-places) → let s = start (shaped c) .args in
+    Judging (s .env) (s .structs .now) (s .params .now) (s .output .now) (s .force .now) (c .judge-places .last .1 .1 .1 .1 .1 .1 .0) (shaped c .method-shape .result) (c .judge-places .result)
+judging c =
+    record {
+      shape = shaped c .method-shape .ensures;
+      accepted = c .before .before .before .before .enum-told .given .1;
+      lifetimes = c .before .before .before .if1 .left;
+      bounds = c .before .before .if2 .left;
+      by-place = c .judge-places .ensures;
+    }
 
 method-shape-requires : tie.Need-method-shape-requires
 method-shape-requires c κs = search needs
@@ -18,35 +37,30 @@ refused-requires c κs = search needs
 
 returns : tie.Need-returns
 returns c =
-    let at-method-shape = c .before .before .before in
-    let s = at-method-shape .before .before .before .before .before in
-    rw (c .refused .ensures) (judge-torn (s .args .env) (s .args .structs .now) (s .args .params .now) (s .args .output .now) (s .args .force .now) (at-method-shape .method-shape .ensures) (s .pre) (c .before .enum-told2 .given .1))
+    let shape = c .before .before .before in
+    rw (c .refused .ensures) (judge-torn (shape .method-shape .ensures) (start shape .pre) (c .before .enum-told2 .given .1))
 
 refused-requires-2 : tie.Need-refused-requires-2
 refused-requires-2 c κs = search needs
 
 returns-2 : tie.Need-returns-2
 returns-2 c =
-    let at-method-shape = c .before .before .before .before in
-    let s = at-method-shape .before .before .before .before .before in
-    rw (c .refused2 .ensures) (judge-lifetimes (s .args .env) (s .args .structs .now) (s .args .params .now) (s .args .output .now) (s .args .force .now) (at-method-shape .method-shape .ensures) (c .before .before .enum-told .given .1) (s .pre) (c .before .if1 .taken))
+    let told = c .before .before in
+    rw (c .refused2 .ensures) (judge-lifetimes (told .before .before .method-shape .ensures) (told .enum-told .given .1) (start (told .before .before) .pre) (c .before .if1 .taken))
 
 refused-requires-3 : tie.Need-refused-requires-3
 refused-requires-3 c κs = search needs
 
 returns-3 : tie.Need-returns-3
 returns-3 c =
-    let at-enum-told = c .before .before .before in
-    let at-method-shape = at-enum-told .before .before in
-    let s = at-method-shape .before .before .before .before .before in
-    rw (c .refused3 .ensures) (judge-bounds (s .args .env) (s .args .structs .now) (s .args .params .now) (s .args .output .now) (s .args .force .now) (at-method-shape .method-shape .ensures) (at-enum-told .enum-told .given .1) (c .before .before .if1 .left) (s .pre) (c .before .if2 .taken))
+    let told = c .before .before .before in
+    rw (c .refused3 .ensures) (judge-bounds (told .before .before .method-shape .ensures) (told .enum-told .given .1) (c .before .before .if1 .left) (start (told .before .before) .pre) (c .before .if2 .taken))
 
 judge-places-requires : tie.Need-judge-places-requires
 judge-places-requires c κs =
-    let at-enum-told = c .before .before .before in
-    let at-method-shape = at-enum-told .before .before in
-    let s = at-method-shape .before .before .before .before .before in
-    (in-shape (s .args .structs .now) (s .args .params .now) (s .args .output .now) (s .args .force .now) (at-method-shape .method-shape .ensures) (at-enum-told .enum-told .given .1), s .pre)
+    let told = c .before .before .before in
+    let s = start (told .before .before) in
+    (in-shape (s .args .force .now) (told .before .before .method-shape .ensures) (told .enum-told .given .1), s .pre)
 
 enum-told-3 : tie.Need-enum-told-3
 enum-told-3 c = search needs
@@ -58,14 +72,7 @@ refused-requires-4 : tie.Need-refused-requires-4
 refused-requires-4 c κs = search needs
 
 returns-4 : tie.Need-returns-4
-returns-4 c =
-    let at-judge-places = c .before .before .before in
-    let at-if2 = at-judge-places .before .before in
-    let at-if1 = at-if2 .before in
-    let at-enum-told = at-if1 .before in
-    let at-method-shape = at-enum-told .before .before in
-    let s = at-method-shape .before .before .before .before .before in
-    rw (c .refused4 .ensures) (judge-place (s .args .env) (s .args .structs .now) (s .args .params .now) (s .args .output .now) (s .args .force .now) (at-method-shape .method-shape .ensures) (at-enum-told .enum-told .given .1) (at-if1 .if1 .left) (at-if2 .if2 .left) (at-judge-places .judge-places .ensures) (c .before .enum-told4 .given .1))
+returns-4 c = rw (c .refused4 .ensures) (judge-place (judging (c .before .before .before)) (c .before .enum-told4 .given .1))
 
 check-requires : tie.Need-check-requires
 check-requires c κs = search needs
@@ -81,15 +88,8 @@ refused-requires-5 c κs = search needs
 
 returns-5 : tie.Need-returns-5
 returns-5 c =
-    let at-check = c .before .before .before in
-    let at-enum-told3 = at-check .before in
-    let at-judge-places = at-enum-told3 .before .before in
-    let at-if2 = at-judge-places .before .before in
-    let at-if1 = at-if2 .before in
-    let at-enum-told = at-if1 .before in
-    let at-method-shape = at-enum-told .before .before in
-    let s = at-method-shape .before .before .before .before .before in
-    rw (c .refused5 .ensures) (judge-env (s .args .env) (s .args .structs .now) (s .args .params .now) (s .args .output .now) (s .args .force .now) (at-method-shape .method-shape .ensures) (at-enum-told .enum-told .given .1) (at-if1 .if1 .left) (at-if2 .if2 .left) (at-judge-places .judge-places .ensures) (at-enum-told3 .enum-told3 .given .1) (at-check .check .ensures) (c .before .enum-told6 .given .1))
+    let check = c .before .before .before in
+    rw (c .refused5 .ensures) (judge-env (judging (check .before .before .before)) (check .before .enum-told3 .given .1) (check .check .ensures) (c .before .enum-told6 .given .1))
 
 collect-types-requires : tie.Need-collect-types-requires
 collect-types-requires c κs = search needs
@@ -105,31 +105,18 @@ refused-requires-6 c κs = search needs
 
 returns-6 : tie.Need-returns-6
 returns-6 c =
-    let at-collect-types = c .before .before .before in
-    let at-enum-told5 = at-collect-types .before in
-    let at-check = at-enum-told5 .before .before in
-    let at-enum-told3 = at-check .before in
-    let at-judge-places = at-enum-told3 .before .before in
-    let at-if2 = at-judge-places .before .before in
-    let at-if1 = at-if2 .before in
-    let at-enum-told = at-if1 .before in
-    let at-method-shape = at-enum-told .before .before in
-    let s = at-method-shape .before .before .before .before .before in
-    rw (c .refused6 .ensures) (judge-outside (s .args .env) (s .args .structs .now) (s .args .params .now) (s .args .output .now) (s .args .force .now) (at-method-shape .method-shape .ensures) (at-enum-told .enum-told .given .1) (at-if1 .if1 .left) (at-if2 .if2 .left) (at-judge-places .judge-places .ensures) (at-enum-told3 .enum-told3 .given .1) (at-check .check .ensures) (at-enum-told5 .enum-told5 .given .1) (at-collect-types .collect-types .ensures) (c .before .enum-told7 .given .1))
+    let collect = c .before .before .before in
+    let check = collect .before .before .before in
+    rw (c .refused6 .ensures)
+    (judge-outside (judging (check .before .before .before)) (check .before .enum-told3 .given .1) (check .check .ensures) (collect .before .enum-told5 .given .1) (collect .collect-types .ensures)
+    (c .before .enum-told7 .given .1))
 
 returns-7 : tie.Need-returns-7
 returns-7 c =
-    let at-collect-types = c .before .before .before in
-    let at-enum-told5 = at-collect-types .before in
-    let at-check = at-enum-told5 .before .before in
-    let at-enum-told3 = at-check .before in
-    let at-judge-places = at-enum-told3 .before .before in
-    let at-if2 = at-judge-places .before .before in
-    let at-if1 = at-if2 .before in
-    let at-enum-told = at-if1 .before in
-    let at-method-shape = at-enum-told .before .before in
-    let s = at-method-shape .before .before .before .before .before in
-    judge-all (s .args .env) (s .args .structs .now) (s .args .params .now) (s .args .output .now) (s .args .force .now) (at-method-shape .method-shape .ensures) (at-enum-told .enum-told .given .1) (at-if1 .if1 .left) (at-if2 .if2 .left) (at-judge-places .judge-places .ensures) (at-enum-told3 .enum-told3 .given .1) (at-check .check .ensures) (at-enum-told5 .enum-told5 .given .1) (at-collect-types .collect-types .ensures) (c .before .collected .given .1)
+    let collect = c .before .before .before in
+    let check = collect .before .before .before in
+    judge-all (judging (check .before .before .before)) (check .before .enum-told3 .given .1) (check .check .ensures) (collect .before .enum-told5 .given .1) (collect .collect-types .ensures)
+    (c .before .collected .given .1)
 
 pub judge-spec : {M : Type 1} → statement M
 judge-spec =

@@ -2,7 +2,7 @@
 use Prim.Native.Nat.{_-_}
 use borrow.Author.Needs.{needs}
 use Rattle.lowered_types.proofs.FoundLaws.{found-told, missing-told}
-use Rattle.hir_types.proofs.CollectLaws.{Collecting, collecting-start, collecting-lost, path-there, collecting-past, collecting-own, collecting-more, collecting-end}
+use Rattle.hir_types.proofs.CollectLaws.{Collecting, collecting-start, collecting-lost, Reading, path-there, collecting-past, collecting-own, collecting-more, collecting-end}
 use Rattle.hir_types.proofs.output.collect_types.Statement.{statement}
 use Rattle.hir_types.proofs.output.collect_types.Tie as tie
 
@@ -11,6 +11,16 @@ Inv-loop words types count at₀ used₀ i₀ at used i = Collecting words types
 
 abbrev μ-loop : tie.MeasureT-loop
 μ-loop words types count at₀ used₀ i₀ at used i = types - i
+
+-- the loop's test, from where a type is found
+abbrev looped : tie.After-found Inv-loop μ-loop → tie.At-loop Inv-loop μ-loop
+looped c = c .before .before .before .before
+
+reading : (c : tie.After-found Inv-loop μ-loop) → let s = looped c .before .before .args in let l = looped c .loop in
+    Reading (s .words .now) (s .types) (s .count) (l .at) (l .used) (l .i) (c .found .given .0 .0)
+reading c =
+    let at = c .before .before in
+    record { collecting = looped c .loop .inv; left = at .before .loop-test .taken; found = found-told (at .type-at .ensures .1) (c .found .given .1) }
 
 loop-holds : tie.Need-loop-holds Inv-loop μ-loop
 loop-holds c = collecting-start _ _ _
@@ -28,7 +38,7 @@ returns : tie.Need-returns Inv-loop μ-loop
 returns c = collecting-lost (c .before .before .before .before .loop .inv) (c .before .before .before .loop-test .taken) (missing-told (c .before .before .type-at .ensures .1) (c .enum-told .given .1))
 
 collect-path-requires : tie.Need-collect-path-requires Inv-loop μ-loop
-collect-path-requires c κs = (c .before .before .before .before .before .before .before .pre, path-there (c .before .before .before .before .before .loop .inv) (c .before .before .before .before .loop-test .taken) (found-told (c .before .before .before .type-at .ensures .1) (c .before .found .given .1)))
+collect-path-requires c κs = (looped (c .before) .before .before .pre, path-there (reading (c .before)))
 
 enum-known-path : tie.Need-enum-known-path Inv-loop μ-loop
 enum-known-path c = search needs
@@ -37,12 +47,7 @@ enum-told-2 : tie.Need-enum-told-2 Inv-loop μ-loop
 enum-told-2 c = search needs
 
 returns-2 : tie.Need-returns-2 Inv-loop μ-loop
-returns-2 c =
-    let at-found = c .before .before .before .before in
-    let at-type-at = at-found .before .before in
-    let at-loop-test = at-type-at .before in
-    let at-loop = at-loop-test .before in
-    collecting-past (at-loop .loop .inv) (at-loop-test .loop-test .taken) (found-told (at-type-at .type-at .ensures .1) (at-found .found .given .1)) (c .before .before .collect-path .ensures) (c .enum-told2 .given .1)
+returns-2 c = collecting-past (reading (c .before .before .before .before)) (c .before .before .collect-path .ensures) (c .enum-told2 .given .1)
 
 collect-own-requires : tie.Need-collect-own-requires Inv-loop μ-loop
 collect-own-requires c κs = search needs
@@ -55,13 +60,8 @@ enum-told-3 c = search needs
 
 returns-3 : tie.Need-returns-3 Inv-loop μ-loop
 returns-3 c =
-    let at-path = c .before .before .before .before in
-    let at-collect-path = at-path .before .before in
-    let at-found = at-collect-path .before .before in
-    let at-type-at = at-found .before .before in
-    let at-loop-test = at-type-at .before in
-    let at-loop = at-loop-test .before in
-    collecting-own (at-loop .loop .inv) (at-loop-test .loop-test .taken) (found-told (at-type-at .type-at .ensures .1) (at-found .found .given .1)) (at-collect-path .collect-path .ensures) (at-path .path .given .1) (c .before .before .collect-own .ensures) (c .enum-told3 .given .1)
+    let path = c .before .before .before .before in
+    collecting-own (reading (path .before .before .before .before)) (path .before .before .collect-path .ensures) (path .path .given .1) (c .before .before .collect-own .ensures) (c .enum-told3 .given .1)
 
 add-i : tie.Need-add-i Inv-loop μ-loop
 add-i c = search needs
@@ -71,14 +71,8 @@ loop-less c = search needs
 
 loop-again : tie.Need-loop-again Inv-loop μ-loop
 loop-again c =
-    let at-collect-own = c .before .before .before in
-    let at-path = at-collect-own .before .before in
-    let at-collect-path = at-path .before .before in
-    let at-found = at-collect-path .before .before in
-    let at-type-at = at-found .before .before in
-    let at-loop-test = at-type-at .before in
-    let at-loop = at-loop-test .before in
-    collecting-more (at-loop .loop .inv) (at-loop-test .loop-test .taken) (found-told (at-type-at .type-at .ensures .1) (at-found .found .given .1)) (at-collect-path .collect-path .ensures) (at-path .path .given .1) (at-collect-own .collect-own .ensures) (c .before .last .given .1)
+    let path = c .before .before .before .before .before in
+    collecting-more (reading (path .before .before .before .before)) (path .before .before .collect-path .ensures) (path .path .given .1) (c .before .before .before .collect-own .ensures) (c .before .last .given .1)
 
 returns-4 : tie.Need-returns-4 Inv-loop μ-loop
 returns-4 c = collecting-end (c .before .loop .inv) (c .loop-test .left)
