@@ -5,6 +5,17 @@ use borrow.Author.Needs.{needs}
 use Rattle.lowered_types.proofs.shapes.method_shape.Statement.{statement}
 use Rattle.lowered_types.proofs.shapes.method_shape.Tie as tie
 
+-- the start, from behind the first record
+abbrev start : tie.After-structs-shape → tie.Start
+start c = c .before .before .before .before .before
+
+-- behind the first record, the second and the third, from where the next is found to be in shape
+abbrev first : tie.After-second → tie.After-first
+first c = c .before .before .before .before
+
+abbrev second : tie.After-third → tie.After-second
+second c = c .before .before .before .before
+
 structs-shape-requires : tie.Need-structs-shape-requires
 structs-shape-requires c κs = search needs
 
@@ -19,9 +30,9 @@ malformed-requires c κs = search needs
 
 returns : tie.Need-returns
 returns c =
-    let at-structs-shape = c .before .before .before in
-    let s = at-structs-shape .before .before .before .before .before in
-    c .malformed .ensures ∙ method-structs (s .args .structs .now) (s .args .params .now) (s .args .output .now) (s .args .force .now) (at-structs-shape .structs-shape .ensures) (c .before .enum-told .given .1)
+    let rows = c .before .before .before in
+    let s = start rows .args in
+    c .malformed .ensures ∙ method-structs (s .structs .now) (s .params .now) (s .output .now) (s .force .now) (rows .structs-shape .ensures) (c .before .enum-told .given .1)
 
 params-shape-requires : tie.Need-params-shape-requires
 params-shape-requires c κs = search needs
@@ -37,11 +48,9 @@ malformed-requires-2 c κs = search needs
 
 returns-2 : tie.Need-returns-2
 returns-2 c =
-    let at-params-shape = c .before .before .before in
-    let at-first = at-params-shape .before .before in
-    let at-structs-shape = at-first .before .before in
-    let s = at-structs-shape .before .before .before .before .before in
-    c .malformed2 .ensures ∙ method-params (s .args .structs .now) (s .args .params .now) (s .args .output .now) (s .args .force .now) (at-structs-shape .structs-shape .ensures) (at-first .first .given .1) (at-params-shape .params-shape .ensures) (c .before .enum-told2 .given .1)
+    let one = c .before .before .before .before .before in
+    let s = start (one .before .before) .args in
+    c .malformed2 .ensures ∙ method-params (s .structs .now) (s .params .now) (s .output .now) (s .force .now) (one .before .before .structs-shape .ensures) (one .first .given .1) (c .before .before .before .params-shape .ensures) (c .before .enum-told2 .given .1)
 
 output-shape-requires : tie.Need-output-shape-requires
 output-shape-requires c κs = search needs
@@ -57,13 +66,10 @@ malformed-requires-3 c κs = search needs
 
 returns-3 : tie.Need-returns-3
 returns-3 c =
-    let at-output-shape = c .before .before .before in
-    let at-second = at-output-shape .before .before in
-    let at-params-shape = at-second .before .before in
-    let at-first = at-params-shape .before .before in
-    let at-structs-shape = at-first .before .before in
-    let s = at-structs-shape .before .before .before .before .before in
-    c .malformed3 .ensures ∙ method-output (s .args .structs .now) (s .args .params .now) (s .args .output .now) (s .args .force .now) (at-structs-shape .structs-shape .ensures) (at-first .first .given .1) (at-params-shape .params-shape .ensures) (at-second .second .given .1) (at-output-shape .output-shape .ensures) (c .before .enum-told3 .given .1)
+    let two = c .before .before .before .before .before in
+    let one = first two in
+    let s = start (one .before .before) .args in
+    c .malformed3 .ensures ∙ method-output (s .structs .now) (s .params .now) (s .output .now) (s .force .now) (one .before .before .structs-shape .ensures) (one .first .given .1) (two .before .before .params-shape .ensures) (two .second .given .1) (c .before .before .before .output-shape .ensures) (c .before .enum-told3 .given .1)
 
 force-shape-requires : tie.Need-force-shape-requires
 force-shape-requires c κs = search needs
@@ -79,26 +85,19 @@ malformed-requires-4 c κs = search needs
 
 returns-4 : tie.Need-returns-4
 returns-4 c =
-    let at-force-shape = c .before .before .before in
-    let at-third = at-force-shape .before .before in
-    let at-output-shape = at-third .before .before in
-    let at-second = at-output-shape .before .before in
-    let at-params-shape = at-second .before .before in
-    let at-first = at-params-shape .before .before in
-    let at-structs-shape = at-first .before .before in
-    let s = at-structs-shape .before .before .before .before .before in
-    c .malformed4 .ensures ∙ method-force (s .args .structs .now) (s .args .params .now) (s .args .output .now) (s .args .force .now) (at-structs-shape .structs-shape .ensures) (at-first .first .given .1) (at-params-shape .params-shape .ensures) (at-second .second .given .1) (at-output-shape .output-shape .ensures) (at-third .third .given .1) (at-force-shape .force-shape .ensures) (c .before .enum-told5 .given .1)
+    let three = c .before .before .before .before .before in
+    let two = second three in
+    let one = first two in
+    let s = start (one .before .before) .args in
+    c .malformed4 .ensures ∙ method-force (s .structs .now) (s .params .now) (s .output .now) (s .force .now) (one .before .before .structs-shape .ensures) (one .first .given .1) (two .before .before .params-shape .ensures) (two .second .given .1) (three .before .before .output-shape .ensures) (three .third .given .1) (c .before .before .before .force-shape .ensures) (c .before .enum-told5 .given .1)
 
 returns-5 : tie.Need-returns-5
 returns-5 c =
-    let at-third = c .before .before .before .before in
-    let at-output-shape = at-third .before .before in
-    let at-second = at-output-shape .before .before in
-    let at-params-shape = at-second .before .before in
-    let at-first = at-params-shape .before .before in
-    let at-structs-shape = at-first .before .before in
-    let s = at-structs-shape .before .before .before .before .before in
-    method-whole (s .args .structs .now) (s .args .params .now) (s .args .output .now) (s .args .force .now) (at-structs-shape .structs-shape .ensures) (at-first .first .given .1) (at-params-shape .params-shape .ensures) (at-second .second .given .1) (at-output-shape .output-shape .ensures) (at-third .third .given .1) (c .before .before .force-shape .ensures) (c .enum-told4 .given .1)
+    let three = c .before .before .before .before in
+    let two = second three in
+    let one = first two in
+    let s = start (one .before .before) .args in
+    method-whole (s .structs .now) (s .params .now) (s .output .now) (s .force .now) (one .before .before .structs-shape .ensures) (one .first .given .1) (two .before .before .params-shape .ensures) (two .second .given .1) (three .before .before .output-shape .ensures) (three .third .given .1) (c .before .before .force-shape .ensures) (c .enum-told4 .given .1)
 
 pub method-shape-spec : {M : Type 1} → statement M
 method-shape-spec =

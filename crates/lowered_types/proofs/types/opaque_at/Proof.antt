@@ -1,11 +1,22 @@
 -- `opaque_at` meets its contract: each way out is one law of proofs/TypeLaws.antt.
-use Prim.Native.Nat.{_+_}
+use Prim.Native.Nat.{ℕ, _+_}
+use mathlib.Core.List.{List}
 use native.Mathlib.Omega.{arith}
-use Rattle.lowered_types.proofs.PathLaws.{path-at, path-past, path-missing}
+use Rattle.lowered_types.proofs.PathLaws.{PathAt, path-at, path-past, path-missing}
 use Rattle.lowered_types.proofs.TypeLaws.{opaque-short, opaque-no-flag, opaque-missing, opaque-unowned, opaque-owned, opaque-no-owner, opaque-lost, opaque-borrowed}
 use borrow.Author.Needs.{needs}
 use Rattle.lowered_types.proofs.types.opaque_at.Statement.{statement}
 use Rattle.lowered_types.proofs.types.opaque_at.Tie as tie
+
+-- the tests before a path that is read, and what it says
+abbrev long : tie.After-path → tie.Else1
+long c = c .before .before .before .before .before
+
+abbrev flagged : tie.After-path → tie.Else2
+flagged c = c .before .before .before
+
+path : (c : tie.After-path) → let s = long c .before .before .args in (path : List ℕ) × PathAt (s .words .now) (s .at + 2) (c .path .given .0 .0) path
+path c = path-at _ _ (c .before .before .lifetimes-end .ensures) (c .path .given .1)
 
 add-if1 : tie.Need-add-if1
 add-if1 c = search needs
@@ -42,13 +53,14 @@ enum-told c = search needs
 
 returns-3 : tie.Need-returns-3
 returns-3 c =
-    let at-if2 = c .before .before .before in
-    let at-if1 = at-if2 .before .before in
-    let s = at-if1 .before .before in
-    opaque-missing _ _ _ (at-if1 .if1 .left) (at-if2 .if2 .left) (path-missing (s .args .words .now) (s .args .at + 2) (c .before .before .lifetimes-end .ensures) (c .enum-told .given .1))
+    let flag = c .before .before .before in
+    let s = flag .before .before .before .before .args in
+    opaque-missing _ _ _ (flag .before .before .if1 .left) (flag .if2 .left) (path-missing (s .words .now) (s .at + 2) (c .before .before .lifetimes-end .ensures) (c .enum-told .given .1))
 
 returns-4 : tie.Need-returns-4
-returns-4 c = opaque-unowned _ _ _ (c .before .before .before .before .before .before .before .if1 .left) (c .before .before .before .before .before .if2 .left) ((path-at _ _ (c .before .before .before .before .lifetimes-end .ensures) (c .before .before .path .given .1)) .1) (c .if3 .taken)
+returns-4 c =
+    let read = c .before .before in
+    opaque-unowned _ _ _ (long read .if1 .left) (flagged read .if2 .left) (path read .1) (c .if3 .taken)
 
 sub-count : tie.Need-sub-count
 sub-count c =
@@ -67,32 +79,21 @@ add-next c = search needs
 
 returns-5 : tie.Need-returns-5
 returns-5 c =
-    let at-path = c .before .before .before .before in
-    let at-lifetimes-end = at-path .before .before in
-    let at-if2 = at-lifetimes-end .before in
-    let at-if1 = at-if2 .before .before in
-    opaque-owned _ _ _ (at-if1 .if1 .left) (at-if2 .if2 .left) ((path-at _ _ (at-lifetimes-end .lifetimes-end .ensures) (at-path .path .given .1)) .1) (c .before .before .if3 .left) (c .if4 .taken)
+    let read = c .before .before .before .before in
+    opaque-owned _ _ _ (long read .if1 .left) (flagged read .if2 .left) (path read .1) (c .before .before .if3 .left) (c .if4 .taken)
 
 returns-6 : tie.Need-returns-6
 returns-6 c =
-    let at-if3 = c .before .before .before in
-    let at-path = at-if3 .before .before in
-    let at-lifetimes-end = at-path .before .before in
-    let at-if2 = at-lifetimes-end .before in
-    let at-if1 = at-if2 .before .before in
-    opaque-no-owner _ _ _ (at-if1 .if1 .left) (at-if2 .if2 .left) ((path-at _ _ (at-lifetimes-end .lifetimes-end .ensures) (at-path .path .given .1)) .1) (at-if3 .if3 .left) (c .if5 .taken)
+    let read = c .before .before .before .before .before in
+    opaque-no-owner _ _ _ (long read .if1 .left) (flagged read .if2 .left) (path read .1) (c .before .before .before .if3 .left) (c .if5 .taken)
 
 add-if6 : tie.Need-add-if6
 add-if6 c = search needs
 
 returns-7 : tie.Need-returns-7
 returns-7 c =
-    let at-if3 = c .before .before .before .before in
-    let at-path = at-if3 .before .before in
-    let at-lifetimes-end = at-path .before .before in
-    let at-if2 = at-lifetimes-end .before in
-    let at-if1 = at-if2 .before .before in
-    opaque-lost _ _ _ (at-if1 .if1 .left) (at-if2 .if2 .left) ((path-at _ _ (at-lifetimes-end .lifetimes-end .ensures) (at-path .path .given .1)) .1) (at-if3 .if3 .left) (c .before .before .if4 .left) (c .before .if5 .left) (c .if6 .taken)
+    let read = c .before .before .before .before .before .before in
+    opaque-lost _ _ _ (long read .if1 .left) (flagged read .if2 .left) (path read .1) (c .before .before .before .before .if3 .left) (c .before .before .if4 .left) (c .before .if5 .left) (c .if6 .taken)
 
 add-word : tie.Need-add-word
 add-word c = search needs
@@ -108,13 +109,8 @@ add-end c = search needs
 
 returns-8 : tie.Need-returns-8
 returns-8 c =
-    let at-if4 = c .before .before .before in
-    let at-if3 = at-if4 .before .before in
-    let at-path = at-if3 .before .before in
-    let at-lifetimes-end = at-path .before .before in
-    let at-if2 = at-lifetimes-end .before in
-    let at-if1 = at-if2 .before .before in
-    opaque-borrowed _ _ _ (at-if1 .if1 .left) (at-if2 .if2 .left) ((path-at _ _ (at-lifetimes-end .lifetimes-end .ensures) (at-path .path .given .1)) .1) (at-if3 .if3 .left) (at-if4 .if4 .left) (c .before .before .if5 .left) (c .before .if6 .left)
+    let read = c .before .before .before .before .before .before .before in
+    opaque-borrowed _ _ _ (long read .if1 .left) (flagged read .if2 .left) (path read .1) (c .before .before .before .before .before .if3 .left) (c .before .before .before .if4 .left) (c .before .before .if5 .left) (c .before .if6 .left)
 
 pub opaque-at-spec : {M : Type 1} → statement M
 opaque-at-spec =
