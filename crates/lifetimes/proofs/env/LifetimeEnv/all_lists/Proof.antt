@@ -22,20 +22,26 @@ full c = simp length-map at (c .good .0 .1 .1 .1 .1 .1 .0 .1 .0 .1)
 parts : {A B C : Type 0} → A × B × C → A × (B × C)
 parts p = (p .0, (p .1, p .2))
 
--- no refusal of the environment is due
-none : (c : tie.After-enum-told) → NoneDue (envChecks (c .before .before .before .before .before .args .self))
-none c = accepted-none (c .before .before .before .before .before .args .self) (envChecks (c .before .before .before .before .before .args .self)) (sym (c .before .before .check .ensures) ∙ c .enum-told .given .1)
+-- the start, from where the environment is found to be one; and that place, from where its bounds are linked
+abbrev start : tie.After-enum-told → tie.Start
+start c = c .before .before .before .before .before
 
-holds : (c : tie.After-enum-told) → Valid (c .before .before .before .before .before .args .self)
-holds c = valid (c .before .before .before .before .before .args .self) (none c)
+abbrev told : tie.After-link → tie.After-enum-told
+told c = c .before .before .before .before .before
+
+-- no refusal of the environment is due
+none : (c : tie.After-enum-told) → NoneDue (envChecks (start c .args .self))
+none c = accepted-none (start c .args .self) (envChecks (start c .args .self)) (sym (c .before .before .check .ensures) ∙ c .enum-told .given .1)
+
+holds : (c : tie.After-enum-told) → Valid (start c .args .self)
+holds c = valid (start c .args .self) (none c)
 
 -- whether the words have room
-fit : (c : tie.After-all-fit) → let s = c .before .before .before .before .before .before .before .before .before .before .before .before .before .before in Fits (graphOf (s .args .longer) (s .args .self)) (s .args .self .count) (length (s .args .words .now)) (c .all-fit .result)
+fit : (c : tie.After-all-fit) → let s = start (told (c .before .before .before .before)) .args in Fits (graphOf (s .longer) (s .self)) (s .self .count) (length (s .words .now)) (c .all-fit .result)
 fit c =
-    let at-link = c .before .before .before .before in
-    let at-before = at-link .before .before .before .before in
-    let s = at-before .before .before .before .before .before .before in
-    c .all-fit .ensures (graphOf (s .args .longer) (s .args .self)) (at-link .link .ensures) (bounds-within (holds (at-before .before)) LastFirst (s .args .longer) _ (omega arith))
+    let link = c .before .before .before .before in
+    let s = start (told link) .args in
+    c .all-fit .ensures (graphOf (s .longer) (s .self)) (link .link .ensures) (bounds-within (holds (told link)) LastFirst (s .longer) _ (omega arith))
 
 check-requires : tie.Need-check-requires
 check-requires c κs = search needs
@@ -53,42 +59,41 @@ enum-told c = search needs
 
 returns-2 : tie.Need-returns-2
 returns-2 c =
-    let s = c .before .before .before .before .before .before in
-    parts (lists-no-ends (s .args .longer) (s .args .self) (s .args .words .now) (s .args .ends .now) (none (c .before)) (c .if1 .taken))
+    let s = start (c .before) .args in
+    parts (lists-no-ends (s .longer) (s .self) (s .words .now) (s .ends .now) (none (c .before)) (c .if1 .taken))
 
 link-requires : tie.Need-link-requires
 link-requires c κs =
-    let s = c .before .before .before .before .before .before .before .before .before in
-    let v = holds (c .before .before .before .before) in
-    ((bounds-fine v (full s), bounds-length v (full s)), (zeros 64, (refl, refl, refl)))
+    let at = c .before .before .before .before in
+    let v = holds at in
+    ((bounds-fine v (full (start at)), bounds-length v (full (start at))), (zeros 64, (refl, refl, refl)))
 
 all-fit-requires : tie.Need-all-fit-requires
 all-fit-requires c κs =
-    let at-before = c .before .before .before .before .before .before .before in
-    let s = at-before .before .before .before .before .before .before in
-    let v = holds (at-before .before) in
-    ((graphOf (s .args .longer) (s .args .self), c .before .before .before .link .ensures, bounds-within v LastFirst (s .args .longer) _ (omega arith)), v .declares, v .counted)
+    let link = c .before .before .before in
+    let s = start (told link) .args in
+    let v = holds (told link) in
+    ((graphOf (s .longer) (s .self), link .link .ensures, bounds-within v LastFirst (s .longer) _ (omega arith)), v .declares, v .counted)
 
 returns-3 : tie.Need-returns-3
 returns-3 c =
-    let at-before = c .before .before .before .before .before .before .before .before .before in
-    let s = at-before .before .before .before .before .before .before in
-    parts (lists-no-words (s .args .longer) (s .args .self) (s .args .words .now) (s .args .ends .now) (none (at-before .before)) (at-before .if1 .left)
+    let at = told (c .before .before .before .before .before) in
+    let s = start at .args in
+    parts (lists-no-words (s .longer) (s .self) (s .words .now) (s .ends .now) (none at) (c .before .before .before .before .before .before .before .before .before .if1 .left)
     (leb-false _ _ (sym ((fit (c .before)) .fits) ∙ not-true _ (c .if2 .taken))))
 
 lay-requires : tie.Need-lay-requires
 lay-requires c κs =
-    let at-before = c .before .before .before .before .before .before in
-    let at-link = at-before .before .before .before .before .before in
-    let at-before-2 = at-link .before .before .before .before in
-    let s = at-before-2 .before .before .before .before .before .before in
-    let v = holds (at-before-2 .before) in (
+    let room = c .before .before .before .before .before .before in
+    let link = room .before .before .before .before .before in
+    let s = start (told link) .args in
+    let v = holds (told link) in (
       (
-        (graphOf (s .args .longer) (s .args .self), at-link .link .ensures, bounds-within v LastFirst (s .args .longer) _ (omega arith), leb-true _ _ (sym ((fit (at-before .before)) .fits) ∙ not-false _ (at-before .if2 .left))),
+        (graphOf (s .longer) (s .self), link .link .ensures, bounds-within v LastFirst (s .longer) _ (omega arith), leb-true _ _ (sym ((fit (room .before)) .fits) ∙ not-false _ (room .if2 .left))),
         v .declares,
         v .counted,
       ),
-      (at-before-2 .if1 .left, refl),
+      (link .before .before .before .before .if1 .left, refl),
     )
 
 same-length : tie.Need-same-length
@@ -99,14 +104,14 @@ same-length-2 c = search needs
 
 returns-4 : tie.Need-returns-4
 returns-4 c =
-    let at-lay = c .before .before .before .before in
-    let at-before = at-lay .before .before .before .before .before .before .before in
-    let at-link = at-before .before .before .before .before .before in
-    let at-before-2 = at-link .before .before .before .before in
-    let s = at-before-2 .before .before .before .before .before .before in
-    parts (lists-given (s .args .longer) (s .args .self) (s .args .words .now) (s .args .ends .now) (none (at-before-2 .before)) (at-before-2 .if1 .left)
-    (leb-true _ _ (sym ((fit (at-before .before)) .fits) ∙ not-false _ (at-before .if2 .left)))
-    (at-lay .lay .ensures (graphOf (s .args .longer) (s .args .self)) (at-link .link .ensures) (bounds-within (holds (at-before-2 .before)) LastFirst (s .args .longer) _ (omega arith))))
+    let laid = c .before .before .before .before in
+    let room = laid .before .before .before .before .before .before .before in
+    let link = room .before .before .before .before .before in
+    let at = told link in
+    let s = start at .args in
+    parts (lists-given (s .longer) (s .self) (s .words .now) (s .ends .now) (none at) (link .before .before .before .before .if1 .left)
+    (leb-true _ _ (sym ((fit (room .before)) .fits) ∙ not-false _ (room .if2 .left)))
+    (laid .lay .ensures (graphOf (s .longer) (s .self)) (link .link .ensures) (bounds-within (holds at) LastFirst (s .longer) _ (omega arith))))
 
 pub all-lists-spec : {M : Type 1} → statement M
 all-lists-spec =

@@ -17,12 +17,19 @@ use Rattle.lifetimes.proofs.env.LifetimeEnv.reach_sets.Tie as tie
 full : (c : tie.Start) → length (c .args .self .bounds) ≡ 256
 full c = simp length-map at (c .good .0 .1 .1 .1 .1 .1 .0 .1 .0 .1)
 
--- no refusal of the environment is due
-none : (c : tie.After-enum-told) → NoneDue (envChecks (c .before .before .before .args .self))
-none c = accepted-none (c .before .before .before .args .self) (envChecks (c .before .before .before .args .self)) (sym (c .before .before .check .ensures) ∙ c .enum-told .given .1)
+-- the start, from where the environment is found to be one; and that place, from where its bounds are linked
+abbrev start : tie.After-enum-told → tie.Start
+start c = c .before .before .before
 
-holds : (c : tie.After-enum-told) → Valid (c .before .before .before .args .self)
-holds c = valid (c .before .before .before .args .self) (none c)
+abbrev told : tie.After-link → tie.After-enum-told
+told c = c .before .before .before .before
+
+-- no refusal of the environment is due
+none : (c : tie.After-enum-told) → NoneDue (envChecks (start c .args .self))
+none c = accepted-none (start c .args .self) (envChecks (start c .args .self)) (sym (c .before .before .check .ensures) ∙ c .enum-told .given .1)
+
+holds : (c : tie.After-enum-told) → Valid (start c .args .self)
+holds c = valid (start c .args .self) (none c)
 
 check-requires : tie.Need-check-requires
 check-requires c κs = search needs
@@ -41,24 +48,23 @@ returns c =
 
 link-requires : tie.Need-link-requires
 link-requires c κs =
-    let s = c .before .before .before .before .before .before in
-    let v = holds (c .before .before .before) in
-    ((bounds-fine v (full s), bounds-length v (full s)), (zeros 64, (refl, refl, refl)))
+    let at = c .before .before .before in
+    let v = holds at in
+    ((bounds-fine v (full (start at)), bounds-length v (full (start at))), (zeros 64, (refl, refl, refl)))
 
 measure-requires : tie.Need-measure-requires
 measure-requires c κs =
-    let at-link = c .before .before .before .before in
-    let at-before = at-link .before .before .before in
-    let s = at-before .before .before .before .before in
-    let v = holds (at-before .before) in
-    (((graphOf (s .args .longer) (s .args .self), at-link .link .ensures, bounds-within v LastFirst (s .args .longer) _ (omega arith)), v .declares, v .counted), refl)
+    let link = c .before .before .before .before in
+    let s = start (told link) .args in
+    let v = holds (told link) in
+    (((graphOf (s .longer) (s .self), link .link .ensures, bounds-within v LastFirst (s .longer) _ (omega arith)), v .declares, v .counted), refl)
 
 returns-2 : tie.Need-returns-2
 returns-2 c =
-    let at-link = c .before .before .before .before .before in
-    let at-before = at-link .before .before .before in
-    let s = at-before .before .before .before .before in
-    sets-given (s .args .longer) (s .args .self) (none (at-before .before)) (c .measure .ensures (graphOf (s .args .longer) (s .args .self)) (at-link .link .ensures) (bounds-within (holds (at-before .before)) LastFirst (s .args .longer) _ (omega arith)))
+    let link = c .before .before .before .before .before in
+    let at = told link in
+    let s = start at .args in
+    sets-given (s .longer) (s .self) (none at) (c .measure .ensures (graphOf (s .longer) (s .self)) (link .link .ensures) (bounds-within (holds at) LastFirst (s .longer) _ (omega arith)))
 
 pub reach-sets-spec : {M : Type 1} → statement M
 reach-sets-spec =
