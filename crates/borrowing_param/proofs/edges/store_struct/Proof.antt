@@ -1,10 +1,12 @@
 -- `store_struct` meets its contract. The loop's invariant is `Storing` of proofs/Storing.antt, over the edges that are left; the measure is how many words are to be read.
-use Prim.Native.Nat.{_+_, _-_, _*_, _≤_}
-use mathlib.Core.Path.{refl, sym, _∙_}
-use mathlib.Core.List.{[], _∷_}
+use Prim.Native.Nat.{ℕ, _+_, _-_, _*_, _≤_}
+use mathlib.Core.Path.{_≡_, refl, sym, _∙_}
+use mathlib.Core.List.{List, [], _∷_, _++_}
 use native.Mathlib.Omega.{arith}
 use borrow.Author.Tests.{not-true, not-false}
-use lib.ListN.{length}
+use lib.ListN.{length, getD}
+use Rattle.lifetimes.specs.LoweredWords.{fromWord}
+use Rattle.borrowing_param.specs.declared.visitor.LifetimeEdge.{LifetimeEdge}
 use Rattle.borrowing_param.specs.Edges.{edge, width}
 use Rattle.borrowing_param.specs.Brings.{structEdges}
 use Rattle.borrowing_param.specs.Visit.{drawsIn}
@@ -19,6 +21,35 @@ Inv-lifetimes set words used param edges₀ at pairs₀ from count option path n
 
 abbrev μ-lifetimes : tie.MeasureT-lifetimes
 μ-lifetimes set words used param edges₀ at pairs₀ from count option path next₀ i₀ edges pairs next i = count - i
+
+-- the start, from inside the loop; how the option stands in the edges
+abbrev start : tie.In-lifetimes Inv-lifetimes μ-lifetimes → tie.Start Inv-lifetimes μ-lifetimes
+start c = c .before .before .before .before .before .before
+
+abbrev option : tie.In-lifetimes Inv-lifetimes μ-lifetimes → ℕ
+option c = c .before .before .before .option-number .result
+
+-- the edge of this lifetime, and those of the lifetimes from one on
+abbrev this : tie.In-lifetimes Inv-lifetimes μ-lifetimes → List LifetimeEdge
+this c = edge (start c .args .used) (start c .args .param) 3 (c .before .lifetimes .i) (option c) ∷ []
+
+abbrev from : tie.In-lifetimes Inv-lifetimes μ-lifetimes → ℕ → List LifetimeEdge
+from c i = let a = start c .args in leftEdges (drawsIn (a .set)) (a .used) (a .param) (option c) (a .words .now) (a .parts .from) (a .parts .count) i
+
+-- the lifetime that is linked is that of the word in its place
+linked : (c : tie.After-linked-lifetime Inv-lifetimes μ-lifetimes) → let a = start (c .before) .args in c .linked-lifetime .result ≡ fromWord (getD (a .words .now) (a .parts .from + c .before .before .lifetimes .i) 0)
+linked c =
+    let a = start (c .before) .args in
+    let path = c .before .before .before in
+    part-word (a .words .now) (path .path-words .result .now) (a .parts .from) (a .parts .count) (path .path-words .ensures) (c .before .lifetimes-test .taken) (c .linked-lifetime .ensures)
+
+-- where it draws an edge, that is the next of those that are left
+split : (c : tie.Else1 Inv-lifetimes μ-lifetimes) → from (c .before .before .before) (c .before .before .before .before .lifetimes .i) ≡ this (c .before .before .before) ++ from (c .before .before .before) (c .before .before .before .before .lifetimes .i + 1)
+split c =
+    let s = start (c .before .before .before) in
+    let a = s .args in
+    edges-one (drawsIn (a .set)) (a .used) (a .param) (option (c .before .before .before)) (a .words .now) (a .parts .from) (a .parts .count) (s .pre .0 .0) (c .before .before .before .before .lifetimes .i) (c .before .before .before .lifetimes-test .taken) (linked (c .before .before))
+    (sym (not-false _ (c .if1 .left)) ∙ c .before .draws .ensures)
 
 option-number-requires : tie.Need-option-number-requires Inv-lifetimes μ-lifetimes
 option-number-requires c κs = search needs
@@ -50,39 +81,28 @@ lifetimes-less c = search needs
 
 lifetimes-again : tie.Need-lifetimes-again Inv-lifetimes μ-lifetimes
 lifetimes-again c =
-    let at-lifetimes-test = c .before .before .before in
-    let at-lifetimes = at-lifetimes-test .before in
-    let at-path-words = at-lifetimes .before in
-    let at-option-number = at-path-words .before in
-    let s = at-option-number .before .before .before in
-    (omega (arith, at-lifetimes-test .lifetimes-test .taken), storing-none (at-lifetimes .lifetimes .inv .1) (edges-skip (drawsIn (s .args .set)) (s .args .used) (s .args .param) (at-option-number .option-number .result) (s .args .words .now) (s .args .parts .from) (s .args .parts .count) (s .pre .0 .0) (at-lifetimes .lifetimes .i) (at-lifetimes-test .lifetimes-test .taken) (part-word (s .args .words .now) (at-path-words .path-words .result .now) (s .args .parts .from) (s .args .parts .count) (at-path-words .path-words .ensures) (at-lifetimes-test .lifetimes-test .taken) (c .before .before .linked-lifetime .ensures)) (sym (not-true _ (c .if1 .taken)) ∙ c .before .draws .ensures)))
+    let at = c .before .before .before in
+    let s = start at in
+    let a = s .args in
+    (omega (arith, at .lifetimes-test .taken), storing-none (at .before .lifetimes .inv .1) (edges-skip (drawsIn (a .set)) (a .used) (a .param) (option at) (a .words .now) (a .parts .from) (a .parts .count) (s .pre .0 .0) (at .before .lifetimes .i) (at .lifetimes-test .taken) (linked (c .before .before)) (sym (not-true _ (c .if1 .taken)) ∙ c .before .draws .ensures)))
 
 store-pair-requires : tie.Need-store-pair-requires Inv-lifetimes μ-lifetimes
 store-pair-requires c κs =
-    let at-linked-lifetime = c .before .before .before .before in
-    let at-lifetimes-test = at-linked-lifetime .before in
-    let at-lifetimes = at-lifetimes-test .before in
-    let at-path-words = at-lifetimes .before in
-    let at-option-number = at-path-words .before in
-    let s = at-option-number .before .before .before in
-    let split = edges-one (drawsIn (s .args .set)) (s .args .used) (s .args .param) (at-option-number .option-number .result) (s .args .words .now) (s .args .parts .from) (s .args .parts .count) (s .pre .0 .0) (at-lifetimes .lifetimes .i) (at-lifetimes-test .lifetimes-test .taken) (part-word (s .args .words .now) (at-path-words .path-words .result .now) (s .args .parts .from) (s .args .parts .count) (at-path-words .path-words .ensures) (at-lifetimes-test .lifetimes-test .taken) (at-linked-lifetime .linked-lifetime .ensures)) (sym (not-false _ (c .before .before .if1 .left)) ∙ c .before .before .before .draws .ensures) in
-    (refl, omega (arith, s .pre .0 .1, at-lifetimes-test .lifetimes-test .taken), s .pre .0 .2, at-lifetimes .lifetimes .inv .1 .sets16, storing-fits (at-lifetimes .lifetimes .inv .1) (edge (s .args .used) (s .args .param) 3 (at-lifetimes .lifetimes .i) (at-option-number .option-number .result) ∷ []) (leftEdges (drawsIn (s .args .set)) (s .args .used) (s .args .param) (at-option-number .option-number .result) (s .args .words .now) (s .args .parts .from) (s .args .parts .count) (at-lifetimes .lifetimes .i + 1)) split)
+    let draws = c .before .before in
+    let at = draws .before .before .before in
+    let s = start at in
+    let l = at .before .lifetimes in
+    (refl, omega (arith, s .pre .0 .1, at .lifetimes-test .taken), s .pre .0 .2, l .inv .1 .sets16, storing-fits (l .inv .1) (this at) (from at (l .i + 1)) (split draws))
 
 lifetimes-less-2 : tie.Need-lifetimes-less-2 Inv-lifetimes μ-lifetimes
 lifetimes-less-2 c = search needs
 
 lifetimes-again-2 : tie.Need-lifetimes-again-2 Inv-lifetimes μ-lifetimes
 lifetimes-again-2 c =
-    let at-if1 = c .before .before .before .before .before in
-    let at-draws = at-if1 .before in
-    let at-linked-lifetime = at-draws .before in
-    let at-lifetimes-test = at-linked-lifetime .before in
-    let at-lifetimes = at-lifetimes-test .before in
-    let at-path-words = at-lifetimes .before in
-    let at-option-number = at-path-words .before in
-    let s = at-option-number .before .before .before in
-    let split = edges-one (drawsIn (s .args .set)) (s .args .used) (s .args .param) (at-option-number .option-number .result) (s .args .words .now) (s .args .parts .from) (s .args .parts .count) (s .pre .0 .0) (at-lifetimes .lifetimes .i) (at-lifetimes-test .lifetimes-test .taken) (part-word (s .args .words .now) (at-path-words .path-words .result .now) (s .args .parts .from) (s .args .parts .count) (at-path-words .path-words .ensures) (at-lifetimes-test .lifetimes-test .taken) (at-linked-lifetime .linked-lifetime .ensures)) (sym (not-false _ (at-if1 .if1 .left)) ∙ at-draws .draws .ensures) in
-    (omega (arith, at-lifetimes-test .lifetimes-test .taken), storing-part (at-lifetimes .lifetimes .inv .1) (edge (s .args .used) (s .args .param) 3 (at-lifetimes .lifetimes .i) (at-option-number .option-number .result) ∷ []) (leftEdges (drawsIn (s .args .set)) (s .args .used) (s .args .param) (at-option-number .option-number .result) (s .args .words .now) (s .args .parts .from) (s .args .parts .count) (at-lifetimes .lifetimes .i + 1)) split (c .before .before .store-pair .ensures))
+    let draws = c .before .before .before .before .before in
+    let at = draws .before .before .before in
+    let l = at .before .lifetimes in
+    (omega (arith, at .lifetimes-test .taken), storing-part (l .inv .1) (this at) (from at (l .i + 1)) (split draws) (c .before .before .store-pair .ensures))
 
 same-length : tie.Need-same-length Inv-lifetimes μ-lifetimes
 same-length c = c .before .lifetimes .inv .1 .size
