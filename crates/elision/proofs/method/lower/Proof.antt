@@ -17,81 +17,64 @@ start c = c .before .before .before .before .before .before .before .before .bef
 measured : (c : tie.After-enum-told2) → let s = start c in Measured (s .args .env) (s .args .receiver .now) (s .args .steps .now) (s .args .returns .now) (c .before .before .measure .result)
 measured c = measures _ _ _ _ (c .before .before .measure .ensures) (c .enum-told2 .given .1)
 
--- src/method.rt:116:9
 measure-requires : tie.Need-measure-requires
 measure-requires c κs = search needs
 
--- src/method.rt:119:9
 enum-told : tie.Need-enum-told
 enum-told c = search needs
 
--- src/method.rt:119:9
 returns : tie.Need-returns
 returns c = lower-refused _ _ _ _ _ _ _ (c .before .before .measure .ensures) (c .enum-told .given .1)
 
 enum-told-2 : tie.Need-enum-told-2
 enum-told-2 c = search needs
 
--- src/method.rt:122:9
 refused-lowering-requires : tie.Need-refused-lowering-requires
 refused-lowering-requires c κs = search needs
 
--- src/method.rt:122:9
 returns-2 : tie.Need-returns-2
 returns-2 c = lower-own (measured (c .before .before .before)) (c .before .if1 .taken) (c .refused-lowering .ensures)
 
--- src/method.rt:125:9
 refused-lowering-requires-2 : tie.Need-refused-lowering-requires-2
 refused-lowering-requires-2 c κs = search needs
 
--- src/method.rt:125:9
 returns-3 : tie.Need-returns-3
 returns-3 c =
     let first = c .before .before .before in
     lower-given (measured (first .before .before)) (first .if1 .left) (c .before .if2 .taken) (c .refused-lowering2 .ensures)
 
--- src/method.rt:128:9
 refused-lowering-requires-3 : tie.Need-refused-lowering-requires-3
 refused-lowering-requires-3 c κs = search needs
 
--- src/method.rt:128:9
 returns-4 : tie.Need-returns-4
 returns-4 c =
     let second = c .before .before .before in
     let first = second .before .before in
     lower-taken (measured (first .before .before)) (first .if1 .left) (second .if2 .left) (c .before .if3 .taken) (c .refused-lowering3 .ensures)
 
--- src/method.rt:133:9
 sub-run : tie.Need-sub-run
 sub-run c = search needs
 
--- src/method.rt:133:9
 part-run-start : tie.Need-part-run-start
 part-run-start c = search needs
 
--- src/method.rt:133:9
 part-run-end : tie.Need-part-run-end
 part-run-end c =
     let told = c .before .before .before .before .before .before .before .before in
     omega (arith, full (start told), lower-named (measured told))
 
--- src/method.rt:132:5
 run-requires : tie.Need-run-requires
 run-requires c κs = lower-shaped (measured (c .before .before .before .before .before .before .before .before .before .before .before .before))
 
--- src/method.rt:102:1
 same-length : tie.Need-same-length
 same-length c = search needs
 
--- src/method.rt:102:1
 same-length-2 : tie.Need-same-length-2
 same-length-2 c = search needs
 
--- src/method.rt:102:1
 same-length-3 : tie.Need-same-length-3
 same-length-3 c = search needs
 
--- src/method.rt:102:1
 returns-5 : tie.Need-returns-5
 returns-5 c =
     let ran = c .before .before .before .before .before .before in
