@@ -181,12 +181,12 @@ measures e self steps returns counted fine =
     let d = given-due (recordsOf e self steps returns) (g .0) (measureChecks e self steps returns) (g .1 .0) in
     record { none = d .0; is = g .1 .1 ∙ ap (λ (x : Method). answered e (Gives x)) (sym (d .1)) }
 
--- so many words have room
-fits : (room : ℕ) (ws : List ℕ) {n : ℕ} → length ws ≡ n → n ≤ room → roomCheck room ws .due ≡ false
-fits room ws size h = le-ltb room (length ws) (omega (arith, size))
+-- whether words have room, by how many they are
+fits : {room n : ℕ} (ws : List ℕ) → length ws ≡ n → n ≤ room → roomCheck room ws .due ≡ false
+fits {room} ws size h = le-ltb room (length ws) (omega (arith, size))
 
-lacks : (room : ℕ) (ws : List ℕ) {n : ℕ} → length ws ≡ n → room < n → roomCheck room ws .due ≡ true
-lacks room ws size h = lt-ltb room (length ws) (omega (arith, size))
+lacks : {room n : ℕ} (ws : List ℕ) → length ws ≡ n → room < n → roomCheck room ws .due ≡ true
+lacks {room} ws size h = lt-ltb room (length ws) (omega (arith, size))
 
 module _ {e : ast.LifetimeEnv} {self steps returns : List ℕ} {m : Lowering} (h : Measured e self steps returns m) where
   abbrev method : Method
@@ -215,15 +215,13 @@ module _ {e : ast.LifetimeEnv} {self steps returns : List ℕ} {m : Lowering} (h
     no-room n f = refused-answers e self steps returns own given taken n (first-after (h .none) f)
 
     pub lower-own : length own < m .selves → x ≡ refusedBy NoRoom → Answers e self steps returns own given taken x own given taken
-    lower-own l n = no-room n (here (lacks (length own) (words (method .self)) selves l) refl)
+    lower-own l n = no-room n (here (lacks (words (method .self)) selves l) refl)
 
     pub lower-given : m .selves ≤ length own → length given < m .steps → x ≡ refusedBy NoRoom → Answers e self steps returns own given taken x own given taken
-    lower-given room₁ l n = no-room n (later (fits (length own) (words (method .self)) selves room₁) (here (lacks (length given) (words (method .steps)) stepped l) refl))
+    lower-given room₁ l n = no-room n (later (fits (words (method .self)) selves room₁) (here (lacks (words (method .steps)) stepped l) refl))
 
     pub lower-taken : m .selves ≤ length own → m .steps ≤ length given → length taken < m .returns → x ≡ refusedBy NoRoom → Answers e self steps returns own given taken x own given taken
-    lower-taken room₁ room₂ l n =
-        no-room n (later (fits (length own) (words (method .self)) selves room₁) (later (fits (length given) (words (method .steps)) stepped room₂)
-        (here (lacks (length taken) (words (method .returns)) returned l) refl)))
+    lower-taken room₁ room₂ l n = no-room n (later (fits (words (method .self)) selves room₁) (later (fits (words (method .steps)) stepped room₂) (here (lacks (words (method .returns)) returned l) refl)))
 
   module _ {own given taken own₁ given₁ taken₁ : List ℕ} {t : Totals} (room₁ : m .selves ≤ length own) (room₂ : m .steps ≤ length given) (room₃ : m .returns ≤ length taken) (full : length (e .names) ≡ 32)
       (lays : RunsAll (runMethod (take (e .named - 0) (drop 0 (e .names))) (receiverOf self) (stepsOf steps) (stepsOf returns)) own given taken own₁ given₁ taken₁ t) where
@@ -237,9 +235,8 @@ module _ {e : ast.LifetimeEnv} {self steps returns : List ℕ} {m : Lowering} (h
     all : whole e self steps returns own given taken ≡ Gives method
     unfolding lowerRecords
     all =
-        let rooms = next (fits (length own) (words (method .self)) selves room₁) (next (fits (length given) (words (method .steps)) stepped room₂) (next (fits (length taken) (words (method .returns)) returned room₃) end)) in
-        let due : NoneDue (lowerChecks e self steps returns (length own) (length given) (length taken)) = none-more (h .none) rooms in
-        due-given method due
+        let rooms : NoneDue (roomChecks method (length own) (length given) (length taken)) = next (fits (words (method .self)) selves room₁) (next (fits (words (method .steps)) stepped room₂) (next (fits (words (method .returns)) returned room₃) end)) in
+        due-given method (none-more (h .none) rooms)
 
     few : length (namesOf e) ≤ 32
     few = omega (arith, lower-named, length-take-le (e .named) (e .names) (omega (arith, lower-named)))
