@@ -223,11 +223,13 @@ module _ (names bounds types : List ℕ) where
 
   -- the impl's names are declared
   pub record ImplNamed (declared : List ℕ) : Type 0 where
+    pub shaped : Shaped names bounds types
     pub named : Stand (implNames names) (getD names 0 0) declared
     pub left : judged (placeChecks names bounds types) ≡ judged left₁
 
   -- and its pairs are pushed
   pub record ImplBound (declared longs shorts : List ℕ) : Type 0 where
+    pub shaped : Shaped names bounds types
     pub named : Stand (implNames names) (getD names 0 0) declared
     pub sides : Sides (boundsFor (implNames names) (implPairs bounds)) (getD bounds 0 0) longs shorts
     pub under : Under (length (implNames names)) (boundsFor (implNames names) (implPairs bounds))
@@ -235,6 +237,7 @@ module _ (names bounds types : List ℕ) where
 
   -- and all names are declared
   pub record AllNamed (declared longs shorts : List ℕ) : Type 0 where
+    pub shaped : Shaped names bounds types
     pub named : Stand (allNamesOf names) (length names - 1) declared
     pub sides : Sides (boundsFor (implNames names) (implPairs bounds)) (getD bounds 0 0) longs shorts
     pub under : Under (length (implNames names)) (boundsFor (implNames names) (implPairs bounds))
@@ -242,6 +245,7 @@ module _ (names bounds types : List ℕ) where
 
   -- and all pairs are pushed
   pub record AllBound (declared longs shorts : List ℕ) : Type 0 where
+    pub shaped : Shaped names bounds types
     pub named : Stand (allNamesOf names) (length names - 1) declared
     pub sides : Sides (explicitBounds names bounds) ((length bounds - 1) / 2) longs shorts
     pub under : Under (length names - 1) (explicitBounds names bounds)
@@ -250,7 +254,7 @@ module _ (names bounds types : List ℕ) where
 abbrev stopped : Verdict → Counts
 stopped v = record { verdict = v; named = 0; pushed = 0 }
 
-module _ {names bounds types : List ℕ} (sh : Shaped names bounds types) where
+module _ {names bounds types : List ℕ} where
   built-refused : {declared longs shorts : List ℕ} {v : Verdict} {r : Refusal} → (length declared ≡ 32) × (length longs ≡ 256) × (length shorts ≡ 256)
       → v ≡ judged (placeChecks names bounds types) → v ≡ Refused r
       → Built names bounds types declared longs shorts (stopped v)
@@ -263,7 +267,7 @@ module _ {names bounds types : List ℕ} (sh : Shaped names bounds types) where
   }
 
   -- the impl's names
-  module _ {declared declared₁ : List ℕ} {v : Verdict} (d : Declares (slice 1 (1 + getD names 0 0) names) declared declared₁ 0 v) where
+  module _ {declared declared₁ : List ℕ} {v : Verdict} (sh : Shaped names bounds types) (d : Declares (slice 1 (1 + getD names 0 0) names) declared declared₁ 0 v) where
     impl-names : Declares (implNames names) declared declared₁ 0 v
     impl-names = rw (sh .in-names .impl) at d
 
@@ -272,6 +276,7 @@ module _ {names bounds types : List ℕ} (sh : Shaped names bounds types) where
 
     pub impl-named : v ≡ Accepted → ImplNamed names bounds types declared₁
     impl-named e = record {
+      shaped = sh;
       named = stand-declared refl (zero-add _ ∙ sh .in-names .impls) impl-names e;
       left = stage-accepted _ _ (left₁ names bounds types) refl (impl-names .verdict) e;
     }
@@ -280,7 +285,7 @@ module _ {names bounds types : List ℕ} (sh : Shaped names bounds types) where
   module _ {declared longs shorts longs₁ shorts₁ : List ℕ} {v : Verdict} (i : ImplNamed names bounds types declared)
       (p : Pushes (take (getD names 0 0) declared) (pairsOf (slice 1 (1 + 2 * getD bounds 0 0) bounds)) longs shorts longs₁ shorts₁ 0 v) where
     impl-pairs : Pushes (implNames names) (implPairs bounds) longs shorts longs₁ shorts₁ 0 v
-    impl-pairs = rw (i .named .names, sh .in-bounds .impl) at p
+    impl-pairs = rw (i .named .names, i .shaped .in-bounds .impl) at p
 
     pub impl-pairs-refused : {r : Refusal} → v ≡ Refused r → Built names bounds types declared longs₁ shorts₁ (stopped v)
     impl-pairs-refused e = built-refused (i .named .size, p .size-longs, p .size-shorts) (stage-refused _ _ _ (i .left) (impl-pairs .verdict) e) e
@@ -288,8 +293,9 @@ module _ {names bounds types : List ℕ} (sh : Shaped names bounds types) where
     pub impl-bound : v ≡ Accepted → ImplBound names bounds types declared longs₁ shorts₁
     unfolding ascending
     impl-bound e = record {
+      shaped = i .shaped;
       named = i .named;
-      sides = sides-pushed refl (zero-add _ ∙ sh .in-bounds .impls) impl-pairs e;
+      sides = sides-pushed refl (zero-add _ ∙ i .shaped .in-bounds .impls) impl-pairs e;
       under = pairs-under (implNames names) 0 (implPairs bounds) (accepted-none (tt {0}) _ (sym (impl-pairs .verdict) ∙ e));
       left = stage-accepted _ _ _ (i .left) (impl-pairs .verdict) e;
     }
@@ -298,7 +304,7 @@ module _ {names bounds types : List ℕ} (sh : Shaped names bounds types) where
   module _ {declared declared₁ longs shorts : List ℕ} {v : Verdict} (i : ImplBound names bounds types declared longs shorts)
       (d : Declares (slice (1 + getD names 0 0) (1 + (length names - 1)) names) declared declared₁ (getD names 0 0) v) where
     method-names : Declares (methodNames names) declared declared₁ (getD names 0 0) v
-    method-names = rw (sh .in-names .method) at d
+    method-names = rw (i .shaped .in-names .method) at d
 
     method-verdict : v ≡ judged (nameChecks (implNames names) (methodNames names))
     method-verdict = rw (i .named .names) at (method-names .verdict)
@@ -308,7 +314,8 @@ module _ {names bounds types : List ℕ} (sh : Shaped names bounds types) where
 
     pub all-named : v ≡ Accepted → AllNamed names bounds types declared₁ longs shorts
     all-named e = record {
-      named = stand-declared (i .named .names) (sh .in-names .all) method-names e;
+      shaped = i .shaped;
+      named = stand-declared (i .named .names) (i .shaped .in-names .all) method-names e;
       sides = i .sides;
       under = i .under;
       left = stage-accepted _ _ _ (i .left) method-verdict e;
@@ -320,23 +327,24 @@ module _ {names bounds types : List ℕ} (sh : Shaped names bounds types) where
       (pairsOf (slice (1 + 2 * getD bounds 0 0) (1 + 2 * getD bounds 0 0 + 2 * ((length bounds - 1) / 2 - getD bounds 0 0)) bounds))
       longs shorts longs₁ shorts₁ (getD bounds 0 0) v) where
     method-pairs : Pushes (allNamesOf names) (methodPairs bounds) longs shorts longs₁ shorts₁ (getD bounds 0 0) v
-    method-pairs = rw (i .named .names, sh .in-bounds .method) at p
+    method-pairs = rw (i .named .names, i .shaped .in-bounds .method) at p
 
     pairs-verdict : v ≡ judged (allPairChecks (allNamesOf names) (length (implPairs bounds)) (methodPairs bounds))
-    pairs-verdict = rw (sh .in-bounds .impls) (method-pairs .verdict)
+    pairs-verdict = rw (i .shaped .in-bounds .impls) (method-pairs .verdict)
 
     pub method-pairs-refused : {r : Refusal} → v ≡ Refused r → Built names bounds types declared longs₁ shorts₁ (stopped v)
     method-pairs-refused e = built-refused (i .named .size, p .size-longs, p .size-shorts) (stage-refused _ _ _ (i .left) pairs-verdict e) e
 
     pub all-bound : v ≡ Accepted → AllBound names bounds types declared longs₁ shorts₁
     all-bound e =
-        let many : length (allNamesOf names) ≡ length names - 1 = rw (length-append (implNames names) (methodNames names), sh .in-names .impls) (sh .in-names .all) in
-        let few : length (implNames names) ≤ length names - 1 = omega (arith, sh .in-names .impls, sh .in-names .all) in
+        let many : length (allNamesOf names) ≡ length names - 1 = rw (length-append (implNames names) (methodNames names), i .shaped .in-names .impls) (i .shaped .in-names .all) in
+        let few : length (implNames names) ≤ length names - 1 = omega (arith, i .shaped .in-names .impls, i .shaped .in-names .all) in
         let own : Under (length names - 1) (boundsFor (allNamesOf names) (methodPairs bounds)) =
         rw many at (pairs-under (allNamesOf names) (length (implPairs bounds)) (methodPairs bounds) (accepted-none (tt {0}) _ (sym pairs-verdict ∙ e))) in
         record {
+          shaped = i .shaped;
           named = i .named;
-          sides = sides-pushed (i .sides .bounds) (sh .in-bounds .all) method-pairs e;
+          sides = sides-pushed (i .sides .bounds) (i .shaped .in-bounds .all) method-pairs e;
           under = under-append (under-wider few (i .under)) own;
           left = stage-accepted _ _ _ (i .left) pairs-verdict e;
         }
@@ -352,11 +360,11 @@ module _ {names bounds types : List ℕ} (sh : Shaped names bounds types) where
         (x : (ts : List TypeName) → encodeAll ts ≡ types
         → Extends (take (length names - 1) declared) (allImplied (take (length names - 1) declared) (sidesOf ((length bounds - 1) / 2) longs shorts) ts) longs shorts longs₁ shorts₁ reach₁ ((length bounds - 1) / 2) r) where
       extended : Extends (allNamesOf names) (impliedPairs names bounds types) longs shorts longs₁ shorts₁ reach₁ ((length bounds - 1) / 2) r
-      extended = rw (i .named .names, i .sides .bounds) at (x (typesOf types) (sh .in-types))
+      extended = rw (i .named .names, i .sides .bounds) at (x (typesOf types) (i .shaped .in-types))
 
       pub all-built : Built names bounds types declared longs₁ shorts₁ (record { verdict = r .verdict; named = length names - 1; pushed = r .pushed })
       all-built =
-          let count : length (implPairs bounds) + length (methodPairs bounds) ≡ (length bounds - 1) / 2 = rw (sh .in-bounds .impls) (sh .in-bounds .all) in
+          let count : length (implPairs bounds) + length (methodPairs bounds) ≡ (length bounds - 1) / 2 = rw (i .shaped .in-bounds .impls) (i .shaped .in-bounds .all) in
           let last : r .verdict ≡ judged (left₄ names bounds types) = rw count (extended .pushes .verdict) in
           record {
             verdict = last ∙ sym (i .left);

@@ -2,7 +2,7 @@
 use Prim.Native.Nat.{ℕ, _-_, _≤_, _<_}
 use mathlib.Core.Bool.{Bool, true, false, _&&_, not}
 use mathlib.Core.Path.{_≡_, refl, sym, ap, subst, _∙_}
-use mathlib.Core.List.{List, [], _∷_, _++_, map}
+use mathlib.Core.List.{List, [], _++_, map}
 use native.Mathlib.Nat.{sub-zero}
 use native.Mathlib.Omega.{arith}
 use borrow.Author.Tests.{lt-ltb, le-ltb, ltb-false}
@@ -69,181 +69,196 @@ answer-given : (e : ast.LifetimeEnv) (o : Outcome Method) {x : Lowering} → x �
 answer-given e (Gives m) a v = (m, (refl, a))
 answer-given e (Refuses j) a v = refused-accepted (sym (ap (λ (x : Lowering). x .verdict) a) ∙ v)
 
+all-shaped : (self steps returns : List ℕ) → inShapeAll self steps returns ≡ true → (stepsInShape steps ≡ true) × (stepsInShape returns ≡ true)
+all-shaped self steps returns h = both (stepsInShape steps) (stepsInShape returns) ((both (selfInShape self) (stepsInShape steps && stepsInShape returns) h) .1)
+
+-- ---- `measure`
+
 module _ (e : ast.LifetimeEnv) (self steps returns : List ℕ) where
-  abbrev measured : Outcome Method
-  measured = measureRecords e self steps returns
-
-  abbrev method : Method
-  method = recordsOf e self steps returns
-
-  measure-due : {r : Refusal} {x : Lowering} → x ≡ refusedBy r → FirstDue r (measureChecks e self steps returns) → x ≡ answered e measured
+  measure-due : {r : Refusal} {x : Lowering} → x ≡ refusedBy r → FirstDue r (measureChecks e self steps returns) → x ≡ answered e (measureRecords e self steps returns)
   unfolding measureRecords
-  measure-due h f = rw (due-refused method f) h
+  measure-due h f = rw (due-refused (recordsOf e self steps returns) f) h
 
-  -- ---- `measure`
-
-  pub measure-shape : {v : Verdict} {r : Refusal} {x : Lowering} → v ≡ shapeVerdict (inShapeAll self steps returns) → v ≡ verdict.Refused r → x ≡ refusedBy r → x ≡ answered e measured
+  pub measure-shape : {v : Verdict} {r : Refusal} {x : Lowering} → v ≡ shapeVerdict (inShapeAll self steps returns) → v ≡ verdict.Refused r → x ≡ refusedBy r
+      → x ≡ answered e (measureRecords e self steps returns)
   measure-shape {v} {r} a b h =
       let p = shape-out (inShapeAll self steps returns) a b in
       measure-due h (here {c = check (not (inShapeAll self steps returns)) Malformed} (rw (p .0)) (sym (p .1)))
 
-  module _ {v : Verdict} (shape : v ≡ shapeVerdict (inShapeAll self steps returns)) (accepted : v ≡ verdict.Accepted) where
-    in-shape : inShapeAll self steps returns ≡ true
-    in-shape = shape-in (inShapeAll self steps returns) shape accepted
+-- the records are in shape
+pub record Shaped (e : ast.LifetimeEnv) (self steps returns : List ℕ) : Type 0 where
+  pub shape : inShapeAll self steps returns ≡ true
 
-    pub measure-shaped : (stepsInShape steps ≡ true) × (stepsInShape returns ≡ true)
-    measure-shaped = both (stepsInShape steps) (stepsInShape returns) ((both (selfInShape self) (stepsInShape steps && stepsInShape returns) in-shape) .1)
+pub shape-told : (e : ast.LifetimeEnv) (self steps returns : List ℕ) {v : Verdict} → v ≡ shapeVerdict (inShapeAll self steps returns) → v ≡ verdict.Accepted → Shaped e self steps returns
+shape-told e self steps returns a b = record { shape = shape-in (inShapeAll self steps returns) a b }
 
-    shape-not : not (inShapeAll self steps returns) ≡ false
-    shape-not = rw in-shape
+module _ {e : ast.LifetimeEnv} {self steps returns : List ℕ} (h : Shaped e self steps returns) where
+  pub measure-shaped : (stepsInShape steps ≡ true) × (stepsInShape returns ≡ true)
+  measure-shaped = all-shaped self steps returns (h .shape)
 
-    pub measure-env : {r : Refusal} {x : Lowering} → FirstDue r (envChecks e) → x ≡ refusedBy r → x ≡ answered e measured
-    measure-env f h = measure-due h (later shape-not (first-more _ f))
+  shape-not : not (inShapeAll self steps returns) ≡ false
+  shape-not = rw (h .shape)
 
-    module _ (none : NoneDue (envChecks e)) where
-      abbrev run : Outcome Method
-      run = runMethod (namesOf e) (receiverOf self) (stepsOf steps) (stepsOf returns)
+  pub measure-env : {r : Refusal} {x : Lowering} → FirstDue r (envChecks e) → x ≡ refusedBy r → x ≡ answered e (measureRecords e self steps returns)
+  measure-env f n = measure-due e self steps returns n (later shape-not (first-more _ f))
 
-      said : run ≡ unless (methodChecks (namesOf e) (receiverOf self) (stepsOf steps) (stepsOf returns)) method
-      unfolding rfc141
-      said = method-said (namesOf e) (receiverOf self) (stepsOf steps) (stepsOf returns)
+-- the records are in shape, and the environment is valid
+pub record Valid (e : ast.LifetimeEnv) (self steps returns : List ℕ) : Type 0 where
+  pub shaped : Shaped e self steps returns
+  pub none : NoneDue (envChecks e)
 
-      -- the names as they are lent are those of the environment
-      abbrev lent : Outcome Method
-      lent = runMethod (take (e .named - 0) (drop 0 (e .names))) (receiverOf self) (stepsOf steps) (stepsOf returns)
+module _ {e : ast.LifetimeEnv} {self steps returns : List ℕ} (h : Valid e self steps returns) where
+  abbrev records : Method
+  records = recordsOf e self steps returns
 
-      lent-run : lent ≡ run
-      lent-run = rw sub-zero
+  abbrev checks : List Check
+  checks = methodChecks (namesOf e) (receiverOf self) (stepsOf steps) (stepsOf returns)
 
-      pub measure-refused : {t : Totals} {r : Refusal} {x : Lowering} → t ≡ totals lent → t .verdict ≡ verdict.Refused r → x ≡ refusedBy r → x ≡ answered e measured
-      measure-refused {t} {r} a b h =
-          let f = refused-due method r (methodChecks (namesOf e) (receiverOf self) (stepsOf steps) (stepsOf returns)) (sym said ∙ totals-refused run (a ∙ ap totals lent-run) b) in
-          measure-due h (later shape-not (first-after none f))
+  abbrev run : Outcome Method
+  run = runMethod (namesOf e) (receiverOf self) (stepsOf steps) (stepsOf returns)
 
-      module _ {t : Totals} (counts : t ≡ totals lent) (fine : t .verdict ≡ verdict.Accepted) where
-        given-run : (m : Method) × ((run ≡ Gives m) × (t ≡ totals (Gives m)))
-        given-run = totals-given run (counts ∙ ap totals lent-run) fine
+  said : run ≡ unless checks records
+  unfolding rfc141
+  said = method-said (namesOf e) (receiverOf self) (stepsOf steps) (stepsOf returns)
 
-        passed : NoneDue (methodChecks (namesOf e) (receiverOf self) (stepsOf steps) (stepsOf returns)) × (method ≡ given-run .0)
-        passed = given-due method (given-run .0) (methodChecks (namesOf e) (receiverOf self) (stepsOf steps) (stepsOf returns)) (sym said ∙ given-run .1 .0)
+  -- the names as they are lent are those of the environment
+  abbrev lent : Outcome Method
+  lent = runMethod (take (e .named - 0) (drop 0 (e .names))) (receiverOf self) (stepsOf steps) (stepsOf returns)
 
-        told : t ≡ totals (Gives method)
-        told = given-run .1 .1 ∙ ap (λ (m : Method). totals (Gives m)) (sym (passed .1))
+  lent-run : lent ≡ run
+  lent-run = rw sub-zero
 
-        pub measure-all : record { verdict = verdict.Accepted; selves = t .selves; steps = t .steps; returns = t .returns; env = finished e (t .count) } ≡ answered e measured
-        unfolding measureRecords
-        measure-all =
-            let due : NoneDue (measureChecks e self steps returns) = next shape-not (none-more none (passed .0)) in
-            rw (due-given method due, told, length-map (method .self) wordOf, length-map (method .steps) wordOf, length-map (method .returns) wordOf)
+  pub measure-refused : {t : Totals} {r : Refusal} {x : Lowering} → t ≡ totals lent → t .verdict ≡ verdict.Refused r → x ≡ refusedBy r → x ≡ answered e (measureRecords e self steps returns)
+  measure-refused {t} {r} a b n =
+      let f = refused-due records r checks (sym said ∙ totals-refused run (a ∙ ap totals lent-run) b) in
+      measure-due e self steps returns n (later (shape-not (h .shaped)) (first-after (h .none) f))
 
-  -- ---- `lower`
+  module _ {t : Totals} (counts : t ≡ totals lent) (fine : t .verdict ≡ verdict.Accepted) where
+    given-run : (m : Method) × ((run ≡ Gives m) × (t ≡ totals (Gives m)))
+    given-run = totals-given run (counts ∙ ap totals lent-run) fine
 
-  module _ (own given taken : List ℕ) {m : Lowering} (counted : m ≡ answered e measured) where
-    abbrev whole : Outcome Method
-    whole = lowerRecords e self steps returns (length own) (length given) (length taken)
+    passed : NoneDue checks × (records ≡ given-run .0)
+    passed = given-due records (given-run .0) checks (sym said ∙ given-run .1 .0)
 
-    abbrev Answers : Lowering → List ℕ → List ℕ → List ℕ → Type 0
-    Answers x own₁ given₁ taken₁ =
-        (x ≡ answered e whole) × ((own₁ ≡ written (ownWords whole) own) × ((given₁ ≡ written (stepWords whole) given) × (taken₁ ≡ written (returnWords whole) taken)))
+    told : t ≡ totals (Gives records)
+    told = given-run .1 .1 ∙ ap (λ (m : Method). totals (Gives m)) (sym (passed .1))
 
-    refused-answers : {r : Refusal} {x : Lowering} → x ≡ refusedBy r → FirstDue r (lowerChecks e self steps returns (length own) (length given) (length taken)) → Answers x own given taken
-    unfolding lowerRecords
-    refused-answers h due = rw (due-refused method due) (h, (refl, (refl, refl)))
-
-    pub lower-refused : {r : Refusal} → m .verdict ≡ verdict.Refused r → Answers m own given taken
+    pub measure-all : record { verdict = verdict.Accepted; selves = t .selves; steps = t .steps; returns = t .returns; env = finished e (t .count) } ≡ answered e (measureRecords e self steps returns)
     unfolding measureRecords
-    lower-refused {r} v =
-        let p = answer-refused e measured counted v in
-        refused-answers (p .1) (first-more _ (refused-due method r (measureChecks e self steps returns) (p .0)))
+    measure-all =
+        let due : NoneDue (measureChecks e self steps returns) = next (shape-not (h .shaped)) (none-more (h .none) (passed .0)) in
+        rw (due-given records due, told, length-map (records .self) wordOf, length-map (records .steps) wordOf, length-map (records .returns) wordOf)
 
-    module _ (fine : m .verdict ≡ verdict.Accepted) where
-      passes : NoneDue (measureChecks e self steps returns) × (m ≡ answered e (Gives method))
-      unfolding measureRecords
-      passes =
-          let g = answer-given e measured counted fine in
-          let d = given-due method (g .0) (measureChecks e self steps returns) (g .1 .0) in
-          (d .0, g .1 .1 ∙ ap (λ (x : Method). answered e (Gives x)) (sym (d .1)))
+-- ---- `lower`
 
-      selves : length (words (method .self)) ≡ m .selves
-      selves = sym (ap (λ (x : Lowering). x .selves) (passes .1))
+module _ (e : ast.LifetimeEnv) (self steps returns own given taken : List ℕ) where
+  abbrev whole : Outcome Method
+  whole = lowerRecords e self steps returns (length own) (length given) (length taken)
 
-      stepped : length (words (method .steps)) ≡ m .steps
-      stepped = sym (ap (λ (x : Lowering). x .steps) (passes .1))
+  abbrev Answers : Lowering → List ℕ → List ℕ → List ℕ → Type 0
+  Answers x own₁ given₁ taken₁ =
+      (x ≡ answered e whole) × ((own₁ ≡ written (ownWords whole) own) × ((given₁ ≡ written (stepWords whole) given) × (taken₁ ≡ written (returnWords whole) taken)))
 
-      returned : length (words (method .returns)) ≡ m .returns
-      returned = sym (ap (λ (x : Lowering). x .returns) (passes .1))
+  refused-answers : {r : Refusal} {x : Lowering} → x ≡ refusedBy r → FirstDue r (lowerChecks e self steps returns (length own) (length given) (length taken)) → Answers x own given taken
+  unfolding lowerRecords
+  refused-answers h due = rw (due-refused (recordsOf e self steps returns) due) (h, (refl, (refl, refl)))
 
-      fit : inShapeAll self steps returns ≡ true
-      fit = not-false (inShapeAll self steps returns) (none-first (passes .0))
+  pub lower-refused : {m : Lowering} {r : Refusal} → m ≡ answered e (measureRecords e self steps returns) → m .verdict ≡ verdict.Refused r → Answers m own given taken
+  unfolding measureRecords
+  lower-refused {m} {r} counted v =
+      let p = answer-refused e (measureRecords e self steps returns) counted v in
+      refused-answers (p .1) (first-more _ (refused-due (recordsOf e self steps returns) r (measureChecks e self steps returns) (p .0)))
 
-      pub lower-shaped : (stepsInShape steps ≡ true) × (stepsInShape returns ≡ true)
-      lower-shaped = both (stepsInShape steps) (stepsInShape returns) ((both (selfInShape self) (stepsInShape steps && stepsInShape returns) fit) .1)
+-- what `measure` leaves where it accepts
+pub record Measured (e : ast.LifetimeEnv) (self steps returns : List ℕ) (m : Lowering) : Type 0 where
+  pub none : NoneDue (measureChecks e self steps returns)
+  pub is : m ≡ answered e (Gives (recordsOf e self steps returns))
 
-      parted : NoneDue (envChecks e) × NoneDue (methodChecks (namesOf e) (receiverOf self) (stepsOf steps) (stepsOf returns))
-      parted = none-split (envChecks e) (methodChecks (namesOf e) (receiverOf self) (stepsOf steps) (stepsOf returns)) (none-rest (passes .0))
+pub measures : (e : ast.LifetimeEnv) (self steps returns : List ℕ) {m : Lowering} → m ≡ answered e (measureRecords e self steps returns) → m .verdict ≡ verdict.Accepted → Measured e self steps returns m
+unfolding measureRecords
+measures e self steps returns counted fine =
+    let g = answer-given e (measureRecords e self steps returns) counted fine in
+    let d = given-due (recordsOf e self steps returns) (g .0) (measureChecks e self steps returns) (g .1 .0) in
+    record { none = d .0; is = g .1 .1 ∙ ap (λ (x : Method). answered e (Gives x)) (sym (d .1)) }
 
-      pub lower-named : e .named ≤ 32
-      lower-named = ltb-false 32 (e .named) (none-first (parted .0))
+-- whether words have room, by how many they are
+fits : {room n : ℕ} (ws : List ℕ) → length ws ≡ n → n ≤ room → roomCheck room ws .due ≡ false
+fits {room} ws size h = le-ltb room (length ws) (omega (arith, size))
 
-      no-room : {x : Lowering} → FirstDue NoRoom (roomChecks method (length own) (length given) (length taken)) → x ≡ refusedBy NoRoom → Answers x own given taken
-      no-room f h = refused-answers h (first-after (passes .0) f)
+lacks : {room n : ℕ} (ws : List ℕ) → length ws ≡ n → room < n → roomCheck room ws .due ≡ true
+lacks {room} ws size h = lt-ltb room (length ws) (omega (arith, size))
 
-      pub lower-own : {x : Lowering} → length own < m .selves → x ≡ refusedBy NoRoom → Answers x own given taken
-      lower-own l h = no-room (here (lt-ltb (length own) (length (words (method .self))) (omega (arith, selves))) refl) h
+module _ {e : ast.LifetimeEnv} {self steps returns : List ℕ} {m : Lowering} (h : Measured e self steps returns m) where
+  abbrev method : Method
+  method = recordsOf e self steps returns
 
-      module _ (room₁ : m .selves ≤ length own) where
-        fits₁ : roomCheck (length own) (words (method .self)) .due ≡ false
-        fits₁ = le-ltb (length own) (length (words (method .self))) (omega (arith, selves))
+  selves : length (words (method .self)) ≡ m .selves
+  selves = sym (ap (λ (x : Lowering). x .selves) (h .is))
 
-        pub lower-given : {x : Lowering} → length given < m .steps → x ≡ refusedBy NoRoom → Answers x own given taken
-        lower-given l h = no-room (later fits₁ (here (lt-ltb (length given) (length (words (method .steps))) (omega (arith, stepped))) refl)) h
+  stepped : length (words (method .steps)) ≡ m .steps
+  stepped = sym (ap (λ (x : Lowering). x .steps) (h .is))
 
-        module _ (room₂ : m .steps ≤ length given) where
-          fits₂ : roomCheck (length given) (words (method .steps)) .due ≡ false
-          fits₂ = le-ltb (length given) (length (words (method .steps))) (omega (arith, stepped))
+  returned : length (words (method .returns)) ≡ m .returns
+  returned = sym (ap (λ (x : Lowering). x .returns) (h .is))
 
-          pub lower-taken : {x : Lowering} → length taken < m .returns → x ≡ refusedBy NoRoom → Answers x own given taken
-          lower-taken l h = no-room (later fits₁ (later fits₂ (here (lt-ltb (length taken) (length (words (method .returns))) (omega (arith, returned))) refl))) h
+  pub lower-shaped : (stepsInShape steps ≡ true) × (stepsInShape returns ≡ true)
+  lower-shaped = all-shaped self steps returns (not-false (inShapeAll self steps returns) (none-first (h .none)))
 
-          module _ (room₃ : m .returns ≤ length taken) (full : length (e .names) ≡ 32) {own₁ given₁ taken₁ : List ℕ} {t : Totals}
-              (lays : RunsAll (runMethod (take (e .named - 0) (drop 0 (e .names))) (receiverOf self) (stepsOf steps) (stepsOf returns)) own given taken own₁ given₁ taken₁ t) where
-            is : runMethod (namesOf e) (receiverOf self) (stepsOf steps) (stepsOf returns) ≡ Gives method
-            unfolding rfc141
-            is = method-said (namesOf e) (receiverOf self) (stepsOf steps) (stepsOf returns) ∙ due-given method (parted .1)
+  parted : NoneDue (envChecks e) × NoneDue (methodChecks (namesOf e) (receiverOf self) (stepsOf steps) (stepsOf returns))
+  parted = none-split (envChecks e) (methodChecks (namesOf e) (receiverOf self) (stepsOf steps) (stepsOf returns)) (none-rest (h .none))
 
-            stores : RunsAll (runMethod (namesOf e) (receiverOf self) (stepsOf steps) (stepsOf returns)) own given taken own₁ given₁ taken₁ t
-            stores = subst (λ (ns : List ℕ). RunsAll (runMethod ns (receiverOf self) (stepsOf steps) (stepsOf returns)) own given taken own₁ given₁ taken₁ t) (rw sub-zero) lays
+  pub lower-named : e .named ≤ 32
+  lower-named = ltb-false 32 (e .named) (none-first (parted .0))
 
-            fits₃ : roomCheck (length taken) (words (method .returns)) .due ≡ false
-            fits₃ = le-ltb (length taken) (length (words (method .returns))) (omega (arith, returned))
+  module _ {own given taken : List ℕ} {x : Lowering} where
+    no-room : x ≡ refusedBy NoRoom → FirstDue NoRoom (roomChecks method (length own) (length given) (length taken)) → Answers e self steps returns own given taken x own given taken
+    no-room n f = refused-answers e self steps returns own given taken n (first-after (h .none) f)
 
-            all : whole ≡ Gives method
-            unfolding lowerRecords
-            all =
-                let due : NoneDue (lowerChecks e self steps returns (length own) (length given) (length taken)) = none-more (passes .0) (next fits₁ (next fits₂ (next fits₃ end))) in
-                due-given method due
+    pub lower-own : length own < m .selves → x ≡ refusedBy NoRoom → Answers e self steps returns own given taken x own given taken
+    lower-own l n = no-room n (here (lacks (words (method .self)) selves l) refl)
 
-            few : length (namesOf e) ≤ 32
-            few = omega (arith, lower-named, length-take-le (e .named) (e .names) (omega (arith, lower-named)))
+    pub lower-given : m .selves ≤ length own → length given < m .steps → x ≡ refusedBy NoRoom → Answers e self steps returns own given taken x own given taken
+    lower-given room₁ l n = no-room n (later (fits (words (method .self)) selves room₁) (here (lacks (words (method .steps)) stepped l) refl))
 
-            small : AllSmall (method .self) × (AllSmall (method .steps) × AllSmall (method .returns))
-            small = subst (SmallMethod (namesOf e) few) is (method-small (namesOf e) few (receiverOf self) (stepsOf steps) (stepsOf returns))
+    pub lower-taken : m .selves ≤ length own → m .steps ≤ length given → length taken < m .returns → x ≡ refusedBy NoRoom → Answers e self steps returns own given taken x own given taken
+    lower-taken room₁ room₂ l n = no-room n (later (fits (words (method .self)) selves room₁) (later (fits (words (method .steps)) stepped room₂) (here (lacks (words (method .returns)) returned l) refl)))
 
-            laid : (slice slice₁ : List ℕ) (ls : List MaybeStatic) → AllSmall ls → slice₁ ≡ sets slice 0 (map shown ls) → length (words ls) ≤ length slice → slice₁ ≡ words ls ++ drop (length (words ls)) slice
-            laid slice slice₁ ls p q r = q ∙ rw (small-words ls p) (sets-front slice (words ls) r)
+  module _ {own given taken own₁ given₁ taken₁ : List ℕ} {t : Totals} (room₁ : m .selves ≤ length own) (room₂ : m .steps ≤ length given) (room₃ : m .returns ≤ length taken) (full : length (e .names) ≡ 32)
+      (lays : RunsAll (runMethod (take (e .named - 0) (drop 0 (e .names))) (receiverOf self) (stepsOf steps) (stepsOf returns)) own given taken own₁ given₁ taken₁ t) where
+    is : runMethod (namesOf e) (receiverOf self) (stepsOf steps) (stepsOf returns) ≡ Gives method
+    unfolding rfc141
+    is = method-said (namesOf e) (receiverOf self) (stepsOf steps) (stepsOf returns) ∙ due-given method (parted .1)
 
-            pub lower-all : Answers m own₁ given₁ taken₁
-            lower-all =
-                rw all (
-                  passes .1,
-                  (
-                    laid own own₁ (method .self) (small .0) (stores .self method is) (omega (arith, selves)),
-                    (
-                      laid given given₁ (method .steps) (small .1 .0) (stores .steps method is) (omega (arith, stepped)),
-                      laid taken taken₁ (method .returns) (small .1 .1) (stores .returns method is) (omega (arith, returned)),
-                    ),
-                  ),
-                )
+    stores : RunsAll (runMethod (namesOf e) (receiverOf self) (stepsOf steps) (stepsOf returns)) own given taken own₁ given₁ taken₁ t
+    stores = subst (λ (ns : List ℕ). RunsAll (runMethod ns (receiverOf self) (stepsOf steps) (stepsOf returns)) own given taken own₁ given₁ taken₁ t) (rw sub-zero) lays
+
+    all : whole e self steps returns own given taken ≡ Gives method
+    unfolding lowerRecords
+    all =
+        let rooms : NoneDue (roomChecks method (length own) (length given) (length taken)) = next (fits (words (method .self)) selves room₁) (next (fits (words (method .steps)) stepped room₂) (next (fits (words (method .returns)) returned room₃) end)) in
+        due-given method (none-more (h .none) rooms)
+
+    few : length (namesOf e) ≤ 32
+    few = omega (arith, lower-named, length-take-le (e .named) (e .names) (omega (arith, lower-named)))
+
+    small : AllSmall (method .self) × (AllSmall (method .steps) × AllSmall (method .returns))
+    small = subst (SmallMethod (namesOf e) few) is (method-small (namesOf e) few (receiverOf self) (stepsOf steps) (stepsOf returns))
+
+    laid : (slice slice₁ : List ℕ) (ls : List MaybeStatic) → AllSmall ls → slice₁ ≡ sets slice 0 (map shown ls) → length (words ls) ≤ length slice → slice₁ ≡ words ls ++ drop (length (words ls)) slice
+    laid slice slice₁ ls p q r = q ∙ rw (small-words ls p) (sets-front slice (words ls) r)
+
+    pub lower-all : Answers e self steps returns own given taken m own₁ given₁ taken₁
+    lower-all =
+        rw all (
+          h .is,
+          (
+            laid own own₁ (method .self) (small .0) (stores .self method is) (omega (arith, selves)),
+            (
+              laid given given₁ (method .steps) (small .1 .0) (stores .steps method is) (omega (arith, stepped)),
+              laid taken taken₁ (method .returns) (small .1 .1) (stores .returns method is) (omega (arith, returned)),
+            ),
+          ),
+        )
 
 -- ---- `finish`
 

@@ -5,7 +5,7 @@ use mathlib.Core.Path.{_≡_, refl, sym, ap, _∙_}
 use mathlib.Core.List.{List, [], _∷_}
 use native.Mathlib.Nat.{zero-add}
 use native.Mathlib.Omega.{arith}
-use lib.ListN.{length, getD, set}
+use lib.ListN.{length, getD, set, replicate}
 use Rattle.lifetimes.specs.declared.answer.Refusal.{Refusal}
 use Rattle.lifetimes.specs.declared.answer.Verdict.the-variants as verdict
 use Rattle.lifetimes.specs.Refusals.{Outcome, Gives, Refuses}
@@ -116,31 +116,21 @@ given-all names self steps returns a b c p q r = rw (p, q, r)
 counted : {o : Outcome (Answer Lowerer)} {list slice slice₁ : List ℕ} {r : Took} (g : Given o 0 list slice slice₁ r) → r .n ≡ length (g .it .given)
 counted g = g .count ∙ zero-add (length (g .it .given))
 
-module _ (names : List ℕ) (self : Receiver) (steps returns : List Step) (list : List ℕ) (full : length list ≡ 16) {own own₁ : List ℕ} {r₁ : Took}
-    (first : (l : List ℕ) → length l ≡ 16 → Lowers (lowerSelf names self) 0 l own own₁ r₁) where
-  pub all-first : {k : Refusal} {given taken given₁ taken₁ : List ℕ} {t : Totals} → r₁ .verdict ≡ verdict.Refused k → t ≡ none k
-      → RunsAll (runMethod names self steps returns) own given taken own₁ given₁ taken₁ t
+module _ (names : List ℕ) (self : Receiver) (steps returns : List Step) {own own₁ : List ℕ} {r₁ : Took} where
+  pub all-first : {k : Refusal} {given taken given₁ taken₁ : List ℕ} {t : Totals} → ((l : List ℕ) → length l ≡ 16 → Lowers (lowerSelf names self) 0 l own own₁ r₁)
+      → r₁ .verdict ≡ verdict.Refused k → t ≡ none k → RunsAll (runMethod names self steps returns) own given taken own₁ given₁ taken₁ t
   unfolding runMethod
-  all-first {k} v h = all-refused (rw (first list full .refused k v)) h
+  all-first {k} first v h = all-refused (rw (first (replicate 16 0) refl .refused k v)) h
 
-  module _ (v₁ : r₁ .verdict ≡ verdict.Accepted) {list₁ given given₁ : List ℕ} {r₂ : Took}
-      (second : (s : Lowerer) → Shows s (r₁ .seen) (r₁ .kept) (r₁ .own) list → Lowers (runSteps names false steps s) 0 list₁ given given₁ r₂) where
-    one : Given (lowerSelf names self) 0 list own own₁ r₁
-    one = first list full .accepted v₁
-
-    second-here : Lowers (runSteps names false steps (one .it .left)) 0 list₁ given given₁ r₂
-    second-here = second (one .it .left) (one .shows)
-
-    pub all-second : {k : Refusal} {taken taken₁ : List ℕ} {t : Totals} → r₂ .verdict ≡ verdict.Refused k → t ≡ none k
-        → RunsAll (runMethod names self steps returns) own given taken own₁ given₁ taken₁ t
+  module _ {list : List ℕ} (one : Given (lowerSelf names self) 0 list own own₁ r₁) {list₁ given given₁ : List ℕ} {r₂ : Took} where
+    pub all-second : {k : Refusal} {taken taken₁ : List ℕ} {t : Totals}
+        → ((s : Lowerer) → Shows s (r₁ .seen) (r₁ .kept) (r₁ .own) list → Lowers (runSteps names false steps s) 0 list₁ given given₁ r₂)
+        → r₂ .verdict ≡ verdict.Refused k → t ≡ none k → RunsAll (runMethod names self steps returns) own given taken own₁ given₁ taken₁ t
     unfolding runMethod
-    all-second {k} v h = all-refused (rw (one .is, second-here .refused k v)) h
+    all-second {k} second v h = all-refused (rw (one .is, second (one .it .left) (one .shows) .refused k v)) h
 
-    module _ (v₂ : r₂ .verdict ≡ verdict.Accepted) {list₂ taken taken₁ : List ℕ} {r₃ : Took}
+    module _ (two : Given (runSteps names false steps (one .it .left)) 0 list₁ given given₁ r₂) {list₂ taken taken₁ : List ℕ} {r₃ : Took}
         (third : (s : Lowerer) → Shows s (r₂ .seen) (r₂ .kept) (r₂ .own) list₁ → Lowers (runSteps names true returns s) 0 list₂ taken taken₁ r₃) where
-      two : Given (runSteps names false steps (one .it .left)) 0 list₁ given given₁ r₂
-      two = second-here .accepted v₂
-
       third-here : Lowers (runSteps names true returns (two .it .left)) 0 list₂ taken taken₁ r₃
       third-here = third (two .it .left) (two .shows)
 

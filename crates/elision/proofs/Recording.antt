@@ -207,6 +207,10 @@ module _ {names : List ℕ} {out : Bool} {words : List ℕ} {start : Lowerer} {s
                 stored = rw (g .stored, inv .stored, map-append (inv .done) (a .given), sets-append slice₀ 0 (map shown (inv .done)) (map shown (a .given)), len);
               }
 
+pub recording-less : {names words : List ℕ} {out : Bool} {at : ℕ} {seen : Seen} {kept : Bool} {own n : ℕ} {list list₁ slice slice₁ : List ℕ} {r : Took}
+    → PutsStep names words out at seen kept own n list list₁ slice slice₁ r → r .verdict ≡ verdict.Accepted → (at < r .to) × (r .to ≤ length words)
+recording-less put v = ends-order (put .ends v)
+
 module _ {names : List ℕ} {out : Bool} {words : List ℕ} {before : Seen} {was : Bool} {had : ℕ} {list₀ slice₀ list slice : List ℕ} {seen : Seen} {kept : Bool} {own n at : ℕ}
     (inv : Recording names out words before was had list₀ slice₀ list slice seen kept own n at) where
   pub recording-room : at < length words → (own ≤ 16) × (n ≤ 65536)
@@ -216,10 +220,10 @@ module _ {names : List ℕ} {out : Bool} {words : List ℕ} {before : Seen} {was
       → Lowers (runSteps names out (stepsOf words) s) 0 list slice₀ slice (record { verdict = verdict.Accepted; seen = seen; kept = kept; own = own; n = n; to = to }))
   recording-end h = (inv .held, λ s sh. reached-end (inv .reached s sh) h)
 
-  module _ (h : at < length words) {list₁ slice₁ : List ℕ} {r : Took} (put : PutsStep names words out at seen kept own n list list₁ slice slice₁ r) where
-    pub recording-refused : {k : Refusal} → r .verdict ≡ verdict.Refused k
+  module _ {list₁ slice₁ : List ℕ} {r : Took} (put : PutsStep names words out at seen kept own n list list₁ slice slice₁ r) where
+    pub recording-refused : {k : Refusal} → at < length words → r .verdict ≡ verdict.Refused k
         → (r .own ≤ 16) × ((s : Lowerer) → Shows s before was had list₀ → Lowers (runSteps names out (stepsOf words) s) 0 list₁ slice₀ slice₁ r)
-    recording-refused {k} v = (
+    recording-refused {k} h v = (
       put .few,
       λ s sh. record {
         accepted = λ a. refused-accepted (sym v ∙ a);
@@ -227,12 +231,10 @@ module _ {names : List ℕ} {out : Bool} {words : List ℕ} {before : Seen} {was
       },
     )
 
-    pub recording-less : r .verdict ≡ verdict.Accepted → (at < r .to) × (r .to ≤ length words)
-    recording-less v = ends-order (put .ends v)
-
     pub recording-more : r .verdict ≡ verdict.Accepted → length slice₁ ≡ length slice → Recording names out words before was had list₀ slice₀ list₁ slice₁ (r .seen) (r .kept) (r .own) (r .n) (r .to)
     recording-more v size =
-        let order = recording-less v in
+        let order = recording-less put v in
+        let h : at < length words = omega (arith, order .0, order .1) in
         record {
           few = inv .few;
           within = order .1;

@@ -5,8 +5,6 @@ use mathlib.Core.Path.{_≡_, refl, sym, ap, subst, _∙_}
 use mathlib.Core.List.{List, _++_, map, append-nil}
 use native.Mathlib.Nat.{zero-add, zero-sub}
 use native.Mathlib.Omega.{arith}
-use borrow.Author.Tests.{leb-true}
-use lib.Dec.{leb}
 use lib.ListN.{length, getD, take, drop, set, length-map, length-set}
 use lib.Seq.{sets, length-sets, take-at}
 use Rattle.lifetimes.specs.declared.answer.Refusal.{Refusal}
@@ -18,7 +16,6 @@ use Rattle.records.specs.declared.End.the-variants as end
 use Rattle.records.specs.Reading.{Reading, Read, Fails}
 use Rattle.records.specs.Ends.{EndsAt}
 use Rattle.records.proofs.VerdictLaws.{refused-accepted}
-use Rattle.records.proofs.ReadingLaws.{Holds, holds-read}
 use Rattle.elision.specs.declared.steps.StepAt.{StepAt}
 use Rattle.elision.specs.declared.steps.StepAt.the-variants as standing
 use Rattle.elision.specs.declared.lowerer.Standing.{Standing}
@@ -27,14 +24,14 @@ use Rattle.elision.specs.declared.lowerer.Seen.{Seen}
 use Rattle.elision.specs.declared.lowerer.Lowerer.{Lowerer}
 use Rattle.elision.specs.declared.put.Put.{Put}
 use Rattle.elision.specs.declared.put.Took.{Took}
-use Rattle.elision.specs.Steps.{Step, Lifetime, Generics, SelfType, readStep}
+use Rattle.elision.specs.Steps.{Step, readStep}
 use Rattle.elision.specs.Rfc.{padded, standingIn}
-use Rattle.elision.specs.Machine.{Answer, answer, valuesIn, laid, lowerWords, wordsStep, selfStep, lowerStep, fits}
+use Rattle.elision.specs.Machine.{Answer, answer, valuesIn, laid, lowerWords, wordsStep, selfStep, lowerStep}
 use Rattle.elision.specs.Inner.{StandsAt, shown, Puts, Shows, Given, Lowers, PutsOne, PutsStep}
 use Rattle.elision.specs.Inner as inner
 use Rattle.elision.proofs.RfcLaws.{laid-values}
 use Rattle.elision.proofs.StepLaws.{ends-lifetime, ends-generics, ends-self}
-use Rattle.elision.proofs.Taking.{both, step-fits}
+use Rattle.elision.proofs.Taking.{told}
 
 -- ---- what `put_words` answers, by its verdict
 
@@ -185,7 +182,7 @@ module _ (names words : List ℕ) (seen : Seen) {kept : Bool} (own n to : ℕ) (
 
 -- ---- the step that stands at a place
 
--- what is read there is the step that `lowerStep` takes; its words are few
+-- what is read there is the step that `lowerStep` takes
 same-step : {s t : Step} {b rest : List ℕ} → Read s b ≡ Read t rest → s ≡ t
 same-step e = cc
 
@@ -206,22 +203,6 @@ same-self : (names : List ℕ) (out : Bool) {words : List ℕ} {at : ℕ} {readi
 unfolding lowerStep
 same-self names out (inner.selfType l d b m x) step rest e s = rw (← same-step e, l)
 
-lifetime-part : {words : List ℕ} {at : ℕ} {reading : Reading Step} {word to : ℕ} → StandsAt words at reading (standing.Lifetime word to)
-    → (1 ≤ to) × (to ≤ length words) × (length (take (to - (to - 1)) (drop (to - 1) words)) ≤ 16)
-lifetime-part {to = to} (inner.lifetime w d b l) =
-    let one : to - (to - 1) ≡ 1 = omega arith in
-    (omega arith, l, rw (one, w) (omega arith))
-
-generics-part : {words : List ℕ} {at : ℕ} {reading : Reading Step} {g from to : ℕ} → StandsAt words at reading (standing.Generics g from to) → Holds (λ step rest. fits step ≡ true) reading
-    → (length (take (to - from) (drop from words)) ≤ 16) × (g ≤ 16)
-generics-part {g = g} (inner.generics {ls = ls} {rest = rest} l d b m x) h =
-    let p = both (leb g 16) (leb (length ls) 16) (holds-read (λ step rest. fits step ≡ true) (Generics g ls) rest h) in
-    (rw l (leb-true (length ls) 16 (p .1)), leb-true g 16 (p .0))
-
-self-part : {words : List ℕ} {at : ℕ} {reading : Reading Step} {from to : ℕ} → StandsAt words at reading (standing.SelfType from to) → Holds (λ step rest. fits step ≡ true) reading
-    → length (take (to - from) (drop from words)) ≤ 16
-self-part (inner.selfType {ls = ls} {rest = rest} l d b m x) h = rw l (leb-true (length ls) 16 (holds-read (λ step rest. fits step ≡ true) (SelfType ls) rest h))
-
 missing-fails : {words : List ℕ} {at : ℕ} {reading : Reading Step} → StandsAt words at reading standing.Missing → reading ≡ Fails
 missing-fails inner.missing = refl
 
@@ -229,25 +210,13 @@ fails-read : {A : Type 0} {step : Step} {rest : List ℕ} → Fails ≡ Read ste
 fails-read e = let z : _≡_ {A = ℕ} 0 1 = cc in absurd (omega arith)
 
 module _ {words : List ℕ} {at : ℕ} {r : StepAt} (stands : StandsAt words at (readStep (drop at words)) r) where
-  told : {q : StepAt} → r ≡ q → StandsAt words at (readStep (drop at words)) q
-  told e = subst (StandsAt words at (readStep (drop at words))) e stands
-
-  pub few-lifetime : {word to : ℕ} → r ≡ standing.Lifetime word to → (1 ≤ to) × (to ≤ length words) × (length (take (to - (to - 1)) (drop (to - 1) words)) ≤ 16)
-  few-lifetime e = lifetime-part (told e)
-
-  pub few-generics : {g from to : ℕ} → r ≡ standing.Generics g from to → (length (take (to - from) (drop from words)) ≤ 16) × (g ≤ 16)
-  few-generics e = generics-part (told e) (step-fits (drop at words))
-
-  pub few-self : {from to : ℕ} → r ≡ standing.SelfType from to → length (take (to - from) (drop from words)) ≤ 16
-  few-self e = self-part (told e) (step-fits (drop at words))
-
   pub puts-missing : (names : List ℕ) (out : Bool) (seen : Seen) (kept : Bool) (own n : ℕ) (list : List ℕ) {before : List ℕ} → r ≡ standing.Missing → own ≤ 16
       → PutsStep names words out at seen kept own n list list before before (record { verdict = verdict.Refused Malformed; seen = seen; kept = kept; own = own; n = n; to = at })
   puts-missing names out seen kept own n list e few = record {
     few = few;
     near = omega arith;
     ends = λ v. refused-accepted v;
-    lowers = λ s sh step rest q. fails-read (sym (missing-fails (told e)) ∙ q);
+    lowers = λ s sh step rest q. fails-read (sym (missing-fails (told stands e)) ∙ q);
   }
 
   module _ (names : List ℕ) (out : Bool) (seen : Seen) (kept : Bool) (own n : ℕ) (list : List ℕ) {list₁ before behind : List ℕ} {t : Took} where
@@ -265,14 +234,14 @@ module _ {words : List ℕ} {at : ℕ} {r : StepAt} (stands : StandsAt words at 
     pub puts-lifetime : {word to : ℕ} → r ≡ standing.Lifetime word to
         → PutsOne (wordsStep names (standingIn out) (padded 0 (take (to - (to - 1)) (drop (to - 1) words)))) seen kept own n to list list₁ before behind t
         → PutsStep names words out at seen kept own n list list₁ before behind t
-    puts-lifetime {word} {to} e p = puts (wordsStep names (standingIn out) (padded 0 (take (to - (to - 1)) (drop (to - 1) words)))) (ends-lifetime stands e) (same-lifetime names out (told e)) p
+    puts-lifetime {word} {to} e p = puts (wordsStep names (standingIn out) (padded 0 (take (to - (to - 1)) (drop (to - 1) words)))) (ends-lifetime stands e) (same-lifetime names out (told stands e)) p
 
     pub puts-generics : {g from to : ℕ} → r ≡ standing.Generics g from to
         → PutsOne (wordsStep names (standingIn out) (padded g (take (to - from) (drop from words)))) seen kept own n to list list₁ before behind t
         → PutsStep names words out at seen kept own n list list₁ before behind t
-    puts-generics {g} {from} {to} e p = puts (wordsStep names (standingIn out) (padded g (take (to - from) (drop from words)))) (ends-generics stands e) (same-generics names out (told e)) p
+    puts-generics {g} {from} {to} e p = puts (wordsStep names (standingIn out) (padded g (take (to - from) (drop from words)))) (ends-generics stands e) (same-generics names out (told stands e)) p
 
     pub puts-self : {from to : ℕ} → r ≡ standing.SelfType from to
         → PutsOne (selfStep names (take (to - from) (drop from words))) seen kept own n to list list₁ before behind t
         → PutsStep names words out at seen kept own n list list₁ before behind t
-    puts-self {from} {to} e p = puts (selfStep names (take (to - from) (drop from words))) (ends-self stands e) (same-self names out (told e)) p
+    puts-self {from} {to} e p = puts (selfStep names (take (to - from) (drop from words))) (ends-self stands e) (same-self names out (told stands e)) p

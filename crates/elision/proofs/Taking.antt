@@ -3,6 +3,7 @@ use Prim.Native.Nat.{ℕ, _-_, _≤_}
 use mathlib.Core.Bool.{Bool, true, false, _&&_}
 use mathlib.Core.Path.{_≡_, refl, subst}
 use mathlib.Core.List.{List, [], _∷_}
+use native.Mathlib.Omega.{arith}
 use lib.Dec.{eqb, leb}
 use lib.ListN.{length, take, drop}
 use lib.Seq.{length-take-le}
@@ -10,7 +11,7 @@ use borrow.Author.Tests.{leb-true}
 use Rattle.lifetimes.specs.declared.answer.Refusal.the-variants.{Malformed}
 use Rattle.lifetimes.specs.declared.answer.Verdict.the-variants as verdict
 use Rattle.records.specs.Reading.{Reading, readWord, readLifetimes}
-use Rattle.records.proofs.ReadingLaws.{Holds, read, fails, passed, holds-cond, holds-onward}
+use Rattle.records.proofs.ReadingLaws.{Holds, read, fails, passed, holds-cond, holds-onward, holds-read}
 use Rattle.elision.specs.declared.steps.StepAt.{StepAt}
 use Rattle.elision.specs.declared.steps.StepAt.the-variants as standing
 use Rattle.elision.specs.declared.lowerer.Lowerer.{Lowerer}
@@ -37,21 +38,9 @@ module _ (names : List ℕ) (out : Bool) (s : Lowerer) {d : Stepped} where
       → d ≡ record { verdict = verdict.Refused Malformed; lowerer = s; lifetimes = laid [] } → d ≡ takes names out s reading
   missing-takes inner.missing h = h
 
-generics-within : {words : List ℕ} {at : ℕ} {reading : Reading Step} {g from to : ℕ} → StandsAt words at reading (standing.Generics g from to) → (from ≤ to) × (to ≤ length words)
-generics-within (inner.generics l x b m e) = (m, e)
-
-self-within : {words : List ℕ} {at : ℕ} {reading : Reading Step} {from to : ℕ} → StandsAt words at reading (standing.SelfType from to) → (from ≤ to) × (to ≤ length words)
-self-within (inner.selfType l x b m e) = (m, e)
-
 module _ {words : List ℕ} {at : ℕ} {reading : Reading Step} {r : StepAt} (s : StandsAt words at reading r) where
-  told : {q : StepAt} → r ≡ q → StandsAt words at reading q
+  pub told : {q : StepAt} → r ≡ q → StandsAt words at reading q
   told e = subst (StandsAt words at reading) e s
-
-  pub part-generics : {g from to : ℕ} → r ≡ standing.Generics g from to → (from ≤ to) × (to ≤ length words)
-  part-generics e = generics-within (told e)
-
-  pub part-self : {from to : ℕ} → r ≡ standing.SelfType from to → (from ≤ to) × (to ≤ length words)
-  part-self e = self-within (told e)
 
   module _ (names : List ℕ) (out : Bool) (l : Lowerer) {d : Stepped} where
     pub takes-lifetime : {word to : ℕ} → r ≡ standing.Lifetime word to → d ≡ stepped l (oneStep names out (Lifetime word) l) → d ≡ takes names out l reading
@@ -95,3 +84,37 @@ step-fits (kind ∷ words) =
     (holds-cond P (eqb kind 1)
     (λ e. holds-onward (λ g rest. leb g 16 ≡ true) P (generics-fit words) (λ g rest p. holds-onward (λ ls behind. leb (length ls) 16 ≡ true) P (lifetimes-fit rest) (λ ls behind q. read (rw (p, q)))))
     (holds-cond P (eqb kind 2) (λ e. holds-onward (λ ls rest. leb (length ls) 16 ≡ true) P (lifetimes-fit words) (λ ls rest p. read p)) fails))
+
+-- the words of a step, in its record
+pub record Part (words : List ℕ) (from to : ℕ) : Type 0 where
+  pub starts : from ≤ to
+  pub ends : to ≤ length words
+  pub few : length (take (to - from) (drop from words)) ≤ 16
+
+lifetime-part : {words : List ℕ} {at : ℕ} {reading : Reading Step} {word to : ℕ} → StandsAt words at reading (standing.Lifetime word to) → (1 ≤ to) × Part words (to - 1) to
+lifetime-part {to = to} (inner.lifetime w d b l) =
+    let one : to - (to - 1) ≡ 1 = omega arith in
+    (omega arith, record { starts = omega arith; ends = l; few = rw (one, w) (omega arith) })
+
+generics-part : {words : List ℕ} {at : ℕ} {reading : Reading Step} {g from to : ℕ} → StandsAt words at reading (standing.Generics g from to) → Holds (λ step rest. fits step ≡ true) reading
+    → (g ≤ 16) × Part words from to
+generics-part {g = g} (inner.generics {ls = ls} {rest = rest} l d b m x) h =
+    let p = both (leb g 16) (leb (length ls) 16) (holds-read (λ step rest. fits step ≡ true) (Generics g ls) rest h) in
+    (leb-true g 16 (p .0), record { starts = m; ends = x; few = rw l (leb-true (length ls) 16 (p .1)) })
+
+self-part : {words : List ℕ} {at : ℕ} {reading : Reading Step} {from to : ℕ} → StandsAt words at reading (standing.SelfType from to) → Holds (λ step rest. fits step ≡ true) reading → Part words from to
+self-part (inner.selfType {ls = ls} {rest = rest} l d b m x) h = record {
+  starts = m;
+  ends = x;
+  few = rw l (leb-true (length ls) 16 (holds-read (λ step rest. fits step ≡ true) (SelfType ls) rest h));
+}
+
+module _ {words : List ℕ} {at : ℕ} {r : StepAt} (stands : StandsAt words at (readStep (drop at words)) r) where
+  pub part-lifetime : {word to : ℕ} → r ≡ standing.Lifetime word to → (1 ≤ to) × Part words (to - 1) to
+  part-lifetime e = lifetime-part (told stands e)
+
+  pub part-generics : {g from to : ℕ} → r ≡ standing.Generics g from to → (g ≤ 16) × Part words from to
+  part-generics e = generics-part (told stands e) (step-fits (drop at words))
+
+  pub part-self : {from to : ℕ} → r ≡ standing.SelfType from to → Part words from to
+  part-self e = self-part (told stands e) (step-fits (drop at words))

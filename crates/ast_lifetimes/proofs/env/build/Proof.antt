@@ -10,27 +10,33 @@ use Rattle.ast_lifetimes.proofs.env.build.Tie as tie
 shape : (s : tie.Start) → Shaped (s .args .names .now) (s .args .bounds .now) (s .args .types .now)
 shape s = shaped _ _ _ (s .pre .0)
 
-one : (c : tie.After-enum-told) → let s = c .before .before .before .before .before .before .before .before .before in ImplNamed (s .args .names .now) (s .args .bounds .now) (s .args .types .now) (c .before .before .declare-all .last .1 .1 .1 .0)
-one c =
-    let at-before = c .before .before .before .before .before .before .before .before in
-    impl-named (shape (at-before .before)) (c .before .before .declare-all .ensures) (c .enum-told .given .1)
+-- each accepted stage's place from the next one's, and the start from the first's
+abbrev start : tie.After-enum-told → tie.Start
+start c = c .before .before .before .before .before .before .before .before .before
 
-two : (c : tie.After-enum-told3) → let s = c .before .before .before .before .before .before .before .before .before .before .before .before .before .before .before in ImplBound (s .args .names .now) (s .args .bounds .now) (s .args .types .now) (c .before .before .before .before .before .before .before .before .declare-all .last .1 .1 .1 .0) (c .before .before .push-pairs .last .1 .1 .1 .1 .1 .0) (c .before .before .push-pairs .last .1 .1 .1 .1 .1 .1 .0)
-two c =
-    let at-before = c .before .before .before .before .before in
-    let at-before-2 = at-before .before .before .before .before .before .before .before .before .before in
-    impl-bound (shape (at-before-2 .before)) (one (at-before .before)) (c .before .before .push-pairs .ensures) (c .enum-told3 .given .1)
+abbrev to-one : tie.After-enum-told3 → tie.After-enum-told
+to-one c = c .before .before .before .before .before .before
 
-three : (c : tie.After-enum-told5) → let s = c .before .before .before .before .before .before .before .before .before .before .before .before .before .before .before .before .before .before .before in AllNamed (s .args .names .now) (s .args .bounds .now) (s .args .types .now) (c .before .before .declare-all2 .last .1 .1 .1 .0) (c .before .before .before .before .before .before .push-pairs .last .1 .1 .1 .1 .1 .0) (c .before .before .before .before .before .before .push-pairs .last .1 .1 .1 .1 .1 .1 .0)
-three c =
-    let at-before = c .before .before .before .before .before .before .before .before .before .before .before .before .before .before .before .before .before .before in
-    all-named (shape (at-before .before)) (two (c .before .before .before .before)) (c .before .before .declare-all2 .ensures) (c .enum-told5 .given .1)
+abbrev to-two : tie.After-enum-told5 → tie.After-enum-told3
+to-two c = c .before .before .before .before
 
-four : (c : tie.After-enum-told7) → let s = c .before .before .before .before .before .before .before .before .before .before .before .before .before .before .before .before .before .before .before .before .before .before .before .before .before in AllBound (s .args .names .now) (s .args .bounds .now) (s .args .types .now) (c .before .before .before .before .before .before .before .before .declare-all2 .last .1 .1 .1 .0) (c .before .before .push-pairs2 .last .1 .1 .1 .1 .1 .0) (c .before .before .push-pairs2 .last .1 .1 .1 .1 .1 .1 .0)
-four c =
-    let at-before = c .before .before .before .before .before in
-    let at-before-2 = at-before .before .before .before .before .before .before .before .before .before .before .before .before .before .before .before .before .before .before .before in
-    all-bound (shape (at-before-2 .before)) (three (at-before .before)) (c .before .before .push-pairs2 .ensures) (c .enum-told7 .given .1)
+abbrev to-three : tie.After-enum-told7 → tie.After-enum-told5
+to-three c = c .before .before .before .before .before .before
+
+one : (c : tie.After-enum-told) → let s = start c in ImplNamed (s .args .names .now) (s .args .bounds .now) (s .args .types .now) (c .before .before .declare-all .last .1 .1 .1 .0)
+one c = impl-named (shape (start c)) (c .before .before .declare-all .ensures) (c .enum-told .given .1)
+
+two : (c : tie.After-enum-told3) → let s = start (to-one c) in let p = c .before .before .push-pairs .last in
+    ImplBound (s .args .names .now) (s .args .bounds .now) (s .args .types .now) (to-one c .before .before .declare-all .last .1 .1 .1 .0) (p .1 .1 .1 .1 .1 .0) (p .1 .1 .1 .1 .1 .1 .0)
+two c = impl-bound (one (to-one c)) (c .before .before .push-pairs .ensures) (c .enum-told3 .given .1)
+
+three : (c : tie.After-enum-told5) → let s = start (to-one (to-two c)) in let p = to-two c .before .before .push-pairs .last in
+    AllNamed (s .args .names .now) (s .args .bounds .now) (s .args .types .now) (c .before .before .declare-all2 .last .1 .1 .1 .0) (p .1 .1 .1 .1 .1 .0) (p .1 .1 .1 .1 .1 .1 .0)
+three c = all-named (two (to-two c)) (c .before .before .declare-all2 .ensures) (c .enum-told5 .given .1)
+
+four : (c : tie.After-enum-told7) → let s = start (to-one (to-two (to-three c))) in let p = c .before .before .push-pairs2 .last in
+    AllBound (s .args .names .now) (s .args .bounds .now) (s .args .types .now) (to-three c .before .before .declare-all2 .last .1 .1 .1 .0) (p .1 .1 .1 .1 .1 .0) (p .1 .1 .1 .1 .1 .1 .0)
+four c = all-bound (three (to-three c)) (c .before .before .push-pairs2 .ensures) (c .enum-told7 .given .1)
 
 shared-slice-read-impls : tie.Need-shared-slice-read-impls
 shared-slice-read-impls c = (shape (c .before .before .before .before)) .in-names .some
@@ -65,9 +71,9 @@ returns c =
 
 push-pairs-requires : tie.Need-push-pairs-requires
 push-pairs-requires c κs =
-    let s = c .before .before .before .before .before .before .before .before .before .before .before .before in
-    let h = (shape s) .in-bounds in
+    let s = start (c .before .before .before) in
     let o = one (c .before .before .before) in
+    let h = o .shaped .in-bounds in
     (omega (arith, h .fits, h .even), ((o .named .few, o .named .size), (omega arith, s .pre .1 .1, s .pre .1 .2)))
 
 enum-told-3 : tie.Need-enum-told-3
@@ -77,24 +83,18 @@ enum-told-4 : tie.Need-enum-told-4
 enum-told-4 c = search needs
 
 returns-2 : tie.Need-returns-2
-returns-2 c =
-    let at-before = c .before .before .before .before .before in
-    let at-before-2 = at-before .before .before .before .before .before .before .before .before .before in
-    impl-pairs-refused (shape (at-before-2 .before)) (one (at-before .before)) (c .before .before .push-pairs .ensures) (c .enum-told4 .given .1)
+returns-2 c = impl-pairs-refused (one (c .before .before .before .before .before .before)) (c .before .before .push-pairs .ensures) (c .enum-told4 .given .1)
 
 add-declare-all-2 : tie.Need-add-declare-all-2
-add-declare-all-2 c =
-    let at-before = c .before .before .before .before .before .before .before .before .before .before .before .before .before .before in
-    let h = (shape (at-before .before)) .in-names in omega (arith, h .few, h .fits)
+add-declare-all-2 c = let h = two c .shaped .in-names in omega (arith, h .few, h .fits)
 
 add-declare-all-3 : tie.Need-add-declare-all-3
 add-declare-all-3 c = search needs
 
 declare-all-requires-2 : tie.Need-declare-all-requires-2
 declare-all-requires-2 c κs =
-    let at-before = c .before .before .before .before .before .before .before .before .before .before .before .before .before .before .before in
-    let h = (shape (at-before .before)) .in-names in
     let t = two (c .before) in
+    let h = t .shaped .in-names in
     ((omega (arith, h .fits), omega (arith, h .some)), (t .named .few, t .named .size))
 
 enum-told-5 : tie.Need-enum-told-5
@@ -104,30 +104,21 @@ enum-told-6 : tie.Need-enum-told-6
 enum-told-6 c = search needs
 
 returns-3 : tie.Need-returns-3
-returns-3 c =
-    let at-before = c .before .before .before .before .before .before .before .before .before .before .before .before .before .before .before .before .before .before in
-    method-names-refused (shape (at-before .before)) (two (c .before .before .before .before)) (c .before .before .declare-all2 .ensures) (c .enum-told6 .given .1)
+returns-3 c = method-names-refused (two (c .before .before .before .before)) (c .before .before .declare-all2 .ensures) (c .enum-told6 .given .1)
 
 mul-push-pairs : tie.Need-mul-push-pairs
-mul-push-pairs c =
-    let at-before = c .before .before .before .before .before .before .before .before .before .before .before .before .before .before .before .before .before .before in
-    let h = (shape (at-before .before)) .in-bounds in omega (arith, h .few, h .fits, h .even)
+mul-push-pairs c = let h = three c .shaped .in-bounds in omega (arith, h .few, h .fits, h .even)
 
 add-push-pairs : tie.Need-add-push-pairs
-add-push-pairs c =
-    let at-before = c .before .before .before .before .before .before .before .before .before .before .before .before .before .before .before .before .before .before in
-    let h = (shape (at-before .before)) .in-bounds in omega (arith, h .few, h .fits, h .even)
+add-push-pairs c = let h = three c .shaped .in-bounds in omega (arith, h .few, h .fits, h .even)
 
 sub-push-pairs : tie.Need-sub-push-pairs
-sub-push-pairs c =
-    let at-before = c .before .before .before .before .before .before .before .before .before .before .before .before .before .before .before .before .before .before in
-    (shape (at-before .before)) .in-bounds .fits
+sub-push-pairs c = three c .shaped .in-bounds .fits
 
 push-pairs-requires-2 : tie.Need-push-pairs-requires-2
 push-pairs-requires-2 c κs =
-    let at-before = c .before .before .before .before .before .before .before .before .before .before .before .before .before .before .before .before .before .before .before .before .before in
-    let h = (shape (at-before .before)) .in-bounds in
     let t = three (c .before .before .before) in
+    let h = t .shaped .in-bounds in
     (omega (arith, h .fits, h .even), ((t .named .few, t .named .size), (t .sides .few, t .sides .size-longs, t .sides .size-shorts)))
 
 enum-told-7 : tie.Need-enum-told-7
@@ -137,32 +128,23 @@ enum-told-8 : tie.Need-enum-told-8
 enum-told-8 c = search needs
 
 returns-4 : tie.Need-returns-4
-returns-4 c =
-    let at-before = c .before .before .before .before .before in
-    let at-before-2 = at-before .before .before .before .before .before .before .before .before .before .before .before .before .before .before .before .before .before .before .before in
-    method-pairs-refused (shape (at-before-2 .before)) (three (at-before .before)) (c .before .before .push-pairs2 .ensures) (c .enum-told8 .given .1)
+returns-4 c = method-pairs-refused (three (c .before .before .before .before .before .before)) (c .before .before .push-pairs2 .ensures) (c .enum-told8 .given .1)
 
 close-requires : tie.Need-close-requires
 close-requires c κs =
-    let at-before = c .before .before .before .before .before .before .before .before .before .before .before .before .before .before .before .before .before .before .before .before .before .before .before .before .before .before .before in
     let f = four (c .before .before .before) in
-    ((f .named .few, f .sides .few, all-below (shape (at-before .before)) f), (f .sides .size-longs, f .sides .size-shorts, refl))
+    ((f .named .few, f .sides .few, all-below f), (f .sides .size-longs, f .sides .size-shorts, refl))
 
 push-types-requires : tie.Need-push-types-requires
 push-types-requires c κs =
-    let at-close = c .before .before .before .before in
-    let at-before = at-close .before .before .before in
-    let s = at-before .before .before .before .before .before .before .before .before .before .before .before .before .before .before .before .before .before .before .before .before .before .before .before .before .before .before in
-    let f = four (at-before .before) in (
-      (typesOf (s .args .types .now), (shape s) .in-types),
-      ((f .named .few, f .named .size), ((f .sides .few, f .sides .size-longs, f .sides .size-shorts), at-close .close .ensures)),
+    let closed = c .before .before .before .before in
+    let f = four (closed .before .before .before .before) in (
+      (typesOf _, f .shaped .in-types),
+      ((f .named .few, f .named .size), ((f .sides .few, f .sides .size-longs, f .sides .size-shorts), closed .close .ensures)),
     )
 
 returns-5 : tie.Need-returns-5
-returns-5 c =
-    let at-before = c .before .before .before .before .before .before .before .before in
-    let at-before-2 = at-before .before .before .before .before .before .before .before .before .before .before .before .before .before .before .before .before .before .before .before .before .before .before .before .before .before in
-    all-built (shape (at-before-2 .before)) (four (at-before .before)) (c .push-types .ensures)
+returns-5 c = all-built (four (c .before .before .before .before .before .before .before .before .before)) (c .push-types .ensures)
 
 pub build-spec : {M : Type 1} → statement M
 build-spec =

@@ -1,8 +1,8 @@
 -- `lower` meets its contract: each way out is one law of proofs/EntryLaws.antt.
 use native.Mathlib.Omega.{arith}
-use mathlib.Core.Path.{_≡_, sym, _∙_}
+use mathlib.Core.Path.{_≡_}
 use lib.ListN.{length, length-map}
-use Rattle.elision.proofs.EntryLaws.{lower-refused, lower-shaped, lower-named, lower-own, lower-given, lower-taken, lower-all}
+use Rattle.elision.proofs.EntryLaws.{Measured, measures, lower-refused, lower-shaped, lower-named, lower-own, lower-given, lower-taken, lower-all}
 use borrow.Author.Needs.{needs}
 use Rattle.elision.proofs.method.lower.Statement.{statement}
 use Rattle.elision.proofs.method.lower.Tie as tie
@@ -10,111 +10,79 @@ use Rattle.elision.proofs.method.lower.Tie as tie
 full : (c : tie.Start) → length (c .args .env .names) ≡ 32
 full c = simp length-map at (c .good .0 .1 .1 .0 .1 .0 .1)
 
--- src/method.rt:116:9
+-- the start, from the place where `measure` has accepted
+abbrev start : tie.After-enum-told2 → tie.Start
+start c = c .before .before .before .before .before .before .before .before .before
+
+measured : (c : tie.After-enum-told2) → let s = start c in Measured (s .args .env) (s .args .receiver .now) (s .args .steps .now) (s .args .returns .now) (c .before .before .measure .result)
+measured c = measures _ _ _ _ (c .before .before .measure .ensures) (c .enum-told2 .given .1)
+
 measure-requires : tie.Need-measure-requires
 measure-requires c κs = search needs
 
--- src/method.rt:119:9
 enum-told : tie.Need-enum-told
 enum-told c = search needs
 
--- src/method.rt:119:9
 returns : tie.Need-returns
-returns c =
-    let s = c .before .before .before .before .before .before .before .before .before in
-    lower-refused (s .args .env) (s .args .receiver .now) (s .args .steps .now) (s .args .returns .now) (s .args .own .now) (s .args .given .now) (s .args .taken .now) (c .before .before .measure .ensures) (c .enum-told .given .1)
+returns c = lower-refused _ _ _ _ _ _ _ (c .before .before .measure .ensures) (c .enum-told .given .1)
 
 enum-told-2 : tie.Need-enum-told-2
 enum-told-2 c = search needs
 
--- src/method.rt:122:9
 refused-lowering-requires : tie.Need-refused-lowering-requires
 refused-lowering-requires c κs = search needs
 
--- src/method.rt:122:9
 returns-2 : tie.Need-returns-2
-returns-2 c =
-    let at-enum-told2 = c .before .before .before in
-    let at-measure = at-enum-told2 .before .before in
-    let s = at-measure .before .before .before .before .before .before .before in
-    lower-own (s .args .env) (s .args .receiver .now) (s .args .steps .now) (s .args .returns .now) (s .args .own .now) (s .args .given .now) (s .args .taken .now) (at-measure .measure .ensures) (at-enum-told2 .enum-told2 .given .1) (c .before .if1 .taken) (c .refused-lowering .ensures)
+returns-2 c = lower-own (measured (c .before .before .before)) (c .before .if1 .taken) (c .refused-lowering .ensures)
 
--- src/method.rt:125:9
 refused-lowering-requires-2 : tie.Need-refused-lowering-requires-2
 refused-lowering-requires-2 c κs = search needs
 
--- src/method.rt:125:9
 returns-3 : tie.Need-returns-3
 returns-3 c =
-    let at-if1 = c .before .before .before in
-    let at-enum-told2 = at-if1 .before .before in
-    let at-measure = at-enum-told2 .before .before in
-    let s = at-measure .before .before .before .before .before .before .before in
-    lower-given (s .args .env) (s .args .receiver .now) (s .args .steps .now) (s .args .returns .now) (s .args .own .now) (s .args .given .now) (s .args .taken .now) (at-measure .measure .ensures) (at-enum-told2 .enum-told2 .given .1) (at-if1 .if1 .left) (c .before .if2 .taken) (c .refused-lowering2 .ensures)
+    let first = c .before .before .before in
+    lower-given (measured (first .before .before)) (first .if1 .left) (c .before .if2 .taken) (c .refused-lowering2 .ensures)
 
--- src/method.rt:128:9
 refused-lowering-requires-3 : tie.Need-refused-lowering-requires-3
 refused-lowering-requires-3 c κs = search needs
 
--- src/method.rt:128:9
 returns-4 : tie.Need-returns-4
 returns-4 c =
-    let at-if2 = c .before .before .before in
-    let at-if1 = at-if2 .before .before in
-    let at-enum-told2 = at-if1 .before .before in
-    let at-measure = at-enum-told2 .before .before in
-    let s = at-measure .before .before .before .before .before .before .before in
-    lower-taken (s .args .env) (s .args .receiver .now) (s .args .steps .now) (s .args .returns .now) (s .args .own .now) (s .args .given .now) (s .args .taken .now) (at-measure .measure .ensures) (at-enum-told2 .enum-told2 .given .1) (at-if1 .if1 .left) (at-if2 .if2 .left) (c .before .if3 .taken) (c .refused-lowering3 .ensures)
+    let second = c .before .before .before in
+    let first = second .before .before in
+    lower-taken (measured (first .before .before)) (first .if1 .left) (second .if2 .left) (c .before .if3 .taken) (c .refused-lowering3 .ensures)
 
--- src/method.rt:133:9
 sub-run : tie.Need-sub-run
 sub-run c = search needs
 
--- src/method.rt:133:9
 part-run-start : tie.Need-part-run-start
 part-run-start c = search needs
 
--- src/method.rt:133:9
 part-run-end : tie.Need-part-run-end
 part-run-end c =
-    let at-enum-told2 = c .before .before .before .before .before .before .before .before in
-    let at-measure = at-enum-told2 .before .before in
-    let at-before = at-measure .before .before .before .before .before .before in
-    let s = at-before .before in
-    omega (arith, full (at-before .before), lower-named (s .args .env) (s .args .receiver .now) (s .args .steps .now) (s .args .returns .now) (s .args .own .now) (s .args .given .now) (s .args .taken .now) (at-measure .measure .ensures) (at-enum-told2 .enum-told2 .given .1))
+    let told = c .before .before .before .before .before .before .before .before in
+    omega (arith, full (start told), lower-named (measured told))
 
--- src/method.rt:132:5
 run-requires : tie.Need-run-requires
-run-requires c κs =
-    let at-enum-told2 = c .before .before .before .before .before .before .before .before .before .before .before .before in
-    let at-measure = at-enum-told2 .before .before in
-    let s = at-measure .before .before .before .before .before .before .before in
-    lower-shaped (s .args .env) (s .args .receiver .now) (s .args .steps .now) (s .args .returns .now) (s .args .own .now) (s .args .given .now) (s .args .taken .now) (at-measure .measure .ensures) (at-enum-told2 .enum-told2 .given .1)
+run-requires c κs = lower-shaped (measured (c .before .before .before .before .before .before .before .before .before .before .before .before))
 
--- src/method.rt:102:1
 same-length : tie.Need-same-length
 same-length c = search needs
 
--- src/method.rt:102:1
 same-length-2 : tie.Need-same-length-2
 same-length-2 c = search needs
 
--- src/method.rt:102:1
 same-length-3 : tie.Need-same-length-3
 same-length-3 c = search needs
 
--- src/method.rt:102:1
 returns-5 : tie.Need-returns-5
 returns-5 c =
-    let at-run = c .before .before .before .before .before .before in
-    let at-if3 = at-run .before .before .before .before .before .before .before in
-    let at-if2 = at-if3 .before .before in
-    let at-if1 = at-if2 .before .before in
-    let at-enum-told2 = at-if1 .before .before in
-    let at-measure = at-enum-told2 .before .before in
-    let at-before = at-measure .before .before .before .before .before .before in
-    let s = at-before .before in
-    lower-all (s .args .env) (s .args .receiver .now) (s .args .steps .now) (s .args .returns .now) (s .args .own .now) (s .args .given .now) (s .args .taken .now) (at-measure .measure .ensures) (at-enum-told2 .enum-told2 .given .1) (at-if1 .if1 .left) (at-if2 .if2 .left) (at-if3 .if3 .left) (full (at-before .before)) (at-run .run .ensures)
+    let ran = c .before .before .before .before .before .before in
+    let third = ran .before .before .before .before .before .before .before in
+    let second = third .before .before in
+    let first = second .before .before in
+    let told = first .before .before in
+    lower-all (measured told) (first .if1 .left) (second .if2 .left) (third .if3 .left) (full (start told)) (ran .run .ensures)
 
 pub lower-spec : {M : Type 1} → statement M
 lower-spec =

@@ -3,15 +3,28 @@ use native.Mathlib.Omega.{arith}
 use mathlib.Core.Path.{_≡_, sym, _∙_}
 use lib.ListN.{length, length-map}
 use Rattle.lifetimes.proofs.RefusalLaws.{refused-first, accepted-none}
-use Rattle.ast_lifetimes.specs.Env.{envChecks}
 use Rattle.ast_lifetimes.proofs.Listing.{few-names}
-use Rattle.elision.proofs.EntryLaws.{measure-shape, measure-shaped, measure-env, measure-refused, measure-all}
+use Rattle.elision.proofs.EntryLaws.{measure-shape, Shaped, shape-told, measure-shaped, measure-env, Valid, measure-refused, measure-all}
 use borrow.Author.Needs.{needs}
 use Rattle.elision.proofs.method.measure.Statement.{statement}
 use Rattle.elision.proofs.method.measure.Tie as tie
 
 full : (c : tie.Start) → length (c .args .env .names) ≡ 32
 full c = simp length-map at (c .good .0 .1 .1 .0 .1 .0 .1)
+
+-- the start, from the place where the records are in shape
+abbrev start : tie.After-enum-told → tie.Start
+start c = c .before .before .before .before .before .before
+
+shaped : (c : tie.After-enum-told) → let s = start c in Shaped (s .args .env) (s .args .receiver .now) (s .args .steps .now) (s .args .returns .now)
+shaped c = shape-told _ _ _ _ (c .before .before .shape-of .ensures) (c .enum-told .given .1)
+
+-- the same place, from the one where the environment is valid
+abbrev in-shape : tie.After-enum-told2 → tie.After-enum-told
+in-shape c = c .before .before .before
+
+valid : (c : tie.After-enum-told2) → let s = start (in-shape c) in Valid (s .args .env) (s .args .receiver .now) (s .args .steps .now) (s .args .returns .now)
+valid c = record { shaped = shaped (in-shape c); none = accepted-none _ _ (sym (c .before .before .check .ensures) ∙ c .enum-told2 .given .1) }
 
 shape-of-requires : tie.Need-shape-of-requires
 shape-of-requires c κs = search needs
@@ -23,10 +36,7 @@ refused-lowering-requires : tie.Need-refused-lowering-requires
 refused-lowering-requires c κs = search needs
 
 returns : tie.Need-returns
-returns c =
-    let at-shape-of = c .before .before .before .before in
-    let s = at-shape-of .before .before .before .before in
-    measure-shape (s .args .env) (s .args .receiver .now) (s .args .steps .now) (s .args .returns .now) (at-shape-of .shape-of .ensures) (c .before .before .shape .given .1) (c .refused-lowering .ensures)
+returns c = measure-shape _ _ _ _ (c .before .before .before .before .shape-of .ensures) (c .before .before .shape .given .1) (c .refused-lowering .ensures)
 
 enum-told : tie.Need-enum-told
 enum-told c = search needs
@@ -42,11 +52,8 @@ refused-lowering-requires-2 c κs = search needs
 
 returns-2 : tie.Need-returns-2
 returns-2 c =
-    let at-check = c .before .before .before .before in
-    let at-enum-told = at-check .before in
-    let at-shape-of = at-enum-told .before .before in
-    let s = at-shape-of .before .before .before .before in
-    measure-env (s .args .env) (s .args .receiver .now) (s .args .steps .now) (s .args .returns .now) (at-shape-of .shape-of .ensures) (at-enum-told .enum-told .given .1) (refused-first (s .args .env) _ (envChecks (s .args .env)) (sym (at-check .check .ensures) ∙ c .before .before .valid .given .1)) (c .refused-lowering2 .ensures)
+    let checked = c .before .before .before .before in
+    measure-env (shaped (checked .before)) (refused-first _ _ _ (sym (checked .check .ensures) ∙ c .before .before .valid .given .1)) (c .refused-lowering2 .ensures)
 
 enum-told-2 : tie.Need-enum-told-2
 enum-told-2 c = search needs
@@ -59,17 +66,12 @@ part-judge-start c = search needs
 
 part-judge-end : tie.Need-part-judge-end
 part-judge-end c =
-    let at-check = c .before .before .before .before in
-    let at-before = at-check .before .before .before .before .before .before in
-    let s = at-before .before in
-    omega (arith, full (at-before .before), few-names (s .args .env) (accepted-none (s .args .env) (envChecks (s .args .env)) (sym (at-check .check .ensures) ∙ c .before .before .enum-told2 .given .1)))
+    let told = c .before .before in
+    let s = start (in-shape told) in
+    omega (arith, full s, few-names (s .args .env) (valid told .none))
 
 judge-requires : tie.Need-judge-requires
-judge-requires c κs =
-    let at-enum-told = c .before .before .before .before .before .before in
-    let at-shape-of = at-enum-told .before .before in
-    let s = at-shape-of .before .before .before .before in
-    measure-shaped (s .args .env) (s .args .receiver .now) (s .args .steps .now) (s .args .returns .now) (at-shape-of .shape-of .ensures) (at-enum-told .enum-told .given .1)
+judge-requires c κs = measure-shaped (shaped (c .before .before .before .before .before .before))
 
 enum-known-verdict : tie.Need-enum-known-verdict
 enum-known-verdict c = search needs
@@ -79,26 +81,18 @@ refused-lowering-requires-3 c κs = search needs
 
 returns-3 : tie.Need-returns-3
 returns-3 c =
-    let at-judge = c .before .before .before .before in
-    let at-enum-told2 = at-judge .before .before .before .before in
-    let at-check = at-enum-told2 .before .before in
-    let at-enum-told = at-check .before in
-    let at-shape-of = at-enum-told .before .before in
-    let s = at-shape-of .before .before .before .before in
-    measure-refused (s .args .env) (s .args .receiver .now) (s .args .steps .now) (s .args .returns .now) (at-shape-of .shape-of .ensures) (at-enum-told .enum-told .given .1) (accepted-none (s .args .env) (envChecks (s .args .env)) (sym (at-check .check .ensures) ∙ at-enum-told2 .enum-told2 .given .1)) (at-judge .judge .ensures) (c .before .before .verdict .given .1) (c .refused-lowering3 .ensures)
+    let judged = c .before .before .before .before in
+    let told = judged .before .before .before .before in
+    measure-refused (valid told) (judged .judge .ensures) (c .before .before .verdict .given .1) (c .refused-lowering3 .ensures)
 
 enum-told-3 : tie.Need-enum-told-3
 enum-told-3 c = search needs
 
 returns-4 : tie.Need-returns-4
 returns-4 c =
-    let at-judge = c .before .before .before in
-    let at-enum-told2 = at-judge .before .before .before .before in
-    let at-check = at-enum-told2 .before .before in
-    let at-enum-told = at-check .before in
-    let at-shape-of = at-enum-told .before .before in
-    let s = at-shape-of .before .before .before .before in
-    measure-all (s .args .env) (s .args .receiver .now) (s .args .steps .now) (s .args .returns .now) (at-shape-of .shape-of .ensures) (at-enum-told .enum-told .given .1) (accepted-none (s .args .env) (envChecks (s .args .env)) (sym (at-check .check .ensures) ∙ at-enum-told2 .enum-told2 .given .1)) (at-judge .judge .ensures) (c .before .enum-told3 .given .1)
+    let judged = c .before .before .before in
+    let told = judged .before .before .before .before in
+    measure-all (valid told) (judged .judge .ensures) (c .before .enum-told3 .given .1)
 
 pub measure-spec : {M : Type 1} → statement M
 measure-spec =

@@ -1,11 +1,31 @@
 -- `run` meets its contract: each way out is one law of proofs/MethodLaws.antt.
+use mathlib.Core.Bool.{false}
 use mathlib.Core.Path.{refl}
 use lib.ListN.{replicate}
 use Rattle.elision.specs.Steps.{receiverOf, stepsOf}
+use Rattle.elision.specs.Machine.{lowerSelf, runSteps}
+use Rattle.elision.specs.Inner.{Given}
 use Rattle.elision.proofs.MethodLaws.{all-first, all-second, all-third, all-given}
 use borrow.Author.Needs.{needs}
 use Rattle.elision.proofs.method.run.Statement.{statement}
 use Rattle.elision.proofs.method.run.Tie as tie
+
+-- the start, from the place where the receiver is lowered
+abbrev start : tie.After-enum-told → tie.Start
+start c = c .before .before .before .before .before .before .before .before .before .before .before .before .before
+
+one : (c : tie.After-enum-told) → let s = start c in let first = c .before .before .before .before in
+    Given (lowerSelf (s .args .names .now) (receiverOf (s .args .receiver .now))) 0 (replicate 16 0) (s .args .own .now) (first .put-receiver .last .1 .1 .0) (first .put-receiver .result)
+one c = c .before .before .before .before .put-receiver .ensures .1 (replicate 16 0) refl .accepted (c .enum-told .given .1)
+
+-- that place, from the one where the steps are lowered
+abbrev begun : tie.After-enum-told2 → tie.After-enum-told
+begun c = c .before .before .before .before .before .before .before .before
+
+two : (c : tie.After-enum-told2) → let s = start (begun c) in let second = c .before .before .before .before in
+    Given (runSteps (s .args .names .now) false (stepsOf (s .args .steps .now)) (one (begun c) .it .left)) 0 (second .put-record .last .1 .1 .1 .1 .1 .1 .0)
+    (s .args .given .now) (second .put-record .last .1 .1 .1 .1 .1 .1 .1 .0) (second .put-record .result)
+two c = c .before .before .before .before .put-record .ensures .1 (one (begun c) .it .left) (one (begun c) .shows) .accepted (c .enum-told2 .given .1)
 
 put-receiver-requires : tie.Need-put-receiver-requires
 put-receiver-requires c κs = search needs
@@ -20,19 +40,13 @@ same-length : tie.Need-same-length
 same-length c = search needs
 
 returns : tie.Need-returns
-returns c =
-    let at-put-receiver = c .before .before .before .before .before .before in
-    let s = at-put-receiver .before .before .before .before .before .before .before .before .before in
-    all-first (s .args .names .now) (receiverOf (s .args .receiver .now)) (stepsOf (s .args .steps .now)) (stepsOf (s .args .returns .now)) (replicate 16 0) refl (at-put-receiver .put-receiver .ensures .1) (c .before .before .one .given .1) (c .refused-totals .ensures)
+returns c = all-first _ _ _ _ (c .before .before .before .before .before .before .put-receiver .ensures .1) (c .before .before .one .given .1) (c .refused-totals .ensures)
 
 enum-told : tie.Need-enum-told
 enum-told c = search needs
 
 put-record-requires : tie.Need-put-record-requires
-put-record-requires c κs =
-    let at-put-receiver = c .before .before .before .before .before .before .before in
-    let s = at-put-receiver .before .before .before .before .before .before .before .before .before in
-    (s .pre .0, at-put-receiver .put-receiver .ensures .0)
+put-record-requires c κs = (start (c .before .before .before) .pre .0, c .before .before .before .before .before .before .before .put-receiver .ensures .0)
 
 enum-known-two : tie.Need-enum-known-two
 enum-known-two c = search needs
@@ -48,20 +62,14 @@ same-length-3 c = search needs
 
 returns-2 : tie.Need-returns-2
 returns-2 c =
-    let at-second = c .before .before .before .before .before .before in
-    let at-enum-told = at-second .before .before .before .before in
-    let at-put-receiver = at-enum-told .before .before .before .before in
-    let s = at-put-receiver .before .before .before .before .before .before .before .before .before in
-    all-second (s .args .names .now) (receiverOf (s .args .receiver .now)) (stepsOf (s .args .steps .now)) (stepsOf (s .args .returns .now)) (replicate 16 0) refl (at-put-receiver .put-receiver .ensures .1) (at-enum-told .enum-told .given .1) (at-second .put-record .ensures .1) (c .before .before .two .given .1) (c .refused-totals2 .ensures)
+    let second = c .before .before .before .before .before .before in
+    all-second _ _ _ _ (one (second .before .before .before .before)) (second .put-record .ensures .1) (c .before .before .two .given .1) (c .refused-totals2 .ensures)
 
 enum-told-2 : tie.Need-enum-told-2
 enum-told-2 c = search needs
 
 put-record-requires-2 : tie.Need-put-record-requires-2
-put-record-requires-2 c κs =
-    let at-second = c .before .before .before .before .before .before .before in
-    let s = at-second .before .before .before .before .before .before .before .before .before .before .before .before .before .before .before .before .before in
-    (s .pre .1, at-second .put-record .ensures .0)
+put-record-requires-2 c κs = (start (begun (c .before .before .before)) .pre .1, c .before .before .before .before .before .before .before .put-record .ensures .0)
 
 enum-known-three : tie.Need-enum-known-three
 enum-known-three c = search needs
@@ -70,9 +78,7 @@ refused-totals-requires-3 : tie.Need-refused-totals-requires-3
 refused-totals-requires-3 c κs = search needs
 
 same-length-4 : tie.Need-same-length-4
-same-length-4 c =
-    let at-own = c .before .before .before .before .before .before .before .before .before .before .before .before .before .before .before .before .before .before .before .before .before in
-    at-own .own .given
+same-length-4 c = begun (c .before .before .before .before .before .before .before .before .before .before) .before .before .before .own .given
 
 same-length-5 : tie.Need-same-length-5
 same-length-5 c = search needs
@@ -82,21 +88,15 @@ same-length-6 c = search needs
 
 returns-3 : tie.Need-returns-3
 returns-3 c =
-    let at-third = c .before .before .before .before .before .before in
-    let at-enum-told2 = at-third .before .before .before .before in
-    let at-second = at-enum-told2 .before .before .before .before in
-    let at-enum-told = at-second .before .before .before .before in
-    let at-put-receiver = at-enum-told .before .before .before .before in
-    let s = at-put-receiver .before .before .before .before .before .before .before .before .before in
-    all-third (s .args .names .now) (receiverOf (s .args .receiver .now)) (stepsOf (s .args .steps .now)) (stepsOf (s .args .returns .now)) (replicate 16 0) refl (at-put-receiver .put-receiver .ensures .1) (at-enum-told .enum-told .given .1) (at-second .put-record .ensures .1) (at-enum-told2 .enum-told2 .given .1) (at-third .put-record2 .ensures .1) (c .before .before .three .given .1) (c .refused-totals3 .ensures)
+    let third = c .before .before .before .before .before .before in
+    let told = third .before .before .before .before in
+    all-third _ _ _ _ (one (begun told)) (two told) (third .put-record2 .ensures .1) (c .before .before .three .given .1) (c .refused-totals3 .ensures)
 
 enum-told-3 : tie.Need-enum-told-3
 enum-told-3 c = search needs
 
 same-length-7 : tie.Need-same-length-7
-same-length-7 c =
-    let at-own = c .before .before .before .before .before .before .before .before .before .before .before .before .before .before .before .before .before .before .before .before in
-    at-own .own .given
+same-length-7 c = begun (c .before .before .before .before .before .before .before .before .before) .before .before .before .own .given
 
 same-length-8 : tie.Need-same-length-8
 same-length-8 c = search needs
@@ -106,13 +106,9 @@ same-length-9 c = search needs
 
 returns-4 : tie.Need-returns-4
 returns-4 c =
-    let at-third = c .before .before .before .before .before in
-    let at-enum-told2 = at-third .before .before .before .before in
-    let at-second = at-enum-told2 .before .before .before .before in
-    let at-enum-told = at-second .before .before .before .before in
-    let at-put-receiver = at-enum-told .before .before .before .before in
-    let s = at-put-receiver .before .before .before .before .before .before .before .before .before in
-    all-given (s .args .names .now) (receiverOf (s .args .receiver .now)) (stepsOf (s .args .steps .now)) (stepsOf (s .args .returns .now)) (replicate 16 0) refl (at-put-receiver .put-receiver .ensures .1) (at-enum-told .enum-told .given .1) (at-second .put-record .ensures .1) (at-enum-told2 .enum-told2 .given .1) (at-third .put-record2 .ensures .1) (c .before .enum-told3 .given .1)
+    let third = c .before .before .before .before .before in
+    let told = third .before .before .before .before in
+    all-given _ _ _ _ (one (begun told)) (two told) (third .put-record2 .ensures .1) (c .before .enum-told3 .given .1)
 
 pub run-spec : {M : Type 1} → statement M
 run-spec =

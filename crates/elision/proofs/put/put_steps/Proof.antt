@@ -29,28 +29,20 @@ same-length c = search needs
 
 returns : tie.Need-returns Inv-loop μ-loop
 returns c =
-    let at-put-step = c .before .before .before .before in
-    let at-loop-test = at-put-step .before .before .before in
-    let at-loop = at-loop-test .before in
-    recording-refused (at-loop .loop .inv) (at-loop-test .loop-test .taken) (at-put-step .put-step .ensures) (c .enum-told .given .1)
+    let put = c .before .before .before .before in
+    let test = put .before .before .before in
+    recording-refused (test .before .loop .inv) (put .put-step .ensures) (test .loop-test .taken) (c .enum-told .given .1)
 
 enum-told-2 : tie.Need-enum-told-2 Inv-loop μ-loop
 enum-told-2 c = search needs
 
 loop-less : tie.Need-loop-less Inv-loop μ-loop
-loop-less c =
-    let at-put-step = c .before .before .before .before .before in
-    let at-loop-test = at-put-step .before .before .before in
-    let at-loop = at-loop-test .before in
-    let p = recording-less (at-loop .loop .inv) (at-loop-test .loop-test .taken) (at-put-step .put-step .ensures) (c .before .enum-told2 .given .1) in omega (arith, p .0, p .1)
+loop-less c = let p = recording-less (c .before .before .before .before .before .put-step .ensures) (c .before .enum-told2 .given .1) in omega (arith, p .0, p .1)
 
 loop-again : tie.Need-loop-again Inv-loop μ-loop
 loop-again c =
-    let at-out = c .before .before .before .before in
-    let at-put-step = at-out .before in
-    let at-loop-test = at-put-step .before .before .before in
-    let at-loop = at-loop-test .before in
-    recording-more (at-loop .loop .inv) (at-loop-test .loop-test .taken) (at-put-step .put-step .ensures) (c .before .enum-told2 .given .1) (at-out .out .given)
+    let out = c .before .before .before .before in
+    recording-more (out .before .before .before .before .before .loop .inv) (out .before .put-step .ensures) (c .before .enum-told2 .given .1) (out .out .given)
 
 same-length-2 : tie.Need-same-length-2 Inv-loop μ-loop
 same-length-2 c = c .before .loop .inv .size
