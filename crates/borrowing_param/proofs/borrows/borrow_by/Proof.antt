@@ -4,41 +4,32 @@ use borrow.Author.Needs.{needs}
 use Rattle.borrowing_param.proofs.borrows.borrow_by.Statement.{statement}
 use Rattle.borrowing_param.proofs.borrows.borrow_by.Tie as tie
 
--- src/borrows.rt:141:9
 count-requires : tie.Need-count-requires
 count-requires c κs = search needs
 
--- src/borrows.rt:143:9
 unborrowed-requires : tie.Need-unborrowed-requires
 unborrowed-requires c κs = search needs
 
--- src/borrows.rt:143:9
 returns : tie.Need-returns
 returns c =
     let s = c .before .before .before .before .before .before .before .before in
     by-used (s .args .visitor) (s .args .structs .now) (s .args .params .now) (s .args .used .now) (s .args .answers .now) (s .args .edges .now) (s .pre) (c .before .before .count .ensures) (c .before .if1 .taken) (c .unborrowed .ensures)
 
--- src/borrows.rt:145:9
 borrow-map-requires : tie.Need-borrow-map-requires
 borrow-map-requires c κs = search needs
 
--- src/borrows.rt:147:29
 enum-known-verdict : tie.Need-enum-known-verdict
 enum-known-verdict c = search needs
 
--- src/borrows.rt:148:9
 unborrowed-requires-2 : tie.Need-unborrowed-requires-2
 unborrowed-requires-2 c κs = search needs
 
--- src/borrows.rt:148:9
 same-length : tie.Need-same-length
 same-length c = search needs
 
--- src/borrows.rt:148:9
 same-length-2 : tie.Need-same-length-2
 same-length-2 c = search needs
 
--- src/borrows.rt:148:9
 returns-2 : tie.Need-returns-2
 returns-2 c =
     let at-borrow-map = c .before .before .before .before .before .before .before .before in
@@ -50,23 +41,18 @@ returns-2 c =
 enum-told : tie.Need-enum-told
 enum-told c = search needs
 
--- src/borrows.rt:150:5
 members-requires : tie.Need-members-requires
 members-requires c κs = search needs
 
--- src/borrows.rt:129:1
 same-length-3 : tie.Need-same-length-3
 same-length-3 c = search needs
 
--- src/borrows.rt:129:1
 same-length-4 : tie.Need-same-length-4
 same-length-4 c = search needs
 
--- src/borrows.rt:129:1
 same-length-5 : tie.Need-same-length-5
 same-length-5 c = search needs
 
--- src/borrows.rt:129:1
 returns-3 : tie.Need-returns-3
 returns-3 c =
     let at-enum-told = c .before .before .before .before in

@@ -4,19 +4,15 @@ use borrow.Author.Needs.{needs}
 use Rattle.borrowing_param.proofs.borrows.borrow_method.Statement.{statement}
 use Rattle.borrowing_param.proofs.borrows.borrow_method.Tie as tie
 
--- src/borrows.rt:119:9
 new-requires : tie.Need-new-requires
 new-requires c κs = search needs
 
--- src/borrows.rt:121:29
 enum-known-verdict : tie.Need-enum-known-verdict
 enum-known-verdict c = search needs
 
--- src/borrows.rt:122:9
 unborrowed-requires : tie.Need-unborrowed-requires
 unborrowed-requires c κs = search needs
 
--- src/borrows.rt:122:9
 returns : tie.Need-returns
 returns c =
     let at-new = c .before .before .before .before in
@@ -26,7 +22,6 @@ returns c =
 enum-told : tie.Need-enum-told
 enum-told c = search needs
 
--- src/borrows.rt:125:5
 borrow-by-requires : tie.Need-borrow-by-requires
 borrow-by-requires c κs =
     let at-enum-told = c .before .before .before .before in
@@ -34,19 +29,15 @@ borrow-by-requires c κs =
     let s = at-new .before .before .before .before .before .before .before .before in
     method-of (s .args .env) (s .args .structs .now) (s .args .params .now) (s .args .output .now) (s .args .force .now) (s .args .used .now) (s .args .answers .now) (s .args .edges .now) (at-new .new .ensures) (at-enum-told .enum-told .given .1)
 
--- src/borrows.rt:104:1
 same-length : tie.Need-same-length
 same-length c = search needs
 
--- src/borrows.rt:104:1
 same-length-2 : tie.Need-same-length-2
 same-length-2 c = search needs
 
--- src/borrows.rt:104:1
 same-length-3 : tie.Need-same-length-3
 same-length-3 c = search needs
 
--- src/borrows.rt:104:1
 returns-2 : tie.Need-returns-2
 returns-2 c =
     let at-borrow-by = c .before .before .before .before .before .before in

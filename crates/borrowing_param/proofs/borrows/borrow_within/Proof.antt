@@ -4,23 +4,18 @@ use borrow.Author.Needs.{needs}
 use Rattle.borrowing_param.proofs.borrows.borrow_within.Statement.{statement}
 use Rattle.borrowing_param.proofs.borrows.borrow_within.Tie as tie
 
--- src/borrows.rt:84:9
 judge-sheet-requires : tie.Need-judge-sheet-requires
 judge-sheet-requires c κs = search needs
 
--- src/borrows.rt:86:29
 enum-known-verdict : tie.Need-enum-known-verdict
 enum-known-verdict c = search needs
 
--- src/borrows.rt:87:9
 unborrowed-requires : tie.Need-unborrowed-requires
 unborrowed-requires c κs = search needs
 
--- src/borrows.rt:87:9
 same-length : tie.Need-same-length
 same-length c = search needs
 
--- src/borrows.rt:87:9
 returns : tie.Need-returns
 returns c =
     let at-judge-sheet = c .before .before .before .before .before .before in
@@ -30,43 +25,33 @@ returns c =
 enum-told : tie.Need-enum-told
 enum-told c = search needs
 
--- src/borrows.rt:93:9
 record-words-requires : tie.Need-record-words-requires
 record-words-requires c κs = search needs
 
--- src/borrows.rt:94:9
 record-words-requires-2 : tie.Need-record-words-requires-2
 record-words-requires-2 c κs = search needs
 
--- src/borrows.rt:95:9
 record-words-requires-3 : tie.Need-record-words-requires-3
 record-words-requires-3 c κs = search needs
 
--- src/borrows.rt:96:9
 record-words-requires-4 : tie.Need-record-words-requires-4
 record-words-requires-4 c κs = search needs
 
--- src/borrows.rt:91:5
 borrow-method-requires : tie.Need-borrow-method-requires
 borrow-method-requires c κs = search needs
 
--- src/borrows.rt:74:1
 same-length-2 : tie.Need-same-length-2
 same-length-2 c = search needs
 
--- src/borrows.rt:74:1
 same-length-3 : tie.Need-same-length-3
 same-length-3 c = search needs
 
--- src/borrows.rt:74:1
 same-length-4 : tie.Need-same-length-4
 same-length-4 c = search needs
 
--- src/borrows.rt:74:1
 same-length-5 : tie.Need-same-length-5
 same-length-5 c = search needs
 
--- src/borrows.rt:74:1
 returns-2 : tie.Need-returns-2
 returns-2 c =
     let at-borrow-method = c .before .before .before .before .before .before in

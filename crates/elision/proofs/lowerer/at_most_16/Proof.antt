@@ -3,11 +3,9 @@ use borrow.Author.Tests.{lt-ltb, le-ltb}
 use Rattle.elision.proofs.lowerer.at_most_16.Statement.{statement}
 use Rattle.elision.proofs.lowerer.at_most_16.Tie as tie
 
--- src/lowerer.rt:248:9
 returns : tie.Need-returns
 returns c = rw (lt-ltb _ _ (c .if1 .taken))
 
--- src/lowerer.rt:244:1
 returns-2 : tie.Need-returns-2
 returns-2 c = rw (le-ltb _ _ (c .if1 .left))
 

@@ -3,35 +3,27 @@ use borrow.Author.Needs.{needs}
 use Rattle.elision.proofs.lowerer.elided.Statement.{statement}
 use Rattle.elision.proofs.lowerer.elided.Tie as tie
 
--- src/lowerer.rt:381:39
 enum-told : tie.Need-enum-told
 enum-told c = search needs
 
--- src/lowerer.rt:385:34
 enum-known-source : tie.Need-enum-known-source
 enum-known-source c = search needs
 
--- src/lowerer.rt:390:33
 enum-known-source-2 : tie.Need-enum-known-source-2
 enum-known-source-2 c = search needs
 
--- src/lowerer.rt:396:39
 enum-told-2 : tie.Need-enum-told-2
 enum-told-2 c = search needs
 
--- src/lowerer.rt:375:1
 returns : tie.Need-returns
 returns c = rw (c .enum-told .given .1)
 
--- src/lowerer.rt:375:1
 returns-2 : tie.Need-returns-2
 returns-2 c = rw (c .before .source .given .1)
 
--- src/lowerer.rt:375:1
 returns-3 : tie.Need-returns-3
 returns-3 c = rw (c .before .source2 .given .1)
 
--- src/lowerer.rt:375:1
 returns-4 : tie.Need-returns-4
 returns-4 c = rw (c .enum-told2 .given .1)
 

@@ -17,43 +17,33 @@ abbrev μ-loop : tie.MeasureT-loop
 full : (c : tie.Start Inv-loop μ-loop) → length (c .args .t1 .list) ≡ 16
 full c = simp length-map at (c .good .0 .1 .1 .1 .0 .1 .0 .1)
 
--- src/lowerer.rt:230:9
 at-most-16-requires : tie.Need-at-most-16-requires Inv-loop μ-loop
 at-most-16-requires c κs = search needs
 
--- src/lowerer.rt:236:5
 loop-holds : tie.Need-loop-holds Inv-loop μ-loop
 loop-holds c = firsts-start (c .before .args .t1) (c .at-most-16 .ensures)
 
--- src/lowerer.rt:237:23
 mul-lowered : tie.Need-mul-lowered Inv-loop μ-loop
 mul-lowered c = omega (arith, firsts-few (c .before .loop .inv) (c .loop-test .taken))
 
--- src/lowerer.rt:237:23
 element-copy-out-lowered : tie.Need-element-copy-out-lowered Inv-loop μ-loop
 element-copy-out-lowered c = omega (arith, firsts-few (c .before .loop .inv) (c .loop-test .taken))
 
--- src/lowerer.rt:238:9
 mul-list : tie.Need-mul-list Inv-loop μ-loop
 mul-list c = omega (arith, firsts-few (c .before .before .loop .inv) (c .before .loop-test .taken))
 
--- src/lowerer.rt:238:9
 array-set-from-list : tie.Need-array-set-from-list Inv-loop μ-loop
 array-set-from-list c = omega (arith, firsts-few (c .before .before .loop .inv) (c .before .loop-test .taken))
 
--- src/lowerer.rt:239:9
 add-i : tie.Need-add-i Inv-loop μ-loop
 add-i c = search needs
 
--- src/lowerer.rt:236:5
 loop-less : tie.Need-loop-less Inv-loop μ-loop
 loop-less c = search needs
 
--- src/lowerer.rt:236:5
 loop-again : tie.Need-loop-again Inv-loop μ-loop
 loop-again c = firsts-more (c .before .before .loop .inv) (full (c .before .before .before .before)) (c .before .loop-test .taken) _ refl
 
--- src/lowerer.rt:227:1
 returns : tie.Need-returns Inv-loop μ-loop
 returns c = firsts-end (c .before .loop .inv) (full (c .before .before .before)) (c .loop-test .left)
 

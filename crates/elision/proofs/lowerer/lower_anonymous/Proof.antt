@@ -3,39 +3,30 @@ use borrow.Author.Needs.{needs}
 use Rattle.elision.proofs.lowerer.lower_anonymous.Statement.{statement}
 use Rattle.elision.proofs.lowerer.lower_anonymous.Tie as tie
 
--- src/lowerer.rt:354:41
 enum-told : tie.Need-enum-told
 enum-told c = search needs
 
--- src/lowerer.rt:354:28
 new-lifetime-requires : tie.Need-new-lifetime-requires
 new-lifetime-requires c κs = search needs
 
--- src/lowerer.rt:355:41
 enum-told-2 : tie.Need-enum-told-2
 enum-told-2 c = search needs
 
--- src/lowerer.rt:355:28
 new-lifetime-requires-2 : tie.Need-new-lifetime-requires-2
 new-lifetime-requires-2 c κs = search needs
 
--- src/lowerer.rt:356:29
 enum-told-3 : tie.Need-enum-told-3
 enum-told-3 c = search needs
 
--- src/lowerer.rt:356:29
 elided-requires : tie.Need-elided-requires
 elided-requires c κs = search needs
 
--- src/lowerer.rt:350:1
 returns : tie.Need-returns
 returns c = rw (c .before .enum-told .given .1) (c .new-lifetime .ensures)
 
--- src/lowerer.rt:350:1
 returns-2 : tie.Need-returns-2
 returns-2 c = rw (c .before .enum-told2 .given .1) (c .new-lifetime2 .ensures)
 
--- src/lowerer.rt:350:1
 returns-3 : tie.Need-returns-3
 returns-3 c = rw (c .before .enum-told3 .given .1) (c .elided .ensures)
 

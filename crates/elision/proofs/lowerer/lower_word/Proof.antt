@@ -5,42 +5,33 @@ use borrow.Author.Needs.{needs}
 use Rattle.elision.proofs.lowerer.lower_word.Statement.{statement}
 use Rattle.elision.proofs.lowerer.lower_word.Tie as tie
 
--- src/lowerer.rt:322:9
 lower-anonymous-requires : tie.Need-lower-anonymous-requires
 lower-anonymous-requires c κs = search needs
 
--- src/lowerer.rt:322:9
 returns : tie.Need-returns
 unfolding lowerWord
 returns c = rw (eq-eqb _ _ (c .before .if1 .taken)) (c .lower-anonymous .ensures)
 
--- src/lowerer.rt:330:19
 visited-requires : tie.Need-visited-requires
 visited-requires c κs = search needs
 
--- src/lowerer.rt:327:9
 returns-2 : tie.Need-returns-2
 unfolding lowerWord
 returns-2 c = rw (c .visited .ensures, ne-eqb _ _ (c .before .before .if1 .left), eq-eqb _ _ (c .before .if2 .taken))
 
--- src/lowerer.rt:333:9
 position-requires : tie.Need-position-requires
 position-requires c κs = search needs
 
--- src/lowerer.rt:335:9
 returns-3 : tie.Need-returns-3
 unfolding lowerWord
 returns-3 c = rw (ne-eqb _ _ (c .before .before .before .if1 .left), ne-eqb _ _ (c .before .before .if2 .left), ← c .before .position .ensures, le-ltb _ _ (c .if3 .taken))
 
--- src/lowerer.rt:341:43
 new-requires : tie.Need-new-requires
 new-requires c κs = search needs
 
--- src/lowerer.rt:345:15
 visited-requires-2 : tie.Need-visited-requires-2
 visited-requires-2 c κs = search needs
 
--- src/lowerer.rt:318:1
 returns-4 : tie.Need-returns-4
 unfolding lowerWord
 returns-4 c = rw (c .visited2 .ensures, c .before .new .ensures, ne-eqb _ _ (c .before .before .before .before .before .if1 .left), ne-eqb _ _ (c .before .before .before .before .if2 .left), ← c .before .before .before .position .ensures, lt-ltb _ _ (c .before .before .if3 .left))

@@ -12,31 +12,24 @@ Inv-loop names standing words generics seen total list₀ here₀ i₀ list here
 abbrev μ-loop : tie.MeasureT-loop
 μ-loop names standing words generics seen total list₀ here₀ i₀ list here i = total - i
 
--- src/lowerer.rt:268:9
 larger-requires : tie.Need-larger-requires Inv-loop μ-loop
 larger-requires c κs = search needs
 
--- src/lowerer.rt:275:5
 loop-holds : tie.Need-loop-holds Inv-loop μ-loop
 loop-holds c = running-start _ _ _ _ _ (c .larger .ensures) (c .before .before .before .pre .0) (c .before .before .before .pre .1)
 
--- src/lowerer.rt:276:13
 word-or-anonymous-requires : tie.Need-word-or-anonymous-requires Inv-loop μ-loop
 word-or-anonymous-requires c κs = search needs
 
--- src/lowerer.rt:277:13
 lower-word-requires : tie.Need-lower-word-requires Inv-loop μ-loop
 lower-word-requires c κs = search needs
 
--- src/lowerer.rt:279:33
 enum-known-verdict : tie.Need-enum-known-verdict Inv-loop μ-loop
 enum-known-verdict c = search needs
 
--- src/lowerer.rt:283:28
 no-lifetimes-requires : tie.Need-no-lifetimes-requires Inv-loop μ-loop
 no-lifetimes-requires c κs = search needs
 
--- src/lowerer.rt:280:13
 returns : tie.Need-returns Inv-loop μ-loop
 returns c =
     let at-lower-word = c .before .before .before .before in
@@ -48,27 +41,21 @@ returns c =
 enum-told : tie.Need-enum-told Inv-loop μ-loop
 enum-told c = search needs
 
--- src/lowerer.rt:288:9
 mul-list : tie.Need-mul-list Inv-loop μ-loop
 mul-list c = search needs
 
--- src/lowerer.rt:288:9
 array-set-from-list : tie.Need-array-set-from-list Inv-loop μ-loop
 array-set-from-list c = omega (arith, running-few (c .before .before .before .before .before .before .loop .inv) (c .before .before .before .before .before .loop-test .taken))
 
--- src/lowerer.rt:289:9
 add-i : tie.Need-add-i Inv-loop μ-loop
 add-i c = search needs
 
--- src/lowerer.rt:275:5
 loop-less : tie.Need-loop-less Inv-loop μ-loop
 loop-less c = search needs
 
--- src/lowerer.rt:275:5
 loop-again : tie.Need-loop-again Inv-loop μ-loop
 loop-again c = running-more (c .before .before .before .before .before .before .loop .inv) (c .before .before .before .before .before .loop-test .taken) (c .before .before .before .before .word-or-anonymous .ensures) (c .before .before .before .lower-word .ensures) (c .before .enum-told .given .1)
 
--- src/lowerer.rt:264:1
 returns-2 : tie.Need-returns-2 Inv-loop μ-loop
 returns-2 c = running-end (c .before .loop .inv) (c .loop-test .left)
 

@@ -4,7 +4,6 @@ use Rattle.elision.specs.Machine.{laid}
 use Rattle.elision.proofs.lowerer.no_lifetimes.Statement.{statement}
 use Rattle.elision.proofs.lowerer.no_lifetimes.Tie as tie
 
--- src/lowerer.rt:205:1
 returns : tie.Need-returns
 unfolding laid
 returns c = refl

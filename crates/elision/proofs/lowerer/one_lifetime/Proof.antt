@@ -5,11 +5,9 @@ use borrow.Author.Needs.{needs}
 use Rattle.elision.proofs.lowerer.one_lifetime.Statement.{statement}
 use Rattle.elision.proofs.lowerer.one_lifetime.Tie as tie
 
--- src/lowerer.rt:222:5
 array-set-from-list : tie.Need-array-set-from-list
 array-set-from-list c = search needs
 
--- src/lowerer.rt:215:1
 returns : tie.Need-returns
 unfolding laid
 returns c = refl

@@ -12,35 +12,27 @@ Inv-loop names name i₀ i = Placing names name i
 abbrev μ-loop : tie.MeasureT-loop
 μ-loop names name i₀ i = length names - i
 
--- src/lowerer.rt:421:5
 loop-holds : tie.Need-loop-holds Inv-loop μ-loop
 loop-holds c = placing-start _ _
 
--- src/lowerer.rt:422:12
 mul-if1 : tie.Need-mul-if1 Inv-loop μ-loop
 mul-if1 c = search needs
 
--- src/lowerer.rt:422:12
 shared-slice-read-if1 : tie.Need-shared-slice-read-if1 Inv-loop μ-loop
 shared-slice-read-if1 c = search needs
 
--- src/lowerer.rt:423:13
 returns : tie.Need-returns Inv-loop μ-loop
 returns c = placing-found (c .before .before .before .loop .inv) (c .before .before .loop-test .taken) (c .if1 .taken)
 
--- src/lowerer.rt:425:9
 add-i : tie.Need-add-i Inv-loop μ-loop
 add-i c = search needs
 
--- src/lowerer.rt:421:5
 loop-less : tie.Need-loop-less Inv-loop μ-loop
 loop-less c = search needs
 
--- src/lowerer.rt:421:5
 loop-again : tie.Need-loop-again Inv-loop μ-loop
 loop-again c = placing-more (c .before .before .before .loop .inv) (c .before .before .loop-test .taken) (c .if1 .left)
 
--- src/lowerer.rt:417:1
 returns-2 : tie.Need-returns-2 Inv-loop μ-loop
 returns-2 c = placing-end (c .before .loop .inv) (c .loop-test .left)
 

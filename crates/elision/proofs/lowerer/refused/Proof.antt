@@ -3,11 +3,9 @@ use borrow.Author.Needs.{needs}
 use Rattle.elision.proofs.lowerer.refused.Statement.{statement}
 use Rattle.elision.proofs.lowerer.refused.Tie as tie
 
--- src/lowerer.rt:201:20
 no-lifetimes-requires : tie.Need-no-lifetimes-requires
 no-lifetimes-requires c κs = search needs
 
--- src/lowerer.rt:195:1
 returns : tie.Need-returns
 returns c = rw (c .no-lifetimes .ensures)
 

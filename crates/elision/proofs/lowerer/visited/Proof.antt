@@ -3,31 +3,24 @@ use borrow.Author.Needs.{needs}
 use Rattle.elision.proofs.lowerer.visited.Statement.{statement}
 use Rattle.elision.proofs.lowerer.visited.Tie as tie
 
--- src/lowerer.rt:417:21
 enum-told : tie.Need-enum-told
 enum-told c = search needs
 
--- src/lowerer.rt:417:21
 visit-lifetime-requires : tie.Need-visit-lifetime-requires
 visit-lifetime-requires c κs = search needs
 
--- src/lowerer.rt:420:28
 enum-told-2 : tie.Need-enum-told-2
 enum-told-2 c = search needs
 
--- src/lowerer.rt:421:29
 enum-told-3 : tie.Need-enum-told-3
 enum-told-3 c = search needs
 
--- src/lowerer.rt:412:1
 returns : tie.Need-returns
 returns c = rw (c .visit-lifetime .ensures, c .before .enum-told .given .1)
 
--- src/lowerer.rt:412:1
 returns-2 : tie.Need-returns-2
 returns-2 c = rw (c .enum-told2 .given .1)
 
--- src/lowerer.rt:412:1
 returns-3 : tie.Need-returns-3
 returns-3 c = rw (c .enum-told3 .given .1)
 

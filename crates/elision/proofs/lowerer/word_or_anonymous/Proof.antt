@@ -4,19 +4,15 @@ use borrow.Author.Needs.{needs}
 use Rattle.elision.proofs.lowerer.word_or_anonymous.Statement.{statement}
 use Rattle.elision.proofs.lowerer.word_or_anonymous.Tie as tie
 
--- src/lowerer.rt:312:16
 mul-result : tie.Need-mul-result
 mul-result c = search needs
 
--- src/lowerer.rt:312:16
 shared-slice-read-result : tie.Need-shared-slice-read-result
 shared-slice-read-result c = search needs
 
--- src/lowerer.rt:312:9
 returns : tie.Need-returns
 returns c = getD-any (c .before .before .args .words .now) _ 0 1 (c .before .if1 .taken)
 
--- src/lowerer.rt:308:1
 returns-2 : tie.Need-returns-2
 returns-2 c = getD-past (c .before .args .words .now) _ 1 (c .if1 .left)
 

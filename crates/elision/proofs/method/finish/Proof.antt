@@ -9,38 +9,30 @@ use Rattle.ast_lifetimes.proofs.env.LifetimeEnv.check.Reads as env-LifetimeEnv-
 use Rattle.elision.proofs.method.refused_env.Reads as refused-env-reads
 use Rattle.lifetimes.proofs.env.LifetimeEnv.check.Reads as env-LifetimeEnv-check-reads′
 
--- src/method.rt:132:9
 check-requires : tie.Need-check-requires
 check-requires c κs = search needs
 
--- src/method.rt:133:29
 enum-known-valid : tie.Need-enum-known-valid
 enum-known-valid c = search needs
 
--- src/method.rt:134:9
 refused-env-requires : tie.Need-refused-env-requires
 refused-env-requires c κs = search needs
 
--- src/method.rt:134:9
 returns : tie.Need-returns
 returns c = finish-env (c .before .before .before .before .before .args .env) (c .before .before .before .before .before .args .lowerer .seen .count) (c .before .before .before .before .check .ensures) (c .before .before .valid .given .1) (c .refused-env .ensures)
 
 enum-told : tie.Need-enum-told
 enum-told c = search needs
 
--- src/method.rt:147:9
 check-requires-2 : tie.Need-check-requires-2
 check-requires-2 c κs = search needs
 
--- src/method.rt:148:29
 enum-known-verdict : tie.Need-enum-known-verdict
 enum-known-verdict c = search needs
 
--- src/method.rt:149:9
 refused-env-requires-2 : tie.Need-refused-env-requires-2
 refused-env-requires-2 c κs = search needs
 
--- src/method.rt:149:9
 returns-2 : tie.Need-returns-2
 returns-2 c =
     let at-check2 = c .before .before .before .before in
@@ -52,7 +44,6 @@ returns-2 c =
 enum-told-2 : tie.Need-enum-told-2
 enum-told-2 c = search needs
 
--- src/method.rt:129:1
 returns-3 : tie.Need-returns-3
 returns-3 c =
     let at-enum-told = c .before .before .before .before .before in

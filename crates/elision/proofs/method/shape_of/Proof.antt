@@ -6,35 +6,29 @@ use borrow.Author.Needs.{needs}
 use Rattle.elision.proofs.method.shape_of.Statement.{statement}
 use Rattle.elision.proofs.method.shape_of.Tie as tie
 
--- src/method.rt:210:9
 self-shape-requires : tie.Need-self-shape-requires
 self-shape-requires c κs = search needs
 
 enum-told : tie.Need-enum-told
 enum-told c = search needs
 
--- src/method.rt:212:9
 enum-told-2 : tie.Need-enum-told-2
 enum-told-2 c = search needs
 
--- src/method.rt:212:9
 returns : tie.Need-returns
 returns c =
     let s = c .before .before .before .before .before .before in
     shape-first (selfInShape (s .args .receiver .now)) ((stepsInShape (s .args .steps .now)) && (stepsInShape (s .args .returns .now))) (c .before .before .self-shape .ensures) (c .enum-told2 .given .1)
 
--- src/method.rt:214:9
 steps-shape-requires : tie.Need-steps-shape-requires
 steps-shape-requires c κs = search needs
 
 enum-told-3 : tie.Need-enum-told-3
 enum-told-3 c = search needs
 
--- src/method.rt:216:9
 enum-told-4 : tie.Need-enum-told-4
 enum-told-4 c = search needs
 
--- src/method.rt:216:9
 returns-2 : tie.Need-returns-2
 returns-2 c =
     let at-enum-told = c .before .before .before in
@@ -42,11 +36,9 @@ returns-2 c =
     let s = at-self-shape .before .before .before .before in
     shape-next (selfInShape (s .args .receiver .now)) ((stepsInShape (s .args .steps .now)) && (stepsInShape (s .args .returns .now))) (at-self-shape .self-shape .ensures) (at-enum-told .enum-told .given .1) (shape-first (stepsInShape (s .args .steps .now)) (stepsInShape (s .args .returns .now)) (c .before .before .steps-shape .ensures) (c .enum-told4 .given .1))
 
--- src/method.rt:218:5
 steps-shape-requires-2 : tie.Need-steps-shape-requires-2
 steps-shape-requires-2 c κs = search needs
 
--- src/method.rt:207:1
 returns-3 : tie.Need-returns-3
 returns-3 c =
     let at-steps-shape = c .before .before .before in

@@ -5,23 +5,18 @@ use borrow.Author.Needs.{needs}
 use Rattle.elision.proofs.put.store.Statement.{statement}
 use Rattle.elision.proofs.put.store.Tie as tie
 
--- src/method.rt:287:9
 mul-out : tie.Need-mul-out
 mul-out c = search needs
 
--- src/method.rt:287:9
 slice-write-out : tie.Need-slice-write-out
 slice-write-out c = search needs
 
--- src/method.rt:283:1
 same-length : tie.Need-same-length
 same-length c = search needs
 
--- src/method.rt:283:1
 returns : tie.Need-returns
 returns c = search needs
 
--- src/method.rt:283:1
 returns-2 : tie.Need-returns-2
 returns-2 c = sym (set-out _ _ _ (c .if1 .left))
 

@@ -3,23 +3,18 @@ use borrow.Author.Needs.{needs}
 use Rattle.elision.proofs.put.word_of.Statement.{statement}
 use Rattle.elision.proofs.put.word_of.Tie as tie
 
--- src/method.rt:334:9
 word-requires : tie.Need-word-requires
 word-requires c κs = search needs
 
--- src/method.rt:335:27
 enum-known-word : tie.Need-enum-known-word
 enum-known-word c = search needs
 
--- src/method.rt:336:9
 enum-told : tie.Need-enum-told
 enum-told c = search needs
 
--- src/method.rt:336:9
 returns : tie.Need-returns
 returns c = rw (← c .before .before .word .ensures, c .enum-told .given .1)
 
--- src/method.rt:331:1
 returns-2 : tie.Need-returns-2
 returns-2 c = rw (← c .before .before .before .word .ensures, c .before .word2 .given .1)
 

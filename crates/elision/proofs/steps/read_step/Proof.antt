@@ -5,75 +5,57 @@ use borrow.Author.Needs.{needs}
 use Rattle.elision.proofs.steps.read_step.Statement.{statement}
 use Rattle.elision.proofs.steps.read_step.Tie as tie
 
--- src/steps.rt:68:9
 returns : tie.Need-returns
 returns c = step-none _ _ (c .if1 .taken)
 
--- src/steps.rt:70:16
 mul-kind : tie.Need-mul-kind
 mul-kind c = search needs
 
--- src/steps.rt:70:16
 shared-slice-read-kind : tie.Need-shared-slice-read-kind
 shared-slice-read-kind c = search needs
 
--- src/steps.rt:71:16
 add-next : tie.Need-add-next
 add-next c = search needs
 
--- src/steps.rt:74:13
 returns-2 : tie.Need-returns-2
 returns-2 c = lifetime-short _ _ (c .before .before .before .if1 .left) (c .before .if2 .taken) (c .if3 .taken)
 
--- src/steps.rt:77:19
 mul-t17 : tie.Need-mul-t17
 mul-t17 c = search needs
 
--- src/steps.rt:77:19
 shared-slice-read-t19 : tie.Need-shared-slice-read-t19
 shared-slice-read-t19 c = search needs
 
--- src/steps.rt:78:17
 add-t20 : tie.Need-add-t20
 add-t20 c = search needs
 
--- src/steps.rt:76:9
 returns-3 : tie.Need-returns-3
 returns-3 c = lifetime-there _ _ (c .before .before .before .before .if1 .left) (c .before .before .if2 .taken) (c .before .if3 .left)
 
--- src/steps.rt:83:13
 returns-4 : tie.Need-returns-4
 returns-4 c = generics-short _ _ (c .before .before .before .before .if1 .left) (c .before .if4 .taken) (c .if5 .taken)
 
--- src/steps.rt:85:24
 mul-generics : tie.Need-mul-generics
 mul-generics c = search needs
 
--- src/steps.rt:85:24
 shared-slice-read-generics : tie.Need-shared-slice-read-generics
 shared-slice-read-generics c = search needs
 
--- src/steps.rt:87:13
 returns-5 : tie.Need-returns-5
 returns-5 c = generics-many _ _ (c .before .before .before .before .before .before .if1 .left) (c .before .before .before .if4 .taken) (c .before .before .if5 .left) (c .if6 .taken)
 
--- src/steps.rt:89:21
 add-count : tie.Need-add-count
 add-count c = search needs
 
--- src/steps.rt:90:13
 lifetimes-end-requires : tie.Need-lifetimes-end-requires
 lifetimes-end-requires c κs = search needs
 
--- src/steps.rt:91:21
 enum-known-end : tie.Need-enum-known-end
 enum-known-end c = search needs
 
--- src/steps.rt:92:13
 enum-told : tie.Need-enum-told
 enum-told c = search needs
 
--- src/steps.rt:92:13
 returns-6 : tie.Need-returns-6
 returns-6 c =
     let at-if6 = c .before .before .before in
@@ -82,11 +64,9 @@ returns-6 c =
     let at-if1 = at-if4 .before .before .before in
     generics-none _ _ (at-if1 .if1 .left) (at-if4 .if4 .taken) (at-if5 .if5 .left) (at-if6 .if6 .left) (ends-told (lifetimes-end _ _ (c .before .before .lifetimes-end .ensures)) (c .enum-told .given .1))
 
--- src/steps.rt:96:19
 add-t24 : tie.Need-add-t24
 add-t24 c = search needs
 
--- src/steps.rt:94:9
 returns-7 : tie.Need-returns-7
 returns-7 c =
     let at-lifetimes-end = c .before .before .before in
@@ -96,34 +76,27 @@ returns-7 c =
     let at-if1 = at-if4 .before .before .before in
     generics-whole _ _ (at-if1 .if1 .left) (at-if4 .if4 .taken) (at-if5 .if5 .left) (at-if6 .if6 .left) (ends-told (lifetimes-end _ _ (at-lifetimes-end .lifetimes-end .ensures)) (c .before .end .given .1))
 
--- src/steps.rt:101:13
 lifetimes-end-requires-2 : tie.Need-lifetimes-end-requires-2
 lifetimes-end-requires-2 c κs = search needs
 
--- src/steps.rt:102:21
 enum-known-end-2 : tie.Need-enum-known-end-2
 enum-known-end-2 c = search needs
 
--- src/steps.rt:103:13
 enum-told-2 : tie.Need-enum-told-2
 enum-told-2 c = search needs
 
--- src/steps.rt:103:13
 returns-8 : tie.Need-returns-8
 returns-8 c = self-none _ _ (c .before .before .before .before .before .before .before .if1 .left) (c .before .before .before .if7 .taken) (ends-told (lifetimes-end _ _ (c .before .before .lifetimes-end2 .ensures)) (c .enum-told2 .given .1))
 
--- src/steps.rt:106:19
 add-t25 : tie.Need-add-t25
 add-t25 c = search needs
 
--- src/steps.rt:105:9
 returns-9 : tie.Need-returns-9
 returns-9 c =
     let at-if7 = c .before .before .before .before in
     let at-if1 = at-if7 .before .before .before .before in
     self-whole _ _ (at-if1 .if1 .left) (at-if7 .if7 .taken) (ends-told (lifetimes-end _ _ (c .before .before .before .lifetimes-end2 .ensures)) (c .before .end2 .given .1))
 
--- src/steps.rt:63:1
 returns-10 : tie.Need-returns-10
 returns-10 c = step-unknown _ _ (c .before .before .before .before .if1 .left) (c .before .before .if2 .left) (c .before .if4 .left) (c .if7 .left)
 

@@ -3,11 +3,9 @@ use borrow.Author.Tests.{lt-leb, le-leb}
 use Rattle.elision.proofs.steps.self_shape.Statement.{statement}
 use Rattle.elision.proofs.steps.self_shape.Tie as tie
 
--- src/steps.rt:26:9
 returns : tie.Need-returns
 returns c = rw (lt-leb _ _ (c .if1 .taken))
 
--- src/steps.rt:22:1
 returns-2 : tie.Need-returns-2
 returns-2 c = rw (le-leb _ _ (c .if1 .left))
 

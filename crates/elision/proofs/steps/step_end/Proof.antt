@@ -4,39 +4,30 @@ use borrow.Author.Needs.{needs}
 use Rattle.elision.proofs.steps.step_end.Statement.{statement}
 use Rattle.elision.proofs.steps.step_end.Tie as tie
 
--- src/steps.rt:53:9
 read-step-requires : tie.Need-read-step-requires
 read-step-requires c κs = search needs
 
--- src/steps.rt:55:37
 enum-known-step : tie.Need-enum-known-step
 enum-known-step c = search needs
 
--- src/steps.rt:56:50
 enum-known-step-2 : tie.Need-enum-known-step-2
 enum-known-step-2 c = search needs
 
--- src/steps.rt:57:37
 enum-known-step-3 : tie.Need-enum-known-step-3
 enum-known-step-3 c = search needs
 
--- src/steps.rt:58:28
 enum-told : tie.Need-enum-told
 enum-told c = search needs
 
--- src/steps.rt:50:1
 returns : tie.Need-returns
 returns c = ends-lifetime (c .before .before .before .read-step .ensures) (c .before .step .given .1)
 
--- src/steps.rt:50:1
 returns-2 : tie.Need-returns-2
 returns-2 c = ends-generics (c .before .before .before .read-step .ensures) (c .before .step2 .given .1)
 
--- src/steps.rt:50:1
 returns-3 : tie.Need-returns-3
 returns-3 c = ends-self (c .before .before .before .read-step .ensures) (c .before .step3 .given .1)
 
--- src/steps.rt:50:1
 returns-4 : tie.Need-returns-4
 returns-4 c = ends-missing (c .before .before .read-step .ensures) (c .enum-told .given .1)
 

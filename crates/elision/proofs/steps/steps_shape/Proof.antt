@@ -15,39 +15,30 @@ Inv-loop steps at₀ at = (number : ℕ) × Shaping (λ n. readStep) steps numbe
 abbrev μ-loop : tie.MeasureT-loop
 μ-loop steps at₀ at = length steps - at
 
--- src/steps.rt:36:9
 returns : tie.Need-returns Inv-loop μ-loop
 returns c = shaping-long (λ n. readStep) _ (c .if1 .taken)
 
--- src/steps.rt:39:5
 loop-holds : tie.Need-loop-holds Inv-loop μ-loop
 loop-holds c = (0, shaping-start (λ n. readStep) _ (c .if1 .left))
 
--- src/steps.rt:40:13
 step-end-requires : tie.Need-step-end-requires Inv-loop μ-loop
 step-end-requires c κs = search needs
 
--- src/steps.rt:41:21
 enum-known-end : tie.Need-enum-known-end Inv-loop μ-loop
 enum-known-end c = search needs
 
--- src/steps.rt:42:37
 enum-told : tie.Need-enum-told Inv-loop μ-loop
 enum-told c = search needs
 
--- src/steps.rt:42:13
 returns-2 : tie.Need-returns-2 Inv-loop μ-loop
 returns-2 c = shaping-missing (c .before .before .before .before .loop .inv .1) (c .before .before .before .loop-test .taken) (ends-told (c .before .before .step-end .ensures) (c .enum-told .given .1))
 
--- src/steps.rt:39:5
 loop-less : tie.Need-loop-less Inv-loop μ-loop
 loop-less c = omega (arith, ends-past (ends-told (c .before .before .before .step-end .ensures) (c .before .end .given .1)))
 
--- src/steps.rt:39:5
 loop-again : tie.Need-loop-again Inv-loop μ-loop
 loop-again c = (_, shaping-more (c .before .before .before .before .before .loop .inv .1) (c .before .before .before .before .loop-test .taken) (ends-told (c .before .before .before .step-end .ensures) (c .before .end .given .1)))
 
--- src/steps.rt:32:1
 returns-3 : tie.Need-returns-3 Inv-loop μ-loop
 returns-3 c = shaping-end (c .before .loop .inv .1) (c .loop-test .left)
 

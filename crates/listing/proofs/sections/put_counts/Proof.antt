@@ -5,19 +5,15 @@ use borrow.Author.Needs.{needs}
 use Rattle.listing.proofs.sections.put_counts.Statement.{statement}
 use Rattle.listing.proofs.sections.put_counts.Tie as tie
 
--- src/sections.rt:23:9
 put-text-requires : tie.Need-put-text-requires
 put-text-requires c κs = search needs
 
--- src/sections.rt:24:5
 put-line-requires : tie.Need-put-line-requires
 put-line-requires c κs = search needs
 
--- src/sections.rt:18:1
 same-length : tie.Need-same-length
 same-length c = search needs
 
--- src/sections.rt:18:1
 returns : tie.Need-returns
 returns c =
     let at-put-text = c .before .before .before .before .before .before in

@@ -14,35 +14,27 @@ Inv-loop out₀ at answers count next₀ i₀ out next i = Answering answers at 
 abbrev μ-loop : tie.MeasureT-loop
 μ-loop out₀ at answers count next₀ i₀ out next i = count - i
 
--- src/sections.rt:112:5
 loop-holds : tie.Need-loop-holds Inv-loop μ-loop
 loop-holds c = (answering-start _ _ _, refl)
 
--- src/sections.rt:113:13
 put-number-requires : tie.Need-put-number-requires Inv-loop μ-loop
 put-number-requires c κs = param-fits (c .before .before .loop .inv .0) (omega (arith, c .before .loop-test .taken, c .before .before .loop .inv .1)) (c .before .before .before .before .before .pre)
 
--- src/sections.rt:114:54
 add-put-following : tie.Need-add-put-following Inv-loop μ-loop
 add-put-following c = search needs
 
--- src/sections.rt:114:42
 mul-put-following : tie.Need-mul-put-following Inv-loop μ-loop
 mul-put-following c = search needs
 
--- src/sections.rt:114:42
 sub-put-following : tie.Need-sub-put-following Inv-loop μ-loop
 sub-put-following c = search needs
 
--- src/sections.rt:114:42
 part-put-following-start : tie.Need-part-put-following-start Inv-loop μ-loop
 part-put-following-start c = search needs
 
--- src/sections.rt:114:42
 part-put-following-end : tie.Need-part-put-following-end Inv-loop μ-loop
 part-put-following-end c = search needs
 
--- src/sections.rt:114:9
 put-following-requires : tie.Need-put-following-requires Inv-loop μ-loop
 put-following-requires c κs =
     let at-put-number = c .before .before .before .before in
@@ -51,15 +43,12 @@ put-following-requires c κs =
     let s = at-loop .before .before .before in
     answer-fits (at-loop .loop .inv .0) (omega (arith, at-loop-test .loop-test .taken, at-loop .loop .inv .1)) (s .pre) (at-put-number .put-number .ensures)
 
--- src/sections.rt:115:9
 add-i : tie.Need-add-i Inv-loop μ-loop
 add-i c = search needs
 
--- src/sections.rt:112:5
 loop-less : tie.Need-loop-less Inv-loop μ-loop
 loop-less c = search needs
 
--- src/sections.rt:112:5
 loop-again : tie.Need-loop-again Inv-loop μ-loop
 loop-again c =
     let at-put-number = c .before .before .before .before .before .before .before in
@@ -67,11 +56,9 @@ loop-again c =
     let at-loop = at-loop-test .before in
     (answering-more (at-loop .loop .inv .0) (omega (arith, at-loop-test .loop-test .taken, at-loop .loop .inv .1)) (at-put-number .put-number .ensures) (c .before .before .put-following .ensures), at-loop .loop .inv .1)
 
--- src/sections.rt:105:1
 same-length : tie.Need-same-length Inv-loop μ-loop
 same-length c = answering-size (c .before .loop .inv .0)
 
--- src/sections.rt:105:1
 returns : tie.Need-returns Inv-loop μ-loop
 returns c = answering-end (c .before .loop .inv .0) (omega (arith, c .loop-test .left, c .before .loop .inv .1))
 

@@ -11,47 +11,36 @@ Inv-loop out₀ at edges count next₀ i₀ out next i = Edging edges count at o
 abbrev μ-loop : tie.MeasureT-loop
 μ-loop out₀ at edges count next₀ i₀ out next i = count - i
 
--- src/sections.rt:136:5
 loop-holds : tie.Need-loop-holds Inv-loop μ-loop
 loop-holds c = edging-start _ _ _ _
 
--- src/sections.rt:137:20
 mul-from : tie.Need-mul-from Inv-loop μ-loop
 mul-from c = search needs
 
--- src/sections.rt:141:26
 add-put-line : tie.Need-add-put-line Inv-loop μ-loop
 add-put-line c = search needs
 
--- src/sections.rt:141:13
 mul-put-line : tie.Need-mul-put-line Inv-loop μ-loop
 mul-put-line c = search needs
 
--- src/sections.rt:141:13
 sub-put-line : tie.Need-sub-put-line Inv-loop μ-loop
 sub-put-line c = search needs
 
--- src/sections.rt:141:13
 part-put-line-start : tie.Need-part-put-line-start Inv-loop μ-loop
 part-put-line-start c = search needs
 
--- src/sections.rt:141:13
 part-put-line-end : tie.Need-part-put-line-end Inv-loop μ-loop
 part-put-line-end c = search needs
 
--- src/sections.rt:138:9
 put-line-requires : tie.Need-put-line-requires Inv-loop μ-loop
 put-line-requires c κs = edge-fits (c .before .before .before .loop .inv) (c .before .before .before .before .before .before .pre .0) (c .before .before .loop-test .taken) (c .before .before .before .before .before .before .pre .1)
 
--- src/sections.rt:143:9
 add-i : tie.Need-add-i Inv-loop μ-loop
 add-i c = search needs
 
--- src/sections.rt:136:5
 loop-less : tie.Need-loop-less Inv-loop μ-loop
 loop-less c = search needs
 
--- src/sections.rt:136:5
 loop-again : tie.Need-loop-again Inv-loop μ-loop
 loop-again c =
     let at-loop-test = c .before .before .before .before .before in
@@ -59,11 +48,9 @@ loop-again c =
     let s = at-loop .before .before .before in
     edging-more (at-loop .loop .inv) (s .pre .0) (at-loop-test .loop-test .taken) (c .before .before .put-line .ensures)
 
--- src/sections.rt:130:1
 same-length : tie.Need-same-length Inv-loop μ-loop
 same-length c = edging-size (c .before .loop .inv)
 
--- src/sections.rt:130:1
 returns : tie.Need-returns Inv-loop μ-loop
 returns c = edging-end (c .before .loop .inv) (c .loop-test .left)
 

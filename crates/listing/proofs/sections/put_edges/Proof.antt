@@ -4,19 +4,15 @@ use borrow.Author.Needs.{needs}
 use Rattle.listing.proofs.sections.put_edges.Statement.{statement}
 use Rattle.listing.proofs.sections.put_edges.Tie as tie
 
--- src/sections.rt:126:9
 put-text-requires : tie.Need-put-text-requires
 put-text-requires c κs = search needs
 
--- src/sections.rt:127:5
 put-each-edge-requires : tie.Need-put-each-edge-requires
 put-each-edge-requires c κs = search needs
 
--- src/sections.rt:121:1
 same-length : tie.Need-same-length
 same-length c = search needs
 
--- src/sections.rt:121:1
 returns : tie.Need-returns
 returns c = leaves-none (leaves-rest _ (leaves-all _ _ _) (c .before .before .before .before .before .before .put-text .ensures)) (c .before .before .put-each-edge .ensures)
 

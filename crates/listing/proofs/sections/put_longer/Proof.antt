@@ -4,19 +4,15 @@ use borrow.Author.Needs.{needs}
 use Rattle.listing.proofs.sections.put_longer.Statement.{statement}
 use Rattle.listing.proofs.sections.put_longer.Tie as tie
 
--- src/sections.rt:67:9
 put-text-requires : tie.Need-put-text-requires
 put-text-requires c κs = search needs
 
--- src/sections.rt:68:5
 put-numbered-requires : tie.Need-put-numbered-requires
 put-numbered-requires c κs = search needs
 
--- src/sections.rt:56:1
 same-length : tie.Need-same-length
 same-length c = search needs
 
--- src/sections.rt:56:1
 returns : tie.Need-returns
 returns c = leaves-none (leaves-rest _ (leaves-all _ _ _) (c .before .before .before .before .before .before .put-text .ensures)) (c .before .before .put-numbered .ensures)
 

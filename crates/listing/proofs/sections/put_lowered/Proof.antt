@@ -37,27 +37,21 @@ behind-own c = leaves-rest _ (behind-heading (c .before .before .before .before)
 behind-given : (c : tie.After-put-line2) → Left (begun (c .before .before .before .before)) (taken (begun (c .before .before .before .before))) (c .put-line2 .result) (c .put-line2 .last .0)
 behind-given c = leaves-rest _ (behind-own (c .before .before .before .before)) (c .put-line2 .ensures)
 
--- src/sections.rt:39:9
 put-text-requires : tie.Need-put-text-requires
 put-text-requires c κs = search needs
 
--- src/sections.rt:40:9
 put-line-requires : tie.Need-put-line-requires
 put-line-requires c κs = let s = start (c .before .before .before) in next-fits (s .pre) (own s) (given s ++ taken s) (behind-heading (c .before .before .before))
 
--- src/sections.rt:41:9
 put-line-requires-2 : tie.Need-put-line-requires-2
 put-line-requires-2 c κs = let s = begun (c .before .before .before) in next-fits (s .pre) (given s) (taken s) (behind-own (c .before .before .before))
 
--- src/sections.rt:42:5
 put-line-requires-3 : tie.Need-put-line-requires-3
 put-line-requires-3 c κs = last-fits (begun (c .before .before .before .before .before .before .before) .pre) (behind-given (c .before .before .before))
 
--- src/sections.rt:28:1
 same-length : tie.Need-same-length
 same-length c = search needs
 
--- src/sections.rt:28:1
 returns : tie.Need-returns
 returns c = leaves-none (behind-given (c .before .before .before .before .before .before)) (c .before .before .put-line3 .ensures)
 

@@ -12,23 +12,18 @@ Inv-loop out₀ at words ends count next₀ from₀ i₀ out next from i = Numbe
 abbrev μ-loop : tie.MeasureT-loop
 μ-loop out₀ at words ends count next₀ from₀ i₀ out next from i = count - i
 
--- src/sections.rt:85:5
 loop-holds : tie.Need-loop-holds Inv-loop μ-loop
 loop-holds c = numbering-start _ _ _ _ _ (c .before .before .before .pre .0)
 
--- src/sections.rt:86:18
 mul-to : tie.Need-mul-to Inv-loop μ-loop
 mul-to c = omega (arith, numbering-there (c .before .loop .inv) (c .loop-test .taken), c .before .before .before .before .before .fits)
 
--- src/sections.rt:86:18
 shared-slice-read-to : tie.Need-shared-slice-read-to Inv-loop μ-loop
 shared-slice-read-to c = omega (arith, numbering-there (c .before .before .loop .inv) (c .before .loop-test .taken))
 
--- src/sections.rt:87:13
 put-number-requires : tie.Need-put-number-requires Inv-loop μ-loop
 put-number-requires c κs = number-fits (c .before .before .before .loop .inv) (c .before .before .loop-test .taken) (c .before .before .before .before .before .before .before .pre .1)
 
--- src/sections.rt:88:42
 mul-put-following : tie.Need-mul-put-following Inv-loop μ-loop
 mul-put-following c =
     let at-loop-test = c .before .before .before .before .before .before in
@@ -36,19 +31,15 @@ mul-put-following c =
     let at-fits = at-loop .before .before .before .before in
     let p = numbering-inside (at-loop .loop .inv) (at-loop-test .loop-test .taken) in omega (arith, p .0, p .1, at-fits .fits)
 
--- src/sections.rt:88:42
 sub-put-following : tie.Need-sub-put-following Inv-loop μ-loop
 sub-put-following c = omega (arith, numbering-inside (c .before .before .before .before .before .before .before .loop .inv) (c .before .before .before .before .before .before .loop-test .taken) .0)
 
--- src/sections.rt:88:42
 part-put-following-start : tie.Need-part-put-following-start Inv-loop μ-loop
 part-put-following-start c = omega (arith, numbering-inside (c .before .before .before .before .before .before .before .loop .inv) (c .before .before .before .before .before .before .loop-test .taken) .0)
 
--- src/sections.rt:88:42
 part-put-following-end : tie.Need-part-put-following-end Inv-loop μ-loop
 part-put-following-end c = omega (arith, numbering-inside (c .before .before .before .before .before .before .before .loop .inv) (c .before .before .before .before .before .before .loop-test .taken) .1)
 
--- src/sections.rt:88:9
 put-following-requires : tie.Need-put-following-requires Inv-loop μ-loop
 put-following-requires c κs =
     let at-put-number = c .before .before .before .before in
@@ -57,15 +48,12 @@ put-following-requires c κs =
     let s = at-loop .before .before .before .before in
     list-fits (at-loop .loop .inv) (at-loop-test .loop-test .taken) (s .pre .1) (at-put-number .put-number .ensures)
 
--- src/sections.rt:90:9
 add-i : tie.Need-add-i Inv-loop μ-loop
 add-i c = search needs
 
--- src/sections.rt:85:5
 loop-less : tie.Need-loop-less Inv-loop μ-loop
 loop-less c = search needs
 
--- src/sections.rt:85:5
 loop-again : tie.Need-loop-again Inv-loop μ-loop
 loop-again c =
     let at-put-number = c .before .before .before .before .before .before .before in
@@ -73,11 +61,9 @@ loop-again c =
     let at-loop = at-loop-test .before in
     numbering-more (at-loop .loop .inv) (at-loop-test .loop-test .taken) (at-put-number .put-number .ensures) (c .before .before .put-following .ensures)
 
--- src/sections.rt:72:1
 same-length : tie.Need-same-length Inv-loop μ-loop
 same-length c = numbering-size (c .before .loop .inv)
 
--- src/sections.rt:72:1
 returns : tie.Need-returns Inv-loop μ-loop
 returns c = numbering-end (c .before .loop .inv) (c .loop-test .left)
 

@@ -5,19 +5,15 @@ use borrow.Author.Needs.{needs}
 use Rattle.listing.proofs.sections.put_refusal.Statement.{statement}
 use Rattle.listing.proofs.sections.put_refusal.Tie as tie
 
--- src/sections.rt:51:9
 put-text-requires : tie.Need-put-text-requires
 put-text-requires c κs = search needs
 
--- src/sections.rt:52:5
 put-line-requires : tie.Need-put-line-requires
 put-line-requires c κs = search needs
 
--- src/sections.rt:46:1
 same-length : tie.Need-same-length
 same-length c = search needs
 
--- src/sections.rt:46:1
 returns : tie.Need-returns
 returns c =
     let at-put-text = c .before .before .before .before .before .before in

@@ -72,39 +72,30 @@ behind-longer c = leaves-rest _ (behind-lowered (c .before .before .before .befo
 behind-answers : (c : tie.After-put-answers) → Leaves (whole (start-4 c)) 0 (start-4 c .args .out .now) (edges (start-4 c)) (c .put-answers .result) (c .put-answers .last .0)
 behind-answers c = leaves-rest _ (behind-longer (c .before .before .before .before)) (c .put-answers .ensures)
 
--- src/whole.rt:33:9
 put-counts-requires : tie.Need-put-counts-requires
 put-counts-requires c κs = let s = c .before .before .before .before .before .before .before .before .before in next-fits (small s) (counts s) (from-lowered s) (leaves-all (whole s) 0 (s .args .out .now))
 
--- src/whole.rt:34:9
 put-lowered-requires : tie.Need-put-lowered-requires
 put-lowered-requires c κs = let s = start (c .before .before .before) in next-fits (small s) (lowered s) (from-longer s) (behind-counts (c .before .before .before))
 
--- src/whole.rt:35:57
 element-copy-out-put-longer : tie.Need-element-copy-out-put-longer
 element-copy-out-put-longer c = search needs
 
--- src/whole.rt:35:9
 put-longer-requires : tie.Need-put-longer-requires
 put-longer-requires c κs = let s = start-2 (c .before .before .before .before .before) in (s .pre .1 .0, next-fits (small s) (longer s) (from-answers s) (behind-lowered (c .before .before .before .before .before)))
 
--- src/whole.rt:36:9
 put-answers-requires : tie.Need-put-answers-requires
 put-answers-requires c κs = let s = start-3 (c .before .before .before) in next-fits (small s) (answers s) (edges s) (behind-longer (c .before .before .before))
 
--- src/whole.rt:37:34
 element-copy-out-put-edges : tie.Need-element-copy-out-put-edges
 element-copy-out-put-edges c = search needs
 
--- src/whole.rt:37:5
 put-edges-requires : tie.Need-put-edges-requires
 put-edges-requires c κs = let s = start-4 (c .before .before .before .before) in (s .pre .1 .1 .0, last-fits (small s) (behind-answers (c .before .before .before .before)))
 
--- src/whole.rt:16:1
 same-length : tie.Need-same-length
 same-length c = search needs
 
--- src/whole.rt:16:1
 returns : tie.Need-returns
 unfolding sections
 returns c = leaves-none (behind-answers (c .before .before .before .before .before .before .before)) (c .before .before .put-edges .ensures)

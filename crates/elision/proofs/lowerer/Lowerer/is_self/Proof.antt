@@ -4,35 +4,27 @@ use borrow.Author.Needs.{needs}
 use Rattle.elision.proofs.lowerer.Lowerer.is_self.Statement.{statement}
 use Rattle.elision.proofs.lowerer.Lowerer.is_self.Tie as tie
 
--- src/lowerer.rt:164:13
 refused-requires : tie.Need-refused-requires
 refused-requires c κs = search needs
 
--- src/lowerer.rt:164:13
 returns : tie.Need-returns
 returns c = rw (c .refused .ensures) (self-long _ _ _ _ (c .before .if1 .taken))
 
--- src/lowerer.rt:171:28
 first-of-requires : tie.Need-first-of-requires
 first-of-requires c κs = search needs
 
--- src/lowerer.rt:168:13
 returns-2 : tie.Need-returns-2
 returns-2 c = self-kept _ _ _ _ (c .before .before .before .if1 .left) (c .before .if2 .taken) (c .first-of .ensures)
 
--- src/lowerer.rt:175:13
 lower-words-requires : tie.Need-lower-words-requires
 lower-words-requires c κs = search needs
 
--- src/lowerer.rt:177:33
 enum-known-verdict : tie.Need-enum-known-verdict
 enum-known-verdict c = search needs
 
--- src/lowerer.rt:178:13
 refused-requires-2 : tie.Need-refused-requires-2
 refused-requires-2 c κs = search needs
 
--- src/lowerer.rt:178:13
 returns-3 : tie.Need-returns-3
 returns-3 c =
     let at-lower-words = c .before .before .before .before in
@@ -43,7 +35,6 @@ returns-3 c =
 enum-told : tie.Need-enum-told
 enum-told c = search needs
 
--- src/lowerer.rt:160:5
 returns-4 : tie.Need-returns-4
 returns-4 c =
     let at-lower-words = c .before .before .before .before in

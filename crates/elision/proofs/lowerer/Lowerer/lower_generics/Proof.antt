@@ -4,39 +4,30 @@ use borrow.Author.Needs.{needs}
 use Rattle.elision.proofs.lowerer.Lowerer.lower_generics.Statement.{statement}
 use Rattle.elision.proofs.lowerer.Lowerer.lower_generics.Tie as tie
 
--- src/lowerer.rt:132:13
 refused-requires : tie.Need-refused-requires
 refused-requires c κs = search needs
 
--- src/lowerer.rt:132:13
 returns : tie.Need-returns
 returns c = rw (c .refused .ensures) (generics-large _ _ _ _ _ (c .before .if1 .taken))
 
--- src/lowerer.rt:135:13
 refused-requires-2 : tie.Need-refused-requires-2
 refused-requires-2 c κs = search needs
 
--- src/lowerer.rt:135:13
 returns-2 : tie.Need-returns-2
 returns-2 c = rw (c .refused2 .ensures) (generics-long _ _ _ _ _ (c .before .before .if1 .left) (c .before .if2 .taken))
 
--- src/lowerer.rt:138:39
 standing-in-requires : tie.Need-standing-in-requires
 standing-in-requires c κs = search needs
 
--- src/lowerer.rt:138:13
 lower-words-requires : tie.Need-lower-words-requires
 lower-words-requires c κs = search needs
 
--- src/lowerer.rt:140:33
 enum-known-verdict : tie.Need-enum-known-verdict
 enum-known-verdict c = search needs
 
--- src/lowerer.rt:141:13
 refused-requires-3 : tie.Need-refused-requires-3
 refused-requires-3 c κs = search needs
 
--- src/lowerer.rt:141:13
 returns-3 : tie.Need-returns-3
 returns-3 c =
     let at-lower-words = c .before .before .before .before in
@@ -48,7 +39,6 @@ returns-3 c =
 enum-told : tie.Need-enum-told
 enum-told c = search needs
 
--- src/lowerer.rt:128:5
 returns-4 : tie.Need-returns-4
 returns-4 c =
     let at-enum-told = c .before .before .before in

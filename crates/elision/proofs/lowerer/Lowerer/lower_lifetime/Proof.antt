@@ -4,15 +4,12 @@ use borrow.Author.Needs.{needs}
 use Rattle.elision.proofs.lowerer.Lowerer.lower_lifetime.Statement.{statement}
 use Rattle.elision.proofs.lowerer.Lowerer.lower_lifetime.Tie as tie
 
--- src/lowerer.rt:123:39
 slice-aggregate-lower-generics : tie.Need-slice-aggregate-lower-generics
 slice-aggregate-lower-generics c = search needs
 
--- src/lowerer.rt:123:9
 lower-generics-requires : tie.Need-lower-generics-requires
 lower-generics-requires c κs = search needs
 
--- src/lowerer.rt:119:5
 returns : tie.Need-returns
 unfolding oneStep lowerStep
 returns c = c .lower-generics .ensures

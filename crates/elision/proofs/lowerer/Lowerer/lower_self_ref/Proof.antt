@@ -4,34 +4,27 @@ use borrow.Author.Needs.{needs}
 use Rattle.elision.proofs.lowerer.Lowerer.lower_self_ref.Statement.{statement}
 use Rattle.elision.proofs.lowerer.Lowerer.lower_self_ref.Tie as tie
 
--- src/lowerer.rt:93:13
 no-self-ref-requires : tie.Need-no-self-ref-requires
 no-self-ref-requires c κs = search needs
 
--- src/lowerer.rt:96:13
 lower-word-requires : tie.Need-lower-word-requires
 lower-word-requires c κs = search needs
 
--- src/lowerer.rt:98:33
 enum-known-verdict : tie.Need-enum-known-verdict
 enum-known-verdict c = search needs
 
--- src/lowerer.rt:99:13
 refused-requires : tie.Need-refused-requires
 refused-requires c κs = search needs
 
--- src/lowerer.rt:99:13
 returns : tie.Need-returns
 returns c = rw (c .refused .ensures) (self-refused _ _ (c .before .before .before .before .before .before .before .no-self-ref .ensures) (c .before .before .before .before .lower-word .ensures) (c .before .before .verdict .given .1))
 
 enum-told : tie.Need-enum-told
 enum-told c = search needs
 
--- src/lowerer.rt:114:24
 one-lifetime-requires : tie.Need-one-lifetime-requires
 one-lifetime-requires c κs = search needs
 
--- src/lowerer.rt:90:5
 returns-2 : tie.Need-returns-2
 returns-2 c = self-given _ _ (c .before .before .before .before .before .before .before .no-self-ref .ensures) (c .before .before .before .before .lower-word .ensures) (c .before .before .enum-told .given .1) (c .one-lifetime .ensures)
 

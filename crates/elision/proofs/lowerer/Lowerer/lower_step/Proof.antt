@@ -4,39 +4,30 @@ use Rattle.elision.proofs.Wording.{worded-none, worded-more, worded-one
 use Rattle.elision.proofs.lowerer.Lowerer.lower_step.Statement.{statement}
 use Rattle.elision.proofs.lowerer.Lowerer.lower_step.Tie as tie
 
--- src/step.rt:34:13
 step-end-requires : tie.Need-step-end-requires
 step-end-requires c κs = search needs
 
--- src/step.rt:35:21
 enum-known-end : tie.Need-enum-known-end
 enum-known-end c = search needs
 
--- src/step.rt:36:34
 enum-told : tie.Need-enum-told
 enum-told c = search needs
 
--- src/step.rt:36:13
 refused-requires : tie.Need-refused-requires
 refused-requires c κs = search needs
 
--- src/step.rt:36:13
 returns : tie.Need-returns
 returns c = worded-none _ _ _ (c .before .before .before .step-end .ensures) (c .before .enum-told .given .1) (c .refused .ensures)
 
--- src/step.rt:39:13
 refused-requires-2 : tie.Need-refused-requires-2
 refused-requires-2 c κs = search needs
 
--- src/step.rt:39:13
 returns-2 : tie.Need-returns-2
 returns-2 c = worded-more _ _ _ (c .before .before .before .before .before .step-end .ensures) (c .before .before .before .end .given .1) (c .before .if1 .taken) (c .refused2 .ensures)
 
--- src/step.rt:41:9
 lower-step-at-requires : tie.Need-lower-step-at-requires
 lower-step-at-requires c κs = search needs
 
--- src/step.rt:31:5
 returns-3 : tie.Need-returns-3
 returns-3 c = worded-one _ _ _ (c .before .before .before .before .before .step-end .ensures) (c .before .before .before .end .given .1) (c .before .if1 .left) (c .lower-step-at .ensures)
 

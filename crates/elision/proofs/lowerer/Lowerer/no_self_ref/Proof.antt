@@ -4,11 +4,9 @@ use borrow.Author.Needs.{needs}
 use Rattle.elision.proofs.lowerer.Lowerer.no_self_ref.Statement.{statement}
 use Rattle.elision.proofs.lowerer.Lowerer.no_self_ref.Tie as tie
 
--- src/lowerer.rt:84:18
 no-lifetimes-requires : tie.Need-no-lifetimes-requires
 no-lifetimes-requires c κs = search needs
 
--- src/lowerer.rt:75:5
 returns : tie.Need-returns
 unfolding unused
 returns c = rw (c .no-lifetimes .ensures)

@@ -6,35 +6,27 @@ use borrow.Author.Needs.{needs}
 use Rattle.elision.proofs.source.ElisionSource.visit_lifetime.Statement.{statement}
 use Rattle.elision.proofs.source.ElisionSource.visit_lifetime.Tie as tie
 
--- src/source.rt:24:41
 enum-told : tie.Need-enum-told
 enum-told c = search needs
 
--- src/source.rt:25:38
 enum-known-self : tie.Need-enum-known-self
 enum-known-self c = search needs
 
--- src/source.rt:26:43
 enum-told-2 : tie.Need-enum-told-2
 enum-told-2 c = search needs
 
--- src/source.rt:27:47
 enum-told-3 : tie.Need-enum-told-3
 enum-told-3 c = search needs
 
--- src/source.rt:20:5
 returns : tie.Need-returns
 returns c = sym (ap (λ (s : ElisionSource). visit s (c .before .before .args .lifetime)) (c .enum-told .given .1))
 
--- src/source.rt:20:5
 returns-2 : tie.Need-returns-2
 returns-2 c = sym (ap (λ (s : ElisionSource). visit s (c .before .before .before .args .lifetime)) (c .before .self .given .1))
 
--- src/source.rt:20:5
 returns-3 : tie.Need-returns-3
 returns-3 c = search needs
 
--- src/source.rt:20:5
 returns-4 : tie.Need-returns-4
 returns-4 c = search needs
 
