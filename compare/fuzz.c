@@ -226,13 +226,15 @@ static size_t ask_sheet(size_t used_len, size_t answers_len, size_t edges_len, s
         fail("the sheet was written");
     if (status > 10)
         fail("a status above 10");
-    if (status == 0 && (counts_len < 3 || counts[0] > used_len || counts[1] > answers_len || counts[2] > edges_len / 5))
+    if (status == 0
+        && (counts_len < 3 || counts[0] > used_len || counts[1] > answers_len
+            || counts[2] > edges_len / BORROWS_WORDS_PER_EDGE))
         fail("more words than there is room");
     memset(to->counts, 0, sizeof to->counts);
     take(&countss, counts, to->counts, status ? 0 : 3);
     take(&useds, used, to->used, to->counts[0]);
     take(&answerss, answers, to->answers, to->counts[1]);
-    take(&edgess, edges, to->edges, 5 * to->counts[2]);
+    take(&edgess, edges, to->edges, BORROWS_WORDS_PER_EDGE * to->counts[2]);
     return status;
 }
 
@@ -262,8 +264,8 @@ static void same_ending(const struct answer *answer, size_t n)
         at = put_number(put_number(at, k, ' '), answer->answers[k], '\n');
     memcpy(at, headings[1], strlen(headings[1]));
     at += strlen(headings[1]);
-    for (size_t k = 0; k < 5 * answer->counts[2]; k++)
-        at = put_number(at, answer->edges[k], k % 5 == 4 ? '\n' : ' ');
+    for (size_t k = 0; k < BORROWS_WORDS_PER_EDGE * answer->counts[2]; k++)
+        at = put_number(at, answer->edges[k], (k + 1) % BORROWS_WORDS_PER_EDGE ? ' ' : '\n');
     size_t ending = at - again, values[4];
     if (ending > n || memcmp(listing + n - ending, again, ending))
         fail("borrows_sheet gives other answers or edges than the listing");
@@ -292,7 +294,7 @@ static void hold_sheet(size_t status, size_t n)
         many_edges++;
     else
         same_ending(&whole, n);
-    size_t need[4] = {whole.counts[0], whole.counts[1], 5 * whole.counts[2], 3};
+    size_t need[4] = {whole.counts[0], whole.counts[1], BORROWS_WORDS_PER_EDGE * whole.counts[2], 3};
     if (ask_sheet(need[0], need[1], need[2], need[3], &exact) || memcmp(whole.counts, exact.counts, sizeof exact.counts) || memcmp(whole.used, exact.used, need[0] * sizeof(size_t))
         || memcmp(whole.answers, exact.answers, need[1] * sizeof(size_t)) || memcmp(whole.edges, exact.edges, need[2] * sizeof(size_t)))
         fail("with exact room borrows_sheet gives something else");

@@ -10,32 +10,46 @@ static uint8_t sheet[BORROWS_SHEET_BYTES + 1]; /* a byte more than any sheet has
 static uint8_t listing[BORROWS_LISTING_BYTES];
 static size_t used[BORROWS_USED], answers[BORROWS_ANSWERS], edges[BORROWS_EDGE_WORDS], counts[BORROWS_COUNTS];
 
+static int unwritten(void)
+{
+    fprintf(stderr, "standard output could not be written\n");
+    return 1;
+}
+
 int main(void)
 {
     size_t length = fread(sheet, 1, sizeof sheet, stdin);
+    if (ferror(stdin)) {
+        fprintf(stderr, "standard input could not be read\n");
+        return 1;
+    }
 
     size_t written = 0;
-    borrows_status status = borrows_listing(sheet, length, listing, sizeof listing, &written, 1);
-    if (status != BORROWS_OK) {
+    borrows_status status =
+        borrows_listing(sheet, length, listing, sizeof listing, &written, BORROWS_LISTING_WORDS);
+    if (status != BORROWS_OK) { /* a refusal, also where its number is not in the header */
         printf("refusal\n%zu\n", status);
-        return 0;
+        return fflush(stdout) ? unwritten() : 0;
     }
-    fwrite(listing, 1, written, stdout);
+    if (fwrite(listing, 1, written, stdout) != written || fflush(stdout))
+        return unwritten();
 
     /* Memory that is too short is refused, and left alone. */
     uint8_t one = 'x';
     size_t nothing = 77;
-    if (borrows_listing(sheet, length, &one, 1, &nothing, 1) != BORROWS_NO_ROOM || one != 'x' || nothing != 77) {
+    status = borrows_listing(sheet, length, &one, 1, &nothing, BORROWS_LISTING_WORDS);
+    if (status != BORROWS_NO_ROOM || one != 'x' || nothing != 77) {
         fprintf(stderr, "a refusal wrote something\n");
         return 1;
     }
-    if (borrows_listing(sheet, length, listing, sizeof listing, &nothing, 0) != BORROWS_NO_ROOM || nothing != 77) {
+    status = borrows_listing(sheet, length, listing, sizeof listing, &nothing, 0);
+    if (status != BORROWS_NO_ROOM || nothing != 77) {
         fprintf(stderr, "a refusal wrote something\n");
         return 1;
     }
 
-    status = borrows_sheet(sheet, length, used, BORROWS_USED, answers, BORROWS_ANSWERS, edges, BORROWS_EDGE_WORDS, counts,
-                           BORROWS_COUNTS);
+    status = borrows_sheet(sheet, length, used, BORROWS_USED, answers, BORROWS_ANSWERS, edges, BORROWS_EDGE_WORDS,
+                           counts, BORROWS_COUNTS);
     if (status != BORROWS_OK) {
         fprintf(stderr, "refused: %zu\n", status);
         return 1;
@@ -49,9 +63,9 @@ int main(void)
         fprintf(stderr, "kept for");
         size_t last = SIZE_MAX;
         for (size_t e = 0; e < counts[2]; e++) {
-            const size_t *edge = edges + 5 * e; /* used, param, kind, def, option */
-            if (edge[1] == param && edge[0] != last) {
-                last = edge[0];
+            const size_t *edge = edges + BORROWS_WORDS_PER_EDGE * e;
+            if (edge[BORROWS_EDGE_PARAM] == param && edge[BORROWS_EDGE_USED] != last) {
+                last = edge[BORROWS_EDGE_USED];
                 fprintf(stderr, " '%zu", last);
             }
         }

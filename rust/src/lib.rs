@@ -15,21 +15,29 @@
 //! assert_eq!(dovrelka::listing(b""), Err(dovrelka::Refusal::Unreadable));
 //! ```
 //!
-//! A call takes about half a megabyte of stack, whatever the sheet; a thread that Rust starts has two megabytes.
+//! How much stack a call takes depends on the sheet, and is measured, not proved: `listing` was seen to take 16
+//! kilobytes for a short sheet and up to 499 for a long one, `borrows` 90 to 170. `STACK` bytes are enough for both; a
+//! thread that Rust starts has two megabytes, unless its maker says otherwise.
 
 use std::fmt;
 
-/// So many bytes take any listing.
+/// The version of include/borrows.h that this crate is written for.
+pub const VERSION: usize = 1;
+/// So many bytes take any listing, and so many words its length.
 pub const LISTING_BYTES: usize = 131_072;
+pub const LISTING_WORDS: usize = 1;
 /// So many words take the used lifetimes of any sheet,
 pub const USED: usize = 64;
 /// the answers of its parameters,
 pub const ANSWERS: usize = 16;
-/// and its edges, each of `EDGE_WORDS` words.
+/// and its edges: so many, of so many words each, and all their words.
 pub const EDGES: usize = 16_384;
-pub const EDGE_WORDS: usize = 5;
+pub const WORDS_PER_EDGE: usize = 5;
+pub const EDGE_WORDS: usize = EDGES * WORDS_PER_EDGE;
 /// Used lifetimes, parameters, edges.
 pub const COUNTS: usize = 3;
+/// So many bytes of stack take any call: measured, with room to spare.
+pub const STACK: usize = 655_360;
 
 // As crates/exports/src declares them: a slice is a pointer, then a length.
 extern "C" {
@@ -55,36 +63,54 @@ extern "C" {
     ) -> usize;
 }
 
-/// Why a sheet is refused. The numbers are those of the scope paper.
+/// Why a sheet is refused. The numbers are those of the scope paper; there may be further ones some day.
 #[derive(Clone, Copy, Debug, PartialEq, Eq, Hash, PartialOrd, Ord)]
+#[non_exhaustive]
 pub enum Refusal {
-    /// a record that is not in its shape
-    Malformed = 1,
-    /// a name declared again
-    Duplicate = 2,
-    /// an undeclared name where one is looked up
-    Undeclared = 3,
-    /// one more than a limit takes
-    Full = 4,
-    /// an elided lifetime in the output, and no input to take it from
-    NoSource = 5,
-    /// the same, and several inputs
-    Ambiguous = 6,
-    /// not as many lifetimes as the struct has
-    Mismatch = 7,
-    /// a lifetime past those that there are
-    OutOfRange = 8,
-    /// more answers than fit: lent memory too short, or more than 4,096 edges in a listing
-    NoRoom = 9,
-    /// bytes that are not the text of a sheet
-    Unreadable = 10,
+    /// 1: a record that is not in its shape
+    Malformed,
+    /// 2: a name declared again
+    Duplicate,
+    /// 3: an undeclared name where one is looked up
+    Undeclared,
+    /// 4: one more than a limit takes
+    Full,
+    /// 5: an elided lifetime in the output, and no input to take it from
+    NoSource,
+    /// 6: the same, and several inputs
+    Ambiguous,
+    /// 7: not as many lifetimes as the struct has
+    Mismatch,
+    /// 8: a lifetime past those that there are
+    OutOfRange,
+    /// 9: more answers than fit: lent memory too short, or more than 4,096 edges in a listing
+    NoRoom,
+    /// 10: bytes that are not the text of a sheet
+    Unreadable,
+    /// A refusal of a later library, which has no name here; `number` tells which. Only this crate makes one, so it
+    /// never stands for a number that has a name.
+    #[non_exhaustive]
+    Unknown(usize),
 }
 
 impl Refusal {
     pub fn number(self) -> usize {
-        self as usize
+        match self {
+            Refusal::Malformed => 1,
+            Refusal::Duplicate => 2,
+            Refusal::Undeclared => 3,
+            Refusal::Full => 4,
+            Refusal::NoSource => 5,
+            Refusal::Ambiguous => 6,
+            Refusal::Mismatch => 7,
+            Refusal::OutOfRange => 8,
+            Refusal::NoRoom => 9,
+            Refusal::Unreadable => 10,
+            Refusal::Unknown(number) => number,
+        }
     }
 
+    /// What a status says: 0, or why the call is refused.
     fn of(status: usize) -> Result<(), Refusal> {
         Err(match status {
             0 => return Ok(()),
@@ -98,7 +124,7 @@ impl Refusal {
             8 => Refusal::OutOfRange,
             9 => Refusal::NoRoom,
             10 => Refusal::Unreadable,
-            other => unreachable!("status {other}: the contract has 0 to 10"),
+            number => Refusal::Unknown(number),
         })
     }
 }
@@ -117,6 +143,7 @@ impl fmt::Display for Refusal {
             Refusal::OutOfRange => "a lifetime is past those that there are",
             Refusal::NoRoom => "more answers than fit",
             Refusal::Unreadable => "not the text of a sheet",
+            Refusal::Unknown(_) => "a number that has no name here",
         })
     }
 }
@@ -176,7 +203,7 @@ pub fn listing(sheet: &[u8]) -> Result<Vec<u8>, Refusal> {
 /// The listing of a sheet, to the front of a slice; the answer is its length. Refused, the slice is as it was. With
 /// fewer than `LISTING_BYTES` the listing is measured first.
 pub fn listing_into(sheet: &[u8], out: &mut [u8]) -> Result<usize, Refusal> {
-    let mut written = [0];
+    let mut written = [0; LISTING_WORDS];
     // SAFETY: each pointer is that of a slice, with its length; the two that are written are borrowed exclusively, so
     // nothing overlaps.
     let status = unsafe {
@@ -197,22 +224,22 @@ pub fn listing_into(sheet: &[u8], out: &mut [u8]) -> Result<usize, Refusal> {
 pub fn borrows(sheet: &[u8]) -> Result<Borrows, Refusal> {
     let mut used = vec![0; USED];
     let mut answers = [0; ANSWERS];
-    let mut edges = vec![0; EDGES * EDGE_WORDS];
+    let mut edges = vec![0; EDGE_WORDS];
     let mut counts = [0; COUNTS];
     borrows_into(sheet, &mut used, &mut answers, &mut edges, &mut counts)?;
     used.truncate(counts[0]);
     Ok(Borrows {
         used,
         answers: answers[..counts[1]].iter().map(|&a| answer(a)).collect(),
-        edges: edges[..counts[2] * EDGE_WORDS]
-            .chunks_exact(EDGE_WORDS)
+        edges: edges[..counts[2] * WORDS_PER_EDGE]
+            .chunks_exact(WORDS_PER_EDGE)
             .map(edge)
             .collect(),
     })
 }
 
-/// The same as words: used lifetimes, answers, edges of five words each, and how many of each there are. Refused, all
-/// four slices are as they were.
+/// The same as words: used lifetimes, answers, edges of `WORDS_PER_EDGE` words each, and how many of each there are.
+/// Refused, all four slices are as they were.
 pub fn borrows_into(
     sheet: &[u8],
     used: &mut [usize],
@@ -250,16 +277,46 @@ fn answer(word: usize) -> Answer {
 }
 
 fn edge(words: &[usize]) -> Edge {
+    let [used, param, kind, def, option]: [usize; WORDS_PER_EDGE] =
+        words.try_into().expect("an edge's words");
     Edge {
-        used: words[0],
-        param: words[1],
-        kind: match words[2] {
+        used,
+        param,
+        kind: match kind {
             1 => Kind::Opaque,
             2 => Kind::Slice,
             3 => Kind::Struct,
             other => unreachable!("kind {other}: the contract has 1 to 3"),
         },
-        def: words[3],
-        option: words[4] != 0,
+        def,
+        option: option != 0,
+    }
+}
+
+#[cfg(test)]
+mod tests {
+    use super::*;
+
+    /// The statuses of today, each with its refusal, and numbers that no refusal of today has.
+    #[test]
+    fn a_status_is_0_or_a_refusal_with_its_number() {
+        assert_eq!(Refusal::of(0), Ok(()));
+        for status in (1..=1000).chain([11 + 256 * 4096, usize::MAX]) {
+            let refusal = Refusal::of(status).unwrap_err();
+            assert_eq!(refusal.number(), status);
+            assert_eq!(matches!(refusal, Refusal::Unknown(_)), status > 10);
+            assert!(refusal
+                .to_string()
+                .starts_with(&format!("refusal {status}: ")));
+        }
+    }
+
+    /// By number, those without a name last.
+    #[test]
+    fn refusals_are_ordered_by_their_numbers() {
+        let refusals: Vec<Refusal> = (1..20)
+            .map(|status| Refusal::of(status).unwrap_err())
+            .collect();
+        assert!(refusals.windows(2).all(|pair| pair[0] < pair[1]));
     }
 }

@@ -1,6 +1,9 @@
 //! Both calls on sheets: 01's example, the README's, a refusal of each number, and what a refusal leaves.
 
-use dovrelka::{borrows, borrows_into, listing, listing_into, Answer, Edge, Kind, Refusal};
+use dovrelka::{
+    borrows, borrows_into, listing, listing_into, Answer, Edge, Kind, Refusal, STACK,
+    WORDS_PER_EDGE,
+};
 
 const NAMES: &str = "names bounds types self steps returns structs params output force";
 
@@ -177,8 +180,8 @@ fn a_short_slice_is_left_as_it_was() {
 #[test]
 fn short_words_are_left_as_they_were() {
     let bytes = include_bytes!("../../crates/borrows/stdin");
-    // used 3, answers 8, edges 27 * 5, counts 3: each one word short in turn, then just enough
-    let enough = [3, 8, 135, 3];
+    // three used lifetimes, 8 answers, 27 edges, three counts: each one word short in turn, then just enough
+    let enough = [3, 8, 27 * WORDS_PER_EDGE, 3];
     for short in 0..5 {
         let mut slices: Vec<Vec<usize>> = enough
             .iter()
@@ -204,4 +207,41 @@ fn short_words_are_left_as_they_were() {
         Err(Refusal::Malformed)
     );
     assert_eq!(listing_into(&torn, &mut []), Err(Refusal::Malformed));
+}
+
+/// What runs in a thread with so many bytes of stack; one that has too few ends the whole test.
+fn with_stack<T: Send>(bytes: usize, run: impl FnOnce() -> T + Send) -> T {
+    std::thread::scope(|scope| {
+        std::thread::Builder::new()
+            .stack_size(bytes)
+            .spawn_scoped(scope, run)
+            .unwrap()
+            .join()
+            .unwrap()
+    })
+}
+
+#[test]
+fn a_call_takes_less_stack_than_the_constant_says() {
+    // as many edges as a listing may have, and more than 4,096 bytes: the largest scratch
+    let mut lines: Vec<String> = String::from_utf8(circle(8))
+        .unwrap()
+        .lines()
+        .map(str::to_string)
+        .collect();
+    lines[3] = vec!["0"; 1024].join(" "); // types
+    lines[5] = vec!["2 0"; 512].join(" "); // steps
+    let many = (lines.join("\n") + "\n").into_bytes();
+    assert!(many.len() > 4096);
+    let found = with_stack(STACK, || (listing(&many).unwrap(), borrows(&many).unwrap()));
+    assert!(found.0.ends_with(b"\n31 7 3 15 0\n"));
+    assert_eq!(found.1.edges.len(), 4096);
+}
+
+#[test]
+fn a_short_sheet_takes_little_stack() {
+    let bytes = example();
+    assert!(bytes.len() <= 256);
+    let found = with_stack(64 * 1024, || listing(&bytes).unwrap());
+    assert!(found.ends_with(b"\n0 0 1 0 0\n"));
 }
