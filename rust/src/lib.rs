@@ -87,8 +87,12 @@ pub enum Refusal {
     NoRoom,
     /// 10: bytes that are not the text of a sheet
     Unreadable,
-    /// A refusal of a later library, which has no name here; `number` tells which. Only this crate makes one, so it
-    /// never stands for a number that has a name.
+    /// A refusal of a later library, which has no name here; `number` tells which. Matched as `Unknown { .. }`. Only
+    /// this crate makes one, so it never stands for a number that has a name:
+    ///
+    /// ```compile_fail,E0603
+    /// let made = dovrelka::Refusal::Unknown(3);
+    /// ```
     #[non_exhaustive]
     Unknown(usize),
 }

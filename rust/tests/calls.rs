@@ -148,6 +148,7 @@ fn each_refusal() {
     for (refusal, bytes) in cases {
         assert_eq!(listing(&bytes), Err(refusal));
         assert_eq!(borrows(&bytes), Err(refusal));
+        assert!(!matches!(refusal, Refusal::Unknown { .. }));
     }
 }
 

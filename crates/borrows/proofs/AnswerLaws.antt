@@ -12,8 +12,10 @@ module _ (bytes : List ℕ) where
   pub answer-fits : {n : ℕ} → n ≡ length (response bytes) → n ≤ 131072
   answer-fits e = omega (arith, e, program-answers bytes .fits)
 
-  pub room-stays : (out : List ℕ) {out₁ : List ℕ} → length out ≡ 131072 → out₁ ≡ response bytes ++ drop (length (response bytes)) out → length out₁ ≡ 131072
+  pub room-stays : (out : List ℕ) {out₁ : List ℕ} → length out ≡ 131072
+      → out₁ ≡ response bytes ++ drop (length (response bytes)) out → length out₁ ≡ 131072
   room-stays out h e = rw (e, length-append, length-drop) (omega (arith, h, program-answers bytes .fits))
 
-  pub answer-size : (out : List ℕ) {n : ℕ} {out₁ : List ℕ} → length out ≡ 131072 → n ≡ length (response bytes) → out₁ ≡ response bytes ++ drop (length (response bytes)) out → n ≡ length (take n out₁)
+  pub answer-size : (out : List ℕ) {n : ℕ} {out₁ : List ℕ} → length out ≡ 131072 → n ≡ length (response bytes)
+      → out₁ ≡ response bytes ++ drop (length (response bytes)) out → n ≡ length (take n out₁)
   answer-size out h e f = rw (e, f, take-append-seam (response bytes) (drop (length (response bytes)) out))
