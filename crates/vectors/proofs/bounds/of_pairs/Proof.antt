@@ -1,8 +1,8 @@
--- `bounds_of` is safe and ends: the place stays within the lesser of the pairs that there are and the places for bounds.
+-- `of_pairs` is safe and ends: the place stays within the lesser of the pairs that there are and the places for bounds.
 use Prim.Native.Nat.{_≤_, _-_}
 use borrow.Author.Needs.{needs}
-use Rattle.vectors.proofs.ast.bounds_of.Statement.{statement}
-use Rattle.vectors.proofs.ast.bounds_of.Tie as tie
+use Rattle.vectors.proofs.bounds.of_pairs.Statement.{statement}
+use Rattle.vectors.proofs.bounds.of_pairs.Tie as tie
 
 abbrev Inv-loop : tie.InvT-loop
 Inv-loop pairs bounds₀ n i₀ bounds i = i ≤ n
@@ -64,8 +64,8 @@ loop-again c = search needs
 returns : tie.Need-returns Inv-loop μ-loop
 returns c = search needs
 
-pub bounds-of-spec : {M : Type 1} → statement M
-bounds-of-spec =
+pub of-pairs-spec : {M : Type 1} → statement M
+of-pairs-spec =
     tie.close
     (tie.spec
     Inv-loop

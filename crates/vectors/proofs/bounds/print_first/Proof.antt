@@ -1,14 +1,14 @@
--- `print_bounds` is safe and ends: the place stays within the bounds that are asked for.
+-- `print_first` is safe and ends: the place stays within the bounds that are asked for.
 use Prim.Native.Nat.{_≤_, _-_}
 use borrow.Author.Needs.{needs}
-use Rattle.vectors.proofs.ast.print_bounds.Statement.{statement}
-use Rattle.vectors.proofs.ast.print_bounds.Tie as tie
+use Rattle.vectors.proofs.bounds.print_first.Statement.{statement}
+use Rattle.vectors.proofs.bounds.print_first.Tie as tie
 
 abbrev Inv-loop : tie.InvT-loop
-Inv-loop n env i₀ i = i ≤ n
+Inv-loop n bounds i₀ i = i ≤ n
 
 abbrev μ-loop : tie.MeasureT-loop
-μ-loop n env i₀ i = n - i
+μ-loop n bounds i₀ i = n - i
 
 loop-holds : tie.Need-loop-holds Inv-loop μ-loop
 loop-holds c = search needs
@@ -16,8 +16,8 @@ loop-holds c = search needs
 mul-bound : tie.Need-mul-bound Inv-loop μ-loop
 mul-bound c = search needs
 
-element-copy-out-bound : tie.Need-element-copy-out-bound Inv-loop μ-loop
-element-copy-out-bound c = search needs
+array-copy-out-bound : tie.Need-array-copy-out-bound Inv-loop μ-loop
+array-copy-out-bound c = search needs
 
 cast-next : tie.Need-cast-next Inv-loop μ-loop
 cast-next c = search needs
@@ -43,15 +43,15 @@ loop-again c = search needs
 returns : tie.Need-returns Inv-loop μ-loop
 returns c = search needs
 
-pub print-bounds-spec : {M : Type 1} → statement M
-print-bounds-spec =
+pub print-first-spec : {M : Type 1} → statement M
+print-first-spec =
     tie.close
     (tie.spec
     Inv-loop
     μ-loop
     loop-holds
     mul-bound
-    element-copy-out-bound
+    array-copy-out-bound
     cast-next
     next-requires
     cast-next-2

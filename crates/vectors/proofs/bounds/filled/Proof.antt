@@ -1,14 +1,14 @@
 -- `filled` is safe and ends, and answers at most 256: the place goes down from the last.
 use Prim.Native.Nat.{_≤_}
 use borrow.Author.Needs.{needs}
-use Rattle.vectors.proofs.ast.filled.Statement.{statement}
-use Rattle.vectors.proofs.ast.filled.Tie as tie
+use Rattle.vectors.proofs.bounds.filled.Statement.{statement}
+use Rattle.vectors.proofs.bounds.filled.Tie as tie
 
 abbrev Inv-loop : tie.InvT-loop
-Inv-loop env n₀ n = n ≤ 256
+Inv-loop bounds n₀ n = n ≤ 256
 
 abbrev μ-loop : tie.MeasureT-loop
-μ-loop env n₀ n = n
+μ-loop bounds n₀ n = n
 
 loop-holds : tie.Need-loop-holds Inv-loop μ-loop
 loop-holds c = search needs
@@ -19,8 +19,8 @@ sub-last c = search needs
 mul-last : tie.Need-mul-last Inv-loop μ-loop
 mul-last c = search needs
 
-element-copy-out-last : tie.Need-element-copy-out-last Inv-loop μ-loop
-element-copy-out-last c = search needs
+array-copy-out-last : tie.Need-array-copy-out-last Inv-loop μ-loop
+array-copy-out-last c = search needs
 
 returns : tie.Need-returns Inv-loop μ-loop
 returns c = search needs
@@ -49,7 +49,7 @@ filled-spec =
     loop-holds
     sub-last
     mul-last
-    element-copy-out-last
+    array-copy-out-last
     returns
     returns-2
     sub-n

@@ -1,27 +1,25 @@
-"""Random method sheets, seeded: accepted ones, ones with a fault, and both sides of every limit of the scope paper ("01").
+"""Random method sheets, seeded: accepted ones, ones with a fault, and both sides of every limit of the scope paper ("01"); and random things made by hand that no sheet gives.
 
-`sheets` yields them without end. `KINDS` are all the things that sheets are made for. Where a sheet is made for a certain answer, it is for the model of 01 to say whether it has that answer; a sheet
+`sheets` yields sheets without end. `KINDS` are all the things that sheets are made for. Where a sheet is made for a certain answer, it is for the model of 01 to say whether it has that answer; a sheet
 that has another is not yielded.
 
 A sheet is a dict from the names of the records to their words while it is being made.
 """
 import random
 
-RECORDS = "names bounds types self steps returns structs params output force".split()
+from .base import LARGEST, RECORDS, flat, written
+from .environment import MAX_BOUNDS, MAX_LIFETIMES, MAX_NAMES
+from .listing import Answer
+from .methods import read_rows
 
 
 def text(sheet):
     """The bytes of a sheet."""
-    lines = [" ".join(RECORDS)] + [" ".join(map(str, sheet[name])) for name in RECORDS]
-    return "".join(line + "\n" for line in lines).encode()
+    return written(sheet[name] for name in RECORDS)
 
 
 # The smallest accepted sheet.
 EMPTY = dict.fromkeys(RECORDS, []) | {"names": [0], "bounds": [0], "force": [0]}
-
-
-def flat(lists):
-    return [word for words in lists for word in words]
 
 
 # ---- parts of an ordinary sheet
@@ -37,7 +35,7 @@ def fresh(rng, taken, count):
     return out
 
 
-def pairs(rng, names, count):
+def bound_words(rng, names, count):
     """Bounds among some names, longer, shorter: any, a chain, a circle, or the same ones again and again."""
     if not names:
         return []
@@ -126,8 +124,8 @@ def ordinary(rng, large=False):
     """A sheet of which most are accepted."""
     names = fresh(rng, [], rng.randint(12, 32) if large else rng.choice([0, 1, 2, 2, 3, 3, 4, 5, 6]))
     impls = rng.randint(0, len(names))
-    impl_pairs = pairs(rng, names[:impls], rng.choice([0, 0, 1, 2, 4]))
-    method_pairs = pairs(rng, names, rng.choice([0, 1, 2, 3, 5, 40 if large else 6]))
+    impl_pairs = bound_words(rng, names[:impls], rng.choice([0, 0, 1, 2, 4]))
+    method_pairs = bound_words(rng, names, rng.choice([0, 1, 2, 3, 5, 40 if large else 6]))
     source = rng.choice(["self", "self", "one", "none", "several"])
     own = [rng.choice([0, 1] + names)] if source == "self" else []
     if source == "one":
@@ -387,28 +385,7 @@ def unknown_row(rng, sheet, count):
 
 def rows_of(sheet):
     """How many rows a sheet in shape has."""
-    words, at, rows = sheet["structs"], 0, 0
-    while at < len(words):
-        at, fields = at + 2, words[at + 1]
-        for _ in range(fields):
-            at = type_end(words, at)
-        rows += 1
-    return rows
-
-
-def type_end(words, at):
-    """Where a lowered type in shape ends."""
-    if words[at] == 4:
-        at += 1
-    code = words[at]
-    if code == 1:
-        at += 3 + words[at + 2]
-        return at + 1 + words[at]
-    if code == 2:
-        return at + 3 + words[at + 2]
-    if code == 3:
-        return at + {0: 2, 1: 3, 2: 2, 3: 4 + words[at + 2] if words[at + 1] == 3 else 0}[words[at + 1]]
-    return at + 1
+    return len(read_rows(sheet["structs"]))
 
 
 def impl_count(rng, sheet, count):
@@ -620,7 +597,7 @@ def all_used(rng, sheet, count):
     names = fresh(rng, [], 32)
     kinds = flat([[3, 1, k + 1] for k in range(0, 32, 2)])
     used = [1, 0, 16] + list(range(33, 49)) + [0, 1, 0, 16] + list(range(49, 65)) + [0]
-    return changed(sheet, names=[0] + names, bounds=[0] + pairs(rng, names, 40), types=[], self=[], steps=[1, 16, 0] * 2, returns=[], structs=[], params=kinds, output=used, force=[1])
+    return changed(sheet, names=[0] + names, bounds=[0] + bound_words(rng, names, 40), types=[], self=[], steps=[1, 16, 0] * 2, returns=[], structs=[], params=kinds, output=used, force=[1])
 
 
 SPECIAL = [
@@ -706,8 +683,8 @@ def drawn(rng, pool):
     return "bytes changed", None, other_bytes(rng, base)
 
 
-def sheets(seed, model):
-    """Sheets without end: what each was made for, its bytes, and the model's answer to it. `model` answers bytes; its `refusal` is a number or 0, `count` the number of lifetimes."""
+def sheets(seed):
+    """Sheets without end: what each was made for, its bytes, and the model's answer to it."""
     rng = random.Random(seed)
     pool = []
     while True:
@@ -715,9 +692,84 @@ def sheets(seed, model):
         if sheet is None:
             continue
         data = sheet if isinstance(sheet, bytes) else text(sheet)
-        answer = model(data)
+        answer = Answer(data)
         if number is not None and answer.refusal != number:
             continue
         if kind == "ordinary" and answer.refusal == 0:
             pool = pool[-40:] + [(sheet, answer.count)]
         yield kind, data, answer
+
+
+# ---- made by hand: what no sheet gives
+
+
+def ast_environment(rng):
+    """Named, names, pushed, pairs: now and then past a limit, with equal names, or with the names 0 and 1."""
+    names = fresh(rng, [], rng.choice([1, 2, 3, 3, 4, 4, 5, 5, 6, 7, 8]))
+    if rng.random() < 0.3:
+        names += rng.sample(names, 1) + rng.choice([[], [0], [1]])
+        rng.shuffle(names)
+    named = rng.choice([len(names)] * 12 + [len(names) + 1, max(0, len(names) - 1), MAX_NAMES + 1])
+    limit = max(1, min(named, MAX_NAMES))
+    bounds = [(rng.randrange(limit), rng.randrange(limit)) for _ in range(rng.choice([0, 1, 2, 3, 4, 6, 8]))]
+    if bounds and rng.random() < 0.1:
+        bounds[rng.randrange(len(bounds))] = rng.choice([(limit, 0), (0, limit), (0, LARGEST)])
+    pushed = rng.choice([len(bounds)] * 16 + [len(bounds) + 1, max(0, len(bounds) - 1), MAX_BOUNDS, MAX_BOUNDS + 1])
+    return named, names, pushed, bounds
+
+
+def method_environment(rng):
+    """Declared, count, pushed, pairs with up to 64 lifetimes: any bounds, chains, circles, repeats."""
+    count = rng.choice([1, 2, 3, 4, 5, 8, 33, MAX_LIFETIMES])
+    declared = rng.choice([count, count, rng.randint(0, count)])
+    ws = bound_words(rng, list(range(declared)), rng.choice([1, 3, 6, 12, 40, MAX_BOUNDS]))
+    bounds = list(zip(ws[0::2], ws[1::2]))
+    rng.shuffle(bounds)
+    return declared, count, len(bounds), bounds
+
+
+def damaged(rng, env):
+    """A method's environment with one of its numbers past what the others allow."""
+    declared, count, pushed, bounds = env
+    return rng.choice(
+        [
+            (count + 1, count, pushed, bounds),
+            (declared, MAX_LIFETIMES + 1, pushed, bounds),
+            (declared, count, MAX_BOUNDS + 1, bounds),
+            (max(0, declared - 1), count, pushed, bounds),
+            (declared, count, pushed + 1, bounds[:pushed] + [(declared, 0)]),
+            (declared, count, max(0, pushed - 1), bounds),
+        ]
+    )
+
+
+def lowerer(rng):
+    """Source, word, count, kept, n, list: at and past the limits too."""
+    own = [rng.randrange(70) for _ in range(rng.choice([0, 1, 2, 3, 16]))]
+    count = rng.choice([0, 1, 2, 5, 30, 60, 62, 63, 64, 65, LARGEST])
+    return rng.choice([0, 1, 2, 3]), rng.randrange(70), count, rng.choice([0, 1]), rng.choice([0, 1, 2, 5, 16, 17, LARGEST]), own
+
+
+def lowerer_names(rng):
+    """Names, some of them equal, 0 or 1."""
+    return [rng.choice([0, 1, 7, 8, 9, 11, 13]) for _ in range(rng.choice([0, 1, 2, 3, 5]))]
+
+
+def lowerer_step(rng, names):
+    """Kind, generics (kind 0: the lifetime), lifetimes, output; kind 3 is a step by its words, now and then damaged."""
+    kind, output = rng.choice([0, 1, 1, 2, 2, 3, 3]), rng.choice([0, 1])
+    if kind == 3:
+        ws = steps(rng, [7, 9] + names, 1)
+        return 3, 0, rng.choice([ws, ws, ws, ws[:-1], ws + [0]]), output
+    ws = [rng.choice([0, 1, 1, 7, 9] + names) for _ in range(rng.choice([0, 1, 2, 3, rng.choice([4, 16, 17])]))]
+    return kind, rng.choice([0, 1, 7, 9]) if kind == 0 else rng.choice([0, 1, 2, 4, 16, 17]), ws, output
+
+
+def rooms(rng, lengths, short=0.0):
+    """How long slices are that take so many words: just so many or a few more, now and then too few."""
+    return [rng.randrange(n) if n and rng.random() < short else n + rng.choice([0, 0, 0, 1, 2, 4]) for n in lengths]
+
+
+def visits(rng, params):
+    """Params to visit, in any order and with repeats."""
+    return [rng.randrange(params) for _ in range(rng.randint(1, 2 * params))] if params else []
