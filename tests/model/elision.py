@@ -1,6 +1,6 @@
 """Records self, steps, returns: the lowerer, step by step, and whole records by it."""
 from .base import Refusal, refuse
-from .environment import MAX_LIFETIMES, MAX_LIST, MAX_WORDS, check, limits, ranges
+from .environment import MAX_LIFETIMES, MAX_LIST, MAX_WORDS, Env, check, check_method_env
 
 NO_SOURCE, SELF, ONE, SEVERAL = range(4)  # where an elided lifetime of the output comes from
 
@@ -132,10 +132,9 @@ def lower_records(names, receiver, steps, returns):
     return own, *out, lowerer.count
 
 
-def finish(lowerer, named, names, pushed, bounds):
-    """The method's environment from the AST's: declared, count, pushed, bounds."""
-    check(named, names, pushed, bounds)
-    env = named, lowerer.count, pushed, bounds
-    limits(env)
-    ranges(env)
+def finish(lowerer, ast):
+    """The method's environment from the AST's."""
+    check(ast)
+    env = Env(ast.named, lowerer.count, ast.pushed, ast.bounds)
+    check_method_env(env)
     return env

@@ -1,12 +1,54 @@
 """Records names, bounds, types: the AST's environment, and a method's.
 
-The AST's environment is its names and its bounds, pairs longer, shorter by number. One made by hand is named, names, pushed, bounds; a method's is declared, count, pushed, bounds. The counts of both are
-taken as they are, and what the bounds leave of the places is 0 0.
+Bounds are pairs longer, shorter by number. An environment made by hand may have any counts, and what its bounds leave of the places is 0 0.
 """
-from .base import refuse
+from typing import NamedTuple
+
+from .base import paired, refuse
 
 MAX_NAMES, MAX_LIFETIMES, MAX_BOUNDS = 32, 64, 256
 MAX_WORDS, MAX_LIST, MAX_NESTING = 1024, 16, 8
+
+
+class AstEnv(NamedTuple):
+    """The AST's environment: how many names are declared, they, how many bounds are pushed, they."""
+
+    named: int
+    names: list
+    pushed: int
+    bounds: list
+
+    def declared(self):
+        return (self.names + [0] * MAX_NAMES)[: self.named]
+
+    def walked(self):
+        return filled(self.pushed, self.bounds)
+
+
+class Env(NamedTuple):
+    """A method's environment: how many lifetimes are declared, how many there are, how many bounds are pushed, they."""
+
+    declared: int
+    count: int
+    pushed: int
+    bounds: list
+
+    def walked(self):
+        return filled(self.pushed, self.bounds)
+
+
+NO_LIFETIMES = Env(0, 0, 0, [])  # the environment beside a refusal
+
+
+def filled(pushed, bounds):
+    """The first bounds of an environment, 0 0 where none is given."""
+    return (bounds + [(0, 0)] * MAX_BOUNDS)[: min(pushed, MAX_BOUNDS)]
+
+
+def kept(bounds):
+    """Bounds as the places for them have them: at most 256, and of a side above 254 only that it is past every lifetime."""
+    return [tuple(min(side, 255) for side in bound) for bound in bounds[:MAX_BOUNDS]]
+
 
 # ---- shapes
 
@@ -97,7 +139,7 @@ def imply(names, bounds, types):
 
 
 def from_method_item(names, bounds, types):
-    """The names and the bounds of records; refused by a number."""
+    """The environment of three records; refused by a number."""
     names_shape(names)
     bounds_shape(bounds)
     types_shape(types)
@@ -110,56 +152,39 @@ def from_method_item(names, bounds, types):
     for k in range(impl_words, len(bounds), 2):
         push(declared, pushed, bounds[k], bounds[k + 1])
     imply(declared, pushed, types)
-    return declared, pushed
+    return AstEnv(len(declared), declared, len(pushed), pushed)
 
 
-# ---- made by hand
-
-
-def filled(pushed, bounds):
-    """The first bounds of a hand-made environment, 0 0 where none is given."""
-    return (bounds + [(0, 0)] * MAX_BOUNDS)[: min(pushed, MAX_BOUNDS)]
-
-
-def kept(bounds):
-    """Bounds as the places for them have them: at most 256, and of a side above 254 only that it is past every lifetime."""
-    return [tuple(min(side, 255) for side in bound) for bound in bounds[:MAX_BOUNDS]]
-
-
-def within(limit, pushed, bounds):
+def within(limit, bounds):
     """8 where a bound has a side past a limit."""
-    refuse(any(side >= limit for bound in filled(pushed, bounds) for side in bound), 8)
+    refuse(any(side >= limit for bound in bounds for side in bound), 8)
 
 
-def check(named, names, pushed, bounds):
+def check(env):
     """Whether this is an AST environment."""
-    refuse(named > MAX_NAMES or pushed > MAX_BOUNDS, 4)
-    within(named, pushed, bounds)
+    refuse(env.named > MAX_NAMES or env.pushed > MAX_BOUNDS, 4)
+    within(env.named, env.walked())
 
 
-def extend(named, names, pushed, bounds, types):
-    """The names and the bounds with those that types imply."""
+def extend(env, types):
+    """The environment with the bounds that types imply."""
     types_shape(types)
-    check(named, names, pushed, bounds)
-    declared, after = (names + [0] * MAX_NAMES)[:named], filled(pushed, bounds)
+    check(env)
+    declared, after = env.declared(), env.walked()
     imply(declared, after, types)
-    return declared, after
+    return AstEnv(env.named, declared, len(after), after)
 
 
 # ---- a method's
 
-NO_LIFETIMES = (0, 0, 0, [])  # the environment beside a refusal
-
 
 def limits(env):
-    _, count, pushed, _ = env
-    refuse(count > MAX_LIFETIMES or pushed > MAX_BOUNDS, 4)
+    refuse(env.count > MAX_LIFETIMES or env.pushed > MAX_BOUNDS, 4)
 
 
 def ranges(env):
-    declared, count, pushed, bounds = env
-    refuse(declared > count, 8)
-    within(declared, pushed, bounds)
+    refuse(env.declared > env.count, 8)
+    within(env.declared, env.walked())
 
 
 def check_method_env(env):
@@ -171,18 +196,17 @@ def check_method_env(env):
 def new_env(declared, count, ws):
     """The environment of a record of pairs."""
     refuse(len(ws) % 2 == 1, 1)
-    env = declared, count, len(ws) // 2, list(zip(ws[0::2], ws[1::2]))
+    env = Env(declared, count, len(ws) // 2, paired(ws))
     check_method_env(env)
     return env
 
 
 def push_bound(env, longer, shorter):
     """The environment with one bound more."""
-    declared, count, pushed, bounds = env
-    refuse(pushed >= MAX_BOUNDS, 4)
+    refuse(env.pushed >= MAX_BOUNDS, 4)
     check_method_env(env)
-    refuse(longer >= declared or shorter >= declared, 8)
-    return declared, count, pushed + 1, filled(pushed, bounds) + [(longer, shorter)] + bounds[pushed + 1 :]
+    refuse(longer >= env.declared or shorter >= env.declared, 8)
+    return env._replace(pushed=env.pushed + 1, bounds=env.walked() + [(longer, shorter)] + env.bounds[env.pushed + 1 :])
 
 
 def last_first(bounds, k, longer):
@@ -199,13 +223,12 @@ def last_first(bounds, k, longer):
 def reach(env):
     """The lists longer of all lifetimes, and the lists shorter."""
     check_method_env(env)
-    walked = filled(env[2], env[3])
-    return [[last_first(walked, k, longer) for k in range(env[1])] for longer in (True, False)]
+    return [[last_first(env.walked(), k, longer) for k in range(env.count)] for longer in (True, False)]
 
 
 def longer_ones(env, k):
     """The lifetimes that outlive one, itself among them; an elided one has itself only."""
     reached = [k]
     for x in reached:
-        reached += {up for up, down in filled(env[2], env[3]) if down == x and x < env[0]} - set(reached)
+        reached += {up for up, down in env.walked() if down == x and x < env.declared} - set(reached)
     return set(reached)

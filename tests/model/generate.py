@@ -7,8 +7,8 @@ A sheet is a dict from the names of the records to their words while it is being
 """
 import random
 
-from .base import LARGEST, RECORDS, flat, written
-from .environment import MAX_BOUNDS, MAX_LIFETIMES, MAX_NAMES
+from .base import LARGEST, RECORDS, flat, paired, written
+from .environment import MAX_BOUNDS, MAX_LIFETIMES, MAX_NAMES, AstEnv, Env
 from .listing import Answer
 from .methods import read_rows
 
@@ -715,7 +715,7 @@ def ast_environment(rng):
     if bounds and rng.random() < 0.1:
         bounds[rng.randrange(len(bounds))] = rng.choice([(limit, 0), (0, limit), (0, LARGEST)])
     pushed = rng.choice([len(bounds)] * 16 + [len(bounds) + 1, max(0, len(bounds) - 1), MAX_BOUNDS, MAX_BOUNDS + 1])
-    return named, names, pushed, bounds
+    return AstEnv(named, names, pushed, bounds)
 
 
 def method_environment(rng):
@@ -723,24 +723,22 @@ def method_environment(rng):
     count = rng.choice([1, 2, 3, 4, 5, 8, 33, MAX_LIFETIMES])
     declared = rng.choice([count, count, rng.randint(0, count)])
     ws = bound_words(rng, list(range(declared)), rng.choice([1, 3, 6, 12, 40, MAX_BOUNDS]))
-    bounds = list(zip(ws[0::2], ws[1::2]))
+    bounds = paired(ws)
     rng.shuffle(bounds)
-    return declared, count, len(bounds), bounds
+    return Env(declared, count, len(bounds), bounds)
 
 
 def damaged(rng, env):
     """A method's environment with one of its numbers past what the others allow."""
-    declared, count, pushed, bounds = env
-    return rng.choice(
-        [
-            (count + 1, count, pushed, bounds),
-            (declared, MAX_LIFETIMES + 1, pushed, bounds),
-            (declared, count, MAX_BOUNDS + 1, bounds),
-            (max(0, declared - 1), count, pushed, bounds),
-            (declared, count, pushed + 1, bounds[:pushed] + [(declared, 0)]),
-            (declared, count, max(0, pushed - 1), bounds),
-        ]
-    )
+    changes = [
+        {"declared": env.count + 1},
+        {"count": MAX_LIFETIMES + 1},
+        {"pushed": MAX_BOUNDS + 1},
+        {"declared": max(0, env.declared - 1)},
+        {"pushed": env.pushed + 1, "bounds": env.walked() + [(env.declared, 0)]},
+        {"pushed": max(0, env.pushed - 1)},
+    ]
+    return env._replace(**rng.choice(changes))
 
 
 def lowerer(rng):

@@ -4,10 +4,10 @@
 """
 from .base import Refusal, flat, line, refuse, words
 from .elision import lower_records
-from .environment import from_method_item, last_first, than
+from .environment import Env, from_method_item, last_first, than
 from .methods import read_method, used_lifetimes, ways
 from .text import read_sheet
-from .visits import answer_number, edges_of, in_listing_order
+from .visits import EDGE, answer_number, edges_of, in_listing_order
 
 SECTIONS = ["lifetimes used params edges", "lowered", "lifetime longer", "param answer", "used param kind def option"]
 MAX_EDGES = 4096
@@ -33,18 +33,18 @@ used param kind def option
 """
 
 
-def walk(declared, bounds, k, wrong):
+def walk(env, k, wrong):
     """The lifetimes that outlive one: the last pushed is taken first."""
     if wrong == "one order for both traversals":
-        return than(list(range(declared)), bounds, k, True) or [k]
-    return last_first(bounds, k, True)
+        return than(list(range(env.declared)), env.bounds, k, True) or [k]
+    return last_first(env.bounds, k, True)
 
 
 def env_of(rs):
     """The environment of a sheet's method, and the lowered words of self, steps, returns; refused by a number."""
-    declared, pushed = from_method_item(*rs[:3])
-    *lowered, count = lower_records(declared, *rs[3:6])
-    return (len(declared), count, len(pushed), pushed), lowered
+    ast = from_method_item(*rs[:3])
+    *lowered, count = lower_records(ast.names, *rs[3:6])
+    return Env(ast.named, count, ast.pushed, ast.bounds), lowered
 
 
 def method_of(rs):
@@ -61,7 +61,6 @@ def by_model(data, wrong=""):
 def listing_of(method, wrong=""):
     """The same from a sheet's method."""
     lowered, env, (*_, force), (rows, found, outputs) = method
-    declared, count, _, pushed = env
     if wrong == "no search under force":
         force = [0]
     used = used_lifetimes(env, rows, found, outputs, force[0])
@@ -80,18 +79,18 @@ def listing_of(method, wrong=""):
     if wrong == "the edges that have room are listed":
         edges = edges[:most]
     refuse(len(edges) > most, 9)
-    longer = [[k] + walk(declared, pushed, k, wrong) for k in range(declared if wrong == "longer lines of the declared" else count)]
+    longer = [[k] + walk(env, k, wrong) for k in range(env.declared if wrong == "longer lines of the declared" else env.count)]
     if wrong == "the number stands once":
         longer = [row[1:] for row in longer]
     tables = [
-        [[count, len(used), len(found), len(edges)]],
+        [[env.count, len(used), len(found), len(edges)]],
         lowered if wrong != "empty lines are left out" else list(filter(None, lowered)),
         longer,
         [list(row) for row in enumerate(answers)],
         edges,
     ]
     sections = [(heading, rows) for heading, rows in zip(SECTIONS, tables) if rows or wrong != "empty sections are left out"]
-    return len(pushed), used, "".join(heading + "\n" + "".join(line(row) for row in rows) for heading, rows in sections)
+    return env.pushed, used, "".join(heading + "\n" + "".join(line(row) for row in rows) for heading, rows in sections)
 
 
 def response_of(data, wrong=""):
@@ -107,7 +106,7 @@ def refusal_text(number):
 
 
 class Answer:
-    """The refusal's number or 0, and the program's response. Of an accepted sheet also: `records`, all ten; `env`, the environment as declared, count, pushed, bounds; `rows`, `params`, `outputs`;
+    """The refusal's number or 0, and the program's response. Of an accepted sheet also: `records`, all ten; `env`, the environment; `rows`, `params`, `outputs`;
     `used`. `ways` is how often the Rust's search under force enters a row."""
 
     def __init__(self, data):
@@ -116,7 +115,7 @@ class Answer:
             self.records = read_sheet(data)
             method = method_of(self.records)
             _, self.env, four, (self.rows, self.params, self.outputs) = method
-            self.count = self.env[1]
+            self.count = self.env.count
             self.ways = ways(self.rows, self.params) if four[-1] == [1] else 0
             _, self.used, self.response = listing_of(method)
         except Refusal as refusal:
@@ -170,6 +169,6 @@ def read_listing(text):
     [[count, used, params, edges]], lowered, longer, answers, listed = numbers
     assert len(longer) == count and all(row[:2] == [k, k] for k, row in enumerate(longer))
     assert len(answers) == params and all(row[0] == k and len(row) == 2 for k, row in enumerate(answers))
-    assert len(listed) == edges and listed == in_listing_order(listed) and all(len(e) == 5 for e in listed)
+    assert len(listed) == edges and listed == in_listing_order(listed) and all(len(e) == EDGE for e in listed)
     assert len({e[0] for e in listed}) <= used
     return numbers

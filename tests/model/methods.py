@@ -3,6 +3,7 @@ from .base import LARGEST, refuse
 from .environment import MAX_LIST, MAX_WORDS, limits, ranges
 
 MAX_ROWS, MAX_PARAMS, MAX_OUTPUTS = 32, 16, 2
+MOST_WAYS = 100000  # how often the Rust's search under force may enter a row where it is asked
 
 class Lowered:
     """A lowered type: code without option, option, row, path words, own word (None for none, "strs")."""
@@ -116,7 +117,7 @@ def read_method(env, structs, params, output, force):
         fits(rows, [found])
     fits(rows, outputs)
     ranges(env)
-    refuse(any(word > env[1] for t in outputs for word in t.lifetimes()), 8)
+    refuse(any(word > env.count for t in outputs for word in t.lifetimes()), 8)
     return rows, types, outputs
 
 
@@ -128,7 +129,7 @@ def used_lifetimes(env, rows, types, outputs, force):
     def search(t):
         if t.code == 2:
             return own[t.row]
-        return {t.own - 1} if t.code == 3 and isinstance(t.own, int) and 1 <= t.own <= env[0] else set()
+        return {t.own - 1} if t.code == 3 and isinstance(t.own, int) and 1 <= t.own <= env.declared else set()
 
     for _, fields in rows:
         own.append(set().union(*map(search, fields)))

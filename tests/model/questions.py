@@ -18,8 +18,10 @@ from . import elision, environment, methods, text
 from .base import LARGEST, Refusal, flat, number_of, record, refuse, words
 from .elision import Lowerer
 from .listing import by_model, method_of
-from .visits import Visits, borrows
+from .visits import EDGE, Visits, borrows
 
+MOST_BYTES = 262144  # of questions that the program reads
+EDGES_ROOM, BYTES_ROOM = 20480, 16384  # the most words for edges and the most bytes that it lends; of other words it lends 8,192
 UNWRITTEN = 99  # every word of a lent slice before the call
 DOT = ord(".")  # every byte of one
 
@@ -69,11 +71,10 @@ def method_answer(names, bounds, types):
     found = answered(environment.from_method_item, names, bounds, types)
     if isinstance(found, int):
         return refused(found)
-    declared, pushed = found
-    return accepted(pushed, *([environment.than(declared, pushed, name, longer) for name in declared] for longer in (True, False)))
+    return accepted(found.bounds, *([environment.than(found.names, found.bounds, name, longer) for name in found.names] for longer in (True, False)))
 
 
-SHAPES = {2: environment.names_shape, 3: environment.bounds_shape, 4: environment.types_shape, 8: elision.self_shape, 9: elision.read_steps}
+SHAPE_CHECKS = {2: environment.names_shape, 3: environment.bounds_shape, 4: environment.types_shape, 8: elision.self_shape, 9: elision.read_steps}
 
 
 def shape_question(kind, ws):
@@ -81,24 +82,23 @@ def shape_question(kind, ws):
 
 
 def shape_answer(kind, ws):
-    return [number_of(SHAPES[kind], ws)]
+    return [number_of(SHAPE_CHECKS[kind], ws)]
 
 
-def ast_environment_words(named, names, pushed, bounds):
+def ast_environment_words(env):
     """An AST environment made by hand, as a part of a question."""
-    return [named] + record(names) + [pushed] + record(flat(bounds))
+    return [env.named] + record(env.names) + [env.pushed] + record(flat(env.bounds))
 
 
 def lists_question(env, name, room):
-    return [5] + ast_environment_words(*env) + [name, room]
+    return [5] + ast_environment_words(env) + [name, room]
 
 
 def lists_answer(env, name, room):
-    named, names, pushed, bounds = env
-    number = number_of(environment.check, *env)
+    number = number_of(environment.check, env)
     if number:
         return [number] + 2 * listed(number, room)
-    both = (environment.than((names + [0] * 32)[:named], environment.filled(pushed, bounds), name, longer) for longer in (True, False))
+    both = (environment.than(env.declared(), env.walked(), name, longer) for longer in (True, False))
     return [0] + flat(listed(found, room) for found in both)
 
 
@@ -110,32 +110,28 @@ def bounds_filled(bounds):
     return [len(bounds)] + flat(bounds)
 
 
-def extended(verdict, named, pushed, names, bounds):
+def extended(verdict, env):
     """Kind 6: all 32 places for names, and the bounds."""
-    return [verdict, named, pushed] + (names + [0] * 32)[:32] + bounds_filled(bounds)
+    return [verdict, env.named, env.pushed] + (env.names + [0] * 32)[:32] + bounds_filled(env.bounds)
 
 
 def extend_question(env, types):
-    return [6] + ast_environment_words(*env) + record(types)
+    return [6] + ast_environment_words(env) + record(types)
 
 
 def extend_answer(env, types):
-    named, names, pushed, bounds = env
-    found = answered(environment.extend, *env, types)
-    if isinstance(found, int):
-        return extended(found, named, pushed, names, bounds)
-    declared, after = found
-    return extended(0, named, len(after), declared, after)
+    found = answered(environment.extend, env, types)
+    return extended(found, env) if isinstance(found, int) else extended(0, found)
 
 
-def method_environment_words(declared, count, pushed, bounds):
+def method_environment_words(env):
     """A method's environment made by hand, as a part of a question."""
-    return [declared, count, pushed] + record(flat(bounds))
+    return [env.declared, env.count, env.pushed] + record(flat(env.bounds))
 
 
-def whole(declared, count, pushed, bounds):
+def whole(env):
     """A method's environment as answers have it."""
-    return [declared, count, pushed] + bounds_filled(bounds)
+    return [env.declared, env.count, env.pushed] + bounds_filled(env.bounds)
 
 
 def new_question(declared, count, ws):
@@ -144,17 +140,17 @@ def new_question(declared, count, ws):
 
 def new_answer(declared, count, ws):
     found = answered(environment.new_env, declared, count, ws)
-    return [found] + whole(*environment.NO_LIFETIMES) if isinstance(found, int) else [0] + whole(*found)
+    return [found] + whole(environment.NO_LIFETIMES) if isinstance(found, int) else [0] + whole(found)
 
 
 def push_question(env, longer, shorter):
-    return [18] + method_environment_words(*env) + [longer, shorter]
+    return [18] + method_environment_words(env) + [longer, shorter]
 
 
 def push_answer(env, longer, shorter):
     found = answered(environment.push_bound, env, longer, shorter)
-    after = [found] + whole(*env) if isinstance(found, int) else [0] + whole(*found)
-    return after + [int(k < env[0]) for k in (longer, shorter)]
+    after = [found] + whole(env) if isinstance(found, int) else [0] + whole(found)
+    return after + [int(k < env.declared) for k in (longer, shorter)]
 
 
 # ---- kind 16: reach
@@ -166,7 +162,7 @@ def reached(longer, shorter):
 
 
 def reach_question(env):
-    return [16] + method_environment_words(*env)
+    return [16] + method_environment_words(env)
 
 
 def reach_answer(env):
@@ -224,7 +220,7 @@ def lower_answer(three, rs, rooms):
     found = answered(environment.from_method_item, *three)
     if isinstance(found, int):
         return refused(found)
-    return lowered_words(len(found[0]), rooms, answered(elision.lower_records, found[0], *rs))
+    return lowered_words(found.named, rooms, answered(elision.lower_records, found.names, *rs))
 
 
 # ---- kinds 14, 15, 21 and 22: lowerers. One made by hand is source, word, count, kept, n, list
@@ -261,7 +257,7 @@ def made_step(names, lowerer, kind, generics, ws, output):
     if kind == 0:
         ws = [generics]
     if kind == 1:
-        refuse(generics > 16 or len(ws) > 16, 1)
+        refuse(generics > environment.MAX_LIST or len(ws) > environment.MAX_LIST, 1)
         ws = ws + [1] * (generics - len(ws))
     return elision.step(names, lowerer, kind, ws, output)
 
@@ -287,11 +283,11 @@ def both_answer(names, lowerer, first, second):
 
 
 def finish_question(lowerer, env):
-    return [15] + lowerer_words(*lowerer) + ast_environment_words(*env)
+    return [15] + lowerer_words(*lowerer) + ast_environment_words(env)
 
 
 def finish_answer(lowerer, env):
-    found = answered(elision.finish, Lowerer(*lowerer), *env)
+    found = answered(elision.finish, Lowerer(*lowerer), env)
     return [found, 0, 0, 0] if isinstance(found, int) else [0, *found[:3]]
 
 
@@ -299,7 +295,7 @@ def finish_answer(lowerer, env):
 
 
 def used_question(env, *four):
-    return [10] + method_environment_words(*env) + records_of(*four)
+    return [10] + method_environment_words(env) + records_of(*four)
 
 
 def used(found):
@@ -350,12 +346,12 @@ def not_seen(refusal):
 
 def visited(answers, edges, room):
     """Kind 13: the answers of all visits, and the words of all edges in the slice."""
-    return [0] + answers + [len(edges) // 5] + lent(edges, room)
+    return [0] + answers + [len(edges) // EDGE] + lent(edges, room)
 
 
 def visits_question(method, room, visits):
     env, *four = method
-    return [13] + method_environment_words(*env) + records_of(*four) + [room] + record(visits)
+    return [13] + method_environment_words(env) + records_of(*four) + [room] + record(visits)
 
 
 def visits_answer(method, room, visits):
@@ -378,7 +374,7 @@ def borrowed(found, rooms):
 
 def borrow_question(method, rooms):
     env, *four = method
-    return [23] + method_environment_words(*env) + records_of(*four, rooms)
+    return [23] + method_environment_words(env) + records_of(*four, rooms)
 
 
 def borrow_answer(method, rooms):
@@ -409,9 +405,9 @@ def sheet_lowered(found, room):
     if not isinstance(found, int):
         rs, (env, *_) = found
         if len(flat(rs)) <= room:
-            return [0] + text.ends_of(rs) + whole(*env) + lent(flat(rs), room)
+            return [0] + text.ends_of(rs) + whole(env) + lent(flat(rs), room)
         found = 9
-    return [found] + [0] * 10 + whole(*environment.NO_LIFETIMES) + lent([], room)
+    return [found] + [0] * 10 + whole(environment.NO_LIFETIMES) + lent([], room)
 
 
 def borrow_sheet_answer(data, rooms):

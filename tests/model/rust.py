@@ -6,9 +6,10 @@ at every lifetime.
 import subprocess
 
 from .base import flat, paired, words, written
-from .environment import filled, from_method_item
+from .environment import from_method_item
 from .listing import section
 from .questions import accepted, lowered_words, reached, seen_pairs, used, visited, visits_answer
+from .visits import EDGE
 
 
 def sheet_text(*rs):
@@ -36,8 +37,7 @@ class Oracle:
 
     def by_hand(self, command, env, *four):
         """What it prints for a method with an environment made by hand; nothing but that where no records are given."""
-        declared, count, pushed, bounds = env
-        hand = ",".join(map(str, [declared, count] + flat(filled(pushed, bounds))))
+        hand = ",".join(map(str, [env.declared, env.count] + flat(env.walked())))
         return self.run(command, ["--hand", hand], sheet_text([0], [0], [], [], [], [], *four))
 
 
@@ -53,13 +53,13 @@ def numbered(listing, heading):
 
 def read_environment(three, bounds, ast):
     """Kind 1, from `bounds` and from `ast`; the order of all bounds from the model."""
-    names, pushed = from_method_item(*three)
-    assert section(bounds, "declared lifetimes bounds") == [[len(names), len(names), len(pushed)]], three
+    env = from_method_item(*three)
+    assert section(bounds, "declared lifetimes bounds") == [[env.named, env.named, env.pushed]], three
     longer, shorter = numbered(bounds, "lifetime longer"), numbered(bounds, "lifetime shorter")
-    for k in range(len(names)):
-        assert longer[k] == [up for up, down in pushed if down == k], three
-        assert shorter[k] == [down for up, down in pushed if up == k], three
-    return accepted(pushed, numbered(ast, "name longer"), numbered(ast, "name shorter"))
+    for k in range(env.named):
+        assert longer[k] == [up for up, down in env.bounds if down == k], three
+        assert shorter[k] == [down for up, down in env.bounds if up == k], three
+    return accepted(env.bounds, numbered(ast, "name longer"), numbered(ast, "name shorter"))
 
 
 def read_reach(listing, shorter):
@@ -81,7 +81,7 @@ def read_fields(fields):
 def used_probes(method):
     """The method with an opaque of every lifetime behind its params, whose edges show what is used."""
     env, structs, params, output, force = method
-    return env, structs, params + flat([1, 0, 1, word, 0] for word in range(1, env[1] + 1)), output, force
+    return env, structs, params + flat([1, 0, 1, word, 0] for word in range(1, env.count + 1)), output, force
 
 
 def read_used(listing):
@@ -104,7 +104,7 @@ def read_visits(method, room, visits, printed):
     edges = [tuple(words(row)) for row in lines[middle + 1 :]]
     ours = visits_answer(method, room, visits)
     count = ours[1 + len(answers)]
-    stored = ours[2 + len(answers) : 2 + len(answers) + 5 * count]
-    by_visit = [tuple(stored[k : k + 5]) for k in range(0, 5 * count, 5)]
+    stored = ours[2 + len(answers) : 2 + len(answers) + EDGE * count]
+    by_visit = [tuple(stored[k : k + EDGE]) for k in range(0, EDGE * count, EDGE)]
     assert sorted(by_visit, key=lambda edge: edge[0]) == edges, (method, visits, by_visit, edges)
     return visited(answers, stored, room)

@@ -12,6 +12,9 @@ use ast_lifetimes::LifetimeEnv;
 use lifetimes::Listed;
 use lifetimes::Verdict;
 
+// The longest slice that is lent for a list of names: more than the 32 words that one may have.
+const ROOM: usize = 40;
+
 // Kind 1: records names, bounds, types. `from_method_item`: the refusal's number; or 0, how many names and how many
 // bounds there are, the bounds, and for each name the list of those that outlive it and the list of those that it
 // outlives, each with its length in front.
@@ -74,7 +77,7 @@ pub(crate) fn lists(words: &[usize], at: usize) -> usize
     let asked = behind_environment(words, at);
     let room = scan::behind(words, asked);
     let name = scan::number(words, asked);
-    let n = scan::least(scan::number(words, room), 40);
+    let n = scan::least(scan::number(words, room), ROOM);
     print::first(print::number_of(env.check()));
     print_room(env, name, true, n);
     print_room(env, name, false, n);
@@ -135,9 +138,9 @@ pub(crate) fn behind_environment(words: &[usize], at: usize) -> usize
 }
 
 // Words in the places for names.
-fn names_of(words: &[usize]) -> [usize; 32] {
-    let mut names = [0usize; 32];
-    let n = scan::least(words.len(), 32);
+fn names_of(words: &[usize]) -> [usize; LifetimeEnv::MAX_NAMES] {
+    let mut names = [0usize; LifetimeEnv::MAX_NAMES];
+    let n = scan::least(words.len(), LifetimeEnv::MAX_NAMES);
     let mut i = 0;
     while i < n {
         names[i] = words[i];
@@ -153,14 +156,14 @@ fn print_environment(env: LifetimeEnv) {
     let bounds = env.bounds;
     print::next(named);
     print::next(pushed);
-    bounds::print_first(bounds, scan::least(pushed, 256));
-    print_lists(env, scan::least(named, 32));
+    bounds::print_first(bounds, scan::least(pushed, LifetimeEnv::MAX_BOUNDS));
+    print_lists(env, scan::least(named, LifetimeEnv::MAX_NAMES));
 }
 
 // All places for names.
 fn print_names(env: LifetimeEnv) {
     let mut i = 0;
-    while i < 32 {
+    while i < LifetimeEnv::MAX_NAMES {
         print::next(env.names[i]);
         i += 1;
     }
@@ -181,7 +184,7 @@ fn print_lists(env: LifetimeEnv, n: usize)
 
 // One list of a name.
 fn print_list(env: LifetimeEnv, name: usize, longer: bool) {
-    let mut out = [0usize; 32];
+    let mut out = [0usize; LifetimeEnv::MAX_NAMES];
     let listed = list(env, name, longer, &mut out);
     print::listed(listed, &out);
 }
@@ -198,7 +201,7 @@ fn print_lent(env: LifetimeEnv, name: usize, longer: bool, out: &mut [usize]) {
 fn print_room(env: LifetimeEnv, name: usize, longer: bool, n: usize)
     requires { ⌜ n ≤ 40 ⌝ }
 {
-    let mut out = [99usize; 40];
+    let mut out = [99usize; ROOM];
     print_lent(env, name, longer, &mut out[..n]);
 }
 

@@ -17,6 +17,7 @@ use elision::Stepped;
 use lifetimes::LoweredWord;
 use lifetimes::MaybeStatic;
 use lifetimes::Verdict;
+use records::End;
 
 // Kind 14: record of names, a lowerer made by hand, and a step: its kind, the number of generics (kind 0: the
 // lifetime), the record of lifetimes, whether it is in the output (0 no). Of kind 3 is a step by its words (`lower_step`),
@@ -180,12 +181,12 @@ fn source_of(code: usize, word: usize) -> ElisionSource {
 }
 
 // Lowered words as a list of lifetimes.
-fn list_of(words: &[usize]) -> [Lowered; 16] {
+fn list_of(words: &[usize]) -> [Lowered; End::MAX_LIST] {
     let none = Lowered {
         lifetime: MaybeStatic::Static,
     };
-    let mut list = [none; 16];
-    let n = scan::least(words.len(), 16);
+    let mut list = [none; End::MAX_LIST];
+    let n = scan::least(words.len(), End::MAX_LIST);
     let mut i = 0;
     while i < n {
         let lifetime = MaybeStatic::from_word(words[i]);
@@ -240,7 +241,7 @@ fn print_word(lifetime: MaybeStatic) {
 fn print_list(lifetimes: Lifetimes) {
     print::next(lifetimes.n);
     let mut i = 0;
-    while i < 16 {
+    while i < End::MAX_LIST {
         let lowered = lifetimes.list[i];
         let lifetime = lowered.lifetime;
         print_word(lifetime);

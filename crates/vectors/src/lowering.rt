@@ -7,6 +7,9 @@ use super::scan;
 use ast_lifetimes::LifetimeEnv;
 use lifetimes::Verdict;
 
+// The longest slice that is lent for the lowered `self`: more than the one word that it may have.
+const OWN: usize = 4;
+
 // Kind 7: records names, bounds, types, self, steps, returns, and how long the three lent slices are, at most 4, 8,192
 // and 8,192 words. The number of `from_method_item` if it refuses; else what `lower` answers: the refusal's number or
 // 0, the three counts, how many lifetimes are declared and how many there are, and all words of the slices, which were
@@ -87,7 +90,7 @@ fn print_lowered(env: LifetimeEnv, words: &[usize], receiver: usize)
         scan::record(words, receiver),
         scan::record(words, steps),
         scan::record(words, returns),
-        scan::least(scan::number(words, own), 4),
+        scan::least(scan::number(words, own), OWN),
         scan::least(scan::number(words, given), rooms::WORDS),
         scan::least(scan::number(words, taken), rooms::WORDS),
     );
@@ -105,7 +108,7 @@ fn print_room(
 )
     requires { ⌜ (selves ≤ 4) × (stepped ≤ 8192) × (returned ≤ 8192) ⌝ }
 {
-    let mut own = [99usize; 4];
+    let mut own = [99usize; OWN];
     let mut given = rooms::words();
     let mut taken = rooms::words();
     print_lent(

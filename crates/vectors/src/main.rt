@@ -6,7 +6,8 @@
 // stdin and stdout beside src/ are made by tests/vectors.py.
 //
 // To add a kind: a function in the module of its crate that reads the question at a place, prints one line, and answers
-// the place behind the question; a line in `answer` below; the same kind in tests/vectors.py.
+// the place behind the question; a line in `answer` below; question and answer in tests/model/questions.py; cases in
+// tests/vectors.py.
 mod ast;
 mod borrows;
 mod bounds;
@@ -69,18 +70,24 @@ fn answer_all(words: &[usize]) {
     }
 }
 
+// How many bytes of questions are read.
+const BYTES: usize = 262144;
+
+// How many numbers: every other byte may be one.
+const NUMBERS: usize = 131072;
+
 // Room for the bytes that are read.
-fn room_for_bytes() -> [u8; 262144]
+fn room_for_bytes() -> [u8; BYTES]
     ensures { λ r. ⌜ 262144 ≡ length r ⌝ }
 {
-    [0; 262144]
+    [0; BYTES]
 }
 
-// Room for their numbers: every other byte may be one.
-fn room_for_numbers() -> [usize; 131072]
+// Room for their numbers.
+fn room_for_numbers() -> [usize; NUMBERS]
     ensures { λ r. ⌜ 131072 ≡ length r ⌝ }
 {
-    [0; 131072]
+    [0; NUMBERS]
 }
 
 fn main() {

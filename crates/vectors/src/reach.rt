@@ -20,7 +20,7 @@ pub(crate) fn all_lists(words: &[usize], at: usize) -> usize
     let verdict = env.check();
     print::first(print::number_of(verdict));
     if let Verdict::Accepted = verdict {
-        print_lists(env, scan::least(env.count, 64) + 1);
+        print_lists(env, scan::least(env.count, LifetimeEnv::MAX_LIFETIMES) + 1);
     }
     print::end();
     environments::behind_environment(words, at)
@@ -38,7 +38,7 @@ fn print_lists(env: LifetimeEnv, n: usize) {
 
 // One list of a lifetime.
 fn print_list(env: LifetimeEnv, lifetime: usize, longer: bool) {
-    let mut out = [0usize; 64];
+    let mut out = [0usize; LifetimeEnv::MAX_LIFETIMES];
     let listed = list(env, lifetime, longer, &mut out);
     print::listed(listed, &out);
 }

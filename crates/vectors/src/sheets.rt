@@ -14,10 +14,10 @@ use exports::borrows_listing;
 use exports::borrows_sheet;
 use listing::listing;
 
-// What is asked about a sheet.
-pub(crate) const LOWERED: usize = 24;
+// The first two of the three kinds, as main.rt numbers them.
+const LOWERED: usize = 24;
 
-pub(crate) const BORROWED: usize = 25;
+const BORROWED: usize = 25;
 
 // Kind 24, one slice for words: `lower_sheet`. The refusal's number or 0, the ten ends, the whole environment, and all
 // words of the slice.

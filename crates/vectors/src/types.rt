@@ -12,6 +12,7 @@ use lifetimes::MaybeStatic;
 use lifetimes::Verdict;
 use lifetimes::set;
 use lowered_types::LifetimeAt;
+use records::End;
 
 // Kind 10: an environment made by hand, records structs, params, output, force. `check_method`: the refusal's number or
 // 0. Then `used_method_lifetimes`: the refusal's number; or 0 and the set, ascending.
@@ -130,7 +131,7 @@ fn print_used(used: UsedLifetimes) {
 // The lifetimes of a set, ascending.
 pub(crate) fn print_members(members: u64) {
     let mut i = 0;
-    while i < 64 {
+    while i < set::CAPACITY {
         if set::contains(members, Lifetime::new(i)) {
             print::next(i);
         }
@@ -161,7 +162,7 @@ fn print_field(lifetimes: FieldLifetimes) {
         FieldAnswer::Pairs(count) => {
             print::first(0);
             print::next(count);
-            print_pairs(lifetimes, scan::least(count, 16));
+            print_pairs(lifetimes, scan::least(count, End::MAX_LIST));
         }
     }
 }

@@ -10,6 +10,7 @@ use borrowing_param::BorrowingParamVisitor;
 use borrowing_param::ParamBorrowInfo;
 use lifetimes::Verdict;
 use lifetimes::set;
+use records::End;
 
 // Kind 13: an environment made by hand as in types.rt, records structs, params, output, force, how many words the lent
 // slice has, at most 20,480, and the record of the params to visit. The number of `new` if it refuses; else 0, for each
@@ -128,7 +129,7 @@ fn print_info(info: ParamBorrowInfo) {
 fn paired(info: ParamBorrowInfo) -> usize {
     let mut count = 0;
     let mut i = 0;
-    while i < 16 {
+    while i < End::MAX_LIST {
         count += one(info.pairs[i]);
         i += 1;
     }
@@ -148,7 +149,7 @@ fn one(used: u64) -> usize
 // Their pairs.
 fn print_pairs(info: ParamBorrowInfo) {
     let mut i = 0;
-    while i < 16 {
+    while i < End::MAX_LIST {
         print_pair(i, info.pairs[i]);
         i += 1;
     }
