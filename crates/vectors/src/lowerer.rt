@@ -20,10 +20,10 @@ use lifetimes::Verdict;
 use records::End;
 
 // Kind 14: record of names, a lowerer made by hand, and a step: its kind, the number of generics (kind 0: the
-// lifetime), the record of lifetimes, whether it is in the output (0 no). Of kind 3 is a step by its words (`lower_step`),
-// which are the record. The refusal's number or 0; the lowerer afterwards: source and its word, how many lifetimes, 1 if
-// the `Self` type was there, its lifetimes; and those of the step. A list of lifetimes is how many it has, and its 16
-// words.
+// lifetime), the record of lifetimes, whether it is in the output (0 no). Of kind 3 is a step by its words
+// (`lower_step`), which are the record. The refusal's number or 0; the lowerer afterwards: source and its word, how
+// many lifetimes, 1 if the `Self` type was there, its lifetimes; and those of the step. A list of lifetimes is how many
+// it has, and its 16 words.
 pub(crate) fn step(words: &[usize], names: usize) -> usize
     requires { ⌜ names ≤ length (now words) ⌝ }
     ensures { λ r. ⌜ (names ≤ r) × (r ≤ length (now (words .entry))) ⌝ }

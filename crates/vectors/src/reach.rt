@@ -9,9 +9,9 @@ use lifetimes::LifetimeEnv;
 use lifetimes::Listed;
 use lifetimes::Verdict;
 
-// Kind 16: an environment made by hand as in types.rt. The number of `check`; and if it is 0, for each lifetime up to
-// the count the list of `all_longer_lifetimes` and the list of `all_shorter_lifetimes`, each with its length in front;
-// for the one at the count twice the number by which it is refused.
+// Kind 16: an environment made by hand as in environments.rt. The number of `check`; and if it is 0, for each lifetime
+// up to the count the list of `all_longer_lifetimes` and the list of `all_shorter_lifetimes`, each with its length in
+// front; for the one at the count twice the number by which it is refused.
 pub(crate) fn all_lists(words: &[usize], at: usize) -> usize
     requires { ⌜ at ≤ length (now words) ⌝ }
     ensures { λ r. ⌜ (at ≤ r) × (r ≤ length (now (words .entry))) ⌝ }

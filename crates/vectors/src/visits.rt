@@ -12,9 +12,9 @@ use lifetimes::Verdict;
 use lifetimes::set;
 use records::End;
 
-// Kind 13: an environment made by hand as in types.rt, records structs, params, output, force, how many words the lent
-// slice has, at most 20,480, and the record of the params to visit. The number of `new` if it refuses; else 0, for each
-// visit what it answers, then how many edges are stored and all words of the slice, which were 99.
+// Kind 13: an environment made by hand as in environments.rt, records structs, params, output, force, how many words
+// the lent slice has, at most 20,480, and the record of the params to visit. The number of `new` if it refuses; else 0,
+// for each visit what it answers, then how many edges are stored and all words of the slice, which were 99.
 pub(crate) fn visit_params(words: &[usize], at: usize) -> usize
     requires { ⌜ at ≤ length (now words) ⌝ }
     ensures { λ r. ⌜ (at ≤ r) × (r ≤ length (now (words .entry))) ⌝ }
