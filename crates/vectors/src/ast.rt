@@ -1,19 +1,23 @@
 // Questions for the crate `ast_lifetimes`.
 //
-// An environment made by hand is asked for as: how many names are declared, the record of names, how many bounds are pushed, the record of pairs longer, shorter by
-// number. The two counts are taken as they are, beyond every limit too; what the records leave of the arrays is 0.
+// An environment made by hand is asked for as: how many names are declared, the record of names, how many bounds are
+// pushed, the record of pairs longer, shorter by number. The two counts are taken as they are, beyond every limit too;
+// what the records leave of the arrays is 0.
 ghost use Prim.Native.Nat.{_≤_};
 ghost use lib.ListN.{length};
+use super::bounds;
 use super::print;
 use super::scan;
 use ast_lifetimes::LifetimeEnv;
-use lifetimes::Bound;
-use lifetimes::Lifetime;
 use lifetimes::Listed;
 use lifetimes::Verdict;
 
-// Kind 1: records names, bounds, types. `from_method_item`: the refusal's number; or 0, how many names and how many bounds there are, the bounds, and for
-// each name the list of those that outlive it and the list of those that it outlives, each with its length in front.
+// The longest slice that is lent for a list of names: more than the 32 words that one may have.
+const ROOM: usize = 40;
+
+// Kind 1: records names, bounds, types. `from_method_item`: the refusal's number; or 0, how many names and how many
+// bounds there are, the bounds, and for each name the list of those that outlive it and the list of those that it
+// outlives, each with its length in front.
 pub(crate) fn from_method_item(words: &[usize], names: usize) -> usize
     requires { ⌜ names ≤ length (now words) ⌝ }
     ensures { λ r. ⌜ (names ≤ r) × (r ≤ length (now (words .entry))) ⌝ }
@@ -62,8 +66,9 @@ pub(crate) fn types_shape(words: &[usize], at: usize) -> usize
     scan::behind_record(words, at)
 }
 
-// Kind 5: an environment made by hand, a name, and how long the lent slice is, at most 40. The number of `check`; then for `longer_than` and for
-// `shorter_than` the refusal's number or 0, the count, and all words of the slice, whose words were 99.
+// Kind 5: an environment made by hand, a name, and how long the lent slice is, at most 40. The number of `check`; then
+// for `longer_than` and for `shorter_than` the refusal's number or 0, the count, and all words of the slice, whose
+// words were 99.
 pub(crate) fn lists(words: &[usize], at: usize) -> usize
     requires { ⌜ at ≤ length (now words) ⌝ }
     ensures { λ r. ⌜ (at ≤ r) × (r ≤ length (now (words .entry))) ⌝ }
@@ -72,7 +77,7 @@ pub(crate) fn lists(words: &[usize], at: usize) -> usize
     let asked = behind_environment(words, at);
     let room = scan::behind(words, asked);
     let name = scan::number(words, asked);
-    let n = scan::least(scan::number(words, room), 40);
+    let n = scan::least(scan::number(words, room), ROOM);
     print::first(print::number_of(env.check()));
     print_room(env, name, true, n);
     print_room(env, name, false, n);
@@ -80,8 +85,9 @@ pub(crate) fn lists(words: &[usize], at: usize) -> usize
     scan::behind(words, room)
 }
 
-// Kind 6: an environment made by hand, and the record types. `extend_implicit_lifetime_bounds`: the refusal's number or 0, and the whole environment: how many names
-// and how many bounds there are, all places for names, and the bounds up to the last that is not 0 0, with their number in front.
+// Kind 6: an environment made by hand, and the record types. `extend_implicit_lifetime_bounds`: the refusal's number or
+// 0, and the whole environment: how many names and how many bounds there are, all places for names, and the bounds up
+// to the last that is not 0 0, with their number in front.
 pub(crate) fn extend_implicit_lifetime_bounds(words: &[usize], at: usize) -> usize
     requires { ⌜ at ≤ length (now words) ⌝ }
     ensures { λ r. ⌜ (at ≤ r) × (r ≤ length (now (words .entry))) ⌝ }
@@ -95,9 +101,8 @@ pub(crate) fn extend_implicit_lifetime_bounds(words: &[usize], at: usize) -> usi
     print::next(extended.named);
     print::next(extended.pushed);
     print_names(extended);
-    let filled = filled(extended);
-    print::next(filled);
-    print_bounds(extended, filled);
+    let bounds = extended.bounds;
+    bounds::print_filled(bounds);
     print::end();
     scan::behind_record(words, types)
 }
@@ -112,7 +117,7 @@ pub(crate) fn made_by_hand(words: &[usize], at: usize) -> LifetimeEnv
     let named = scan::number(words, at);
     let names = names_of(scan::record(words, listed));
     let pushed = scan::number(words, count);
-    let bounds = bounds_of(scan::record(words, pairs));
+    let bounds = bounds::of_pairs(scan::record(words, pairs));
     LifetimeEnv {
         names,
         named,
@@ -133,9 +138,9 @@ pub(crate) fn behind_environment(words: &[usize], at: usize) -> usize
 }
 
 // Words in the places for names.
-fn names_of(words: &[usize]) -> [usize; 32] {
-    let mut names = [0usize; 32];
-    let n = scan::least(words.len(), 32);
+fn names_of(words: &[usize]) -> [usize; LifetimeEnv::MAX_NAMES] {
+    let mut names = [0usize; LifetimeEnv::MAX_NAMES];
+    let n = scan::least(words.len(), LifetimeEnv::MAX_NAMES);
     let mut i = 0;
     while i < n {
         names[i] = words[i];
@@ -144,68 +149,22 @@ fn names_of(words: &[usize]) -> [usize; 32] {
     names
 }
 
-// Pairs of words in the places for bounds.
-pub(crate) fn bounds_of(pairs: &[usize]) -> [Bound; 256] {
-    let none = Bound {
-        longer: 0,
-        shorter: 0,
-    };
-    let mut bounds = [none; 256];
-    let n = scan::least(pairs.len() / 2, 256);
-    let mut i = 0;
-    while i < n {
-        bounds[i] = Bound::new(Lifetime::new(pairs[2 * i]), Lifetime::new(pairs[2 * i + 1]));
-        i += 1;
-    }
-    bounds
-}
-
-// How many bounds stand before those at the end that are 0 0.
-fn filled(env: LifetimeEnv) -> usize
-    ensures { λ r. ⌜ r ≤ 256 ⌝ }
-{
-    let mut n = 256;
-    while 0 < n {
-        let last = env.bounds[n - 1];
-        if 0 < last.longer {
-            return n;
-        }
-        if 0 < last.shorter {
-            return n;
-        }
-        n -= 1;
-    }
-    0
-}
-
 // What kind 1 prints of an environment.
 fn print_environment(env: LifetimeEnv) {
     let named = env.named;
     let pushed = env.pushed;
+    let bounds = env.bounds;
     print::next(named);
     print::next(pushed);
-    print_bounds(env, scan::least(pushed, 256));
-    print_lists(env, scan::least(named, 32));
+    bounds::print_first(bounds, scan::least(pushed, LifetimeEnv::MAX_BOUNDS));
+    print_lists(env, scan::least(named, LifetimeEnv::MAX_NAMES));
 }
 
 // All places for names.
 fn print_names(env: LifetimeEnv) {
     let mut i = 0;
-    while i < 32 {
+    while i < LifetimeEnv::MAX_NAMES {
         print::next(env.names[i]);
-        i += 1;
-    }
-}
-
-// The first bounds.
-fn print_bounds(env: LifetimeEnv, n: usize)
-    requires { ⌜ n ≤ 256 ⌝ }
-{
-    let mut i = 0;
-    while i < n {
-        let bound = env.bounds[i];
-        print::next(bound.longer as usize);
-        print::next(bound.shorter as usize);
         i += 1;
     }
 }
@@ -225,7 +184,7 @@ fn print_lists(env: LifetimeEnv, n: usize)
 
 // One list of a name.
 fn print_list(env: LifetimeEnv, name: usize, longer: bool) {
-    let mut out = [0usize; 32];
+    let mut out = [0usize; LifetimeEnv::MAX_NAMES];
     let listed = list(env, name, longer, &mut out);
     print::listed(listed, &out);
 }
@@ -233,24 +192,16 @@ fn print_list(env: LifetimeEnv, name: usize, longer: bool) {
 // What a call answers, and all words of the slice that it was lent.
 fn print_lent(env: LifetimeEnv, name: usize, longer: bool, out: &mut [usize]) {
     let listed = list(env, name, longer, out);
-    match listed {
-        Listed::Count(count) => {
-            print::next(0);
-            print::next(count);
-        }
-        Listed::Refused(refusal) => {
-            print::next(refusal.number());
-            print::next(0);
-        }
-    }
-    print::some(out, out.len());
+    print::next(print::number_in(listed));
+    print::next(print::count_in(listed));
+    print::all(out);
 }
 
 // The same for a slice of this length.
 fn print_room(env: LifetimeEnv, name: usize, longer: bool, n: usize)
     requires { ⌜ n ≤ 40 ⌝ }
 {
-    let mut out = [99usize; 40];
+    let mut out = [99usize; ROOM];
     print_lent(env, name, longer, &mut out[..n]);
 }
 

@@ -1,15 +1,19 @@
 // Questions for the crate `elision`.
-ghost use mathlib.Core.Path.{_≡_};
 ghost use Prim.Native.Nat.{_≤_};
 ghost use lib.ListN.{length};
 use super::print;
+use super::rooms;
 use super::scan;
 use ast_lifetimes::LifetimeEnv;
 use lifetimes::Verdict;
 
-// Kind 7: records names, bounds, types, self, steps, returns, and how long the three lent slices are, at most 4, 8,192 and 8,192 words. The number of
-// `from_method_item` if it refuses; else what `lower` answers: the refusal's number or 0, the three counts, how many lifetimes are declared and how many there are, and
-// all words of the slices, which were 99.
+// The longest slice that is lent for the lowered `self`: more than the one word that it may have.
+const OWN: usize = 4;
+
+// Kind 7: records names, bounds, types, self, steps, returns, and how long the three lent slices are, at most 4, 8,192
+// and 8,192 words. The number of `from_method_item` if it refuses; else what `lower` answers: the refusal's number or
+// 0, the three counts, how many lifetimes are declared and how many there are, and all words of the slices, which were
+// 99.
 pub(crate) fn lower(words: &[usize], names: usize) -> usize
     requires { ⌜ names ≤ length (now words) ⌝ }
     ensures { λ r. ⌜ (names ≤ r) × (r ≤ length (now (words .entry))) ⌝ }
@@ -86,17 +90,10 @@ fn print_lowered(env: LifetimeEnv, words: &[usize], receiver: usize)
         scan::record(words, receiver),
         scan::record(words, steps),
         scan::record(words, returns),
-        scan::least(scan::number(words, own), 4),
-        scan::least(scan::number(words, given), 8192),
-        scan::least(scan::number(words, taken), 8192),
+        scan::least(scan::number(words, own), OWN),
+        scan::least(scan::number(words, given), rooms::WORDS),
+        scan::least(scan::number(words, taken), rooms::WORDS),
     );
-}
-
-// Room for lowered words.
-fn room_for_words() -> [usize; 8192]
-    ensures { λ r. ⌜ 8192 ≡ length r ⌝ }
-{
-    [99; 8192]
 }
 
 // Three records lowered into slices of these lengths.
@@ -111,9 +108,9 @@ fn print_room(
 )
     requires { ⌜ (selves ≤ 4) × (stepped ≤ 8192) × (returned ≤ 8192) ⌝ }
 {
-    let mut own = [99usize; 4];
-    let mut given = room_for_words();
-    let mut taken = room_for_words();
+    let mut own = [99usize; OWN];
+    let mut given = rooms::words();
+    let mut taken = rooms::words();
     print_lent(
         env,
         receiver,
@@ -144,7 +141,7 @@ fn print_lent(
     print::next(lowering.returns);
     print::next(after.declared);
     print::next(after.count);
-    print::some(own, own.len());
-    print::some(given, given.len());
-    print::some(taken, taken.len());
+    print::all(own);
+    print::all(given);
+    print::all(taken);
 }

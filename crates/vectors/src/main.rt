@@ -1,25 +1,34 @@
-// The probe: a program that answers questions about the library's calls. The gate replays questions whose answers the scope paper ("01") and the Rust gave; compare/run asks it for what the
-// program `borrows` does not list.
+// The probe: a program that answers questions about the library's calls. The gate replays questions whose answers the
+// scope paper ("01") and the Rust gave; compare/run asks it for what the program `borrows` does not list.
 //
-// Standard input holds numbers, at most 262,144 bytes of them. A question is its kind and what the kind asks for; a record in it is the number of its words, then they.
-// Each answer is a line of numbers on standard output. The files stdin and stdout beside src/ are made by tests/vectors.py.
+// Standard input holds numbers, at most 262,144 bytes of them. A question is its kind and what the kind asks for; a
+// record in it is the number of its words, then they. Each answer is a line of numbers on standard output. The files
+// stdin and stdout beside src/ are made by tests/vectors.py.
 //
-// To add a kind: a function in the module of its crate that reads the question at a place, prints one line, and answers the place behind the question; a line in
-// `answer` below; the same kind in tests/vectors.py.
+// To add a kind: a function in the module of its crate that reads the question at a place, prints one line, and answers
+// the place behind the question; a line in `answer` below; question and answer in tests/model/questions.py; cases in
+// tests/vectors.py.
 mod ast;
+mod borrows;
+mod bounds;
+mod environments;
 mod lowerer;
 mod lowering;
 mod print;
 mod reach;
+mod rooms;
 mod scan;
+mod sheets;
 mod types;
 mod visits;
+mod words;
 
 ghost use mathlib.Core.Path.{_≡_};
 ghost use Prim.Native.Nat.{_≤_};
 ghost use lib.ListN.{length};
 
-// Print the answer to the question that stands at a place. Answers the place behind it; behind a kind that is not known the end, so that the answers stop.
+// Print the answer to the question that stands at a place. Answers the place behind it; behind a kind that is not known
+// the end, so that the answers stop.
 fn answer(kind: usize, words: &[usize], at: usize) -> usize
     requires { ⌜ at ≤ length (now words) ⌝ }
     ensures { λ r. ⌜ (at ≤ r) × (r ≤ length (now (words .entry))) ⌝ }
@@ -41,6 +50,14 @@ fn answer(kind: usize, words: &[usize], at: usize) -> usize
         14 => lowerer::step(words, at),
         15 => lowerer::finish(words, at),
         16 => reach::all_lists(words, at),
+        17 => environments::new(words, at),
+        18 => environments::push_bound(words, at),
+        19 => words::list(words, at),
+        20 => words::word(words, at),
+        21 => lowerer::start(words, at),
+        22 => lowerer::input_then_output(words, at),
+        23 => borrows::borrow(words, at),
+        24 | 25 | 26 => sheets::ask(kind, words, at),
         _ => words.len(),
     }
 }
@@ -53,18 +70,24 @@ fn answer_all(words: &[usize]) {
     }
 }
 
+// How many bytes of questions are read.
+const BYTES: usize = 262144;
+
+// How many numbers: every other byte may be one.
+const NUMBERS: usize = 131072;
+
 // Room for the bytes that are read.
-fn room_for_bytes() -> [u8; 262144]
+fn room_for_bytes() -> [u8; BYTES]
     ensures { λ r. ⌜ 262144 ≡ length r ⌝ }
 {
-    [0; 262144]
+    [0; BYTES]
 }
 
-// Room for their numbers: every other byte may be one.
-fn room_for_numbers() -> [usize; 131072]
+// Room for their numbers.
+fn room_for_numbers() -> [usize; NUMBERS]
     ensures { λ r. ⌜ 131072 ≡ length r ⌝ }
 {
-    [0; 131072]
+    [0; NUMBERS]
 }
 
 fn main() {

@@ -6,13 +6,13 @@ ghost use lib.ListN.{length};
 fn digit(byte: u8) -> usize
     ensures { λ r. ⌜ r ≤ 10 ⌝ }
 {
-    if byte < 48 {
+    if byte < b'0' {
         return 10;
     }
-    if 57 < byte {
+    if b'9' < byte {
         return 10;
     }
-    wide(byte - 48)
+    wide(byte - b'0')
 }
 
 // A digit's value as a number.

@@ -1,50 +1,35 @@
-// Questions for the crates `lowered_types` and `hir_types`.
-//
-// A method's environment made by hand is asked for as: how many lifetimes are declared, how many there are, how many bounds are pushed, the record of pairs longer,
-// shorter. The three numbers are taken as they are, beyond every limit too; what the record leaves of the bounds is 0 0.
+// Questions for the crates `lowered_types` and `hir_types`. A method's environment is asked for as in environments.rt.
 ghost use Prim.Native.Nat.{_≤_};
 ghost use lib.ListN.{length};
-use super::ast;
+use super::environments;
 use super::print;
 use super::scan;
 use hir_types::FieldAnswer;
 use hir_types::FieldLifetimes;
 use hir_types::UsedLifetimes;
 use lifetimes::Lifetime;
-use lifetimes::LifetimeEnv;
 use lifetimes::MaybeStatic;
+use lifetimes::Verdict;
 use lifetimes::set;
 use lowered_types::LifetimeAt;
+use records::End;
 
-// Kind 10: an environment made by hand, records structs, params, output, force. `used_method_lifetimes`: the refusal's number; or 0 and the set, ascending.
+// Kind 10: an environment made by hand, records structs, params, output, force. `check_method`: the refusal's number or
+// 0. Then `used_method_lifetimes`: the refusal's number; or 0 and the set, ascending.
 pub(crate) fn used_method_lifetimes(words: &[usize], at: usize) -> usize
     requires { ⌜ at ≤ length (now words) ⌝ }
     ensures { λ r. ⌜ (at ≤ r) × (r ≤ length (now (words .entry))) ⌝ }
 {
-    let env = made_by_hand(words, at);
-    let structs = behind_environment(words, at);
-    let params = scan::behind_record(words, structs);
-    let output = scan::behind_record(words, params);
-    let force = scan::behind_record(words, output);
-    let used = hir_types::used_method_lifetimes(
-        env,
-        scan::record(words, structs),
-        scan::record(words, params),
-        scan::record(words, output),
-        scan::record(words, force),
-    );
-    match used {
-        UsedLifetimes::Refused(refusal) => print::first(refusal.number()),
-        UsedLifetimes::Set(set) => {
-            print::first(0);
-            print_members(set);
-        }
-    }
+    let verdict = checked(words, at);
+    let used = used_at(words, at);
+    print::first(print::number_of(verdict));
+    print_used(used);
     print::end();
-    scan::behind_record(words, force)
+    behind_method(words, at)
 }
 
-// Kind 11: record structs, a row, a field. `compute_for_struct_field`: the refusal's number; or 0 and how many pairs there are, 0 for none, and they.
+// Kind 11: record structs, a row, a field. `compute_for_struct_field`: the refusal's number; or 0 and how many pairs
+// there are, 0 for none, and they.
 pub(crate) fn compute_for_struct_field(words: &[usize], structs: usize) -> usize
     requires { ⌜ structs ≤ length (now words) ⌝ }
     ensures { λ r. ⌜ (structs ≤ r) × (r ≤ length (now (words .entry))) ⌝ }
@@ -61,7 +46,8 @@ pub(crate) fn compute_for_struct_field(words: &[usize], structs: usize) -> usize
     scan::behind(words, field)
 }
 
-// Kind 12: a record, a lowered type, and an index. `type_lifetimes`: the refusal's number; or 0, and 0 for none, 1 for a static lifetime, 2 and the number of another.
+// Kind 12: a record, a lowered type, and an index. `type_lifetimes`: the refusal's number; or 0, and 0 for none, 1 for
+// a static lifetime, 2 and the number of another.
 pub(crate) fn type_lifetimes(words: &[usize], at: usize) -> usize
     requires { ⌜ at ≤ length (now words) ⌝ }
     ensures { λ r. ⌜ (at ≤ r) × (r ≤ length (now (words .entry))) ⌝ }
@@ -83,52 +69,69 @@ pub(crate) fn type_lifetimes(words: &[usize], at: usize) -> usize
     scan::behind(words, index)
 }
 
-// The environment made by hand that is asked for at a place.
-pub(crate) fn made_by_hand(words: &[usize], at: usize) -> LifetimeEnv
-    requires { ⌜ at ≤ length (now words) ⌝ }
-{
-    let total = scan::behind(words, at);
-    let bound = scan::behind(words, total);
-    let pairs = scan::behind(words, bound);
-    let declared = scan::number(words, at);
-    let count = scan::number(words, total);
-    let pushed = scan::number(words, bound);
-    let bounds = ast::bounds_of(scan::record(words, pairs));
-    LifetimeEnv {
-        declared,
-        count,
-        pushed,
-        bounds,
-    }
-}
-
-// The place behind it.
-pub(crate) fn behind_environment(words: &[usize], at: usize) -> usize
-    requires { ⌜ at ≤ length (now words) ⌝ }
-    ensures { λ r. ⌜ (at ≤ r) × (r ≤ length (now (words .entry))) ⌝ }
-{
-    let total = scan::behind(words, at);
-    let bound = scan::behind(words, total);
-    let pairs = scan::behind(words, bound);
-    scan::behind_record(words, pairs)
-}
-
 // The place behind a method: an environment made by hand and the records structs, params, output, force.
 pub(crate) fn behind_method(words: &[usize], at: usize) -> usize
     requires { ⌜ at ≤ length (now words) ⌝ }
     ensures { λ r. ⌜ (at ≤ r) × (r ≤ length (now (words .entry))) ⌝ }
 {
-    let structs = behind_environment(words, at);
+    let structs = environments::behind_environment(words, at);
     let params = scan::behind_record(words, structs);
     let output = scan::behind_record(words, params);
     let force = scan::behind_record(words, output);
     scan::behind_record(words, force)
 }
 
+// `check_method` of the method that is asked for at a place.
+fn checked(words: &[usize], at: usize) -> Verdict
+    requires { ⌜ at ≤ length (now words) ⌝ }
+{
+    let env = environments::made_by_hand(words, at);
+    let structs = environments::behind_environment(words, at);
+    let params = scan::behind_record(words, structs);
+    let output = scan::behind_record(words, params);
+    let force = scan::behind_record(words, output);
+    hir_types::check_method(
+        env,
+        scan::record(words, structs),
+        scan::record(words, params),
+        scan::record(words, output),
+        scan::record(words, force),
+    )
+}
+
+// `used_method_lifetimes` of it.
+fn used_at(words: &[usize], at: usize) -> UsedLifetimes
+    requires { ⌜ at ≤ length (now words) ⌝ }
+{
+    let env = environments::made_by_hand(words, at);
+    let structs = environments::behind_environment(words, at);
+    let params = scan::behind_record(words, structs);
+    let output = scan::behind_record(words, params);
+    let force = scan::behind_record(words, output);
+    hir_types::used_method_lifetimes(
+        env,
+        scan::record(words, structs),
+        scan::record(words, params),
+        scan::record(words, output),
+        scan::record(words, force),
+    )
+}
+
+// The used lifetimes of a method.
+fn print_used(used: UsedLifetimes) {
+    match used {
+        UsedLifetimes::Refused(refusal) => print::next(refusal.number()),
+        UsedLifetimes::Set(set) => {
+            print::next(0);
+            print_members(set);
+        }
+    }
+}
+
 // The lifetimes of a set, ascending.
 pub(crate) fn print_members(members: u64) {
     let mut i = 0;
-    while i < 64 {
+    while i < set::CAPACITY {
         if set::contains(members, Lifetime::new(i)) {
             print::next(i);
         }
@@ -159,7 +162,7 @@ fn print_field(lifetimes: FieldLifetimes) {
         FieldAnswer::Pairs(count) => {
             print::first(0);
             print::next(count);
-            print_pairs(lifetimes, scan::least(count, 16));
+            print_pairs(lifetimes, scan::least(count, End::MAX_LIST));
         }
     }
 }

@@ -1,24 +1,26 @@
 // Questions for the crate `borrowing_param`.
-ghost use mathlib.Core.Path.{_≡_};
 ghost use Prim.Native.Nat.{_≤_};
 ghost use lib.ListN.{length};
+use super::environments;
 use super::print;
+use super::rooms;
 use super::scan;
 use super::types;
 use borrowing_param::BorrowingParamVisitor;
 use borrowing_param::ParamBorrowInfo;
 use lifetimes::Verdict;
 use lifetimes::set;
+use records::End;
 
-// Kind 13: an environment made by hand as in types.rt, records structs, params, output, force, how many words the lent slice has, at most 20,480, and the
-// record of the params to visit. The number of `new` if it refuses; else 0, for each visit what it answers, then how many edges are stored and all words of the
-// slice, which were 99.
+// Kind 13: an environment made by hand as in environments.rt, records structs, params, output, force, how many words
+// the lent slice has, at most 20,480, and the record of the params to visit. The number of `new` if it refuses; else 0,
+// for each visit what it answers, then how many edges are stored and all words of the slice, which were 99.
 pub(crate) fn visit_params(words: &[usize], at: usize) -> usize
     requires { ⌜ at ≤ length (now words) ⌝ }
     ensures { λ r. ⌜ (at ≤ r) × (r ≤ length (now (words .entry))) ⌝ }
 {
-    let env = types::made_by_hand(words, at);
-    let structs = types::behind_environment(words, at);
+    let env = environments::made_by_hand(words, at);
+    let structs = environments::behind_environment(words, at);
     let params = scan::behind_record(words, structs);
     let output = scan::behind_record(words, params);
     let force = scan::behind_record(words, output);
@@ -62,15 +64,8 @@ fn print_visits(visitor: BorrowingParamVisitor, words: &[usize], structs: usize)
         scan::record(words, structs),
         scan::record(words, params),
         scan::record(words, visits),
-        scan::least(scan::number(words, room), 20480),
+        scan::least(scan::number(words, room), rooms::EDGES),
     );
-}
-
-// Room for edges.
-fn room_for_edges() -> [usize; 20480]
-    ensures { λ r. ⌜ 20480 ≡ length r ⌝ }
-{
-    [99; 20480]
 }
 
 // The visits with a slice of this length.
@@ -83,7 +78,7 @@ fn print_room(
 )
     requires { ⌜ n ≤ 20480 ⌝ }
 {
-    let mut edges = room_for_edges();
+    let mut edges = rooms::edges();
     print_lent(visitor, structs, params, visits, &mut edges[..n]);
 }
 
@@ -97,7 +92,7 @@ fn print_lent(
 ) {
     let stored = print_answers(visitor, structs, params, visits, edges);
     print::next(stored);
-    print::some(edges, edges.len());
+    print::all(edges);
 }
 
 // What each visit answers, one after another. Answers how many edges are stored then.
@@ -120,8 +115,8 @@ fn print_answers(
     state.stored
 }
 
-// What a visit answers: the refusal's number or 0, the answer's number, and of how many definition lifetimes there are pairs; for each of these it, how many used lifetimes it
-// has, and they.
+// What a visit answers: the refusal's number or 0, the answer's number, and of how many definition lifetimes there are
+// pairs; for each of these it, how many used lifetimes it has, and they.
 fn print_info(info: ParamBorrowInfo) {
     let verdict = info.verdict;
     print::next(print::number_of(verdict));
@@ -134,7 +129,7 @@ fn print_info(info: ParamBorrowInfo) {
 fn paired(info: ParamBorrowInfo) -> usize {
     let mut count = 0;
     let mut i = 0;
-    while i < 16 {
+    while i < End::MAX_LIST {
         count += one(info.pairs[i]);
         i += 1;
     }
@@ -154,7 +149,7 @@ fn one(used: u64) -> usize
 // Their pairs.
 fn print_pairs(info: ParamBorrowInfo) {
     let mut i = 0;
-    while i < 16 {
+    while i < End::MAX_LIST {
         print_pair(i, info.pairs[i]);
         i += 1;
     }

@@ -5,11 +5,11 @@ use borrow.Author.Needs.{needs}
 use Rattle.vectors.proofs.lowering.print_room.Statement.{statement}
 use Rattle.vectors.proofs.lowering.print_room.Tie as tie
 
-room-for-words-requires : tie.Need-room-for-words-requires
-room-for-words-requires c κs = search needs
+words-requires : tie.Need-words-requires
+words-requires c κs = search needs
 
-room-for-words-requires-2 : tie.Need-room-for-words-requires-2
-room-for-words-requires-2 c κs = search needs
+words-requires-2 : tie.Need-words-requires-2
+words-requires-2 c κs = search needs
 
 array-borrow-prefix-own : tie.Need-array-borrow-prefix-own
 array-borrow-prefix-own c = search needs
@@ -39,8 +39,8 @@ pub print-room-spec : {M : Type 1} → statement M
 print-room-spec =
     tie.close
     (tie.spec
-    room-for-words-requires
-    room-for-words-requires-2
+    words-requires
+    words-requires-2
     array-borrow-prefix-own
     slice-aggregate-print-lent
     array-borrow-prefix-given

@@ -5,8 +5,8 @@ use borrow.Author.Needs.{needs}
 use Rattle.vectors.proofs.visits.print_room.Statement.{statement}
 use Rattle.vectors.proofs.visits.print_room.Tie as tie
 
-room-for-edges-requires : tie.Need-room-for-edges-requires
-room-for-edges-requires c κs = search needs
+edges-requires : tie.Need-edges-requires
+edges-requires c κs = search needs
 
 array-borrow-prefix-edges : tie.Need-array-borrow-prefix-edges
 array-borrow-prefix-edges c = search needs
@@ -24,7 +24,7 @@ pub print-room-spec : {M : Type 1} → statement M
 print-room-spec =
     tie.close
     (tie.spec
-    room-for-edges-requires
+    edges-requires
     array-borrow-prefix-edges
     slice-aggregate-print-lent
     print-lent-requires
