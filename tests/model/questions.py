@@ -6,7 +6,7 @@ crates/vectors/src, in the module of its crate:
     ast.rt           1 from_method_item; 2, 3, 4 the shapes of names, bounds, types; 5 longer_than, shorter_than; 6 extend_implicit_lifetime_bounds
     lowering.rt      7 lower; 8, 9 the shapes of self, steps
     types.rt         10 check_method, used_method_lifetimes; 11 compute_for_struct_field; 12 type_lifetimes
-    visits.rt        13 a visitor and its visits
+    visits.rt        13 a visitor and its visits; 27 edge_at
     lowerer.rt       14 a step of a lowerer; 15 finish; 21 no_self_ref, lower_self_ref; 22 input_then_output
     reach.rt         16 check, all_longer_lifetimes, all_shorter_lifetimes
     environments.rt  17 LifetimeEnv::new; 18 push_bound, get_bounds
@@ -438,3 +438,15 @@ def sheet_listed(found, rooms):
     if called[0] == 0 and rooms[1] >= 1:
         return called + [0] + called[2:] + lent([called[1]], rooms[1])
     return called + [called[0] or 9] + lent([], rooms[0], DOT) + lent([], rooms[1])
+
+
+# ---- kind 27: an edge by its place
+
+
+def edge_question(ws, place):
+    return [27] + record(ws) + [place]
+
+
+def edge_answer(ws, place):
+    found = ws[EDGE * place:EDGE * (place + 1)]
+    return [1] + found if len(found) == EDGE else [0]

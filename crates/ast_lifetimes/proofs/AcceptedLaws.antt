@@ -1,4 +1,5 @@
--- What `from_method_item` gives is an environment on which nothing is due: the names are at most 32, the bounds at most 256, each between names.
+-- What `from_method_item` gives is an environment on which nothing is due: the names are at most 32, the bounds at most
+-- 256, each between names.
 use Prim.Native.Nat.{ℕ, suc, _+_, _≤_}
 use mathlib.Core.Bool.{true, not}
 use mathlib.Core.Path.{_≡_, refl, sym, _∙_}
@@ -16,7 +17,8 @@ use Rattle.lifetimes.specs.declared.answer.Verdict.the-variants.{Accepted}
 use Rattle.ast_lifetimes.specs.declared.env.Counts.{Counts}
 use Rattle.ast_lifetimes.specs.Inner.{sidesOf, Built}
 use Rattle.ast_lifetimes.specs.Shapes.{implNames, methodNames, Pair, implPairs, methodPairs}
-use Rattle.ast_lifetimes.specs.Env.{nameChecks, allPairChecks, namesOf, boundsOf, envOf, envChecks, allNamesOf, impliedPairs, placeChecks, methodBounds}
+use Rattle.ast_lifetimes.specs.Env.{nameChecks, allPairChecks, namesOf, boundsOf, envOf, envChecks, allNamesOf}
+use Rattle.ast_lifetimes.specs.Env.{impliedPairs, placeChecks, methodBounds}
 use Rattle.ast_lifetimes.proofs.Building.{Under, under-below, under-append, under-wider, pairs-under}
 
 names-few : (before names : List ℕ) → NoneDue (nameChecks before names) → length before ≤ 32 → length before + length names ≤ 32
@@ -28,7 +30,8 @@ names-few before (name ∷ names) n h =
     let m = names-few (before ++ (name ∷ [])) names (none-rest (none-rest n)) (omega (arith, k, e)) in
     omega (arith, m, e)
 
-pairs-few : (names : List ℕ) (pushed : ℕ) (ps : List Pair) → NoneDue (allPairChecks names pushed ps) → pushed ≤ 256 → pushed + length ps ≤ 256
+pairs-few : (names : List ℕ) (pushed : ℕ) (ps : List Pair) → NoneDue (allPairChecks names pushed ps) → pushed ≤ 256
+    → pushed + length ps ≤ 256
 unfolding allPairChecks
 pairs-few names pushed [] n h = omega arith
 pairs-few names pushed (p ∷ ps) n h =
@@ -90,14 +93,21 @@ module _ (names bounds types : List ℕ) (n : NoneDue (placeChecks names bounds 
   pub accepted-valid : NoneDue (envChecks (envOf (allNamesOf names) (methodBounds names bounds types)))
   unfolding envOf
   accepted-valid =
-      let below : allBelow (length (allNamesOf names)) (boundsOf (envOf (allNamesOf names) (methodBounds names bounds types))) ≡ true =
+      let below : allBelow (length (allNamesOf names))
+      (boundsOf (envOf (allNamesOf names) (methodBounds names bounds types))) ≡ true =
       rw (take-append-seam (methodBounds names bounds types)) (under-below (methodBounds names bounds types) accepted-under) in
       next (le-ltb 32 (length (allNamesOf names)) accepted-names)
       (next (le-ltb 256 (length (methodBounds names bounds types)) accepted-pushed)
-      (next {c = check (not (allBelow (length (allNamesOf names)) (boundsOf (envOf (allNamesOf names) (methodBounds names bounds types))))) OutOfRange} (rw below) end))
+      (next {c = check
+      (not
+      (allBelow (length (allNamesOf names))
+      (boundsOf (envOf (allNamesOf names) (methodBounds names bounds types))))) OutOfRange} (rw below) end))
 
 -- the sides that `build` leaves in its arrays
-pub built-small : {names bounds types declared longs shorts : List ℕ} {r : Counts} → Built names bounds types declared longs shorts r → r .verdict ≡ Accepted
+pub built-small : {names bounds types declared longs shorts : List ℕ} {r : Counts}
+    → Built names bounds types declared longs shorts r → r .verdict ≡ Accepted
     → allBelow 255 (sidesOf (r .pushed) longs shorts) ≡ true
 built-small {names} {bounds} {types} b e =
-    rw (b .bounded e) (accepted-small names bounds types (accepted-none (tt {0}) (placeChecks names bounds types) (sym (b .verdict) ∙ e)))
+    rw (b .bounded e)
+    (accepted-small names bounds types
+    (accepted-none (tt {0}) (placeChecks names bounds types) (sym (b .verdict) ∙ e)))

@@ -1,13 +1,14 @@
--- An environment from arrays: the loop of `copy_names`, the loop of `assembled` over the sides of bounds, and the environment that they make.
-use Prim.Native.Nat.{ℕ, zero, suc, _+_, _-_, _≤_, _<_}
+-- An environment from arrays: the loop of `copy_names`, the loop of `assembled` over the sides of bounds, and the
+-- environment that they make.
+use Prim.Native.Nat.{ℕ, suc, _+_, _-_, _≤_, _<_}
 use mathlib.Core.Bool.{true}
 use mathlib.Core.Path.{_≡_, _∙_}
 use borrow.Author.Tests.{lt-ltb}
 use mathlib.Core.List.{List, _++_, map}
-use native.Mathlib.Nat.{zero-add, sub-zero, zero-sub, suc-sub-suc}
+use native.Mathlib.Nat.{zero-add, sub-zero}
 use native.Mathlib.Numerals.{add-one}
 use native.Mathlib.Omega.{arith}
-use lib.ListN.{length, getD, take, drop, set, replicate, length-map, length-replicate}
+use lib.ListN.{length, getD, take, set, replicate, length-map, length-replicate}
 use lib.Seq.{sets, sets-eq, length-take-le}
 use Rattle.lifetimes.specs.declared.lifetime.Lifetime.{Lifetime}
 use Rattle.lifetimes.specs.declared.env.Bound.{Bound}
@@ -15,7 +16,7 @@ use Rattle.lifetimes.specs.Numbers.{lifetime}
 use Rattle.lifetimes.specs.Ranges.{ascending}
 use Rattle.lifetimes.specs.Env.{above, byteOf, allBelow}
 use Rattle.lifetimes.proofs.SetLaws.{length-ascending}
-use Rattle.lifetimes.proofs.Copying.{Copying, copying-more}
+use Rattle.lifetimes.proofs.Copying.{Copying, copying-more, drop-replicate}
 use Rattle.ast_lifetimes.specs.Env.{envOf}
 use Rattle.ast_lifetimes.specs.Inner.{sidesOf}
 use Rattle.ast_lifetimes.proofs.Building.{Under, below-under, under-sides}
@@ -27,11 +28,6 @@ pub names-more : {names : List ℕ} {n : ℕ} {out₀ out : List ℕ} {i : ℕ} 
 names-more inv full h = rw zero-add at (copying-more inv full h)
 
 -- ---- a list in the first places of an array that was filled with one value
-
-drop-replicate : {A : Type 0} (n m : ℕ) (x : A) → drop n (replicate m x) ≡ replicate (m - n) x
-drop-replicate zero m x = rw sub-zero
-drop-replicate (suc n) zero x = rw zero-sub
-drop-replicate (suc n) (suc m) x = rw suc-sub-suc (drop-replicate n m x)
 
 in-front : {A : Type 0} (m : ℕ) (x : A) (l : List A) → length l ≤ m → sets (replicate m x) 0 l ≡ l ++ replicate (m - length l) x
 in-front m x l h = sets-eq l (replicate m x) 0 (rw (length-replicate, zero-add) h) ∙ rw (zero-add, drop-replicate (length l) m x)
@@ -48,17 +44,21 @@ length-sides n longs shorts = rw (length-map, length-ascending 0 n)
 pub record Storing (longs shorts : List ℕ) (pushed : ℕ) (bounds : List Bound) (i : ℕ) : Type 0 where
   pub here : i ≤ pushed
   pub small : Under 255 (sidesOf pushed longs shorts)
-  pub stored : sets bounds i (map (side longs shorts) (ascending i (pushed - i))) ≡ sets (replicate 256 (above 0 0)) 0 (sidesOf pushed longs shorts)
+  pub stored : sets bounds i (map (side longs shorts) (ascending i (pushed - i))) ≡ sets (replicate 256 (above 0 0)) 0
+      (sidesOf pushed longs shorts)
 
-pub storing-start : (longs shorts : List ℕ) (pushed : ℕ) → allBelow 255 (sidesOf pushed longs shorts) ≡ true → Storing longs shorts pushed (replicate 256 (above 0 0)) 0
-storing-start longs shorts pushed small = record { here = omega arith; small = below-under (sidesOf pushed longs shorts) small; stored = rw sub-zero }
+pub storing-start : (longs shorts : List ℕ) (pushed : ℕ) → allBelow 255 (sidesOf pushed longs shorts) ≡ true
+    → Storing longs shorts pushed (replicate 256 (above 0 0)) 0
+storing-start longs shorts pushed small =
+    record { here = omega arith; small = below-under (sidesOf pushed longs shorts) small; stored = rw sub-zero }
 
 module _ {longs shorts : List ℕ} {pushed : ℕ} {bounds : List Bound} {i : ℕ} (inv : Storing longs shorts pushed bounds i) where
   -- the sides of the next bound are bytes
   pub storing-small : i < pushed → (getD longs i 0 < 255) × (getD shorts i 0 < 255)
   storing-small h = under-sides 255 0 pushed longs shorts (inv .small) i (omega arith) (omega arith)
 
-  pub storing-more : i < pushed → {l s : Lifetime} → l ≡ lifetime (getD longs i 0) → s ≡ lifetime (getD shorts i 0) → {b : Bound} → b ≡ above (byteOf (l .0)) (byteOf (s .0))
+  pub storing-more : i < pushed → {l s : Lifetime} → l ≡ lifetime (getD longs i 0) → s ≡ lifetime (getD shorts i 0)
+      → {b : Bound} → b ≡ above (byteOf (l .0)) (byteOf (s .0))
       → Storing longs shorts pushed (set bounds i b) (i + 1)
   unfolding ascending
   storing-more h {l} {s} el es {b} eb =
@@ -67,7 +67,8 @@ module _ {longs shorts : List ℕ} {pushed : ℕ} {bounds : List Bound} {i : ℕ
       let e : b ≡ side longs shorts i = eb ∙ rw (el, es, lt-ltb (getD longs i 0) 255 (k .0), lt-ltb (getD shorts i 0) 255 (k .1)) in
       record { here = omega arith; small = inv .small; stored = rw (add-one i, e) (rw one at (inv .stored)) }
 
-  all-stored : pushed ≤ 256 → pushed ≤ i → bounds ≡ sidesOf pushed longs shorts ++ replicate (256 - length (sidesOf pushed longs shorts)) (above 0 0)
+  all-stored : pushed ≤ 256 → pushed ≤ i
+      → bounds ≡ sidesOf pushed longs shorts ++ replicate (256 - length (sidesOf pushed longs shorts)) (above 0 0)
   unfolding ascending
   all-stored few h =
       let none : pushed - i ≡ 0 = omega arith in
@@ -77,10 +78,12 @@ module _ {longs shorts : List ℕ} {pushed : ℕ} {bounds : List Bound} {i : ℕ
   -- the environment of the names and the bounds in the arrays
   pub assembled-env : pushed ≤ 256 → pushed ≤ i → (declared : List ℕ) {named : ℕ} → named ≤ 32 → length declared ≡ 32
       → {names : List ℕ} → names ≡ sets (replicate 32 0) 0 (take named declared)
-      → record { names = names; named = named; pushed = pushed; bounds = bounds } ≡ envOf (take named declared) (sidesOf pushed longs shorts)
+      → record { names = names; named = named; pushed = pushed; bounds = bounds }
+      ≡ envOf (take named declared) (sidesOf pushed longs shorts)
   unfolding envOf
   assembled-env few h declared {named} room size copied =
       let n : length (take named declared) ≡ named = length-take-le named declared (omega arith) in
-      let front : sets (replicate 32 0) 0 (take named declared) ≡ take named declared ++ replicate (32 - length (take named declared)) 0 =
+      let front : sets (replicate 32 0) 0 (take named declared) ≡ take named declared
+      ++ replicate (32 - length (take named declared)) 0 =
       in-front 32 0 (take named declared) (omega arith) in
       rw (copied ∙ front, all-stored few h, n, length-sides pushed longs shorts)

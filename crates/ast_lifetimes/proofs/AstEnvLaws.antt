@@ -1,5 +1,5 @@
--- The shape of three records from that of each; and the environment's checks: the loop of `LifetimeEnv::check`, where the bounds that were read are within
--- the names, so that the check of what is left gives what all checks give.
+-- The shape of three records from that of each; and the environment's checks: the loop of `LifetimeEnv::check`, where
+-- the bounds that were read are within the names, so that the check of what is left gives what all checks give.
 use Prim.Native.Nat.{ℕ, _+_, _≤_, _<_}
 use mathlib.Core.Bool.{Bool, true, false, _&&_, not}
 use mathlib.Core.Path.{_≡_, refl, sym, _∙_}
@@ -35,17 +35,21 @@ goes-on true b e k = refl
 goes-on false b e k = refused-accepted (sym e ∙ k)
 
 module _ (names bounds types : List ℕ) {v : Verdict} (e : v ≡ shapeVerdict (namesInShape names)) where
-  pub shape-names : {r : Refusal} → v ≡ Refused r → v ≡ shapeVerdict (namesInShape names && (boundsInShape bounds && typesInShape types))
+  pub shape-names : {r : Refusal} → v ≡ Refused r
+      → v ≡ shapeVerdict (namesInShape names && (boundsInShape bounds && typesInShape types))
   shape-names k = stops (namesInShape names) (boundsInShape bounds && typesInShape types) e k
 
   module _ (k : v ≡ Accepted) {w : Verdict} (f : w ≡ shapeVerdict (boundsInShape bounds)) where
-    pub shape-bounds : {r : Refusal} → w ≡ Refused r → w ≡ shapeVerdict (namesInShape names && (boundsInShape bounds && typesInShape types))
-    shape-bounds l = stops (boundsInShape bounds) (typesInShape types) f l ∙ goes-on (namesInShape names) (boundsInShape bounds && typesInShape types) e k
+    pub shape-bounds : {r : Refusal} → w ≡ Refused r
+        → w ≡ shapeVerdict (namesInShape names && (boundsInShape bounds && typesInShape types))
+    shape-bounds l = stops (boundsInShape bounds) (typesInShape types) f l
+        ∙ goes-on (namesInShape names) (boundsInShape bounds && typesInShape types) e k
 
     pub shape-types : w ≡ Accepted → {x : Verdict} → x ≡ shapeVerdict (typesInShape types)
         → x ≡ shapeVerdict (namesInShape names && (boundsInShape bounds && typesInShape types))
     shape-types l g =
-        g ∙ goes-on (boundsInShape bounds) (typesInShape types) f l ∙ goes-on (namesInShape names) (boundsInShape bounds && typesInShape types) e k
+        g ∙ goes-on (boundsInShape bounds) (typesInShape types) f l
+        ∙ goes-on (namesInShape names) (boundsInShape bounds && typesInShape types) e k
 
 -- ---- reading the bounds, from the first to the last
 

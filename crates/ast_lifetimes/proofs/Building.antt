@@ -1,4 +1,5 @@
--- `build` stage by stage: what records in shape say, what stands in the arrays after each stage and which checks are left then; and the answers of `from_method_item`.
+-- `build` stage by stage: what records in shape say, what stands in the arrays after each stage and which checks are
+-- left then; and the answers of `from_method_item`.
 use Prim.Native.Nat.{ℕ, zero, suc, _+_, _-_, _*_, _/_, _%_, _≤_, _<_}
 use mathlib.Core.Bool.{Bool, true, false, _&&_, and-eq-true-iff}
 use mathlib.Core.Path.{_≡_, refl, sym, ap, _∙_}
@@ -23,19 +24,17 @@ use Rattle.ast_lifetimes.specs.declared.implied.Implied.{Implied}
 use Rattle.ast_lifetimes.specs.declared.env.Counts.{Counts}
 use Rattle.ast_lifetimes.specs.declared.env.LifetimeEnv.{LifetimeEnv}
 use Rattle.records.specs.Reading.{shapeVerdict, fewWords}
-use Rattle.ast_lifetimes.specs.Shapes.{allNames, namesInShape, implNames, methodNames, Pair, pairsOf, boundsInShape, implPairs, methodPairs}
+use Rattle.ast_lifetimes.specs.Shapes.{allNames, namesInShape, implNames, methodNames, Pair, pairsOf}
+use Rattle.ast_lifetimes.specs.Shapes.{boundsInShape, implPairs, methodPairs}
 use Rattle.ast_lifetimes.specs.Types.{TypeName, typesInShape, typesOf}
-use Rattle.ast_lifetimes.specs.Env.{nameChecks, allPairChecks, boundsFor, allImplied, envOf, allNamesOf, explicitBounds, impliedPairs, placeChecks, methodBounds, fromMethodItem, made}
+use Rattle.ast_lifetimes.specs.Env.{nameChecks, allPairChecks, boundsFor, allImplied, envOf, allNamesOf}
+use Rattle.ast_lifetimes.specs.Env.{explicitBounds, impliedPairs, placeChecks, methodBounds, fromMethodItem, made}
 use Rattle.records.specs.Ends.{judged}
 use Rattle.ast_lifetimes.specs.Inner.{sidesOf, Declares, Pushes, encodeAll, Below, Extends, Built}
 use Rattle.records.proofs.VerdictLaws.{refused-accepted, judged-after, judged-stays}
 use Rattle.ast_lifetimes.proofs.ReadingLaws.{types-encoded}
 
 -- ---- what records in shape say
-
-both : (a b : Bool) → (a && b) ≡ true → (a ≡ true) × (b ≡ true)
-both true b e = (refl, e)
-both false b e = let z : _≡_ {A = ℕ} 0 1 = cc in absurd (omega arith)
 
 -- the record `names`: the impl's names, then the method's
 pub record NamesSay (names : List ℕ) : Type 0 where
@@ -51,9 +50,9 @@ names-say : (names : List ℕ) → namesInShape names ≡ true → NamesSay name
 unfolding namesInShape
 names-say [] e = let z : _≡_ {A = ℕ} 0 1 = cc in absurd (omega arith)
 names-say (w ∷ ws) e =
-    let p = both (fewWords (w ∷ ws)) (leb w (length ws) && allNames ws) e in
+    let p = (and-eq-true-iff (fewWords (w ∷ ws)) (leb w (length ws) && allNames ws)) .0 e in
     let few : length (w ∷ ws) ≤ 1024 = leb-true (length (w ∷ ws)) 1024 (p .0) in
-    let fits : w ≤ length ws = leb-true w (length ws) ((both (leb w (length ws)) (allNames ws) (p .1)) .0) in
+    let fits : w ≤ length ws = leb-true w (length ws) (((and-eq-true-iff (leb w (length ws)) (allNames ws)) .0 (p .1)) .0) in
     let a : 1 + w ≡ suc w = omega arith in
     let b : 1 + (suc (length ws) - 1) ≡ suc (length ws) = omega arith in
     record {
@@ -96,7 +95,9 @@ pub record BoundsSay (bounds : List ℕ) : Type 0 where
   pub fits : getD bounds 0 0 ≤ (length bounds - 1) / 2
   pub even : 1 + 2 * ((length bounds - 1) / 2) ≡ length bounds
   pub impl : pairsOf (slice 1 (1 + 2 * getD bounds 0 0) bounds) ≡ implPairs bounds
-  pub method : pairsOf (slice (1 + 2 * getD bounds 0 0) (1 + 2 * getD bounds 0 0 + 2 * ((length bounds - 1) / 2 - getD bounds 0 0)) bounds) ≡ methodPairs bounds
+  pub method : pairsOf
+      (slice (1 + 2 * getD bounds 0 0) (1 + 2 * getD bounds 0 0 + 2 * ((length bounds - 1) / 2 - getD bounds 0 0))
+      bounds) ≡ methodPairs bounds
   pub impls : length (implPairs bounds) ≡ getD bounds 0 0
   pub all : getD bounds 0 0 + length (methodPairs bounds) ≡ (length bounds - 1) / 2
 
@@ -104,8 +105,8 @@ bounds-say : (bounds : List ℕ) → boundsInShape bounds ≡ true → BoundsSay
 unfolding boundsInShape
 bounds-say [] e = let z : _≡_ {A = ℕ} 0 1 = cc in absurd (omega arith)
 bounds-say (f ∷ ws) e =
-    let p = both (fewWords (f ∷ ws)) (eqb (length ws % 2) 0 && leb f (length ws / 2)) e in
-    let q = both (eqb (length ws % 2) 0) (leb f (length ws / 2)) (p .1) in
+    let p = (and-eq-true-iff (fewWords (f ∷ ws)) (eqb (length ws % 2) 0 && leb f (length ws / 2))) .0 e in
+    let q = (and-eq-true-iff (eqb (length ws % 2) 0) (leb f (length ws / 2))) .0 (p .1) in
     let few : length (f ∷ ws) ≤ 1024 = leb-true (length (f ∷ ws)) 1024 (p .0) in
     let whole : length ws % 2 ≡ 0 = eqb-true (length ws % 2) 0 (q .0) in
     let fits : f ≤ length ws / 2 = leb-true f (length ws / 2) (q .1) in
@@ -130,8 +131,14 @@ pub record Shaped (names bounds types : List ℕ) : Type 0 where
   pub in-bounds : BoundsSay bounds
   pub in-types : encodeAll (typesOf types) ≡ types
 
-pub shaped : (names bounds types : List ℕ) → (namesInShape names ≡ true) × (boundsInShape bounds ≡ true) × (typesInShape types ≡ true) → Shaped names bounds types
-shaped names bounds types h = record { in-names = names-say names (h .0); in-bounds = bounds-say bounds (h .1); in-types = types-encoded types (h .2) }
+pub shaped : (names bounds types : List ℕ) → (namesInShape names ≡ true) × (boundsInShape bounds ≡ true)
+    × (typesInShape types ≡ true) → Shaped names bounds types
+shaped names bounds types h =
+    record {
+      in-names = names-say names (h .0);
+      in-bounds = bounds-say bounds (h .1);
+      in-types = types-encoded types (h .2);
+    }
 
 -- ---- accepted pairs are between names
 
@@ -160,19 +167,22 @@ pub under-wider : {m n : ℕ} {bs : List Bound} → m ≤ n → Under m bs → U
 under-wider h none = none
 under-wider h (more {b} l s u) = more {b = b} (omega (arith, h, l)) (omega (arith, h, s)) (under-wider h u)
 
-pub pairs-under : (names : List ℕ) (pushed : ℕ) (ps : List Pair) → NoneDue (allPairChecks names pushed ps) → Under (length names) (boundsFor names ps)
+pub pairs-under : (names : List ℕ) (pushed : ℕ) (ps : List Pair) → NoneDue (allPairChecks names pushed ps)
+    → Under (length names) (boundsFor names ps)
 unfolding allPairChecks
 pairs-under names pushed [] d = none
 pairs-under names pushed (p ∷ ps) (next a (next b (next c d))) =
     more (ltb-true _ _ (not-false _ a)) (ltb-true _ _ (not-false _ b)) (pairs-under names (suc pushed) ps d)
 
-pub under-sides : (m x n : ℕ) (longs shorts : List ℕ) → Under m (map (λ i. above (getD longs i 0) (getD shorts i 0)) (ascending x n)) → (i : ℕ) → x ≤ i → i < x + n
+pub under-sides : (m x n : ℕ) (longs shorts : List ℕ)
+    → Under m (map (λ i. above (getD longs i 0) (getD shorts i 0)) (ascending x n)) → (i : ℕ) → x ≤ i → i < x + n
     → (getD longs i 0 < m) × (getD shorts i 0 < m)
 unfolding ascending
 under-sides m x zero longs shorts u i h k = absurd (omega arith)
 under-sides m x (suc n) longs shorts (more l s u) i h k = go (ℕ-discrete i x) (under-sides m (suc x) n longs shorts u i)
   where
-    go : Dec (i ≡ x) → (suc x ≤ i → i < suc x + n → (getD longs i 0 < m) × (getD shorts i 0 < m)) → (getD longs i 0 < m) × (getD shorts i 0 < m)
+    go : Dec (i ≡ x) → (suc x ≤ i → i < suc x + n → (getD longs i 0 < m) × (getD shorts i 0 < m))
+        → (getD longs i 0 < m) × (getD shorts i 0 < m)
     go (yes e) f = rw e (l, s)
     go (no d) f = f (omega arith) (omega arith)
 
@@ -191,13 +201,21 @@ pub record Sides (bs : List Bound) (pushed : ℕ) (longs shorts : List ℕ) : Ty
   pub bounds : sidesOf pushed longs shorts ≡ bs
   pub few : pushed ≤ 256
 
-stand-declared : {new ns declared declared₁ : List ℕ} {named all : ℕ} {v : Verdict} → take named declared ≡ ns → named + length new ≡ all → Declares new declared declared₁ named v → v ≡ Accepted
+stand-declared : {new ns declared declared₁ : List ℕ} {named all : ℕ} {v : Verdict} → take named declared ≡ ns
+    → named + length new ≡ all → Declares new declared declared₁ named v → v ≡ Accepted
     → Stand (ns ++ new) all declared₁
 stand-declared s n d e = record { size = d .size; names = rw (← n, ← s) (d .names e); few = rw (← n) (d .few e) }
 
-sides-pushed : {names : List ℕ} {new : List Pair} {bs : List Bound} {longs shorts longs₁ shorts₁ : List ℕ} {pushed all : ℕ} {v : Verdict} → sidesOf pushed longs shorts ≡ bs → pushed + length new ≡ all
+sides-pushed : {names : List ℕ} {new : List Pair} {bs : List Bound} {longs shorts longs₁ shorts₁ : List ℕ}
+    {pushed all : ℕ} {v : Verdict} → sidesOf pushed longs shorts ≡ bs → pushed + length new ≡ all
     → Pushes names new longs shorts longs₁ shorts₁ pushed v → v ≡ Accepted → Sides (bs ++ boundsFor names new) all longs₁ shorts₁
-sides-pushed s n p e = record { size-longs = p .size-longs; size-shorts = p .size-shorts; bounds = rw (← n, ← s) (p .bounds e); few = rw (← n) (p .few e) }
+sides-pushed s n p e =
+    record {
+      size-longs = p .size-longs;
+      size-shorts = p .size-shorts;
+      bounds = rw (← n, ← s) (p .bounds e);
+      few = rw (← n) (p .few e);
+    }
 
 -- ---- the checks that are left after each stage
 
@@ -255,7 +273,8 @@ abbrev stopped : Verdict → Counts
 stopped v = record { verdict = v; named = 0; pushed = 0 }
 
 module _ {names bounds types : List ℕ} where
-  built-refused : {declared longs shorts : List ℕ} {v : Verdict} {r : Refusal} → (length declared ≡ 32) × (length longs ≡ 256) × (length shorts ≡ 256)
+  built-refused : {declared longs shorts : List ℕ} {v : Verdict} {r : Refusal}
+      → (length declared ≡ 32) × (length longs ≡ 256) × (length shorts ≡ 256)
       → v ≡ judged (placeChecks names bounds types) → v ≡ Refused r
       → Built names bounds types declared longs shorts (stopped v)
   built-refused sizes is e = record {
@@ -267,12 +286,15 @@ module _ {names bounds types : List ℕ} where
   }
 
   -- the impl's names
-  module _ {declared declared₁ : List ℕ} {v : Verdict} (sh : Shaped names bounds types) (d : Declares (slice 1 (1 + getD names 0 0) names) declared declared₁ 0 v) where
+  module _ {declared declared₁ : List ℕ} {v : Verdict} (sh : Shaped names bounds types)
+      (d : Declares (slice 1 (1 + getD names 0 0) names) declared declared₁ 0 v) where
     impl-names : Declares (implNames names) declared declared₁ 0 v
     impl-names = rw (sh .in-names .impl) at d
 
-    pub impl-names-refused : {longs shorts : List ℕ} {r : Refusal} → length longs ≡ 256 → length shorts ≡ 256 → v ≡ Refused r → Built names bounds types declared₁ longs shorts (stopped v)
-    impl-names-refused l s e = built-refused (d .size, l, s) (stage-refused _ _ (left₁ names bounds types) refl (impl-names .verdict) e) e
+    pub impl-names-refused : {longs shorts : List ℕ} {r : Refusal} → length longs ≡ 256 → length shorts ≡ 256
+        → v ≡ Refused r → Built names bounds types declared₁ longs shorts (stopped v)
+    impl-names-refused l s e =
+        built-refused (d .size, l, s) (stage-refused _ _ (left₁ names bounds types) refl (impl-names .verdict) e) e
 
     pub impl-named : v ≡ Accepted → ImplNamed names bounds types declared₁
     impl-named e = record {
@@ -283,12 +305,15 @@ module _ {names bounds types : List ℕ} where
 
   -- the impl's pairs
   module _ {declared longs shorts longs₁ shorts₁ : List ℕ} {v : Verdict} (i : ImplNamed names bounds types declared)
-      (p : Pushes (take (getD names 0 0) declared) (pairsOf (slice 1 (1 + 2 * getD bounds 0 0) bounds)) longs shorts longs₁ shorts₁ 0 v) where
+      (p : Pushes (take (getD names 0 0) declared) (pairsOf (slice 1 (1 + 2 * getD bounds 0 0) bounds)) longs shorts
+      longs₁ shorts₁ 0 v) where
     impl-pairs : Pushes (implNames names) (implPairs bounds) longs shorts longs₁ shorts₁ 0 v
     impl-pairs = rw (i .named .names, i .shaped .in-bounds .impl) at p
 
     pub impl-pairs-refused : {r : Refusal} → v ≡ Refused r → Built names bounds types declared longs₁ shorts₁ (stopped v)
-    impl-pairs-refused e = built-refused (i .named .size, p .size-longs, p .size-shorts) (stage-refused _ _ _ (i .left) (impl-pairs .verdict) e) e
+    impl-pairs-refused e =
+        built-refused (i .named .size, p .size-longs, p .size-shorts)
+        (stage-refused _ _ _ (i .left) (impl-pairs .verdict) e) e
 
     pub impl-bound : v ≡ Accepted → ImplBound names bounds types declared longs₁ shorts₁
     unfolding ascending
@@ -310,7 +335,9 @@ module _ {names bounds types : List ℕ} where
     method-verdict = rw (i .named .names) at (method-names .verdict)
 
     pub method-names-refused : {r : Refusal} → v ≡ Refused r → Built names bounds types declared₁ longs shorts (stopped v)
-    method-names-refused e = built-refused (d .size, i .sides .size-longs, i .sides .size-shorts) (stage-refused _ _ _ (i .left) method-verdict e) e
+    method-names-refused e =
+        built-refused (d .size, i .sides .size-longs, i .sides .size-shorts)
+        (stage-refused _ _ _ (i .left) method-verdict e) e
 
     pub all-named : v ≡ Accepted → AllNamed names bounds types declared₁ longs shorts
     all-named e = record {
@@ -333,14 +360,18 @@ module _ {names bounds types : List ℕ} where
     pairs-verdict = rw (i .shaped .in-bounds .impls) (method-pairs .verdict)
 
     pub method-pairs-refused : {r : Refusal} → v ≡ Refused r → Built names bounds types declared longs₁ shorts₁ (stopped v)
-    method-pairs-refused e = built-refused (i .named .size, p .size-longs, p .size-shorts) (stage-refused _ _ _ (i .left) pairs-verdict e) e
+    method-pairs-refused e =
+        built-refused (i .named .size, p .size-longs, p .size-shorts) (stage-refused _ _ _ (i .left) pairs-verdict e) e
 
     pub all-bound : v ≡ Accepted → AllBound names bounds types declared longs₁ shorts₁
     all-bound e =
-        let many : length (allNamesOf names) ≡ length names - 1 = rw (length-append (implNames names) (methodNames names), i .shaped .in-names .impls) (i .shaped .in-names .all) in
+        let many : length (allNamesOf names) ≡ length names - 1 =
+        rw (length-append (implNames names) (methodNames names), i .shaped .in-names .impls)
+        (i .shaped .in-names .all) in
         let few : length (implNames names) ≤ length names - 1 = omega (arith, i .shaped .in-names .impls, i .shaped .in-names .all) in
         let own : Under (length names - 1) (boundsFor (allNamesOf names) (methodPairs bounds)) =
-        rw many at (pairs-under (allNamesOf names) (length (implPairs bounds)) (methodPairs bounds) (accepted-none (tt {0}) _ (sym pairs-verdict ∙ e))) in
+        rw many at (pairs-under (allNamesOf names) (length (implPairs bounds)) (methodPairs bounds)
+        (accepted-none (tt {0}) _ (sym pairs-verdict ∙ e))) in
         record {
           shaped = i .shaped;
           named = i .named;
@@ -358,13 +389,18 @@ module _ {names bounds types : List ℕ} where
 
     module _ {longs₁ shorts₁ reach₁ : List ℕ} {r : Implied}
         (x : (ts : List TypeName) → encodeAll ts ≡ types
-        → Extends (take (length names - 1) declared) (allImplied (take (length names - 1) declared) (sidesOf ((length bounds - 1) / 2) longs shorts) ts) longs shorts longs₁ shorts₁ reach₁ ((length bounds - 1) / 2) r) where
-      extended : Extends (allNamesOf names) (impliedPairs names bounds types) longs shorts longs₁ shorts₁ reach₁ ((length bounds - 1) / 2) r
+        → Extends (take (length names - 1) declared)
+        (allImplied (take (length names - 1) declared) (sidesOf ((length bounds - 1) / 2) longs shorts) ts) longs
+        shorts longs₁ shorts₁ reach₁ ((length bounds - 1) / 2) r) where
+      extended : Extends (allNamesOf names) (impliedPairs names bounds types) longs shorts longs₁ shorts₁ reach₁
+          ((length bounds - 1) / 2) r
       extended = rw (i .named .names, i .sides .bounds) at (x (typesOf types) (i .shaped .in-types))
 
-      pub all-built : Built names bounds types declared longs₁ shorts₁ (record { verdict = r .verdict; named = length names - 1; pushed = r .pushed })
+      pub all-built : Built names bounds types declared longs₁ shorts₁
+          (record { verdict = r .verdict; named = length names - 1; pushed = r .pushed })
       all-built =
-          let count : length (implPairs bounds) + length (methodPairs bounds) ≡ (length bounds - 1) / 2 = rw (i .shaped .in-bounds .impls) (i .shaped .in-bounds .all) in
+          let count : length (implPairs bounds) + length (methodPairs bounds) ≡ (length bounds - 1) / 2 =
+          rw (i .shaped .in-bounds .impls) (i .shaped .in-bounds .all) in
           let last : r .verdict ≡ judged (left₄ names bounds types) = rw count (extended .pushes .verdict) in
           record {
             verdict = last ∙ sym (i .left);
@@ -380,11 +416,13 @@ module _ (names bounds types : List ℕ) where
   abbrev inShape : Bool
   inShape = namesInShape names && (boundsInShape bounds && typesInShape types)
 
-  pub shape-refused : {v : Verdict} {r : Refusal} → v ≡ shapeVerdict inShape → v ≡ Refused r → record { verdict = v; env = envOf [] [] } ≡ made (envOf [] []) (fromMethodItem names bounds types)
+  pub shape-refused : {v : Verdict} {r : Refusal} → v ≡ shapeVerdict inShape → v ≡ Refused r
+      → record { verdict = v; env = envOf [] [] } ≡ made (envOf [] []) (fromMethodItem names bounds types)
   unfolding fromMethodItem unless
   shape-refused {v} {r} is e = go inShape refl
     where
-      go : (b : Bool) → inShape ≡ b → record { verdict = v; env = envOf [] [] } ≡ made (envOf [] []) (fromMethodItem names bounds types)
+      go : (b : Bool) → inShape ≡ b
+          → record { verdict = v; env = envOf [] [] } ≡ made (envOf [] []) (fromMethodItem names bounds types)
       go true h = let f : v ≡ Accepted = rw h at is in refused-accepted (sym e ∙ f)
       go false h = rw (is, h)
 
@@ -395,22 +433,36 @@ module _ (names bounds types : List ℕ) where
       go true h = h
       go false h = let f : v ≡ Refused Malformed = rw h at is in refused-accepted (sym f ∙ e)
 
-  pub shape-given : {v : Verdict} → v ≡ shapeVerdict inShape → v ≡ Accepted → (namesInShape names ≡ true) × (boundsInShape bounds ≡ true) × (typesInShape types ≡ true)
+  pub shape-given : {v : Verdict} → v ≡ shapeVerdict inShape → v ≡ Accepted → (namesInShape names ≡ true)
+      × (boundsInShape bounds ≡ true) × (typesInShape types ≡ true)
   shape-given is e =
-      let p = both (namesInShape names) (boundsInShape bounds && typesInShape types) (shape-holds is e) in
-      let q = both (boundsInShape bounds) (typesInShape types) (p .1) in
+      let p = (and-eq-true-iff (namesInShape names) (boundsInShape bounds && typesInShape types)) .0 (shape-holds is e) in
+      let q = (and-eq-true-iff (boundsInShape bounds) (typesInShape types)) .0 (p .1) in
       (p .0, q .0, q .1)
 
-  module _ {shape : Verdict} (is : shape ≡ shapeVerdict inShape) (ok : shape ≡ Accepted) {declared longs shorts : List ℕ} {counts : Counts} (b : Built names bounds types declared longs shorts counts) where
-    pub place-refused : {r : Refusal} → counts .verdict ≡ Refused r → record { verdict = counts .verdict; env = envOf [] [] } ≡ made (envOf [] []) (fromMethodItem names bounds types)
+  module _ {shape : Verdict} (is : shape ≡ shapeVerdict inShape) (ok : shape ≡ Accepted)
+      {declared longs shorts : List ℕ} {counts : Counts}
+      (b : Built names bounds types declared longs shorts counts) where
+    pub place-refused : {r : Refusal} → counts .verdict ≡ Refused r
+        → record { verdict = counts .verdict; env = envOf [] [] }
+        ≡ made (envOf [] []) (fromMethodItem names bounds types)
     unfolding fromMethodItem unless
     place-refused {r} e =
-        let due : FirstDue r (placeChecks names bounds types) = refused-first (tt {0}) r (placeChecks names bounds types) (sym (b .verdict) ∙ e) in
+        let due : FirstDue r (placeChecks names bounds types) =
+        refused-first (tt {0}) r (placeChecks names bounds types) (sym (b .verdict) ∙ e) in
         rw (shape-holds is ok, due-refused (envOf (allNamesOf names) (methodBounds names bounds types)) due, e)
 
-    pub method-given : counts .verdict ≡ Accepted → {env : LifetimeEnv} → env ≡ envOf (take (counts .named) declared) (sidesOf (counts .pushed) longs shorts)
+    pub method-given : counts .verdict ≡ Accepted → {env : LifetimeEnv}
+        → env ≡ envOf (take (counts .named) declared) (sidesOf (counts .pushed) longs shorts)
         → record { verdict = Accepted; env = env } ≡ made (envOf [] []) (fromMethodItem names bounds types)
     unfolding fromMethodItem unless
     method-given e {env} q =
-        let none : NoneDue (placeChecks names bounds types) = accepted-none (tt {0}) (placeChecks names bounds types) (sym (b .verdict) ∙ e) in
-        rw (shape-holds is ok, due-given (envOf (allNamesOf names) (methodBounds names bounds types)) none, q, b .named e, b .bounded e)
+        let none : NoneDue (placeChecks names bounds types) =
+        accepted-none (tt {0}) (placeChecks names bounds types) (sym (b .verdict) ∙ e) in
+        rw (
+          shape-holds is ok,
+          due-given (envOf (allNamesOf names) (methodBounds names bounds types)) none,
+          q,
+          b .named e,
+          b .bounded e,
+        )

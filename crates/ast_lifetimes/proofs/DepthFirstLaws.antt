@@ -1,4 +1,5 @@
--- Depth first by plain recursion is the walk that takes the first of a pushed list first: what is listed, with anything pending behind it, is a walk; and something is listed.
+-- Depth first by plain recursion is the walk that takes the first of a pushed list first: what is listed, with anything
+-- pending behind it, is a walk; and something is listed.
 use Prim.Native.Nat.{ℕ, zero, suc, _+_, _≤_}
 use mathlib.Core.Bool.{Bool, true, false}
 use mathlib.Core.Path.{_≡_, refl, sym, _∙_}
@@ -15,7 +16,8 @@ use Rattle.ast_lifetimes.specs.DepthFirst.{Lists, none, passes, lists}
 
 module _ (d : Bool) (bs : List Bound) where
   -- with anything pending behind it
-  listed-walks : {s t : ℕ} {l m p n : List ℕ} → Lists d bs s l m t → Walks FirstFirst d bs p t n → Walks FirstFirst d bs (l ++ p) s (m ++ n)
+  listed-walks : {s t : ℕ} {l m p n : List ℕ} → Lists d bs s l m t → Walks FirstFirst d bs p t n
+      → Walks FirstFirst d bs (l ++ p) s (m ++ n)
   listed-walks none w = w
   listed-walks (passes h f) w = walking.passes h (listed-walks f w)
   listed-walks {p = p} {n = n} (lists {others = others} {l} {m} h f g) w =
@@ -41,17 +43,21 @@ module _ (d : Bool) (bs : List Bound) where
   find zero s (x ∷ l) h = absurd (omega arith)
   find (suc fuel) s [] h = record { list = []; seen = s; finds = none }
   find (suc fuel) s (x ∷ l) h =
-      go (member s x) refl (find fuel s l (omega arith)) (λ e. find fuel (insert s x) (neighbours d bs x) (omega (arith, fewer s x e)))
+      go (member s x) refl (find fuel s l (omega arith))
+      (λ e. find fuel (insert s x) (neighbours d bs x) (omega (arith, fewer s x e)))
       (λ e f. find fuel (f .seen) l (omega (arith, fewer s x e, listed-fewer (f .finds))))
     where
-      go : (t : Bool) → member s x ≡ t → Found s l → (member s x ≡ false → Found (insert s x) (neighbours d bs x)) → (member s x ≡ false → (f : Found (insert s x) (neighbours d bs x)) → Found (f .seen) l)
+      go : (t : Bool) → member s x ≡ t → Found s l → (member s x ≡ false → Found (insert s x) (neighbours d bs x))
+          → (member s x ≡ false → (f : Found (insert s x) (neighbours d bs x)) → Found (f .seen) l)
           → Found s (x ∷ l)
       go true e f g h = record { list = f .list; seen = f .seen; finds = passes e (f .finds) }
-      go false e f g h = let a = g e in let b = h e a in record { list = x ∷ (a .list ++ b .list); seen = b .seen; finds = lists e (a .finds) (b .finds) }
+      go false e f g h = let a = g e in let b = h e a in
+          record { list = x ∷ (a .list ++ b .list); seen = b .seen; finds = lists e (a .finds) (b .finds) }
 
   pub found-only : {k s : ℕ} {l : List ℕ} → Lists d bs empty (k ∷ []) l s → l ≡ traversal FirstFirst d bs k
   unfolding traversal
-  found-only {k} {s} {l} f = sym (append-nil l) ∙ walks-same FirstFirst d bs (listed-walks f ends) (walks FirstFirst d bs (k ∷ []) empty)
+  found-only {k} {s} {l} f =
+      sym (append-nil l) ∙ walks-same FirstFirst d bs (listed-walks f ends) (walks FirstFirst d bs (k ∷ []) empty)
 
   pub found : (k : ℕ) → (seen : ℕ) × Lists d bs empty (k ∷ []) (traversal FirstFirst d bs k) seen
   found k =

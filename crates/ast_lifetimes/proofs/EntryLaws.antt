@@ -1,4 +1,5 @@
--- Building entry by entry: a run of entries gives its result unless one of its checks is due, so all entries give what `from_method_item` gives.
+-- Building entry by entry: a run of entries gives its result unless one of its checks is due, so all entries give what
+-- `from_method_item` gives.
 use Prim.Native.Nat.{ℕ, zero, suc, _+_}
 use mathlib.Core.Bool.{Bool, true, false, cond, _&&_}
 use mathlib.Core.Path.{_≡_, refl, sym, ap, _∙_}
@@ -9,19 +10,25 @@ use lib.ListN.{length, length-append, length-map}
 use Rattle.lifetimes.specs.declared.env.Bound.{Bound}
 use Rattle.lifetimes.specs.Refusals.{Check, Outcome, Gives, Refuses, unless, after}
 use Rattle.ast_lifetimes.specs.declared.env.LifetimeEnv.{LifetimeEnv}
-use Rattle.ast_lifetimes.specs.Shapes.{namesInShape, implNames, methodNames, Pair, boundsInShape, implPairs, methodPairs}
+use Rattle.ast_lifetimes.specs.Shapes.{namesInShape, implNames, methodNames, Pair, boundsInShape, implPairs}
+use Rattle.ast_lifetimes.specs.Shapes.{methodPairs}
 use Rattle.ast_lifetimes.specs.Types.{TypeName, Other, Named, Reference, Option, Result, typesInShape, typesOf}
-use Rattle.ast_lifetimes.specs.Env.{nameChecks, pairChecks, allPairChecks, boundOf, boundsFor, Behind, Ref, Nothing, behind, pathPairs, implied, allImplied, envOf, allNamesOf, explicitBounds, impliedPairs, methodBounds, placeChecks, fromMethodItem}
-use Rattle.ast_lifetimes.specs.Entries.{Entry, Name, Bounded, Path, paths, allPaths, entries, State, state, fold, declare, push, step, built}
+use Rattle.ast_lifetimes.specs.Env.{nameChecks, pairChecks, allPairChecks, boundOf, boundsFor, Behind, Ref}
+use Rattle.ast_lifetimes.specs.Env.{Nothing, behind, pathPairs, implied, allImplied, envOf, allNamesOf}
+use Rattle.ast_lifetimes.specs.Env.{explicitBounds, impliedPairs, methodBounds, placeChecks, fromMethodItem}
+use Rattle.ast_lifetimes.specs.Entries.{Entry, Name, Bounded, Path, paths, allPaths, entries, State, state, fold}
+use Rattle.ast_lifetimes.specs.Entries.{declare, push, step, built}
 use Rattle.ast_lifetimes.proofs.PairLaws.{allPairChecks-append}
 
 -- some checks, and then what follows if none is due
-after-unless : {A B : Type 0} (checks more : List Check) (a : A) (b : B) (f : A → Outcome B) → f a ≡ unless more b → after (unless checks a) f ≡ unless (checks ++ more) b
+after-unless : {A B : Type 0} (checks more : List Check) (a : A) (b : B) (f : A → Outcome B) → f a ≡ unless more b
+    → after (unless checks a) f ≡ unless (checks ++ more) b
 unfolding unless
 after-unless [] more a b f e = e
 after-unless (c ∷ cs) more a b f e = go (c .due) (after-unless cs more a b f e)
   where
-    go : (t : Bool) → after (unless cs a) f ≡ unless (cs ++ more) b → after (cond t (Refuses (c .refusal)) (unless cs a)) f ≡ cond t (Refuses (c .refusal)) (unless (cs ++ more) b)
+    go : (t : Bool) → after (unless cs a) f ≡ unless (cs ++ more) b
+        → after (cond t (Refuses (c .refusal)) (unless cs a)) f ≡ cond t (Refuses (c .refusal)) (unless (cs ++ more) b)
     go true h = refl
     go false h = h
 
@@ -30,29 +37,36 @@ unfolding fold
 fold-append f a [] m = refl
 fold-append {A = A} f a (x ∷ l) m = go (f a x) (λ b. fold-append f b l m)
   where
-    go : (o : Outcome A) → ((b : A) → fold f b (l ++ m) ≡ after (fold f b l) (λ c. fold f c m)) → after o (λ b. fold f b (l ++ m)) ≡ after (after o (λ b. fold f b l)) (λ c. fold f c m)
+    go : (o : Outcome A) → ((b : A) → fold f b (l ++ m) ≡ after (fold f b l) (λ c. fold f c m))
+        → after o (λ b. fold f b (l ++ m)) ≡ after (after o (λ b. fold f b l)) (λ c. fold f c m)
     go (Gives b) h = h b
     go (Refuses r) h = refl
 
 -- one run after another
-fold-both : (s t u : State) (checks more : List Check) (l m : List Entry) → fold step s l ≡ unless checks t → fold step t m ≡ unless more u → fold step s (l ++ m) ≡ unless (checks ++ more) u
+fold-both : (s t u : State) (checks more : List Check) (l m : List Entry) → fold step s l ≡ unless checks t
+    → fold step t m ≡ unless more u → fold step s (l ++ m) ≡ unless (checks ++ more) u
 fold-both s t u checks more l m h k = rw (fold-append step s l m, h) (after-unless checks more t u (λ b. fold step b m) k)
 
 -- a run of names
-fold-names : (names : List ℕ) (bs : List Bound) (l : List ℕ) → fold step (state names bs) (map Name l) ≡ unless (nameChecks names l) (state (names ++ l) bs)
+fold-names : (names : List ℕ) (bs : List Bound) (l : List ℕ)
+    → fold step (state names bs) (map Name l) ≡ unless (nameChecks names l) (state (names ++ l) bs)
 unfolding fold nameChecks unless
 fold-names names bs [] = rw (append-nil names)
 fold-names names bs (x ∷ l) =
-    after-unless (nameChecks names (x ∷ [])) (nameChecks (names ++ (x ∷ [])) l) (state (names ++ (x ∷ [])) bs) (state (names ++ (x ∷ l)) bs) (λ next. fold step next (map Name l))
+    after-unless (nameChecks names (x ∷ [])) (nameChecks (names ++ (x ∷ [])) l) (state (names ++ (x ∷ [])) bs)
+    (state (names ++ (x ∷ l)) bs) (λ next. fold step next (map Name l))
     (rw (append-assoc names (x ∷ []) l) at (fold-names (names ++ (x ∷ [])) bs l))
 
 -- a run of pairs
-fold-pairs : (names : List ℕ) (bs : List Bound) (l : List Pair) → fold push (state names bs) l ≡ unless (allPairChecks names (length bs) l) (state names (bs ++ boundsFor names l))
+fold-pairs : (names : List ℕ) (bs : List Bound) (l : List Pair)
+    → fold push (state names bs) l ≡ unless (allPairChecks names (length bs) l) (state names (bs ++ boundsFor names l))
 unfolding fold allPairChecks unless
 fold-pairs names bs [] = rw (append-nil bs)
 fold-pairs names bs (p ∷ l) =
     let more : length (bs ++ (boundOf names p ∷ [])) ≡ suc (length bs) = rw (length-append bs (boundOf names p ∷ [])) (omega arith) in
-    after-unless (pairChecks names (length bs) p) (allPairChecks names (suc (length bs)) l) (state names (bs ++ (boundOf names p ∷ []))) (state names (bs ++ boundsFor names (p ∷ l))) (λ next. fold push next l)
+    after-unless (pairChecks names (length bs) p) (allPairChecks names (suc (length bs)) l)
+    (state names (bs ++ (boundOf names p ∷ []))) (state names (bs ++ boundsFor names (p ∷ l)))
+    (λ next. fold push next l)
     (rw (more, append-assoc bs (boundOf names p ∷ []) (boundsFor names l)) at (fold-pairs names (bs ++ (boundOf names p ∷ [])) l))
 
 fold-bounded : (s : State) (l : List Pair) → fold step s (map Bounded l) ≡ fold push s l
@@ -60,7 +74,8 @@ unfolding fold
 fold-bounded s [] = refl
 fold-bounded s (p ∷ l) = go (push s p) (λ t. fold-bounded t l)
   where
-    go : (o : Outcome State) → ((t : State) → fold step t (map Bounded l) ≡ fold push t l) → after o (λ next. fold step next (map Bounded l)) ≡ after o (λ next. fold push next l)
+    go : (o : Outcome State) → ((t : State) → fold step t (map Bounded l) ≡ fold push t l)
+        → after o (λ next. fold step next (map Bounded l)) ≡ after o (λ next. fold push next l)
     go (Gives t) h = h t
     go (Refuses r) h = refl
 
@@ -71,39 +86,50 @@ after-gives (Refuses r) = refl
 -- two runs of pairs, the second on the bounds that the first left
 pairs-both : (names : List ℕ) (bs : List Bound) (l m : List Entry) (ps qs : List Pair)
     → fold step (state names bs) l ≡ unless (allPairChecks names (length bs) ps) (state names (bs ++ boundsFor names ps))
-    → fold step (state names (bs ++ boundsFor names ps)) m ≡ unless (allPairChecks names (length (bs ++ boundsFor names ps)) qs) (state names ((bs ++ boundsFor names ps) ++ boundsFor names qs))
-    → fold step (state names bs) (l ++ m) ≡ unless (allPairChecks names (length bs) (ps ++ qs)) (state names (bs ++ boundsFor names (ps ++ qs)))
+    → fold step (state names (bs ++ boundsFor names ps)) m
+    ≡ unless (allPairChecks names (length (bs ++ boundsFor names ps)) qs)
+    (state names ((bs ++ boundsFor names ps) ++ boundsFor names qs))
+    → fold step (state names bs) (l ++ m) ≡ unless (allPairChecks names (length bs) (ps ++ qs))
+    (state names (bs ++ boundsFor names (ps ++ qs)))
 pairs-both names bs l m ps qs h k =
     let count : length (bs ++ boundsFor names ps) ≡ length bs + length ps = rw (length-append, length-map) in
-    let all : bs ++ boundsFor names (ps ++ qs) ≡ (bs ++ boundsFor names ps) ++ boundsFor names qs = rw (map-append (boundOf names) ps qs, append-assoc) in
+    let all : bs ++ boundsFor names (ps ++ qs) ≡ (bs ++ boundsFor names ps) ++ boundsFor names qs =
+    rw (map-append (boundOf names) ps qs, append-assoc) in
     rw (allPairChecks-append names (length bs) ps qs, all, ← count)
-    (fold-both (state names bs) (state names (bs ++ boundsFor names ps)) (state names ((bs ++ boundsFor names ps) ++ boundsFor names qs)) (allPairChecks names (length bs) ps)
+    (fold-both (state names bs) (state names (bs ++ boundsFor names ps))
+    (state names ((bs ++ boundsFor names ps) ++ boundsFor names qs)) (allPairChecks names (length bs) ps)
     (allPairChecks names (length (bs ++ boundsFor names ps)) qs) l m h k)
 
 -- the paths of a type, and of types
 fold-paths : (names : List ℕ) (b : Behind) (bs : List Bound) (t : TypeName)
-    → fold step (state names bs) (paths b t) ≡ unless (allPairChecks names (length bs) (implied names b bs t)) (state names (bs ++ boundsFor names (implied names b bs t)))
+    → fold step (state names bs) (paths b t) ≡ unless (allPairChecks names (length bs) (implied names b bs t))
+    (state names (bs ++ boundsFor names (implied names b bs t)))
 unfolding paths implied fold allPairChecks unless
 fold-paths names b bs Other = rw (append-nil bs)
 fold-paths names Nothing bs (Named ls) = rw (append-nil bs)
-fold-paths names (Ref r) bs (Named ls) = after-gives (fold push (state names bs) (pathPairs names bs r ls)) ∙ fold-pairs names bs (pathPairs names bs r ls)
+fold-paths names (Ref r) bs (Named ls) = after-gives (fold push (state names bs) (pathPairs names bs r ls))
+    ∙ fold-pairs names bs (pathPairs names bs r ls)
 fold-paths names b bs (Reference word t) = fold-paths names (behind word) bs t
 fold-paths names b bs (Option t) = fold-paths names Nothing bs t
 fold-paths names b bs (Result t u) =
-    pairs-both names bs (paths Nothing t) (paths Nothing u) (implied names Nothing bs t) (implied names Nothing (bs ++ boundsFor names (implied names Nothing bs t)) u)
+    pairs-both names bs (paths Nothing t) (paths Nothing u) (implied names Nothing bs t)
+    (implied names Nothing (bs ++ boundsFor names (implied names Nothing bs t)) u)
     (fold-paths names Nothing bs t) (fold-paths names Nothing (bs ++ boundsFor names (implied names Nothing bs t)) u)
 
 fold-types : (names : List ℕ) (bs : List Bound) (ts : List TypeName)
-    → fold step (state names bs) (allPaths ts) ≡ unless (allPairChecks names (length bs) (allImplied names bs ts)) (state names (bs ++ boundsFor names (allImplied names bs ts)))
+    → fold step (state names bs) (allPaths ts) ≡ unless (allPairChecks names (length bs) (allImplied names bs ts))
+    (state names (bs ++ boundsFor names (allImplied names bs ts)))
 unfolding allPaths allImplied fold allPairChecks unless
 fold-types names bs [] = rw (append-nil bs)
 fold-types names bs (t ∷ ts) =
-    pairs-both names bs (paths Nothing t) (allPaths ts) (implied names Nothing bs t) (allImplied names (bs ++ boundsFor names (implied names Nothing bs t)) ts)
+    pairs-both names bs (paths Nothing t) (allPaths ts) (implied names Nothing bs t)
+    (allImplied names (bs ++ boundsFor names (implied names Nothing bs t)) ts)
     (fold-paths names Nothing bs t) (fold-types names (bs ++ boundsFor names (implied names Nothing bs t)) ts)
 
 -- all entries
 pub fold-entries : (names bounds types : List ℕ)
-    → fold step (state [] []) (entries names bounds types) ≡ unless (placeChecks names bounds types) (state (allNamesOf names) (methodBounds names bounds types))
+    → fold step (state [] []) (entries names bounds types) ≡ unless (placeChecks names bounds types)
+    (state (allNamesOf names) (methodBounds names bounds types))
 fold-entries names bounds types =
     let i = implNames names in
     let n = allNamesOf names in
@@ -113,17 +139,24 @@ fold-entries names bounds types =
     let ib : length b ≡ length (implPairs bounds) = rw length-map in
     let ic : length c ≡ length (implPairs bounds) + length (methodPairs bounds) = rw (length-append, length-map, length-map) in
     fold-both (state [] []) (state i []) last (nameChecks [] i) _ (map Name i) _ (fold-names [] [] i)
-    (fold-both (state i []) (state i b) last (allPairChecks i 0 (implPairs bounds)) _ (map Bounded (implPairs bounds)) _ (fold-bounded (state i []) (implPairs bounds) ∙ fold-pairs i [] (implPairs bounds))
-    (fold-both (state i b) (state n b) last (nameChecks i (methodNames names)) _ (map Name (methodNames names)) _ (fold-names i b (methodNames names))
-    (fold-both (state n b) (state n c) last (allPairChecks n (length (implPairs bounds)) (methodPairs bounds)) _ (map Bounded (methodPairs bounds)) _
+    (fold-both (state i []) (state i b) last (allPairChecks i 0 (implPairs bounds)) _ (map Bounded (implPairs bounds))
+    _ (fold-bounded (state i []) (implPairs bounds) ∙ fold-pairs i [] (implPairs bounds))
+    (fold-both (state i b) (state n b) last (nameChecks i (methodNames names)) _ (map Name (methodNames names))
+    _ (fold-names i b (methodNames names))
+    (fold-both (state n b) (state n c) last (allPairChecks n (length (implPairs bounds)) (methodPairs bounds))
+    _ (map Bounded (methodPairs bounds)) _
     (fold-bounded (state n b) (methodPairs bounds) ∙ (rw ib at (fold-pairs n b (methodPairs bounds))))
     (rw ic at (fold-types n c (typesOf types))))))
 
 -- so `from_method_item` gives what is built entry by entry
-pub built-in-order : (names bounds types : List ℕ) → namesInShape names && (boundsInShape bounds && typesInShape types) ≡ true → fromMethodItem names bounds types ≡ built names bounds types
+pub built-in-order : (names bounds types : List ℕ) → namesInShape names && (boundsInShape bounds && typesInShape types)
+    ≡ true → fromMethodItem names bounds types ≡ built names bounds types
 unfolding fromMethodItem unless
 built-in-order names bounds types shape =
     let all = envOf (allNamesOf names) (methodBounds names bounds types) in
     let more : unless (placeChecks names bounds types ++ []) all ≡ built names bounds types =
-    sym (rw (← fold-entries names bounds types) at (after-unless (placeChecks names bounds types) [] (state (allNamesOf names) (methodBounds names bounds types)) all (λ s. Gives (envOf (s .names) (s .bounds))) refl)) in
+    sym (rw (← fold-entries names bounds types)
+    at (after-unless (placeChecks names bounds types) []
+    (state (allNamesOf names) (methodBounds names bounds types)) all (λ s. Gives (envOf (s .names) (s .bounds)))
+    refl)) in
     rw shape (rw (append-nil (placeChecks names bounds types)) at more)

@@ -1,4 +1,5 @@
--- `extend_implicit_lifetime_bounds`: the loop of `split`, what an environment that was checked says of its sides, and the answers.
+-- `extend_implicit_lifetime_bounds`: the loop of `split`, what an environment that was checked says of its sides, and
+-- the answers.
 use Prim.Native.Nat.{ℕ, suc, _+_, _≤_, _<_}
 use mathlib.Core.Bool.{Bool, true, false, not, and-eq-true-iff}
 use mathlib.Core.Path.{_≡_, refl, sym, ap, _∙_}
@@ -20,17 +21,20 @@ use Rattle.lifetimes.specs.Refusals.{unless, FirstDue, here, later, NoneDue, ne
 use Rattle.lifetimes.specs.Lent.{verdictOf}
 use Rattle.lifetimes.specs.Env.{above, bothBelow}
 use Rattle.lifetimes.specs.Env as hir
-use Rattle.lifetimes.proofs.RefusalLaws.{due-given, due-refused, refused-first, accepted-none, none-first, none-rest, first-more}
+use Rattle.lifetimes.proofs.RefusalLaws.{due-given, due-refused, refused-first, accepted-none, none-first, none-rest}
+use Rattle.lifetimes.proofs.RefusalLaws.{first-more}
 use Rattle.ast_lifetimes.specs.declared.env.LifetimeEnv.{LifetimeEnv}
 use Rattle.ast_lifetimes.specs.declared.implied.Implied.{Implied}
 use Rattle.records.specs.Reading.{shapeVerdict}
 use Rattle.ast_lifetimes.specs.Types.{typesInShape, typesOf}
-use Rattle.ast_lifetimes.specs.Env.{allPairChecks, allImplied, boundsFor, namesOf, boundsOf, envOf, envChecks, impliedOn, extendedWith, extendChecks, extendImplied, made}
+use Rattle.ast_lifetimes.specs.Env.{allPairChecks, allImplied, boundsFor, namesOf, boundsOf, envOf, envChecks}
+use Rattle.ast_lifetimes.specs.Env.{impliedOn, extendedWith, extendChecks, extendImplied, made}
 use Rattle.records.specs.Ends.{judged}
 use Rattle.ast_lifetimes.specs.Inner.{sidesOf, Below, Splits, Extends}
 use Rattle.records.proofs.VerdictLaws.{refused-accepted, unless-after}
 use Rattle.ast_lifetimes.proofs.PairLaws.{sides-more}
-use Rattle.ast_lifetimes.proofs.Building.{Under, below-under, under-below, under-append, under-wider, pairs-under, under-sides}
+use Rattle.ast_lifetimes.proofs.Building.{Under, below-under, under-below, under-append, under-wider}
+use Rattle.ast_lifetimes.proofs.Building.{pairs-under, under-sides}
 
 -- the loop of `split`
 pub record Splitting (e : LifetimeEnv) (longs shorts : List ℕ) (i : ℕ) : Type 0 where
@@ -39,18 +43,27 @@ pub record Splitting (e : LifetimeEnv) (longs shorts : List ℕ) (i : ℕ) : Typ
   pub size-shorts : length shorts ≡ 256
   pub sides : sidesOf i longs shorts ≡ take i (e .bounds)
 
-pub splitting-start : (e : LifetimeEnv) (longs shorts : List ℕ) → length longs ≡ 256 → length shorts ≡ 256 → Splitting e longs shorts 0
+pub splitting-start : (e : LifetimeEnv) (longs shorts : List ℕ) → length longs ≡ 256 → length shorts ≡ 256
+    → Splitting e longs shorts 0
 unfolding ranges.ascending
 splitting-start e longs shorts a b = record { here = omega arith; size-longs = a; size-shorts = b; sides = refl }
 
 module _ {e : LifetimeEnv} {longs shorts : List ℕ} {i : ℕ} (inv : Splitting e longs shorts i) where
-  pub splitting-more : length (e .bounds) ≡ 256 → e .pushed ≤ 256 → i < e .pushed → {l s : ℕ} → l ≡ getD (e .bounds) i (above 0 0) .longer → s ≡ getD (e .bounds) i (above 0 0) .shorter
+  pub splitting-more : length (e .bounds) ≡ 256 → e .pushed ≤ 256 → i < e .pushed → {l s : ℕ}
+      → l ≡ getD (e .bounds) i (above 0 0) .longer → s ≡ getD (e .bounds) i (above 0 0) .shorter
       → Splitting e (set longs i l) (set shorts i s) (i + 1)
   splitting-more full few h {l} {s} a b = record {
     here = omega arith;
     size-longs = length-set longs i l ∙ inv .size-longs;
     size-shorts = length-set shorts i s ∙ inv .size-shorts;
-    sides = rw (add-one i, sides-more i longs shorts l s (omega (arith, inv .size-longs)) (omega (arith, inv .size-shorts)), inv .sides, take-suc (e .bounds) i (above 0 0) (omega arith), a, b);
+    sides = rw (
+      add-one i,
+      sides-more i longs shorts l s (omega (arith, inv .size-longs)) (omega (arith, inv .size-shorts)),
+      inv .sides,
+      take-suc (e .bounds) i (above 0 0) (omega arith),
+      a,
+      b,
+    );
   }
 
   pub splitting-end : e .pushed ≤ i → Splits e longs shorts
@@ -79,21 +92,27 @@ pub valid : (e : LifetimeEnv) {v : Verdict} → v ≡ verdictOf (unless (envChec
 valid e p q = accepted-none e (envChecks e) (sym p ∙ q)
 
 -- the answers of `extended`
-module _ (e : LifetimeEnv) (types : List ℕ) {longs shorts longs₁ shorts₁ reach₁ : List ℕ} (splits : Splits e longs shorts) {r : Implied}
-    (given : Extends (namesOf e) (allImplied (namesOf e) (sidesOf (e .pushed) longs shorts) (typesOf types)) longs shorts longs₁ shorts₁ reach₁ (e .pushed) r) where
+module _ (e : LifetimeEnv) (types : List ℕ) {longs shorts longs₁ shorts₁ reach₁ : List ℕ}
+    (splits : Splits e longs shorts) {r : Implied}
+    (given : Extends (namesOf e) (allImplied (namesOf e) (sidesOf (e .pushed) longs shorts) (typesOf types)) longs
+    shorts longs₁ shorts₁ reach₁ (e .pushed) r) where
   -- what was pushed is what the types imply on the environment's bounds
   ext : Extends (namesOf e) (impliedOn e types) longs shorts longs₁ shorts₁ reach₁ (e .pushed) r
   ext = rw (splits .sides) at given
 
-  pub extended-refused : {x : Refusal} → r .verdict ≡ Refused x → record { verdict = r .verdict; env = e } ≡ made e (unless (allPairChecks (namesOf e) (e .pushed) (impliedOn e types)) (extendedWith e types))
+  pub extended-refused : {x : Refusal} → r .verdict ≡ Refused x
+      → record { verdict = r .verdict; env = e }
+      ≡ made e (unless (allPairChecks (namesOf e) (e .pushed) (impliedOn e types)) (extendedWith e types))
   extended-refused {x} q =
-      let due : FirstDue x (allPairChecks (namesOf e) (e .pushed) (impliedOn e types)) = refused-first (tt {0}) x _ (sym (ext .pushes .verdict) ∙ q) in
+      let due : FirstDue x (allPairChecks (namesOf e) (e .pushed) (impliedOn e types)) =
+      refused-first (tt {0}) x _ (sym (ext .pushes .verdict) ∙ q) in
       rw (due-refused (extendedWith e types) due, q)
 
   pub extended-few : r .verdict ≡ Accepted → (r .pushed ≤ 256) × (length longs₁ ≡ 256) × (length shorts₁ ≡ 256)
   extended-few a = (rw (ext .pushed a) (ext .pushes .few a), ext .pushes .size-longs, ext .pushes .size-shorts)
 
-  extended-sides : r .verdict ≡ Accepted → sidesOf (r .pushed) longs₁ shorts₁ ≡ boundsOf e ++ boundsFor (namesOf e) (impliedOn e types)
+  extended-sides : r .verdict ≡ Accepted
+      → sidesOf (r .pushed) longs₁ shorts₁ ≡ boundsOf e ++ boundsFor (namesOf e) (impliedOn e types)
   extended-sides a = rw (ext .pushed a, ext .pushes .bounds a, splits .sides)
 
   extended-free : r .verdict ≡ Accepted → NoneDue (allPairChecks (namesOf e) (e .pushed) (impliedOn e types))
@@ -103,10 +122,14 @@ module _ (e : LifetimeEnv) (types : List ℕ) {longs shorts longs₁ shorts₁ r
   extended-small a v =
       let few = valid-named e v in
       let names : length (namesOf e) ≤ 255 = rw length-take (omega (arith, few)) in
-      rw (extended-sides a) (under-below _ (under-append (under-wider (omega (arith, few)) (valid-under e v)) (under-wider names (pairs-under (namesOf e) (e .pushed) (impliedOn e types) (extended-free a)))))
+      rw (extended-sides a)
+      (under-below
+      _ (under-append (under-wider (omega (arith, few)) (valid-under e v))
+      (under-wider names (pairs-under (namesOf e) (e .pushed) (impliedOn e types) (extended-free a)))))
 
   pub extended-given : r .verdict ≡ Accepted → {env : LifetimeEnv} → env ≡ envOf (namesOf e) (sidesOf (r .pushed) longs₁ shorts₁)
-      → record { verdict = Accepted; env = env } ≡ made e (unless (allPairChecks (namesOf e) (e .pushed) (impliedOn e types)) (extendedWith e types))
+      → record { verdict = Accepted; env = env }
+      ≡ made e (unless (allPairChecks (namesOf e) (e .pushed) (impliedOn e types)) (extendedWith e types))
   extended-given a {env} is =
       rw (due-given (extendedWith e types) (extended-free a), is, extended-sides a)
 
@@ -116,7 +139,8 @@ module _ (e : LifetimeEnv) (types : List ℕ) {v : Verdict} (shape : v ≡ shape
   unfolding extendImplied unless
   extend-malformed {x} q = go (typesInShape types) refl
     where
-      go : (t : Bool) → typesInShape types ≡ t → record { verdict = v; env = e } ≡ made e (unless (extendChecks e types) (extendedWith e types))
+      go : (t : Bool) → typesInShape types ≡ t
+          → record { verdict = v; env = e } ≡ made e (unless (extendChecks e types) (extendedWith e types))
       go true h = refused-accepted (sym q ∙ shape ∙ rw h)
       go false h = rw (shape, h)
 
@@ -128,12 +152,21 @@ module _ (e : LifetimeEnv) (types : List ℕ) {v : Verdict} (shape : v ≡ shape
         go true h = h
         go false h = refused-accepted {r = Malformed} (sym (rw h at shape) ∙ good)
 
-    pub extend-invalid : {w : Verdict} {x : Refusal} → w ≡ verdictOf (unless (envChecks e) e) → w ≡ Refused x → record { verdict = w; env = e } ≡ made e (extendImplied e types)
+    pub extend-invalid : {w : Verdict} {x : Refusal} → w ≡ verdictOf (unless (envChecks e) e) → w ≡ Refused x
+        → record { verdict = w; env = e } ≡ made e (extendImplied e types)
     unfolding extendImplied
     extend-invalid {w} {x} p q =
-        let due : FirstDue x (extendChecks e types) = later {c = refusals.check (not (typesInShape types)) Malformed} (rw extend-shaped) (first-more _ (refused-first e x (envChecks e) (sym p ∙ q))) in
+        let due : FirstDue x (extendChecks e types) =
+        later {c = refusals.check (not (typesInShape types)) Malformed} (rw extend-shaped)
+        (first-more _ (refused-first e x (envChecks e) (sym p ∙ q))) in
         rw (due-refused (extendedWith e types) due, q)
 
-    pub extend-given : NoneDue (envChecks e) → made e (unless (allPairChecks (namesOf e) (e .pushed) (impliedOn e types)) (extendedWith e types)) ≡ made e (extendImplied e types)
+    pub extend-given : NoneDue (envChecks e)
+        → made e (unless (allPairChecks (namesOf e) (e .pushed) (impliedOn e types)) (extendedWith e types))
+        ≡ made e (extendImplied e types)
     unfolding extendImplied
-    extend-given free = ap (made e) (sym (unless-after (extendedWith e types) {checks = refusals.check _ Malformed ∷ envChecks e} (allPairChecks (namesOf e) (e .pushed) (impliedOn e types)) (next (rw extend-shaped) free)))
+    extend-given free =
+        ap (made e)
+        (sym
+        (unless-after (extendedWith e types) {checks = refusals.check _ Malformed ∷ envChecks e}
+        (allPairChecks (namesOf e) (e .pushed) (impliedOn e types)) (next (rw extend-shaped) free)))

@@ -1,8 +1,8 @@
--- Pairs pushed part after part, while the sets of outliving are kept: what is left, pushed from here, gives what all gives from the start. The loops of `push_path` and `push_types` are
--- such runs.
+-- Pairs pushed part after part, while the sets of outliving are kept: what is left, pushed from here, gives what all
+-- gives from the start. The loops of `push_path` and `push_types` are such runs.
 use Prim.Native.Nat.{ℕ, _+_, _≤_, _<_}
-use mathlib.Core.Path.{_≡_, refl, sym, ap, subst, _∙_}
-use mathlib.Core.List.{List, [], _∷_, _++_, append-assoc, append-nil, map}
+use mathlib.Core.Path.{_≡_, refl, sym, subst, _∙_}
+use mathlib.Core.List.{List, [], _∷_, _++_, append-assoc, append-nil, map-append}
 use native.Mathlib.Nat.{add-zero}
 use native.Mathlib.Omega.{arith}
 use borrow.Author.Tests.{ltb-true, not-false}
@@ -21,12 +21,9 @@ use Rattle.ast_lifetimes.specs.Inner.{sidesOf, Pushes, Reaches, Joins, E
 use Rattle.records.proofs.VerdictLaws.{refused-accepted, judged-after, judged-stays}
 use Rattle.ast_lifetimes.proofs.PairLaws.{allPairChecks-append}
 
-map-append : {A B : Type 0} (f : A → B) (l m : List A) → map f (l ++ m) ≡ map f l ++ map f m
-map-append f [] m = refl
-map-append f (x ∷ l) m = ap (λ r. f x ∷ r) (map-append f l m)
-
 -- a run under way: `left` of the pairs `all` is to be pushed
-pub record Run (names : List ℕ) (all left : List Pair) (longs₀ shorts₀ : List ℕ) (pushed : ℕ) (longs shorts reach : List ℕ) (count : ℕ) : Type 0 where
+pub record Run (names : List ℕ) (all left : List Pair) (longs₀ shorts₀ : List ℕ) (pushed : ℕ)
+    (longs shorts reach : List ℕ) (count : ℕ) : Type 0 where
   pub few : count ≤ 256
   pub size-longs : length longs ≡ 256
   pub size-shorts : length shorts ≡ 256
@@ -36,13 +33,26 @@ pub record Run (names : List ℕ) (all left : List Pair) (longs₀ shorts₀ : L
   pub stand : sidesOf count longs shorts ++ boundsFor names left ≡ sidesOf pushed longs₀ shorts₀ ++ boundsFor names all
   pub reaches : Reaches (sidesOf count longs shorts) (length names) reach
 
-pub run-start : (names : List ℕ) (all : List Pair) (longs shorts reach : List ℕ) (pushed : ℕ) → pushed ≤ 256 → length longs ≡ 256 → length shorts ≡ 256 → length reach ≡ 32
+pub run-start : (names : List ℕ) (all : List Pair) (longs shorts reach : List ℕ) (pushed : ℕ) → pushed ≤ 256
+    → length longs ≡ 256 → length shorts ≡ 256 → length reach ≡ 32
     → Reaches (sidesOf pushed longs shorts) (length names) reach → Run names all all longs shorts pushed longs shorts reach pushed
-run-start names all longs shorts reach pushed few a b c r = record { few = few; size-longs = a; size-shorts = b; size-reach = c; counted = refl; judges = refl; stand = refl; reaches = r }
+run-start names all longs shorts reach pushed few a b c r =
+    record {
+      few = few;
+      size-longs = a;
+      size-shorts = b;
+      size-reach = c;
+      counted = refl;
+      judges = refl;
+      stand = refl;
+      reaches = r;
+    }
 
 -- one pair pushed and joined is a part
-pub extends-one : {names : List ℕ} {p : Pair} {longs shorts longs₁ shorts₁ reach reach₁ : List ℕ} {count : ℕ} {v : Verdict} → Pushes names (p ∷ []) longs shorts longs₁ shorts₁ count v → v ≡ Accepted
-    → Joins (length names) (place names (p .longer)) (place names (p .shorter)) reach reach₁ → Reaches (sidesOf count longs shorts) (length names) reach
+pub extends-one : {names : List ℕ} {p : Pair} {longs shorts longs₁ shorts₁ reach reach₁ : List ℕ} {count : ℕ}
+    {v : Verdict} → Pushes names (p ∷ []) longs shorts longs₁ shorts₁ count v → v ≡ Accepted
+    → Joins (length names) (place names (p .longer)) (place names (p .shorter)) reach reach₁
+    → Reaches (sidesOf count longs shorts) (length names) reach
     → Extends names (p ∷ []) longs shorts longs₁ shorts₁ reach₁ count (record { verdict = v; pushed = count + 1 })
 extends-one {names} {p} {longs} {shorts} {count = count} pushes e joins r = record {
   pushes = pushes;
@@ -52,7 +62,8 @@ extends-one {names} {p} {longs} {shorts} {count = count} pushes e joins r = reco
 }
 
 -- both sides of a pair that was pushed are declared
-pub accepted-sides : {names : List ℕ} {p : Pair} {longs shorts longs₁ shorts₁ : List ℕ} {count : ℕ} {v : Verdict} → Pushes names (p ∷ []) longs shorts longs₁ shorts₁ count v → v ≡ Accepted
+pub accepted-sides : {names : List ℕ} {p : Pair} {longs shorts longs₁ shorts₁ : List ℕ} {count : ℕ} {v : Verdict}
+    → Pushes names (p ∷ []) longs shorts longs₁ shorts₁ count v → v ≡ Accepted
     → (place names (p .longer) < length names) × (place names (p .shorter) < length names)
 unfolding allPairChecks
 accepted-sides {names} {p} {count = count} pushes e =
@@ -60,11 +71,20 @@ accepted-sides {names} {p} {count = count} pushes e =
     (ltb-true _ _ (not-false _ (none-first n)), ltb-true _ _ (not-false _ (none-first (none-rest n))))
 
 -- a part that is refused
-pub extends-refused : {names : List ℕ} {part : List Pair} {longs shorts longs₁ shorts₁ : List ℕ} {count : ℕ} {v : Verdict} {x : Refusal} → Pushes names part longs shorts longs₁ shorts₁ count v → v ≡ Refused x
-    → {reach : List ℕ} → length reach ≡ 32 → Extends names part longs shorts longs₁ shorts₁ reach count (record { verdict = v; pushed = count })
-extends-refused pushes e size = record { pushes = pushes; size = size; pushed = λ a. refused-accepted (sym e ∙ a); reach = λ a. refused-accepted (sym e ∙ a) }
+pub extends-refused : {names : List ℕ} {part : List Pair} {longs shorts longs₁ shorts₁ : List ℕ} {count : ℕ}
+    {v : Verdict} {x : Refusal} → Pushes names part longs shorts longs₁ shorts₁ count v → v ≡ Refused x
+    → {reach : List ℕ} → length reach ≡ 32
+    → Extends names part longs shorts longs₁ shorts₁ reach count (record { verdict = v; pushed = count })
+extends-refused pushes e size =
+    record {
+      pushes = pushes;
+      size = size;
+      pushed = λ a. refused-accepted (sym e ∙ a);
+      reach = λ a. refused-accepted (sym e ∙ a);
+    }
 
-module _ {names : List ℕ} {all left : List Pair} {longs₀ shorts₀ : List ℕ} {pushed : ℕ} {longs shorts reach : List ℕ} {count : ℕ} (run : Run names all left longs₀ shorts₀ pushed longs shorts reach count) where
+module _ {names : List ℕ} {all left : List Pair} {longs₀ shorts₀ : List ℕ} {pushed : ℕ} {longs shorts reach : List ℕ}
+    {count : ℕ} (run : Run names all left longs₀ shorts₀ pushed longs shorts reach count) where
   -- the same, with what is left written otherwise
   pub run-same : {other : List Pair} → left ≡ other → Run names all other longs₀ shorts₀ pushed longs shorts reach count
   run-same e = subst (λ (l : List Pair). Run names all l longs₀ shorts₀ pushed longs shorts reach count) e run
@@ -73,7 +93,8 @@ module _ {names : List ℕ} {all left : List Pair} {longs₀ shorts₀ : List �
   unfolding allPairChecks unless
   run-end e =
       let n : pushed + length all ≡ count = sym (rw (e, add-zero) at (run .counted)) in
-      let b : sidesOf count longs shorts ≡ sidesOf pushed longs₀ shorts₀ ++ boundsFor names all = sym (append-nil (sidesOf count longs shorts)) ∙ (rw e at (run .stand)) in
+      let b : sidesOf count longs shorts ≡ sidesOf pushed longs₀ shorts₀ ++ boundsFor names all =
+      sym (append-nil (sidesOf count longs shorts)) ∙ (rw e at (run .stand)) in
       record {
         pushes = record {
           verdict = (rw e at (run .judges));
@@ -88,15 +109,20 @@ module _ {names : List ℕ} {all left : List Pair} {longs₀ shorts₀ : List �
       }
 
   -- the next part
-  module _ (part rest : List Pair) (is : left ≡ part ++ rest) {longs₁ shorts₁ reach₁ : List ℕ} {r : Implied} (ext : Extends names part longs shorts longs₁ shorts₁ reach₁ count r) where
-    apart : judged (allPairChecks names count part ++ allPairChecks names (count + length part) rest) ≡ judged (allPairChecks names pushed all)
+  module _ (part rest : List Pair) (is : left ≡ part ++ rest) {longs₁ shorts₁ reach₁ : List ℕ} {r : Implied}
+      (ext : Extends names part longs shorts longs₁ shorts₁ reach₁ count r) where
+    apart : judged (allPairChecks names count part ++ allPairChecks names (count + length part) rest)
+        ≡ judged (allPairChecks names pushed all)
     apart = rw (is, allPairChecks-append names count part rest) at (run .judges)
 
     pub run-refused : {x : Refusal} → r .verdict ≡ Refused x → Extends names all longs₀ shorts₀ longs₁ shorts₁ reach₁ pushed r
     run-refused {x} e =
         record {
           pushes = record {
-            verdict = e ∙ sym (judged-stays (allPairChecks names count part) (allPairChecks names (count + length part) rest) (sym (ext .pushes .verdict) ∙ e)) ∙ apart;
+            verdict =
+                e ∙ sym
+                (judged-stays (allPairChecks names count part) (allPairChecks names (count + length part) rest)
+                (sym (ext .pushes .verdict) ∙ e)) ∙ apart;
             size-longs = ext .pushes .size-longs;
             size-shorts = ext .pushes .size-shorts;
             bounds = λ a. refused-accepted (sym e ∙ a);
@@ -110,14 +136,18 @@ module _ {names : List ℕ} {all left : List Pair} {longs₀ shorts₀ : List �
     pub run-more : r .verdict ≡ Accepted → Run names all rest longs₀ shorts₀ pushed longs₁ shorts₁ reach₁ (r .pushed)
     run-more a =
         let n : r .pushed ≡ count + length part = ext .pushed a in
-        let b : sidesOf (count + length part) longs₁ shorts₁ ≡ sidesOf count longs shorts ++ boundsFor names part = ext .pushes .bounds a in
+        let b : sidesOf (count + length part) longs₁ shorts₁ ≡ sidesOf count longs shorts ++ boundsFor names part =
+        ext .pushes .bounds a in
         record {
           few = rw n (ext .pushes .few a);
           size-longs = ext .pushes .size-longs;
           size-shorts = ext .pushes .size-shorts;
           size-reach = ext .size;
           counted = omega (arith, n, rw (is, length-append) at (run .counted));
-          judges = rw n (sym (judged-after (allPairChecks names count part) (allPairChecks names (count + length part) rest) (sym (ext .pushes .verdict) ∙ a)) ∙ apart);
+          judges = rw n
+              (sym
+              (judged-after (allPairChecks names count part) (allPairChecks names (count + length part) rest)
+              (sym (ext .pushes .verdict) ∙ a)) ∙ apart);
           stand = rw (n, b, append-assoc, ← map-append (boundOf names) part rest) (rw is at (run .stand));
           reaches = rw (n, b) (ext .reach a);
         }

@@ -1,5 +1,5 @@
--- What `longer_than` and `shorter_than` answer, by what their tests show: a refusal of the environment, nothing for an unknown name, or what the traversal
--- of the same bounds answers, whose other checks are then not due.
+-- What `longer_than` and `shorter_than` answer, by what their tests show: a refusal of the environment, nothing for an
+-- unknown name, or what the traversal of the same bounds answers, whose other checks are then not due.
 use Prim.Native.Nat.{ℕ, _≤_, _<_}
 use mathlib.Core.Bool.{Bool}
 use mathlib.Core.Path.{_≡_}
@@ -36,7 +36,8 @@ module _ (e : LifetimeEnv) (none : NoneDue (envChecks e)) where
 
   hir-none : NoneDue (lifetimes.envChecks (hirOf e))
   hir-none =
-      none-due (e .named) (e .named) (e .pushed) (boundsOf e) (omega (arith, few-names)) (ltb-false 256 (e .pushed) (none-first (none-rest none))) (omega arith)
+      none-due (e .named) (e .named) (e .pushed) (boundsOf e) (omega (arith, few-names))
+      (ltb-false 256 (e .pushed) (none-first (none-rest none))) (omega arith)
       (not-false _ (none-first (none-rest (none-rest none))))
 
 module _ (d : Bool) (e : LifetimeEnv) (word : ℕ) (slice : List ℕ) where
@@ -55,7 +56,8 @@ module _ (d : Bool) (e : LifetimeEnv) (word : ℕ) (slice : List ℕ) where
     known : at < e .named → reachOf d (namesOf e) (boundsOf e) word ≡ traversal FirstFirst d (boundsOf e) at
     known h = rw (count-named, ← placed, lt-ltb at (e .named) h)
 
-    pub than-unknown : e .named ≤ at → (listed.Count 0 ≡ counted (listThan d e word (length slice))) × (slice ≡ written (listThan d e word (length slice)) slice)
+    pub than-unknown : e .named ≤ at → (listed.Count 0 ≡ counted (listThan d e word (length slice)))
+        × (slice ≡ written (listThan d e word (length slice)) slice)
     unfolding listThan
     than-unknown h = rw (unknown h) (answers-list [] slice (none-more none (has-room (length slice) [] (omega arith) end)))
 
@@ -68,6 +70,7 @@ module _ (d : Bool) (e : LifetimeEnv) (word : ℕ) (slice : List ℕ) where
         rw (known h, unless-after l (roomCheck (length slice) l ∷ []) none) (unless-after l (roomCheck (length slice) l ∷ []) checked)
 
     pub than-traversal : at < e .named → {l : Lifetime} → l ≡ lifetime at → {r : Listed} {after : List ℕ}
-        → (r ≡ counted (listReach FirstFirst d (hirOf e) (l .0) (length slice))) × (after ≡ written (listReach FirstFirst d (hirOf e) (l .0) (length slice)) slice)
+        → (r ≡ counted (listReach FirstFirst d (hirOf e) (l .0) (length slice)))
+        × (after ≡ written (listReach FirstFirst d (hirOf e) (l .0) (length slice)) slice)
         → (r ≡ counted (listThan d e word (length slice))) × (after ≡ written (listThan d e word (length slice)) slice)
     than-traversal h i a = rw (i, same h) at a

@@ -1,4 +1,5 @@
--- Names in an array: the loop of `position`, the checks of names, the answers of `declare` and the loop of `declare_all`.
+-- Names in an array: the loop of `position`, the checks of names, the answers of `declare` and the loop of
+-- `declare_all`.
 use Prim.Native.Nat.{ℕ, suc, _+_, _≤_, _<_}
 use mathlib.Core.Path.{_≡_, refl, sym, ap, _∙_}
 use mathlib.Core.List.{List, [], _∷_, _++_, append-nil, append-assoc}
@@ -18,7 +19,8 @@ use Rattle.records.specs.Ends.{judged}
 use Rattle.ast_lifetimes.specs.Inner.{Declares}
 use Rattle.records.proofs.VerdictLaws.{refused-accepted, judged-after, judged-stays}
 
--- ---- `position`: the names that were read are others, so the name's place among those that are left, counted from here, is its number
+-- ---- `position`: the names that were read are others, so the name's place among those that are left, counted from
+-- here, is its number
 
 pub record Placing (names : List ℕ) (named word i : ℕ) : Type 0 where
   pub here : i ≤ named
@@ -95,14 +97,17 @@ pub record Declaring (words : List ℕ) (from to : ℕ) (names₀ : List ℕ) (n
   pub few : count ≤ 32
   pub size : length names ≡ 32
   pub counted : count + length (slice at to words) ≡ named + length (slice from to words)
-  pub judges : judged (nameChecks (take count names) (slice at to words)) ≡ judged (nameChecks (take named names₀) (slice from to words))
+  pub judges : judged (nameChecks (take count names) (slice at to words))
+      ≡ judged (nameChecks (take named names₀) (slice from to words))
   pub stand : take count names ++ slice at to words ≡ take named names₀ ++ slice from to words
 
 pub declaring-start : (words : List ℕ) (from to : ℕ) (names : List ℕ) (named : ℕ) → from ≤ to → named ≤ 32 → length names ≡ 32
     → Declaring words from to names named names from named
-declaring-start words from to names named h few size = record { here = h; few = few; size = size; counted = refl; judges = refl; stand = refl }
+declaring-start words from to names named h few size =
+    record { here = h; few = few; size = size; counted = refl; judges = refl; stand = refl }
 
-module _ {words : List ℕ} {from to : ℕ} {names₀ : List ℕ} {named : ℕ} {names : List ℕ} {at count : ℕ} (inv : Declaring words from to names₀ named names at count) where
+module _ {words : List ℕ} {from to : ℕ} {names₀ : List ℕ} {named : ℕ} {names : List ℕ} {at count : ℕ}
+    (inv : Declaring words from to names₀ named names at count) where
   pub declaring-end : to ≤ at → Declares (slice from to words) names₀ names named Accepted
   unfolding nameChecks unless
   declaring-end h =
@@ -116,12 +121,15 @@ module _ {words : List ℕ} {from to : ℕ} {names₀ : List ℕ} {named : ℕ} 
         few = λ a. omega arith;
       }
 
-  module _ (full : to ≤ length words) (h : at < to) {names₁ : List ℕ} {v : Verdict} (declared : Declares (getD words at 0 ∷ []) names names₁ count v) where
+  module _ (full : to ≤ length words) (h : at < to) {names₁ : List ℕ} {v : Verdict}
+      (declared : Declares (getD words at 0 ∷ []) names names₁ count v) where
     first : slice at to words ≡ getD words at 0 ∷ slice (suc at) to words
     first = slice-cons at to words 0 h full
 
     -- the checks of the next name, and then of the others
-    split : judged (nameChecks (take count names) (getD words at 0 ∷ []) ++ nameChecks (take count names ++ (getD words at 0 ∷ [])) (slice (suc at) to words))
+    split : judged
+        (nameChecks (take count names) (getD words at 0 ∷ []) ++ nameChecks (take count names ++ (getD words at 0 ∷ []))
+        (slice (suc at) to words))
         ≡ judged (nameChecks (take named names₀) (slice from to words))
     split = rw (← nameChecks-append (take count names) (getD words at 0 ∷ []) (slice (suc at) to words), ← first) (inv .judges)
 

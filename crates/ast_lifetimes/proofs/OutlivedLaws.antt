@@ -1,9 +1,10 @@
--- The sets of those that outlive each lifetime: with no bound, with one bound more (the loop of `join`), with all bounds of two arrays of sides (the loop of `close`).
+-- The sets of those that outlive each lifetime: with no bound, with one bound more (the loop of `join`), with all
+-- bounds of two arrays of sides (the loop of `close`).
 use Prim.Native.Nat.{ℕ, _+_, _≤_, _<_}
 use mathlib.Core.Bool.{Bool, true, false, cond, _||_, true≢false}
-use mathlib.Core.Path.{_≡_, refl, sym, ap, subst, _∙_}
+use mathlib.Core.Path.{_≡_, refl, sym, subst, _∙_}
 use mathlib.Core.Logic.{_⊎_, inl, inr, ⊎-elim, _↔_}
-use mathlib.Core.List.{List, [], _∷_, _++_, map, List·Memᴰ·not-nil}
+use mathlib.Core.List.{List, [], _∷_, _++_, List·Memᴰ·not-nil, map-append}
 use native.Mathlib.Nat.{zero-add}
 use native.Mathlib.Decide.{ℕ-discrete}
 use native.Mathlib.Omega.{arith}
@@ -27,7 +28,9 @@ pub reaches-none : (named : ℕ) (reach : List ℕ) → ((x : ℕ) → x < named
 reaches-none named reach h a i b = (there, back)
   where
     there : member (getD reach a 0) b ≡ true → Outlives [] b a
-    there m = ⊎-elim (λ e. subst (λ (z : ℕ). Outlives [] z a) e itself) (λ k. absurd (true≢false (sym k ∙ member-empty b))) (member-insert-true empty a b (rw (h a i) at m))
+    there m =
+        ⊎-elim (λ e. subst (λ (z : ℕ). Outlives [] z a) e itself) (λ k. absurd (true≢false (sym k ∙ member-empty b)))
+        (member-insert-true empty a b (rw (h a i) at m))
 
     back : Outlives [] b a → member (getD reach a 0) b ≡ true
     back o = rw (h a i, alone o) (member-insert-same empty a)
@@ -43,7 +46,8 @@ either s t b = rw (member-union s t b) (split (member s b) (member t b))
     split true q = (λ h. inl refl, λ h. refl)
     split false q = (λ h. inr h, λ h. ⊎-elim (λ e. absurd (true≢false (sym e))) (λ e. e) h)
 
-pub reaches-joined : (named long short : ℕ) (before after : List ℕ) → long < named → ((x : ℕ) → x < named → getD after x 0 ≡ joinedAt before long short x)
+pub reaches-joined : (named long short : ℕ) (before after : List ℕ) → long < named
+    → ((x : ℕ) → x < named → getD after x 0 ≡ joinedAt before long short x)
     → (bs : List Bound) → Reaches bs named before → Reaches (bs ++ (above long short ∷ [])) named after
 unfolding joinedAt
 reaches-joined named long short before after inside h bs r a i b = rw (h a i) (go (member (getD before a 0) short) refl)
@@ -52,10 +56,14 @@ reaches-joined named long short before after inside h bs r a i b = rw (h a i) (g
     added = outlives-added bs (above long short) b a
 
     go : (t : Bool) → member (getD before a 0) short ≡ t
-        → (member (cond t (union (getD before a 0) (getD before long 0)) (getD before a 0)) b ≡ true) ↔ Outlives (bs ++ (above long short ∷ [])) b a
+        → (member (cond t (union (getD before a 0) (getD before long 0)) (getD before a 0)) b ≡ true)
+        ↔ Outlives (bs ++ (above long short ∷ [])) b a
     go true m = (
-      λ k. added .1 (⊎-elim (λ u. inl ((r a i b) .0 u)) (λ u. inr ((r a i short) .0 m, (r long inside b) .0 u)) ((either (getD before a 0) (getD before long 0) b) .0 k)),
-      λ o. (either (getD before a 0) (getD before long 0) b) .1 (⊎-elim (λ u. inl ((r a i b) .1 u)) (λ u. inr ((r long inside b) .1 (u .1))) (added .0 o)),
+      λ k. added .1
+          (⊎-elim (λ u. inl ((r a i b) .0 u)) (λ u. inr ((r a i short) .0 m, (r long inside b) .0 u))
+          ((either (getD before a 0) (getD before long 0) b) .0 k)),
+      λ o. (either (getD before a 0) (getD before long 0) b) .1
+          (⊎-elim (λ u. inl ((r a i b) .1 u)) (λ u. inr ((r long inside b) .1 (u .1))) (added .0 o)),
     )
     go false m = (
       λ k. added .1 (inl ((r a i b) .0 k)),
@@ -84,19 +92,31 @@ module _ {long short : ℕ} {before now : List ℕ} {x : ℕ} (inv : Joining lon
     left = λ j h. inv .left j (omega arith);
   }
 
-  pub joining-joins : x < 32 → member (getD now x 0) short ≡ true → (joined : ℕ) → joined ≡ getD before long 0 → Joining long short before (set now x (union (getD now x 0) joined)) (x + 1)
+  pub joining-joins : x < 32 → member (getD now x 0) short ≡ true → (joined : ℕ) → joined ≡ getD before long 0
+      → Joining long short before (set now x (union (getD now x 0) joined)) (x + 1)
   unfolding joinedAt
   joining-joins small m joined e = record {
     size = length-set now x _ ∙ inv .size;
     done = λ j h. elim (ℕ-discrete j x) [
-      | yes q ↦ rw (q, getD-set-same now x (union (getD now x 0) joined) 0 (omega (arith, inv .size)), inv .left x (omega arith), (rw (inv .left x (omega arith)) at m), e)
+      | yes q ↦
+          rw (
+            q,
+            getD-set-same now x (union (getD now x 0) joined) 0 (omega (arith, inv .size)),
+            inv .left x (omega arith),
+            (rw (inv .left x (omega arith)) at m),
+            e,
+          )
       | no q ↦ rw (getD-set-other now x j (union (getD now x 0) joined) 0 q) (inv .done j (omega arith))
     ];
     left = λ j h. rw (getD-set-other now x j (union (getD now x 0) joined) 0 (λ q. omega arith)) (inv .left j (omega arith));
   }
 
   pub joining-end : (named : ℕ) → named ≤ x → long < named → Joins named long short before now
-  joining-end named h inside = record { size = inv .size; joins = reaches-joined named long short before now inside (λ j k. inv .done j (omega arith)) }
+  joining-end named h inside =
+      record {
+        size = inv .size;
+        joins = reaches-joined named long short before now inside (λ j k. inv .done j (omega arith));
+      }
 
 -- the loop of `each_itself`
 pub record Starting (now : List ℕ) (x : ℕ) : Type 0 where
@@ -113,18 +133,16 @@ starting-more {now} {x} inv h s e = record {
 }
 
 -- one bound more of two arrays of sides
-map-snoc : {A B : Type 0} (f : A → B) (l : List A) (a : A) → map f (l ++ (a ∷ [])) ≡ map f l ++ (f a ∷ [])
-map-snoc f [] a = refl
-map-snoc f (x ∷ l) a = ap (λ m. f x ∷ m) (map-snoc f l a)
-
-pub sides-next : (n : ℕ) (longs shorts : List ℕ) → sidesOf (n + 1) longs shorts ≡ sidesOf n longs shorts ++ (above (getD longs n 0) (getD shorts n 0) ∷ [])
-sides-next n longs shorts = rw (add-one n, ascending-snoc 0 n, map-snoc, zero-add n)
+pub sides-next : (n : ℕ) (longs shorts : List ℕ)
+    → sidesOf (n + 1) longs shorts ≡ sidesOf n longs shorts ++ (above (getD longs n 0) (getD shorts n 0) ∷ [])
+sides-next n longs shorts = rw (add-one n, ascending-snoc 0 n, map-append, zero-add n)
 
 -- the loop of `close`: the sets of the first bounds
 pub closing-start : (named : ℕ) (longs shorts reach : List ℕ) → Reaches [] named reach → Reaches (sidesOf 0 longs shorts) named reach
 unfolding ascending
 closing-start named longs shorts reach r = r
 
-pub closing-more : (i : ℕ) (longs shorts : List ℕ) {named : ℕ} {reach reach₁ : List ℕ} → Joins named (getD longs i 0) (getD shorts i 0) reach reach₁ → Reaches (sidesOf i longs shorts) named reach
+pub closing-more : (i : ℕ) (longs shorts : List ℕ) {named : ℕ} {reach reach₁ : List ℕ}
+    → Joins named (getD longs i 0) (getD shorts i 0) reach reach₁ → Reaches (sidesOf i longs shorts) named reach
     → Reaches (sidesOf (i + 1) longs shorts) named reach₁
 closing-more i longs shorts joins r = rw (sides-next i longs shorts) (joins .joins (sidesOf i longs shorts) r)

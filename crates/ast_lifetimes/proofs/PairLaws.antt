@@ -1,4 +1,5 @@
--- Pairs of names pushed as bounds: their checks, the bounds that two arrays of sides hold, the answers of `push_pair` and the loop of `push_pairs`.
+-- Pairs of names pushed as bounds: their checks, the bounds that two arrays of sides hold, the answers of `push_pair`
+-- and the loop of `push_pairs`.
 use Prim.Native.Nat.{ℕ, zero, suc, _+_, _*_, _≤_, _<_}
 use mathlib.Core.Path.{_≡_, refl, sym, ap, _∙_}
 use mathlib.Core.List.{List, [], _∷_, _++_, map, map-append, append-nil, append-assoc}
@@ -51,12 +52,20 @@ sides-more n longs shorts l s h k =
     let same : sidesOf n (set longs n l) (set shorts n s) ≡ sidesOf n longs shorts =
     map-row (side (set longs n l) (set shorts n s)) (side longs shorts) 0 n
     (λ i q. rw (getD-set-other longs n i l 0 (λ e. omega arith), getD-set-other shorts n i s 0 (λ e. omega arith))) in
-    rw (row, map-append (side (set longs n l) (set shorts n s)) (ascending 0 n) (n ∷ []), same, getD-set-same longs n l 0 h, getD-set-same shorts n s 0 k)
+    rw (
+      row,
+      map-append (side (set longs n l) (set shorts n s)) (ascending 0 n) (n ∷ []),
+      same,
+      getD-set-same longs n l 0 h,
+      getD-set-same shorts n s 0 k,
+    )
 
 -- ---- `push_pair`
 
-module _ {names longs shorts : List ℕ} {named pushed : ℕ} (size : length names ≡ named) (sl : length longs ≡ 256) (ss : length shorts ≡ 256) where
-  refused : {r : Refusal} {new : List Pair} → Refused r ≡ judged (allPairChecks names pushed new) → Pushes names new longs shorts longs shorts pushed (Refused r)
+module _ {names longs shorts : List ℕ} {named pushed : ℕ} (size : length names ≡ named) (sl : length longs ≡ 256)
+    (ss : length shorts ≡ 256) where
+  refused : {r : Refusal} {new : List Pair} → Refused r ≡ judged (allPairChecks names pushed new)
+      → Pushes names new longs shorts longs shorts pushed (Refused r)
   refused e = record { verdict = e; size-longs = sl; size-shorts = ss; bounds = refused-accepted; few = refused-accepted }
 
   module _ {longer shorter long : ℕ} (a : long ≡ place names longer) where
@@ -69,11 +78,14 @@ module _ {names longs shorts : List ℕ} {named pushed : ℕ} (size : length nam
       unfolding allPairChecks unless
       push-shorter h = refused (rw (size, ← a, ← b, lt-ltb long named known, le-ltb short named h))
 
-      pub push-full : short < named → 256 ≤ pushed → Pushes names (pair longer shorter ∷ []) longs shorts longs shorts pushed (Refused Full)
+      pub push-full : short < named → 256 ≤ pushed
+          → Pushes names (pair longer shorter ∷ []) longs shorts longs shorts pushed (Refused Full)
       unfolding allPairChecks unless
       push-full h k = refused (rw (size, ← a, ← b, lt-ltb long named known, lt-ltb short named h, le-leb 256 pushed k))
 
-      pub push-given : short < named → pushed < 256 → Pushes names (pair longer shorter ∷ []) longs shorts (set longs pushed long) (set shorts pushed short) pushed Accepted
+      pub push-given : short < named → pushed < 256
+          → Pushes names (pair longer shorter ∷ []) longs shorts (set longs pushed long) (set shorts pushed short)
+          pushed Accepted
       unfolding allPairChecks unless
       push-given h k = record {
         verdict = rw (size, ← a, ← b, lt-ltb long named known, lt-ltb short named h, lt-leb 256 pushed k);
@@ -91,18 +103,21 @@ pairAt words at = pair (getD words at 0) (getD words (at + 1) 0)
 abbrev pairsFrom : List ℕ → ℕ → ℕ → List Pair
 pairsFrom words to at = pairsOf (slice at to words)
 
-pub record Pushing (names words : List ℕ) (from count : ℕ) (longs₀ shorts₀ : List ℕ) (pushed : ℕ) (longs shorts : List ℕ) (at done : ℕ) : Type 0 where
+pub record Pushing (names words : List ℕ) (from count : ℕ) (longs₀ shorts₀ : List ℕ) (pushed : ℕ)
+    (longs shorts : List ℕ) (at done : ℕ) : Type 0 where
   pub here : done ≤ count
   pub reached : at ≡ from + 2 * done
   pub few : pushed + done ≤ 256
   pub size-longs : length longs ≡ 256
   pub size-shorts : length shorts ≡ 256
   pub counted : done + length (pairsFrom words (from + 2 * count) at) ≡ length (pairsFrom words (from + 2 * count) from)
-  pub judges : judged (allPairChecks names (pushed + done) (pairsFrom words (from + 2 * count) at)) ≡ judged (allPairChecks names pushed (pairsFrom words (from + 2 * count) from))
+  pub judges : judged (allPairChecks names (pushed + done) (pairsFrom words (from + 2 * count) at))
+      ≡ judged (allPairChecks names pushed (pairsFrom words (from + 2 * count) from))
   pub stand : sidesOf (pushed + done) longs shorts ++ boundsFor names (pairsFrom words (from + 2 * count) at)
       ≡ sidesOf pushed longs₀ shorts₀ ++ boundsFor names (pairsFrom words (from + 2 * count) from)
 
-pub pushing-start : (names words : List ℕ) (from count : ℕ) (longs shorts : List ℕ) (pushed : ℕ) → pushed ≤ 256 → length longs ≡ 256 → length shorts ≡ 256
+pub pushing-start : (names words : List ℕ) (from count : ℕ) (longs shorts : List ℕ) (pushed : ℕ) → pushed ≤ 256
+    → length longs ≡ 256 → length shorts ≡ 256
     → Pushing names words from count longs shorts pushed longs shorts from 0
 pushing-start names words from count longs shorts pushed few l s = record {
   here = omega arith;
@@ -144,13 +159,20 @@ module _ {names words : List ℕ} {from count : ℕ} {longs₀ shorts₀ : List 
     module _ {longs₁ shorts₁ : List ℕ} {v : Verdict}
         (one : Pushes names (pairAt words at ∷ []) longs shorts longs₁ shorts₁ (pushed + done) v) where
       -- the checks of the next pair, and then of the others
-      split : judged (allPairChecks names (pushed + done) (pairAt words at ∷ []) ++ allPairChecks names (pushed + done + 1) (pairsFrom words (from + 2 * count) (at + 2)))
+      split : judged
+          (allPairChecks names (pushed + done) (pairAt words at ∷ []) ++ allPairChecks names (pushed + done + 1)
+          (pairsFrom words (from + 2 * count) (at + 2)))
           ≡ judged (allPairChecks names pushed (pairsFrom words (from + 2 * count) from))
       split =
-          rw (← allPairChecks-append names (pushed + done) (pairAt words at ∷ []) (pairsFrom words (from + 2 * count) (at + 2)), ← next)
+          rw (
+            ← allPairChecks-append names (pushed + done) (pairAt words at ∷ []) (pairsFrom words (from + 2 * count)
+                (at + 2)),
+            ← next,
+          )
           (inv .judges)
 
-      pub pushing-refused : {r : Refusal} → v ≡ Refused r → Pushes names (pairsFrom words (from + 2 * count) from) longs₀ shorts₀ longs₁ shorts₁ pushed v
+      pub pushing-refused : {r : Refusal} → v ≡ Refused r
+          → Pushes names (pairsFrom words (from + 2 * count) from) longs₀ shorts₀ longs₁ shorts₁ pushed v
       pushing-refused e = record {
         verdict = e ∙ sym (judged-stays _ _ (sym (one .verdict) ∙ e)) ∙ split;
         size-longs = one .size-longs;

@@ -3,7 +3,8 @@ use Prim.Native.Nat.{ℕ, suc, _+_, _≤_, _<_}
 use mathlib.Core.Bool.{Bool, true, false, cond, _&&_, not, true≢false}
 use mathlib.Core.Path.{_≡_, refl, sym, _∙_}
 use mathlib.Core.Logic.{_↔_, ⊎-elim}
-use mathlib.Core.List.{List, [], _∷_, _++_, map, List·Memᴰ, List·Memᴰ·head, List·Memᴰ·tail, List·Memᴰ·cases-cons, List·Memᴰ·not-nil}
+use mathlib.Core.List.{List, [], _∷_, _++_, map, List·Memᴰ, List·Memᴰ·head, List·Memᴰ·tail, List·Memᴰ·cases-cons}
+use mathlib.Core.List.{List·Memᴰ·not-nil}
 use native.Mathlib.Omega.{arith}
 use native.Mathlib.Numerals.{add-one}
 use borrow.Author.Tests.{eqb-true, eqb-false, ltb-true}
@@ -41,10 +42,16 @@ module _ (names : List ℕ) (bs : List Bound) (reach : List ℕ) (reaches : Reac
   taken-has : (x : ℕ) → member (outlivedBy names reach r) x ≡ has x (reachOf true names bs r)
   taken-has x = go (isDeclared names r) refl
     where
-      go : (t : Bool) → isDeclared names r ≡ t → member (cond t (getD reach (place names r) 0) empty) x ≡ has x (cond t (traversal FirstFirst true bs (place names r)) [])
+      go : (t : Bool) → isDeclared names r ≡ t
+          → member (cond t (getD reach (place names r) 0) empty) x
+          ≡ has x (cond t (traversal FirstFirst true bs (place names r)) [])
       go true e = same-test _ _ (
-        λ h. (has-mem x (traversal FirstFirst true bs (place names r))) .1 ((listed-toward FirstFirst true bs (place names r) x) .1 ((reaches (place names r) (ltb-true (place names r) (length names) e) x) .0 h)),
-        λ h. (reaches (place names r) (ltb-true (place names r) (length names) e) x) .1 ((listed-toward FirstFirst true bs (place names r) x) .0 ((has-mem x (traversal FirstFirst true bs (place names r))) .0 h)),
+        λ h. (has-mem x (traversal FirstFirst true bs (place names r))) .1
+            ((listed-toward FirstFirst true bs (place names r) x) .1
+            ((reaches (place names r) (ltb-true (place names r) (length names) e) x) .0 h)),
+        λ h. (reaches (place names r) (ltb-true (place names r) (length names) e) x) .1
+            ((listed-toward FirstFirst true bs (place names r) x) .0
+            ((has-mem x (traversal FirstFirst true bs (place names r))) .0 h)),
       )
       go false e = none x (has-mem x [])
         where
@@ -59,23 +66,36 @@ module _ (names : List ℕ) (bs : List Bound) (r : ℕ) (words : List ℕ) (at t
   test : Bool
   test = isName (getD words at 0) && not (among names bs r (getD words at 0))
 
-  path-next : pathPairs names bs r (slice at to words) ≡ cond test (pair (getD words at 0) r ∷ pathPairs names bs r (slice (at + 1) to words)) (pathPairs names bs r (slice (at + 1) to words))
+  path-next : pathPairs names bs r (slice at to words)
+      ≡ cond test (pair (getD words at 0) r ∷ pathPairs names bs r (slice (at + 1) to words))
+      (pathPairs names bs r (slice (at + 1) to words))
   unfolding select test
-  path-next = rw (slice-cons at to words 0 inside fits, add-one at) (go (isName (getD words at 0) && not (among names bs r (getD words at 0))))
+  path-next =
+      rw (slice-cons at to words 0 inside fits, add-one at)
+      (go (isName (getD words at 0) && not (among names bs r (getD words at 0))))
     where
-      go : (t : Bool) → map (λ word. pair word r) (cond t (getD words at 0 ∷ select (λ word. isName word && not (among names bs r word)) (slice (suc at) to words)) (select (λ word. isName word && not (among names bs r word)) (slice (suc at) to words)))
-          ≡ cond t (pair (getD words at 0) r ∷ pathPairs names bs r (slice (suc at) to words)) (pathPairs names bs r (slice (suc at) to words))
+      go : (t : Bool)
+          → map (λ word. pair word r)
+          (cond t
+          (getD words at 0 ∷ select (λ word. isName word && not (among names bs r word)) (slice (suc at) to words))
+          (select (λ word. isName word && not (among names bs r word)) (slice (suc at) to words)))
+          ≡ cond t (pair (getD words at 0) r ∷ pathPairs names bs r (slice (suc at) to words))
+          (pathPairs names bs r (slice (suc at) to words))
       go true = refl
       go false = refl
 
-  pub path-pushed : (isName (getD words at 0) && not (among names bs r (getD words at 0))) ≡ true → pathPairs names bs r (slice at to words) ≡ (pair (getD words at 0) r ∷ []) ++ pathPairs names bs r (slice (at + 1) to words)
+  pub path-pushed : (isName (getD words at 0) && not (among names bs r (getD words at 0))) ≡ true
+      → pathPairs names bs r (slice at to words) ≡ (pair (getD words at 0) r ∷ []) ++ pathPairs names bs r
+      (slice (at + 1) to words)
   unfolding test
   path-pushed t = path-next ∙ rw t
 
-  pub path-passed : (isName (getD words at 0) && not (among names bs r (getD words at 0))) ≡ false → pathPairs names bs r (slice at to words) ≡ pathPairs names bs r (slice (at + 1) to words)
+  pub path-passed : (isName (getD words at 0) && not (among names bs r (getD words at 0))) ≡ false
+      → pathPairs names bs r (slice at to words) ≡ pathPairs names bs r (slice (at + 1) to words)
   unfolding test
   path-passed t = path-next ∙ rw t
 
-pub path-end : (names : List ℕ) (bs : List Bound) (r : ℕ) (words : List ℕ) (at to : ℕ) → at ≤ to → to ≤ at → pathPairs names bs r (slice at to words) ≡ []
+pub path-end : (names : List ℕ) (bs : List Bound) (r : ℕ) (words : List ℕ) (at to : ℕ) → at ≤ to
+    → to ≤ at → pathPairs names bs r (slice at to words) ≡ []
 unfolding select
 path-end names bs r words at to a b = let e : at ≡ to = omega arith in rw (e, slice-empty to words)

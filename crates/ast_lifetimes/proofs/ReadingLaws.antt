@@ -6,7 +6,8 @@ use mathlib.Core.List.{List, [], _∷_, _++_, append-assoc}
 use lib.Dec.{eqb}
 use borrow.Author.Tests.{eqb-true}
 use Rattle.records.specs.Reading.{Read, readWord, readLifetimes}
-use Rattle.records.proofs.ReadingLaws.{Holds, read, fails, holds-read, holds-cond, holds-onward, LifetimesIn, WordIn, lifetimes-read, word-read, items-encoded}
+use Rattle.records.proofs.ReadingLaws.{Holds, read, fails, holds-read, holds-cond, holds-onward, LifetimesIn, WordIn}
+use Rattle.records.proofs.ReadingLaws.{lifetimes-read, word-read, items-encoded}
 use Rattle.ast_lifetimes.specs.Types.{TypeName, readType, typesInShape, typesOf}
 use Rattle.ast_lifetimes.specs.Inner.{encode, encodeAll}
 
@@ -21,10 +22,17 @@ type-read (suc n) [] = fails
 type-read (suc n) (code ∷ words) =
     let P = TypeIn (code ∷ words) in
     holds-cond P (eqb code 0) (λ e. read (rw (eqb-true code 0 e)))
-    (holds-cond P (eqb code 1) (λ e. holds-onward (LifetimesIn words) P (lifetimes-read words) (λ ls rest p. read (rw (eqb-true code 1 e, p))))
-    (holds-cond P (eqb code 2) (λ e. holds-onward (WordIn words) P (word-read words) (λ l rest p. holds-onward (TypeIn rest) P (type-read n rest) (λ t behind q. read (rw (eqb-true code 2 e, q, p)))))
+    (holds-cond P (eqb code 1)
+    (λ e. holds-onward (LifetimesIn words) P (lifetimes-read words) (λ ls rest p. read (rw (eqb-true code 1 e, p))))
+    (holds-cond P (eqb code 2)
+    (λ e. holds-onward (WordIn words) P (word-read words)
+    (λ l rest p. holds-onward (TypeIn rest) P (type-read n rest)
+    (λ t behind q. read (rw (eqb-true code 2 e, q, p)))))
     (holds-cond P (eqb code 3) (λ e. holds-onward (TypeIn words) P (type-read n words) (λ t rest p. read (rw (eqb-true code 3 e, p))))
-    (holds-cond P (eqb code 4) (λ e. holds-onward (TypeIn words) P (type-read n words) (λ t rest p. holds-onward (TypeIn rest) P (type-read n rest) (λ u behind q. read (rw (eqb-true code 4 e, append-assoc, q, p)))))
+    (holds-cond P (eqb code 4)
+    (λ e. holds-onward (TypeIn words) P (type-read n words)
+    (λ t rest p. holds-onward (TypeIn rest) P (type-read n rest)
+    (λ u behind q. read (rw (eqb-true code 4 e, append-assoc, q, p)))))
     fails))))
 
 -- The words of a type that was read

@@ -1,4 +1,5 @@
--- The shape of the records `names` and `bounds`, test by test, and the loop of `all_names`: the words that were read are names, so what is left decides.
+-- The shape of the records `names` and `bounds`, test by test, and the loop of `all_names`: the words that were read
+-- are names, so what is left decides.
 use Prim.Native.Nat.{ℕ, _+_, _-_, _/_, _%_, _≤_, _<_}
 use mathlib.Core.Bool.{Bool, true, false}
 use mathlib.Core.Path.{_≡_, refl, _∙_}
@@ -49,13 +50,15 @@ unfolding namesInShape
 names-many [] h = refl
 names-many (w ∷ words) h = rw (lt-leb (length (w ∷ words)) 1024 h)
 
-pub names-over : (words : List ℕ) → length words ≤ 1024 → length words - 1 < getD words 0 0 → Refused Malformed ≡ shapeVerdict (namesInShape words)
+pub names-over : (words : List ℕ) → length words ≤ 1024 → length words - 1 < getD words 0 0
+    → Refused Malformed ≡ shapeVerdict (namesInShape words)
 unfolding namesInShape
 names-over [] few h = refl
 names-over (w ∷ words) few h = rw (le-leb (length (w ∷ words)) 1024 few, lt-leb w (length words) (omega arith))
 
 -- the other tests passed, the names decide
-pub names-decide : (words : List ℕ) {t : Bool} → (length words ≡ 0 → ⊥) → length words ≤ 1024 → getD words 0 0 ≤ length words - 1 → allNames (drop 1 words) ≡ t
+pub names-decide : (words : List ℕ) {t : Bool} → (length words ≡ 0 → ⊥) → length words ≤ 1024
+    → getD words 0 0 ≤ length words - 1 → allNames (drop 1 words) ≡ t
     → shapeVerdict t ≡ shapeVerdict (namesInShape words)
 unfolding namesInShape
 names-decide [] some few h e = absurd (some refl)
@@ -73,7 +76,8 @@ unfolding boundsInShape
 bounds-many [] h = refl
 bounds-many (w ∷ words) h = rw (lt-leb (length (w ∷ words)) 1024 h)
 
-pub bounds-half : (words : List ℕ) → length words ≤ 1024 → (length words - 1) % 2 ≡ 1 → Refused Malformed ≡ shapeVerdict (boundsInShape words)
+pub bounds-half : (words : List ℕ) → length words ≤ 1024 → (length words - 1) % 2 ≡ 1
+    → Refused Malformed ≡ shapeVerdict (boundsInShape words)
 unfolding boundsInShape
 bounds-half [] few h = refl
 bounds-half (w ∷ words) few h = rw (le-leb (length (w ∷ words)) 1024 few, ne-eqb (length words % 2) 0 (λ e. omega arith))
@@ -93,7 +97,8 @@ unfolding boundsInShape
 bounds-over [] few pairs h = refl
 bounds-over (w ∷ words) few pairs h = rw (bounds-pairs w words few pairs, lt-leb w (length words / 2) (omega arith))
 
-pub bounds-given : (words : List ℕ) → (length words ≡ 0 → ⊥) → length words ≤ 1024 → ((length words - 1) % 2 ≡ 1 → ⊥) → getD words 0 0 ≤ (length words - 1) / 2
+pub bounds-given : (words : List ℕ) → (length words ≡ 0 → ⊥) → length words ≤ 1024 → ((length words - 1) % 2 ≡ 1 → ⊥)
+    → getD words 0 0 ≤ (length words - 1) / 2
     → Accepted ≡ shapeVerdict (boundsInShape words)
 bounds-given [] some few pairs h = absurd (some refl)
 bounds-given (w ∷ words) some few pairs h = rw (bounds-pairs w words few pairs, le-leb w (length words / 2) (omega arith))

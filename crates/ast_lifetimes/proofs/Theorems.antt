@@ -15,7 +15,8 @@ use Rattle.ast_lifetimes.specs.declared.env.LifetimeEnv.{LifetimeEnv}
 use Rattle.ast_lifetimes.specs.Shapes as shapes
 use Rattle.ast_lifetimes.specs.Types as types
 use Rattle.ast_lifetimes.specs.Env as env
-use Rattle.ast_lifetimes.specs.Theorems.{BuiltInOrder, AcceptedIsValid, AstReachIsOutlives, ListedDepthFirst, ExamplesHold}
+use Rattle.ast_lifetimes.specs.Theorems.{BuiltInOrder, AcceptedIsValid, AstReachIsOutlives, ListedDepthFirst}
+use Rattle.ast_lifetimes.specs.Theorems.{ExamplesHold}
 use Rattle.ast_lifetimes.proofs.AcceptedLaws.{accepted-valid}
 use Rattle.ast_lifetimes.proofs.EntryLaws as entry-laws
 use Rattle.ast_lifetimes.proofs.DepthFirstLaws.{found, found-only}
@@ -25,16 +26,21 @@ unfolding env.fromMethodItem env.envOf
 built-in-order names bounds types = record {
   folded = entry-laws.built-in-order names bounds types;
   names-first = λ e h. sym (ap (λ (d : LifetimeEnv). env.namesOf d) (given e h)) ∙ take-append-seam (env.allNamesOf names) _;
-  bounds-then = λ e h. sym (ap (λ (d : LifetimeEnv). env.boundsOf d) (given e h)) ∙ take-append-seam (env.methodBounds names bounds types) _;
+  bounds-then = λ e h. sym (ap (λ (d : LifetimeEnv). env.boundsOf d) (given e h))
+      ∙ take-append-seam (env.methodBounds names bounds types) _;
 }
   where
-    given : (e : LifetimeEnv) → env.fromMethodItem names bounds types ≡ refusals.Gives e → env.envOf (env.allNamesOf names) (env.methodBounds names bounds types) ≡ e
-    given e h = (given-due (env.envOf (env.allNamesOf names) (env.methodBounds names bounds types)) e (env.methodChecks names bounds types) h) .1
+    given : (e : LifetimeEnv) → env.fromMethodItem names bounds types ≡ refusals.Gives e
+        → env.envOf (env.allNamesOf names) (env.methodBounds names bounds types) ≡ e
+    given e h =
+        (given-due (env.envOf (env.allNamesOf names) (env.methodBounds names bounds types)) e
+        (env.methodChecks names bounds types) h) .1
 
 pub accepted-is-valid : AcceptedIsValid
 unfolding env.fromMethodItem
 accepted-is-valid names bounds types e h =
-    let g = given-due (env.envOf (env.allNamesOf names) (env.methodBounds names bounds types)) e (env.methodChecks names bounds types) h in
+    let g = given-due (env.envOf (env.allNamesOf names) (env.methodBounds names bounds types)) e
+    (env.methodChecks names bounds types) h in
     rw (sym (g .1)) (accepted-valid names bounds types (none-rest (g .0)))
 
 pub ast-reach-is-outlives : AstReachIsOutlives
@@ -42,8 +48,10 @@ ast-reach-is-outlives longer names bs word = record {
   unknown = λ e. rw e;
   members = λ e b. rw e (listed-toward walk.FirstFirst longer bs (env.place names word) b);
   hir = λ e b. rw e (
-    λ m. (listed-toward walk.LastFirst longer bs (env.place names word) b) .1 ((listed-toward walk.FirstFirst longer bs (env.place names word) b) .0 m),
-    λ m. (listed-toward walk.FirstFirst longer bs (env.place names word) b) .1 ((listed-toward walk.LastFirst longer bs (env.place names word) b) .0 m),
+    λ m. (listed-toward walk.LastFirst longer bs (env.place names word) b) .1
+        ((listed-toward walk.FirstFirst longer bs (env.place names word) b) .0 m),
+    λ m. (listed-toward walk.FirstFirst longer bs (env.place names word) b) .1
+        ((listed-toward walk.LastFirst longer bs (env.place names word) b) .0 m),
   );
   once = once (env.isDeclared names word);
 }
@@ -59,5 +67,8 @@ listed-depth-first longer names bs word h = record {
 }
 
 pub examples-hold : ExamplesHold
-unfolding env.fromMethodItem env.envOf env.listThan env.place env.nameChecks env.allPairChecks env.has env.implied env.allImplied shapes.namesInShape shapes.allNames shapes.boundsInShape shapes.pairsOf types.readType reading.readAll reading.inShape reading.itemsOf refusals.unless hir.allBelow ranges.select walk.traversal walk.walk walk.walkFor walk.unpushed walk.neighbours sets.member sets.insert
+unfolding env.fromMethodItem env.envOf env.listThan env.place env.nameChecks env.allPairChecks env.has env.implied
+    env.allImplied shapes.namesInShape shapes.allNames shapes.boundsInShape shapes.pairsOf types.readType
+    reading.readAll reading.inShape reading.itemsOf refusals.unless hir.allBelow ranges.select walk.traversal walk.walk
+    walk.walkFor walk.unpushed walk.neighbours sets.member sets.insert
 examples-hold = (refl, (refl, (refl, (refl, tt))))

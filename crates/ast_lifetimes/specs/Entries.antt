@@ -10,9 +10,11 @@ use Rattle.lifetimes.specs.Refusals.{check, Outcome, Gives, after, unless}
 use Rattle.ast_lifetimes.specs.declared.env.LifetimeEnv.{LifetimeEnv}
 use Rattle.ast_lifetimes.specs.Shapes.{implNames, methodNames, Pair, implPairs, methodPairs}
 use Rattle.ast_lifetimes.specs.Types.{TypeName, Other, Named, Reference, Option, Result, typesOf}
-use Rattle.ast_lifetimes.specs.Env.{isDeclared, pairChecks, boundOf, Behind, Ref, Nothing, behind, pathPairs, envOf}
+use Rattle.ast_lifetimes.specs.Env.{isDeclared, pairChecks, boundOf, Behind, Ref, Nothing, behind, pathPairs}
+use Rattle.ast_lifetimes.specs.Env.{envOf}
 
--- what the records say, in order: a name; a bound between two names; a path behind a named reference, with its lifetimes
+-- what the records say, in order: a name; a bound between two names; a path behind a named reference, with its
+-- lifetimes
 pub data Entry : Type 0 where
   Name : ℕ → Entry
   Bounded : Pair → Entry
@@ -64,7 +66,8 @@ declare s name =
 
 -- one bound more: refused where a side is not declared yet (3) or as a 257th (4)
 abbrev pub push : State → Pair → Outcome State
-push s p = unless (pairChecks (s .names) (length (s .bounds)) p) (state (s .names) (s .bounds ++ (boundOf (s .names) p ∷ [])))
+push s p =
+    unless (pairChecks (s .names) (length (s .bounds)) p) (state (s .names) (s .bounds ++ (boundOf (s .names) p ∷ [])))
 
 -- one entry more; what a path pushes is settled before its first push
 abbrev pub step : State → Entry → Outcome State
@@ -73,4 +76,5 @@ step s (Bounded p) = push s p
 step s (Path r lifetimes) = fold push s (pathPairs (s .names) (s .bounds) r lifetimes)
 
 abbrev pub built : List ℕ → List ℕ → List ℕ → Outcome LifetimeEnv
-built names bounds types = after (fold step (state [] []) (entries names bounds types)) (λ s. Gives (envOf (s .names) (s .bounds)))
+built names bounds types =
+    after (fold step (state [] []) (entries names bounds types)) (λ s. Gives (envOf (s .names) (s .bounds)))

@@ -1,4 +1,5 @@
--- The AST's environment, as `from_method_item` builds it: names in order of declaration, and bounds between them by number.
+-- The AST's environment, as `from_method_item` builds it: names in order of declaration, and bounds between them by
+-- number.
 use Prim.Native.Nat.{ℕ, suc, _+_, _-_}
 use mathlib.Core.Bool.{Bool, true, false, cond, _&&_, not}
 use mathlib.Core.List.{List, [], _∷_, _++_, map}
@@ -13,12 +14,14 @@ use Rattle.lifetimes.specs.Env.{above, allBelow}
 use Rattle.lifetimes.specs.Walk.{FirstFirst, traversal}
 use Rattle.ast_lifetimes.specs.declared.env.LifetimeEnv.{LifetimeEnv}
 use Rattle.ast_lifetimes.specs.declared.env.Made.{Made}
-use Rattle.ast_lifetimes.specs.Shapes.{isName, namesInShape, implNames, methodNames, Pair, pair, boundsInShape, implPairs, methodPairs}
+use Rattle.ast_lifetimes.specs.Shapes.{isName, namesInShape, implNames, methodNames, Pair, pair, boundsInShape}
+use Rattle.ast_lifetimes.specs.Shapes.{implPairs, methodPairs}
 use Rattle.ast_lifetimes.specs.Types.{TypeName, Other, Named, Reference, Option, Result, typesInShape, typesOf}
 
 -- Names
 
--- the number of a name, its place among the declared ones; one that is not declared has the number past them. Of equal names the first counts
+-- the number of a name, its place among the declared ones; one that is not declared has the number past them. Of equal
+-- names the first counts
 unfoldable pub place : List ℕ → ℕ → ℕ
 place [] word = 0
 place (name ∷ names) word = cond (eqb name word) 0 (suc (place names word))
@@ -79,7 +82,8 @@ abbrev pub among : List ℕ → List Bound → ℕ → ℕ → Bool
 among names bs r word = isDeclared names word && has (place names word) (reachOf true names bs r)
 
 abbrev pub pathPairs : List ℕ → List Bound → ℕ → List ℕ → List Pair
-pathPairs names bs r lifetimes = map (λ word. pair word r) (select (λ word. isName word && not (among names bs r word)) lifetimes)
+pathPairs names bs r lifetimes =
+    map (λ word. pair word r) (select (λ word. isName word && not (among names bs r word)) lifetimes)
 
 -- the pairs that a type implies, given the bounds before it; each path's list is taken before its first push
 unfoldable pub implied : List ℕ → Behind → List Bound → TypeName → List Pair
@@ -94,7 +98,8 @@ implied names b bs (Result t u) =
 
 unfoldable pub allImplied : List ℕ → List Bound → List TypeName → List Pair
 allImplied names bs [] = []
-allImplied names bs (t ∷ ts) = implied names Nothing bs t ++ allImplied names (bs ++ boundsFor names (implied names Nothing bs t)) ts
+allImplied names bs (t ∷ ts) =
+    implied names Nothing bs t ++ allImplied names (bs ++ boundsFor names (implied names Nothing bs t)) ts
 
 -- The environment as a value
 
@@ -121,13 +126,15 @@ envChecks e =
     ∷ check (not (allBelow (e .named) (boundsOf e))) OutOfRange
     ∷ []
 
--- `from_method_item`: shape; then impl names, impl bounds, method names, method bounds, and what the types imply. An impl bound sees impl names only
+-- `from_method_item`: shape; then impl names, impl bounds, method names, method bounds, and what the types imply. An
+-- impl bound sees impl names only
 
 abbrev pub allNamesOf : List ℕ → List ℕ
 allNamesOf names = implNames names ++ methodNames names
 
 abbrev pub explicitBounds : List ℕ → List ℕ → List Bound
-explicitBounds names bounds = boundsFor (implNames names) (implPairs bounds) ++ boundsFor (allNamesOf names) (methodPairs bounds)
+explicitBounds names bounds =
+    boundsFor (implNames names) (implPairs bounds) ++ boundsFor (allNamesOf names) (methodPairs bounds)
 
 abbrev pub impliedPairs : List ℕ → List ℕ → List ℕ → List Pair
 impliedPairs names bounds types = allImplied (allNamesOf names) (explicitBounds names bounds) (typesOf types)
@@ -139,7 +146,8 @@ placeChecks names bounds types =
     ++ (allPairChecks (implNames names) 0 (implPairs bounds)
     ++ (nameChecks (implNames names) (methodNames names)
     ++ (allPairChecks (allNamesOf names) (length (implPairs bounds)) (methodPairs bounds)
-    ++ allPairChecks (allNamesOf names) (length (implPairs bounds) + length (methodPairs bounds)) (impliedPairs names bounds types))))
+    ++ allPairChecks (allNamesOf names) (length (implPairs bounds) + length (methodPairs bounds))
+    (impliedPairs names bounds types))))
 
 abbrev pub methodChecks : List ℕ → List ℕ → List ℕ → List Check
 methodChecks names bounds types =
@@ -148,14 +156,16 @@ methodChecks names bounds types =
 
 -- the bounds: the explicit ones, then the implied ones
 abbrev pub methodBounds : List ℕ → List ℕ → List ℕ → List Bound
-methodBounds names bounds types = explicitBounds names bounds ++ boundsFor (allNamesOf names) (impliedPairs names bounds types)
+methodBounds names bounds types =
+    explicitBounds names bounds ++ boundsFor (allNamesOf names) (impliedPairs names bounds types)
 
 unfoldable pub fromMethodItem : List ℕ → List ℕ → List ℕ → Outcome LifetimeEnv
 fromMethodItem names bounds types =
     unless (methodChecks names bounds types)
     (envOf (allNamesOf names) (methodBounds names bounds types))
 
--- `extend_implicit_lifetime_bounds` of an environment made in any way: the types' shape (1), the environment (4, 8), then what the types imply (3, 4)
+-- `extend_implicit_lifetime_bounds` of an environment made in any way: the types' shape (1), the environment (4, 8),
+-- then what the types imply (3, 4)
 
 abbrev pub impliedOn : LifetimeEnv → List ℕ → List Pair
 impliedOn e types = allImplied (namesOf e) (boundsOf e) (typesOf types)

@@ -1,11 +1,12 @@
--- 01's starred examples about AST environments, as one list of questions and answers. Theorems.ExamplesHold: each question has its answer.
+-- 01's starred examples about AST environments, as one list of questions and answers. Theorems.ExamplesHold: each
+-- question has its answer.
 use Prim.Native.Nat.{ℕ}
 use mathlib.Core.Bool.{true}
 use mathlib.Core.Path.{_≡_}
 use mathlib.Core.List.{List, [], _∷_}
 use Rattle.lifetimes.specs.declared.answer.Refusal.the-variants.{Duplicate}
 use Rattle.lifetimes.specs.declared.env.Bound.{Bound}
-use Rattle.lifetimes.specs.Refusals.{Outcome, Gives, Refuses}
+use Rattle.lifetimes.specs.Refusals.{Outcome, Gives, Refuses, over}
 use Rattle.lifetimes.specs.Env.{above}
 use Rattle.ast_lifetimes.specs.declared.env.LifetimeEnv.{LifetimeEnv}
 use Rattle.ast_lifetimes.specs.Env.{boundsOf, envOf, fromMethodItem, listThan}
@@ -21,8 +22,7 @@ pub data Answer : Type 0 where
   Listed : Outcome (List ℕ) → Answer
 
 abbrev pub bounds : Outcome LifetimeEnv → Outcome (List Bound)
-bounds (Gives e) = Gives (boundsOf e)
-bounds (Refuses r) = Refuses r
+bounds o = over boundsOf o
 
 abbrev pub answer : Question → Answer
 answer (Bounds names bs types) = Pushed (bounds (fromMethodItem names bs types))
@@ -35,8 +35,8 @@ pub record Example : Type 0 where
 abbrev pub asked : Question → Answer → Example
 asked q a = record { question = q; expected = a }
 
-abbrev pub examples : List Example
-examples =
+abbrev pub starred : List Example
+starred =
     -- `2 7 1 2 9 9` pushes two equal bounds; `2 7 1 1 7` none
     asked (Bounds (0 ∷ 7 ∷ 9 ∷ []) (0 ∷ []) (2 ∷ 7 ∷ 1 ∷ 2 ∷ 9 ∷ 9 ∷ [])) (Pushed (Gives (above 1 0 ∷ above 1 0 ∷ [])))
     ∷ asked (Bounds (0 ∷ 7 ∷ []) (0 ∷ []) (2 ∷ 7 ∷ 1 ∷ 1 ∷ 7 ∷ [])) (Pushed (Gives []))

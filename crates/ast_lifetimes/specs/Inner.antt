@@ -1,4 +1,5 @@
--- For private functions only: what the arrays hold in which an environment is built. No public contract cites this file.
+-- For private functions only: what the arrays hold in which an environment is built. No public contract cites this
+-- file.
 use Prim.Native.Nat.{ℕ, _+_, _≤_, _<_}
 use mathlib.Core.Bool.{Bool, true, cond, _&&_, not}
 use mathlib.Core.Path.{_≡_}
@@ -18,7 +19,8 @@ use Rattle.ast_lifetimes.specs.declared.env.LifetimeEnv.{LifetimeEnv}
 use Rattle.ast_lifetimes.specs.declared.implied.Implied.{Implied}
 use Rattle.ast_lifetimes.specs.Shapes.{isName, Pair}
 use Rattle.ast_lifetimes.specs.Types as types
-use Rattle.ast_lifetimes.specs.Env.{place, isDeclared, nameChecks, allPairChecks, boundsFor, boundsOf, allNamesOf, placeChecks, methodBounds}
+use Rattle.ast_lifetimes.specs.Env.{place, isDeclared, nameChecks, allPairChecks, boundsFor, boundsOf, allNamesOf}
+use Rattle.ast_lifetimes.specs.Env.{placeChecks, methodBounds}
 
 -- the first n bounds, from their longer and their shorter sides
 abbrev pub sidesOf : ℕ → List ℕ → List ℕ → List Bound
@@ -31,12 +33,15 @@ pub record Declares (new before after : List ℕ) (named : ℕ) (r : Verdict) : 
   pub names : r ≡ Accepted → take (named + length new) after ≡ take named before ++ new
   pub few : r ≡ Accepted → named + length new ≤ 32
 
--- pairs pushed behind the first `pushed` bounds of two arrays of sides: the verdict is that of their checks; accepted, they stand there
-pub record Pushes (names : List ℕ) (new : List Pair) (longs shorts longs₁ shorts₁ : List ℕ) (pushed : ℕ) (r : Verdict) : Type 0 where
+-- pairs pushed behind the first `pushed` bounds of two arrays of sides: the verdict is that of their checks; accepted,
+-- they stand there
+pub record Pushes (names : List ℕ) (new : List Pair) (longs shorts longs₁ shorts₁ : List ℕ) (pushed : ℕ)
+    (r : Verdict) : Type 0 where
   pub verdict : r ≡ judged (allPairChecks names pushed new)
   pub size-longs : length longs₁ ≡ 256
   pub size-shorts : length shorts₁ ≡ 256
-  pub bounds : r ≡ Accepted → sidesOf (pushed + length new) longs₁ shorts₁ ≡ sidesOf pushed longs shorts ++ boundsFor names new
+  pub bounds : r ≡ Accepted → sidesOf (pushed + length new) longs₁ shorts₁ ≡ sidesOf pushed longs shorts
+      ++ boundsFor names new
   pub few : r ≡ Accepted → pushed + length new ≤ 256
 
 -- the words of a type, and of types one after another
@@ -73,13 +78,15 @@ abbrev pub isImplied : List ℕ → ℕ → ℕ → Bool
 isImplied names taken word = isName word && not (isDeclared names word && member taken (place names word))
 
 -- pairs pushed on bounds whose sets of outliving are kept: as `Pushes`, and the sets are those of all bounds
-pub record Extends (names : List ℕ) (new : List Pair) (longs shorts longs₁ shorts₁ reach₁ : List ℕ) (before : ℕ) (r : Implied) : Type 0 where
+pub record Extends (names : List ℕ) (new : List Pair) (longs shorts longs₁ shorts₁ reach₁ : List ℕ) (before : ℕ)
+    (r : Implied) : Type 0 where
   pub pushes : Pushes names new longs shorts longs₁ shorts₁ before (r .verdict)
   pub size : length reach₁ ≡ 32
   pub pushed : r .verdict ≡ Accepted → r .pushed ≡ before + length new
   pub reach : r .verdict ≡ Accepted → Reaches (sidesOf before longs shorts ++ boundsFor names new) (length names) reach₁
 
--- what `build` gives of records in shape: the verdict of all their checks but the shape's; accepted, the method's names and bounds
+-- what `build` gives of records in shape: the verdict of all their checks but the shape's; accepted, the method's names
+-- and bounds
 pub record Built (names bounds types declared longs shorts : List ℕ) (r : Counts) : Type 0 where
   pub verdict : r .verdict ≡ judged (placeChecks names bounds types)
   pub sizes : (length declared ≡ 32) × (length longs ≡ 256) × (length shorts ≡ 256)

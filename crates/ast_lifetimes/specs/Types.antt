@@ -20,9 +20,12 @@ readType (suc nesting) [] = Fails
 readType (suc nesting) (code ∷ words) =
     cond (eqb code 0) (Read Other words)
     (cond (eqb code 1) (onward (readLifetimes words) (λ ls rest. Read (Named ls) rest))
-    (cond (eqb code 2) (onward (readWord words) (λ l rest. onward (readType nesting rest) (λ t behind. Read (Reference l t) behind)))
+    (cond (eqb code 2)
+    (onward (readWord words) (λ l rest. onward (readType nesting rest) (λ t behind. Read (Reference l t) behind)))
     (cond (eqb code 3) (onward (readType nesting words) (λ t rest. Read (Option t) rest))
-    (cond (eqb code 4) (onward (readType nesting words) (λ t rest. onward (readType nesting rest) (λ u behind. Read (Result t u) behind)))
+    (cond (eqb code 4)
+    (onward (readType nesting words)
+    (λ t rest. onward (readType nesting rest) (λ u behind. Read (Result t u) behind)))
     Fails))))
 
 -- one type after another, to the end of the record

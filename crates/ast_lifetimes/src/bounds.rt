@@ -4,6 +4,7 @@ ghost use mathlib.Core.List.{[], _∷_};
 ghost use Prim.Native.Nat.{_+_, _*_, _≤_};
 ghost use lib.ListN.{length, take};
 ghost use lib.Seq.{slice};
+ghost use Rattle.lifetimes.specs.Lent.{held, left};
 ghost use Rattle.records.specs.Reading.{shapeVerdict};
 ghost use Rattle.ast_lifetimes.specs.Shapes.{boundsInShape, pair, pairsOf};
 ghost use Rattle.ast_lifetimes.specs.Inner.{Pushes};
@@ -15,7 +16,7 @@ use records::End;
 
 // Whether the record `bounds` is in shape: how many pairs are the impl's, then pairs. Refused by 1.
 pub fn bounds_shape(bounds: &[usize]) -> Verdict
-    ensures { λ r. ⌜ r ≡ shapeVerdict (boundsInShape (now (bounds .entry))) ⌝ }
+    ensures answer { λ r. ⌜ r ≡ shapeVerdict (boundsInShape (held bounds)) ⌝ }
 {
     let n = bounds.len();
     if n == 0 {
@@ -33,7 +34,8 @@ pub fn bounds_shape(bounds: &[usize]) -> Verdict
     Verdict::Accepted
 }
 
-// Push one pair of names behind the first `pushed` bounds. Refused by 3 for a side that is not declared, longer before shorter, then by 4 for a 257th.
+// Push one pair of names behind the first `pushed` bounds. Refused by 3 for a side that is not declared, longer before
+// shorter, then by 4 for a 257th.
 pub(crate) fn push_pair(
     names: &[usize; 32],
     named: usize,
@@ -45,7 +47,8 @@ pub(crate) fn push_pair(
 ) -> Verdict
     requires { ⌜ (named ≤ 32) × (length (now names) ≡ 32) ⌝ }
     requires { ⌜ (pushed ≤ 256) × (length (now longs) ≡ 256) × (length (now shorts) ≡ 256) ⌝ }
-    ensures { λ r. ⌜ Pushes (take named (now (names .entry))) (pair longer shorter ∷ []) (now (longs .entry)) (now (shorts .entry)) (now (longs .exit)) (now (shorts .exit)) pushed r ⌝ }
+    ensures { λ r. ⌜ Pushes (take named (held names)) (pair longer shorter ∷ []) (held longs) (held shorts) (left longs)
+        (left shorts) pushed r ⌝ }
 {
     let long = position(names, named, longer);
     if named <= long {
@@ -77,7 +80,8 @@ pub(crate) fn push_pairs(
     requires { ⌜ from + 2 * count ≤ length (now words) ⌝ }
     requires { ⌜ (named ≤ 32) × (length (now names) ≡ 32) ⌝ }
     requires { ⌜ (pushed ≤ 256) × (length (now longs) ≡ 256) × (length (now shorts) ≡ 256) ⌝ }
-    ensures { λ r. ⌜ Pushes (take named (now (names .entry))) (pairsOf (slice from (from + 2 * count) (now (words .entry)))) (now (longs .entry)) (now (shorts .entry)) (now (longs .exit)) (now (shorts .exit)) pushed r ⌝ }
+    ensures { λ r. ⌜ Pushes (take named (held names)) (pairsOf (slice from (from + 2 * count) (held words)))
+        (held longs) (held shorts) (left longs) (left shorts) pushed r ⌝ }
 {
     let mut at = from;
     let mut done = 0;

@@ -6,13 +6,14 @@ ghost use Prim.Native.Nat.{_≤_};
 ghost use lib.ListN.{length, take};
 ghost use lib.Seq.{sets};
 ghost use Rattle.lifetimes.specs.Refusals.{NoneDue, unless};
-ghost use Rattle.lifetimes.specs.Lent.{counted, written, verdictOf};
+ghost use Rattle.lifetimes.specs.Lent.{counted, verdictOf, held, room, left, Fills};
 ghost use Rattle.lifetimes.specs.Env.{allBelow};
 ghost use mathlib.Core.Bool.{_&&_};
 ghost use Rattle.records.specs.Reading.{shapeVerdict};
 ghost use Rattle.ast_lifetimes.specs.Shapes.{namesInShape, boundsInShape};
 ghost use Rattle.ast_lifetimes.specs.Types.{typesInShape};
-ghost use Rattle.ast_lifetimes.specs.Env.{allPairChecks, envOf, envChecks, namesOf, fromMethodItem, impliedOn, extendedWith, extendImplied, listThan, made};
+ghost use Rattle.ast_lifetimes.specs.Env.{allPairChecks, envOf, envChecks, namesOf, fromMethodItem, impliedOn};
+ghost use Rattle.ast_lifetimes.specs.Env.{extendedWith, extendImplied, listThan, made};
 ghost use Rattle.ast_lifetimes.specs.Inner.{sidesOf, Splits, Built};
 use super::bounds::bounds_shape;
 use super::bounds::push_pairs;
@@ -28,7 +29,8 @@ use lifetimes::Listed;
 use lifetimes::Refusal;
 use lifetimes::Verdict;
 
-// The names of a method in order of declaration, the first `named` of the array: a name's number is its place. The bounds in push order, the first `pushed`.
+// The names of a method in order of declaration, the first `named` of the array: a name's number is its place. The
+// bounds in push order, the first `pushed`.
 pub struct LifetimeEnv {
     pub names: [usize; LifetimeEnv::MAX_NAMES],
     pub named: usize,
@@ -59,10 +61,11 @@ impl LifetimeEnv {
     // How deep a type may be nested, the outermost counting 1.
     pub const MAX_NESTING: usize = 8;
 
-    // The environment of a method, from its records: impl names, impl bounds, method names, method bounds, then what the types imply. Refused by 1 over
-    // all three records, then by 2, 3, 4 at the first bad place, with an environment without names beside the refusal.
+    // The environment of a method, from its records: impl names, impl bounds, method names, method bounds, then what
+    // the types imply. Refused by 1 over all three records, then by 2, 3, 4 at the first bad place, with an environment
+    // without names beside the refusal.
     pub fn from_method_item(names: &[usize], bounds: &[usize], types: &[usize]) -> Made
-        ensures { λ r. ⌜ r ≡ made (envOf [] []) (fromMethodItem (now (names .entry)) (now (bounds .entry)) (now (types .entry))) ⌝ }
+        ensures answer { λ r. ⌜ r ≡ made (envOf [] []) (fromMethodItem (held names) (held bounds) (held types)) ⌝ }
     {
         let shape = shape_of(names, bounds, types);
         let Verdict::Accepted = shape else {
@@ -84,10 +87,10 @@ impl LifetimeEnv {
         }
     }
 
-    // The environment with what some types imply pushed behind its bounds. Refused by 1 (the types' shape), by 4 and 8 as the environment is, then by 3 and 4 at the first
-    // bad place, with the environment as it was beside the refusal.
+    // The environment with what some types imply pushed behind its bounds. Refused by 1 (the types' shape), by 4 and 8
+    // as the environment is, then by 3 and 4 at the first bad place, with the environment as it was beside the refusal.
     pub fn extend_implicit_lifetime_bounds(self, types: &[usize]) -> Made
-        ensures { λ r. ⌜ r ≡ made self (extendImplied self (now (types .entry))) ⌝ }
+        ensures answer { λ r. ⌜ r ≡ made self (extendImplied self (held types)) ⌝ }
     {
         let shape = types_shape(types);
         let Verdict::Accepted = shape else {
@@ -106,9 +109,10 @@ impl LifetimeEnv {
         extended(self, types)
     }
 
-    // Whether this can be an environment: refused by 4 (33rd name, 257th bound) or 8 (a bound past the names). A caller can build any value.
+    // Whether this can be an environment: refused by 4 (33rd name, 257th bound) or 8 (a bound past the names). A caller
+    // can build any value.
     pub fn check(self) -> Verdict
-        ensures { λ r. ⌜ r ≡ verdictOf (unless (envChecks self) self) ⌝ }
+        ensures answer { λ r. ⌜ r ≡ verdictOf (unless (envChecks self) self) ⌝ }
     {
         let named = self.named;
         let pushed = self.pushed;
@@ -132,19 +136,20 @@ impl LifetimeEnv {
         Verdict::Accepted
     }
 
-    // Write the numbers of the names that outlive a name to a slice, itself first, depth first in list order; nothing for an unknown name. Refused by 4 and 8 as the
-    // environment is, by 9 where the slice is too short. In the Rust this call and the next are of `LifetimeTransitivity`.
+    // Write the numbers of the names that outlive a name to a slice, itself first, depth first in list order; nothing
+    // for an unknown name. Refused by 4 and 8 as the environment is, by 9 where the slice is too short. In the Rust
+    // this call and the next are of `LifetimeTransitivity`.
     pub fn longer_than(self, name: usize, out: &mut [usize]) -> Listed
-        ensures { λ r. ⌜ r ≡ counted (listThan true self name (length (now (out .entry)))) ⌝ }
-        ensures { λ _. ⌜ now (out .exit) ≡ written (listThan true self name (length (now (out .entry)))) (now (out .entry)) ⌝ }
+        ensures answer { λ r. ⌜ r ≡ counted (listThan true self name (room out)) ⌝ }
+        ensures stored { λ _. ⌜ Fills (listThan true self name (room out)) out ⌝ }
     {
         list_than(self, name, true, out)
     }
 
     // Write the numbers of the names that a name outlives, in the same way.
     pub fn shorter_than(self, name: usize, out: &mut [usize]) -> Listed
-        ensures { λ r. ⌜ r ≡ counted (listThan false self name (length (now (out .entry)))) ⌝ }
-        ensures { λ _. ⌜ now (out .exit) ≡ written (listThan false self name (length (now (out .entry)))) (now (out .entry)) ⌝ }
+        ensures answer { λ r. ⌜ r ≡ counted (listThan false self name (room out)) ⌝ }
+        ensures stored { λ _. ⌜ Fills (listThan false self name (room out)) out ⌝ }
     {
         list_than(self, name, false, out)
     }
@@ -152,8 +157,8 @@ impl LifetimeEnv {
 
 // The list of one name in one direction.
 fn list_than(env: LifetimeEnv, name: usize, longer: bool, out: &mut [usize]) -> Listed
-    ensures { λ r. ⌜ r ≡ counted (listThan longer env name (length (now (out .entry)))) ⌝ }
-    ensures { λ _. ⌜ now (out .exit) ≡ written (listThan longer env name (length (now (out .entry)))) (now (out .entry)) ⌝ }
+    ensures { λ r. ⌜ r ≡ counted (listThan longer env name (room out)) ⌝ }
+    ensures { λ _. ⌜ Fills (listThan longer env name (room out)) out ⌝ }
 {
     let verdict = env.check();
     if let Verdict::Refused(refusal) = verdict {
@@ -179,7 +184,10 @@ fn list_than(env: LifetimeEnv, name: usize, longer: bool, out: &mut [usize]) -> 
 // The environment with what types in shape imply. Refused by 3 and 4 at the first bad place.
 fn extended(env: LifetimeEnv, types: &[usize]) -> Made
     requires { ⌜ NoneDue (envChecks env) × (typesInShape (now types) ≡ true) ⌝ }
-    ensures { λ r. ⌜ r ≡ made env (unless (allPairChecks (namesOf env) (env .pushed) (impliedOn env (now (types .entry)))) (extendedWith env (now (types .entry)))) ⌝ }
+    ensures { λ r. ⌜ r
+        ≡ made env
+        (unless (allPairChecks (namesOf env) (env .pushed) (impliedOn env (held types)))
+        (extendedWith env (held types))) ⌝ }
 {
     let names = env.names;
     let named = env.named;
@@ -212,7 +220,7 @@ fn extended(env: LifetimeEnv, types: &[usize]) -> Made
 // The sides of an environment's bounds, in two arrays.
 fn split(env: LifetimeEnv, longs: &mut [u8; 256], shorts: &mut [u8; 256])
     requires { ⌜ (env .pushed ≤ 256) × (length (now longs) ≡ 256) × (length (now shorts) ≡ 256) ⌝ }
-    ensures { λ _. ⌜ Splits env (now (longs .exit)) (now (shorts .exit)) ⌝ }
+    ensures { λ _. ⌜ Splits env (left longs) (left shorts) ⌝ }
 {
     let pushed = env.pushed;
     let mut i = 0;
@@ -226,7 +234,8 @@ fn split(env: LifetimeEnv, longs: &mut [u8; 256], shorts: &mut [u8; 256])
 
 // The shape of the three records.
 fn shape_of(names: &[usize], bounds: &[usize], types: &[usize]) -> Verdict
-    ensures { λ r. ⌜ r ≡ shapeVerdict (namesInShape (now (names .entry)) && (boundsInShape (now (bounds .entry)) && typesInShape (now (types .entry)))) ⌝ }
+    ensures { λ r. ⌜ r
+        ≡ shapeVerdict (namesInShape (held names) && (boundsInShape (held bounds) && typesInShape (held types))) ⌝ }
 {
     let first = names_shape(names);
     let Verdict::Accepted = first else {
@@ -248,9 +257,10 @@ fn build(
     longs: &mut [u8; 256],
     shorts: &mut [u8; 256],
 ) -> Counts
-    requires { ⌜ (namesInShape (now names) ≡ true) × (boundsInShape (now bounds) ≡ true) × (typesInShape (now types) ≡ true) ⌝ }
+    requires { ⌜ (namesInShape (now names) ≡ true) × (boundsInShape (now bounds) ≡ true)
+        × (typesInShape (now types) ≡ true) ⌝ }
     requires { ⌜ (length (now declared) ≡ 32) × (length (now longs) ≡ 256) × (length (now shorts) ≡ 256) ⌝ }
-    ensures { λ r. ⌜ Built (now (names .entry)) (now (bounds .entry)) (now (types .entry)) (now (declared .exit)) (now (longs .exit)) (now (shorts .exit)) r ⌝ }
+    ensures { λ r. ⌜ Built (held names) (held bounds) (held types) (left declared) (left longs) (left shorts) r ⌝ }
 {
     let impls = names[0];
     let all = names.len() - 1;
@@ -341,7 +351,7 @@ fn assembled(
     requires { ⌜ (named ≤ 32) × (pushed ≤ 256) ⌝ }
     requires { ⌜ (length (now declared) ≡ 32) × (length (now longs) ≡ 256) × (length (now shorts) ≡ 256) ⌝ }
     requires { ⌜ allBelow 255 (sidesOf pushed (now longs) (now shorts)) ≡ true ⌝ }
-    ensures { λ r. ⌜ r ≡ envOf (take named (now (declared .entry))) (sidesOf pushed (now (longs .entry)) (now (shorts .entry))) ⌝ }
+    ensures { λ r. ⌜ r ≡ envOf (take named (held declared)) (sidesOf pushed (held longs) (held shorts)) ⌝ }
 {
     let none = Bound {
         longer: 0,
@@ -369,7 +379,7 @@ fn assembled(
 // Copy the first names of an array to the first places of another.
 fn copy_names(declared: &[usize; 32], named: usize, names: &mut [usize; 32])
     requires { ⌜ (named ≤ 32) × (length (now declared) ≡ 32) × (length (now names) ≡ 32) ⌝ }
-    ensures { λ _. ⌜ now (names .exit) ≡ sets (now (names .entry)) 0 (take named (now (declared .entry))) ⌝ }
+    ensures { λ _. ⌜ left names ≡ sets (held names) 0 (take named (held declared)) ⌝ }
 {
     let mut i = 0;
     while i < named {

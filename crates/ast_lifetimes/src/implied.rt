@@ -1,15 +1,17 @@
 // Implied bounds: what a path behind a named reference says of its lifetimes.
 //
-// For each lifetime the set of those that outlive it is kept while bounds are pushed, so that a path asks one set and no traversal:
-// with one bound more, long above short, whatever short outlives is outlived by all that outlives long.
+// For each lifetime the set of those that outlive it is kept while bounds are pushed, so that a path asks one set and
+// no traversal: with one bound more, long above short, whatever short outlives is outlived by all that outlives long.
 ghost use mathlib.Core.Path.{_≡_};
-ghost use Prim.Native.Nat.{_+_, _≤_, _<_};
+ghost use Prim.Native.Nat.{_≤_, _<_};
 ghost use lib.ListN.{length, take};
 ghost use lib.Seq.{slice};
 ghost use mathlib.Core.List.{List, []};
 ghost use Rattle.ast_lifetimes.specs.Types.{TypeName};
-ghost use Rattle.ast_lifetimes.specs.Env.{Nothing, pathPairs, allImplied};
-ghost use Rattle.ast_lifetimes.specs.Inner.{encodeAll, sidesOf, Joins, Below, Reaches, outlivedBy, isImplied, Extends};
+ghost use Rattle.ast_lifetimes.specs.Env.{pathPairs, allImplied};
+ghost use Rattle.ast_lifetimes.specs.Inner.{encodeAll, sidesOf, Joins, Below, Reaches, outlivedBy, isImplied};
+ghost use Rattle.ast_lifetimes.specs.Inner.{Extends};
+ghost use Rattle.lifetimes.specs.Lent.{held, left};
 use super::bounds::push_pair;
 use super::names::position;
 use lifetimes::Lifetime;
@@ -25,7 +27,7 @@ pub(crate) struct Implied {
 // One bound more in the sets of those that outlive each lifetime.
 fn join(reach: &mut [u64; 32], named: usize, long: usize, short: usize)
     requires { ⌜ (named ≤ 32) × (long < named) × (short < named) × (length (now reach) ≡ 32) ⌝ }
-    ensures { λ _. ⌜ Joins named long short (now (reach .entry)) (now (reach .exit)) ⌝ }
+    ensures { λ _. ⌜ Joins named long short (held reach) (left reach) ⌝ }
 {
     let joined = reach[long];
     let mut x = 0;
@@ -48,7 +50,8 @@ pub(crate) fn close(
 )
     requires { ⌜ (named ≤ 32) × (pushed ≤ 256) × Below named pushed (now longs) (now shorts) ⌝ }
     requires { ⌜ (length (now longs) ≡ 256) × (length (now shorts) ≡ 256) × (length (now reach) ≡ 32) ⌝ }
-    ensures { λ _. ⌜ (length (now (reach .exit)) ≡ 32) × Reaches (sidesOf pushed (now (longs .entry)) (now (shorts .entry))) named (now (reach .exit)) ⌝ }
+    ensures { λ _. ⌜ (length (left reach) ≡ 32) × Reaches (sidesOf pushed (held longs) (held shorts)) named
+        (left reach) ⌝ }
 {
     each_itself(named, reach);
     let mut i = 0;
@@ -63,7 +66,7 @@ pub(crate) fn close(
 // Without bounds each lifetime outlives itself only.
 fn each_itself(named: usize, reach: &mut [u64; 32])
     requires { ⌜ (named ≤ 32) × (length (now reach) ≡ 32) ⌝ }
-    ensures { λ _. ⌜ (length (now (reach .exit)) ≡ 32) × Reaches [] named (now (reach .exit)) ⌝ }
+    ensures { λ _. ⌜ (length (left reach) ≡ 32) × Reaches [] named (left reach) ⌝ }
 {
     let mut x = 0;
     while x < named {
@@ -75,7 +78,7 @@ fn each_itself(named: usize, reach: &mut [u64; 32])
 // The set of those that outlive a name; none for one that is not declared.
 fn outlived(names: &[usize; 32], named: usize, name: usize, reach: &[u64; 32]) -> u64
     requires { ⌜ (named ≤ 32) × (length (now names) ≡ 32) × (length (now reach) ≡ 32) ⌝ }
-    ensures { λ r. ⌜ r ≡ outlivedBy (take named (now (names .entry))) (now (reach .entry)) name ⌝ }
+    ensures { λ r. ⌜ r ≡ outlivedBy (take named (held names)) (held reach) name ⌝ }
 {
     let at = position(names, named, name);
     if at < named {
@@ -87,7 +90,7 @@ fn outlived(names: &[usize; 32], named: usize, name: usize, reach: &[u64; 32]) -
 // Whether a lifetime of a path is to be pushed: a name that is not in the set of those that outlive the reference.
 fn is_implied(names: &[usize; 32], named: usize, taken: u64, word: usize) -> bool
     requires { ⌜ (named ≤ 32) × (length (now names) ≡ 32) ⌝ }
-    ensures { λ r. ⌜ r ≡ isImplied (take named (now (names .entry))) taken word ⌝ }
+    ensures { λ r. ⌜ r ≡ isImplied (take named (held names)) taken word ⌝ }
 {
     if word < 2 {
         return false;
@@ -99,8 +102,8 @@ fn is_implied(names: &[usize; 32], named: usize, taken: u64, word: usize) -> boo
     !set::contains(taken, Lifetime::new(at))
 }
 
-// Push what a path behind a named reference implies: its lifetimes are the words from one place to another. The list of those longer than the
-// reference is taken before the first push.
+// Push what a path behind a named reference implies: its lifetimes are the words from one place to another. The list of
+// those longer than the reference is taken before the first push.
 fn push_path(
     words: &[usize],
     from: usize,
@@ -117,7 +120,9 @@ fn push_path(
     requires { ⌜ (named ≤ 32) × (length (now names) ≡ 32) ⌝ }
     requires { ⌜ (pushed ≤ 256) × (length (now longs) ≡ 256) × (length (now shorts) ≡ 256) ⌝ }
     requires { ⌜ (length (now reach) ≡ 32) × Reaches (sidesOf pushed (now longs) (now shorts)) named (now reach) ⌝ }
-    ensures { λ r. ⌜ Extends (take named (now (names .entry))) (pathPairs (take named (now (names .entry))) (sidesOf pushed (now (longs .entry)) (now (shorts .entry))) behind (slice from to (now (words .entry)))) (now (longs .entry)) (now (shorts .entry)) (now (longs .exit)) (now (shorts .exit)) (now (reach .exit)) pushed r ⌝ }
+    ensures { λ r. ⌜ Extends (take named (held names))
+        (pathPairs (take named (held names)) (sidesOf pushed (held longs) (held shorts)) behind
+        (slice from to (held words))) (held longs) (held shorts) (left longs) (left shorts) (left reach) pushed r ⌝ }
 {
     let taken = outlived(names, named, behind, reach);
     let short = position(names, named, behind);
@@ -146,7 +151,8 @@ fn push_path(
     }
 }
 
-// Push what types imply, one after another: a path directly behind a named reference R pushes; an inner reference replaces R, whatever else stands there clears it.
+// Push what types imply, one after another: a path directly behind a named reference R pushes; an inner reference
+// replaces R, whatever else stands there clears it.
 pub(crate) fn push_types(
     types: &[usize],
     names: &[usize; 32],
@@ -160,7 +166,11 @@ pub(crate) fn push_types(
     requires { ⌜ (named ≤ 32) × (length (now names) ≡ 32) ⌝ }
     requires { ⌜ (pushed ≤ 256) × (length (now longs) ≡ 256) × (length (now shorts) ≡ 256) ⌝ }
     requires { ⌜ (length (now reach) ≡ 32) × Reaches (sidesOf pushed (now longs) (now shorts)) named (now reach) ⌝ }
-    ensures { λ r. ⌜ ((ts : List TypeName) → encodeAll ts ≡ now (types .entry) → Extends (take named (now (names .entry))) (allImplied (take named (now (names .entry))) (sidesOf pushed (now (longs .entry)) (now (shorts .entry))) ts) (now (longs .entry)) (now (shorts .entry)) (now (longs .exit)) (now (shorts .exit)) (now (reach .exit)) pushed r) ⌝ }
+    ensures { λ r.
+        ⌜ ((ts : List TypeName) → encodeAll ts ≡ held types
+        → Extends (take named (held names))
+        (allImplied (take named (held names)) (sidesOf pushed (held longs) (held shorts)) ts) (held longs) (held shorts)
+        (left longs) (left shorts) (left reach) pushed r) ⌝ }
 {
     let mut count = pushed;
     let mut behind = 0;

@@ -4,6 +4,7 @@ ghost use mathlib.Core.List.{[], _∷_};
 ghost use Prim.Native.Nat.{_≤_};
 ghost use lib.ListN.{length, take, drop};
 ghost use lib.Seq.{slice};
+ghost use Rattle.lifetimes.specs.Lent.{held, left};
 ghost use Rattle.records.specs.Reading.{shapeVerdict};
 ghost use Rattle.ast_lifetimes.specs.Shapes.{namesInShape, allNames};
 ghost use Rattle.ast_lifetimes.specs.Env.{place};
@@ -13,9 +14,10 @@ use lifetimes::Refusal;
 use lifetimes::Verdict;
 use records::End;
 
-// Whether the record `names` is in shape: how many names are the impl's, then all names, each 2 or more. Refused by 1. Reads each word once.
+// Whether the record `names` is in shape: how many names are the impl's, then all names, each 2 or more. Refused by 1.
+// Reads each word once.
 pub fn names_shape(names: &[usize]) -> Verdict
-    ensures { λ r. ⌜ r ≡ shapeVerdict (namesInShape (now (names .entry))) ⌝ }
+    ensures answer { λ r. ⌜ r ≡ shapeVerdict (namesInShape (held names)) ⌝ }
 {
     let n = names.len();
     if n == 0 {
@@ -35,7 +37,7 @@ pub fn names_shape(names: &[usize]) -> Verdict
 
 // Whether all words but the first are names.
 fn all_names(words: &[usize]) -> bool
-    ensures { λ r. ⌜ r ≡ allNames (drop 1 (now (words .entry))) ⌝ }
+    ensures { λ r. ⌜ r ≡ allNames (drop 1 (held words)) ⌝ }
 {
     let mut i = 1;
     while i < words.len() {
@@ -50,7 +52,7 @@ fn all_names(words: &[usize]) -> bool
 // The number of a name among the first `named` of an array: its place, or `named` where it is not declared.
 pub(crate) fn position(names: &[usize; 32], named: usize, name: usize) -> usize
     requires { ⌜ (named ≤ 32) × (length (now names) ≡ 32) ⌝ }
-    ensures { λ r. ⌜ r ≡ place (take named (now (names .entry))) name ⌝ }
+    ensures { λ r. ⌜ r ≡ place (take named (held names)) name ⌝ }
 {
     let mut i = 0;
     while i < named {
@@ -65,7 +67,7 @@ pub(crate) fn position(names: &[usize; 32], named: usize, name: usize) -> usize
 // Declare one name behind the first `named`. Refused by 4 for a 33rd, by 2 for one that is declared.
 fn declare(names: &mut [usize; 32], named: usize, name: usize) -> Verdict
     requires { ⌜ (named ≤ 32) × (length (now names) ≡ 32) ⌝ }
-    ensures { λ r. ⌜ Declares (name ∷ []) (now (names .entry)) (now (names .exit)) named r ⌝ }
+    ensures { λ r. ⌜ Declares (name ∷ []) (held names) (left names) named r ⌝ }
 {
     if LifetimeEnv::MAX_NAMES <= named {
         return Verdict::Refused(Refusal::Full);
@@ -87,7 +89,7 @@ pub(crate) fn declare_all(
 ) -> Verdict
     requires { ⌜ (from ≤ to) × (to ≤ length (now words)) ⌝ }
     requires { ⌜ (named ≤ 32) × (length (now names) ≡ 32) ⌝ }
-    ensures { λ r. ⌜ Declares (slice from to (now (words .entry))) (now (names .entry)) (now (names .exit)) named r ⌝ }
+    ensures { λ r. ⌜ Declares (slice from to (held words)) (held names) (left names) named r ⌝ }
 {
     let mut at = from;
     let mut count = named;

@@ -2,6 +2,7 @@
 ghost use mathlib.Core.Path.{_≡_};
 ghost use Prim.Native.Nat.{_≤_};
 ghost use lib.ListN.{length, drop};
+ghost use Rattle.lifetimes.specs.Lent.{held};
 ghost use Rattle.records.specs.Reading.{shapeVerdict};
 ghost use Rattle.records.specs.Ends.{EndsAt};
 ghost use Rattle.ast_lifetimes.specs.Types.{readType, typesInShape};
@@ -13,7 +14,7 @@ use records::lifetimes_end;
 
 // Whether the record `types` is in shape: types one after another to its end. Refused by 1. Reads each word once.
 pub fn types_shape(types: &[usize]) -> Verdict
-    ensures { λ r. ⌜ r ≡ shapeVerdict (typesInShape (now (types .entry))) ⌝ }
+    ensures answer { λ r. ⌜ r ≡ shapeVerdict (typesInShape (held types)) ⌝ }
 {
     if End::MAX_WORDS < types.len() {
         return Verdict::Refused(Refusal::Malformed);
@@ -32,7 +33,7 @@ pub fn types_shape(types: &[usize]) -> Verdict
 // Where the type ends that stands at a place, with nesting at most this.
 fn type_end(words: &[usize], at: usize, nesting: usize) -> End
     requires { ⌜ at ≤ length (now words) ⌝ }
-    ensures { λ r. ⌜ EndsAt (now (words .entry)) at (readType nesting (drop at (now (words .entry)))) r ⌝ }
+    ensures { λ r. ⌜ EndsAt (held words) at (readType nesting (drop at (held words))) r ⌝ }
 {
     if nesting == 0 {
         return End::Missing;

@@ -1,10 +1,13 @@
--- What a parameter brings: whose its edges are, their form, the pairs that they carry; and that by a test which decides a property it brings what the property says.
+-- What a parameter brings: whose its edges are, their form, the pairs that they carry; and that by a test which decides
+-- a property it brings what the property says.
 use Prim.Native.Nat.{ℕ, zero, suc, _+_, _≤_, _<_}
 use mathlib.Core.Bool.{Bool, true, false, cond, true≢false}
 use mathlib.Core.Path.{_≡_, refl, sym, ap, subst, _∙_}
-use mathlib.Core.Logic.{_⊎_, inl, inr, ⊎-elim, _↔_}
-use mathlib.Core.List.{List, [], _∷_, map, List·Memᴰ, List·Memᴰ·head, List·Memᴰ·tail, List·Memᴰ·cases-cons, List·Memᴰ·eq-of-singleton, List·Memᴰ·not-nil}
+use mathlib.Core.Logic.{_⊎_, inl, inr, ⊎-elim, _↔_, ∥∥₁-elim}
+use mathlib.Core.List.{List, [], _∷_, map, List·Memᴰ, List·Memᴰ·head, List·Memᴰ·tail, List·Memᴰ·cases-cons}
+use mathlib.Core.List.{List·Memᴰ·eq-of-singleton, List·Memᴰ·not-nil, Pairwise, Pairwise·nil, Pairwise·cons}
 use native.Mathlib.Decide.{ℕ-discrete, decLt}
+use native.Mathlib.Bridge.{le-prop}
 use native.Mathlib.Omega.{arith}
 use lib.ListN.{length, getD, length-set, length-map, getD-replicate, List·getD-eq-default}
 use lib.Seq.{getD-set-same, getD-set-other}
@@ -20,8 +23,9 @@ use Rattle.lowered_types.specs.declared.types.Kind.the-variants.{Plain, Opaque,
 use Rattle.lowered_types.specs.LoweredTypes.{LoweredType, lifetimesOf}
 use Rattle.borrowing_param.specs.declared.visitor.LifetimeEdge.{LifetimeEdge}
 use Rattle.borrowing_param.specs.Edges.{edge}
-use Rattle.borrowing_param.specs.Brings.{drawn, anyDrawn, structEdges, optionOf, bringAs, bring, numberOf, note, notes, noPairs, answerOf}
-use Rattle.borrowing_param.specs.Condition3.{Some, FilledBy, BroughtAs, Brought, Ascending, Answers}
+use Rattle.borrowing_param.specs.Brings.{drawn, anyDrawn, structEdges, optionOf, bringAs, bring, numberOf, note}
+use Rattle.borrowing_param.specs.Brings.{notes, noPairs, answerOf}
+use Rattle.borrowing_param.specs.Condition3.{Some, FilledBy, BroughtAs, Brought, ByDef, Answers}
 
 -- ---- by a test that decides a property
 
@@ -38,11 +42,13 @@ module _ (draws : ℕ → Bool) (D : ℕ → Type 0) (test : (b : ℕ) → (draw
   any-some [] = (λ h. absurd (true≢false (sym h)), λ s. absurd (List·Memᴰ·not-nil (s .1)))
   any-some (m ∷ ms) = go (drawn draws m) refl (any-some ms)
     where
-      go : (t : Bool) → drawn draws m ≡ t → (anyDrawn draws ms ≡ true) ↔ Some D ms → (cond t true (anyDrawn draws ms) ≡ true) ↔ Some D (m ∷ ms)
+      go : (t : Bool) → drawn draws m ≡ t → (anyDrawn draws ms ≡ true) ↔ Some D ms
+          → (cond t true (anyDrawn draws ms) ≡ true) ↔ Some D (m ∷ ms)
       go true e r = (λ h. let f = drawn-by m e in (f .0, List·Memᴰ·head (sym (f .1)), f .2), λ s. refl)
       go false e r = (
         λ h. let s = r .0 h in (s .0, List·Memᴰ·tail (s .1), s .2),
-        λ s. ⊎-elim (λ g. absurd (true≢false (sym (draws-it m (s .0) (sym g) (s .2)) ∙ e))) (λ k. r .1 (s .0, k, s .2)) (List·Memᴰ·cases-cons (s .1)),
+        λ s. ⊎-elim (λ g. absurd (true≢false (sym (draws-it m (s .0) (sym g) (s .2)) ∙ e))) (λ k. r .1 (s .0, k, s .2))
+            (List·Memᴰ·cases-cons (s .1)),
       )
 
   one-by : (t : Bool) (P : Type 0) (x e : LifetimeEdge) → (t ≡ true) ↔ P → List·Memᴰ e (cond t (x ∷ []) []) ↔ (P × (e ≡ x))
@@ -53,7 +59,8 @@ module _ (draws : ℕ → Bool) (D : ℕ → Type 0) (test : (b : ℕ) → (draw
   abbrev From : ℕ → ℕ → ℕ → ℕ → List MaybeStatic → LifetimeEdge → Type 0
   From used param option from ms e = (def : ℕ) × FilledBy D ms def × (e ≡ edge used param 3 (from + def) option)
 
-  struct-by : (used param option from : ℕ) (ms : List MaybeStatic) (e : LifetimeEdge) → List·Memᴰ e (structEdges draws used param option from ms) ↔ From used param option from ms e
+  struct-by : (used param option from : ℕ) (ms : List MaybeStatic) (e : LifetimeEdge)
+      → List·Memᴰ e (structEdges draws used param option from ms) ↔ From used param option from ms e
   unfolding structEdges
   struct-by used param option from [] e = (λ m. absurd (List·Memᴰ·not-nil m), λ k. absurd (omega (arith, k .1 .1)))
   struct-by used param option from (m ∷ ms) e = go (drawn draws m) refl (struct-by used param option (suc from) ms e)
@@ -67,30 +74,40 @@ module _ (draws : ℕ → Bool) (D : ℕ → Type 0) (test : (b : ℕ) → (draw
       later : From used param option (suc from) ms e → From used param option from (m ∷ ms) e
       later (def, f, q) = (suc def, (f .0, omega (arith, f .1), f .2, f .3), q ∙ shifted def)
 
-      first-or-later : (k : From used param option from (m ∷ ms) e) → ((drawn draws m ≡ true) × (e ≡ edge used param 3 from option)) ⊎ From used param option (suc from) ms e
+      first-or-later : (k : From used param option from (m ∷ ms) e)
+          → ((drawn draws m ≡ true) × (e ≡ edge used param 3 from option)) ⊎ From used param option (suc from) ms e
       first-or-later (zero, f, q) = inl (draws-it m (f .0) (f .2) (f .3), q ∙ sym unshifted)
       first-or-later (suc def, f, q) = inr (def, (f .0, omega (arith, f .1), f .2, f .3), q ∙ sym (shifted def))
 
-      go : (t : Bool) → drawn draws m ≡ t → List·Memᴰ e (structEdges draws used param option (suc from) ms) ↔ From used param option (suc from) ms e
-          → List·Memᴰ e (cond t (edge used param 3 from option ∷ structEdges draws used param option (suc from) ms) (structEdges draws used param option (suc from) ms))
+      go : (t : Bool) → drawn draws m ≡ t → List·Memᴰ e (structEdges draws used param option (suc from) ms)
+          ↔ From used param option (suc from) ms e
+          → List·Memᴰ e
+          (cond t (edge used param 3 from option ∷ structEdges draws used param option (suc from) ms)
+          (structEdges draws used param option (suc from) ms))
           ↔ From used param option from (m ∷ ms) e
       go true h r = (
-        λ k. ⊎-elim (λ g. let f = drawn-by m h in (0, (f .0, omega arith, f .1, f .2), g ∙ unshifted)) (λ i. later (r .0 i)) (List·Memᴰ·cases-cons k),
+        λ k. ⊎-elim (λ g. let f = drawn-by m h in (0, (f .0, omega arith, f .1, f .2), g ∙ unshifted))
+            (λ i. later (r .0 i)) (List·Memᴰ·cases-cons k),
         λ k. ⊎-elim (λ g. List·Memᴰ·head (g .1)) (λ i. List·Memᴰ·tail (r .1 i)) (first-or-later k),
       )
       go false h r = (λ k. later (r .0 k), λ k. ⊎-elim (λ g. absurd (true≢false (sym (g .0) ∙ h))) (λ i. r .1 i) (first-or-later k))
 
-  pub brought-by : (used param : ℕ) (t : LoweredType) (e : LifetimeEdge) → List·Memᴰ e (bring draws used param t) ↔ Brought D used param t e
+  pub brought-by : (used param : ℕ) (t : LoweredType) (e : LifetimeEdge) → List·Memᴰ e (bring draws used param t)
+      ↔ Brought D used param t e
   unfolding bring
   brought-by used param t e = go (t .kind)
     where
       go : (k : Kind) → List·Memᴰ e (bringAs k draws used param t) ↔ BroughtAs k D used param t e
       go Plain = (λ m. List·Memᴰ·not-nil m, λ k. absurd k)
-      go Opaque = one-by (anyDrawn draws (lifetimesOf t)) (Some D (lifetimesOf t)) (edge used param 1 0 0) e (any-some (lifetimesOf t))
+      go Opaque =
+          one-by (anyDrawn draws (lifetimesOf t)) (Some D (lifetimesOf t)) (edge used param 1 0 0) e
+          (any-some (lifetimesOf t))
       go Slice = one-by (anyDrawn draws (lifetimesOf t)) (Some D (lifetimesOf t)) (edge used param 2 0 0) e (any-some (lifetimesOf t))
       go (Struct row) =
           let r = struct-by used param (optionOf (t .option)) 0 (map fromWord (t .path)) e in
-          let same : (def : ℕ) → edge used param 3 (0 + def) (optionOf (t .option)) ≡ edge used param 3 def (optionOf (t .option)) = λ def. ap (λ (k : ℕ). edge used param 3 k (optionOf (t .option))) (omega arith) in
+          let same : (def : ℕ)
+          → edge used param 3 (0 + def) (optionOf (t .option)) ≡ edge used param 3 def (optionOf (t .option)) =
+          λ def. ap (λ (k : ℕ). edge used param 3 k (optionOf (t .option))) (omega arith) in
           (λ m. let k = r .0 m in (k .0, k .1, k .2 ∙ same (k .0)), λ k. r .1 (k .0, k .1, k .2 ∙ sym (same (k .0))))
 
 -- ---- the form of the edges
@@ -102,7 +119,8 @@ pub record Formed (used param kind few : ℕ) (e : LifetimeEdge) : Type 0 where
   pub below : e .def < few
 
 -- an edge that is this one
-formed : {used param kind def option few : ℕ} {e : LifetimeEdge} → def < few → e ≡ edge used param kind def option → Formed used param kind few e
+formed : {used param kind def option few : ℕ} {e : LifetimeEdge} → def < few → e ≡ edge used param kind def option
+    → Formed used param kind few e
 formed h g = record {
   own = ap (λ (x : LifetimeEdge). x .used) g;
   visits = ap (λ (x : LifetimeEdge). x .param) g;
@@ -130,7 +148,8 @@ Itself draws b = draws b ≡ true
 itself : (draws : ℕ → Bool) (b : ℕ) → (draws b ≡ true) ↔ Itself draws b
 itself draws b = (λ h. h, λ h. h)
 
-pub bring-formed : (draws : ℕ → Bool) (used param : ℕ) (t : LoweredType) (e : LifetimeEdge) → List·Memᴰ e (bring draws used param t) → Formed used param (kindNumber (t .kind)) (defs (t .kind) t) e
+pub bring-formed : (draws : ℕ → Bool) (used param : ℕ) (t : LoweredType) (e : LifetimeEdge)
+    → List·Memᴰ e (bring draws used param t) → Formed used param (kindNumber (t .kind)) (defs (t .kind) t) e
 bring-formed draws used param t e m = go (t .kind) ((brought-by draws (Itself draws) (itself draws) used param t e) .0 m)
   where
     go : (k : Kind) → BroughtAs k (Itself draws) used param t e → Formed used param (kindNumber k) (defs k t) e
@@ -141,32 +160,37 @@ bring-formed draws used param t e m = go (t .kind) ((brought-by draws (Itself dr
 
 -- ---- by def: each once, ascending
 
-from-def : (draws : ℕ → Bool) (used param option from : ℕ) (ms : List MaybeStatic) (e : LifetimeEdge) → List·Memᴰ e (structEdges draws used param option from ms) → from ≤ e .def
+from-def : (draws : ℕ → Bool) (used param option from : ℕ) (ms : List MaybeStatic) (e : LifetimeEdge)
+    → List·Memᴰ e (structEdges draws used param option from ms) → from ≤ e .def
 from-def draws used param option from ms e m =
     let k = (struct-by draws (Itself draws) (itself draws) used param option from ms e) .0 m in
     omega (arith, ap (λ (x : LifetimeEdge). x .def) (k .2))
 
-struct-ascends : (draws : ℕ → Bool) (used param option from : ℕ) (ms : List MaybeStatic) → Ascending (structEdges draws used param option from ms)
-unfolding structEdges Ascending
-struct-ascends draws used param option from [] = tt
-struct-ascends draws used param option from (m ∷ ms) = go (drawn draws m) (struct-ascends draws used param option (suc from) ms)
+struct-ascends : (draws : ℕ → Bool) (used param option from : ℕ) (ms : List MaybeStatic)
+    → Pairwise ByDef (structEdges draws used param option from ms)
+unfolding structEdges
+struct-ascends draws used param option from [] = Pairwise·nil
+struct-ascends draws used param option from (m ∷ ms) =
+    go (drawn draws m) (struct-ascends draws used param option (suc from) ms)
   where
-    go : (t : Bool) → Ascending (structEdges draws used param option (suc from) ms)
-        → Ascending (cond t (edge used param 3 from option ∷ structEdges draws used param option (suc from) ms) (structEdges draws used param option (suc from) ms))
-    go true r = (λ x k. from-def draws used param option (suc from) ms x k, r)
+    go : (t : Bool) → Pairwise ByDef (structEdges draws used param option (suc from) ms)
+        → Pairwise ByDef (cond t (edge used param 3 from option ∷ structEdges draws used param option (suc from) ms)
+        (structEdges draws used param option (suc from) ms))
+    go true r =
+        Pairwise·cons {a = edge used param 3 from option}
+        (λ x k. ∥∥₁-elim k le-prop (λ d. from-def draws used param option (suc from) ms x d)) r
     go false r = r
 
-one-ascends : (t : Bool) (x : LifetimeEdge) → Ascending (cond t (x ∷ []) [])
-unfolding Ascending
-one-ascends true x = (λ y m. absurd (List·Memᴰ·not-nil m), tt)
-one-ascends false x = tt
+one-ascends : (t : Bool) (x : LifetimeEdge) → Pairwise ByDef (cond t (x ∷ []) [])
+one-ascends true x = Pairwise·cons {a = x} (λ y m. ∥∥₁-elim m le-prop (λ d. absurd (List·Memᴰ·not-nil d))) Pairwise·nil
+one-ascends false x = Pairwise·nil
 
-pub bring-ascends : (draws : ℕ → Bool) (used param : ℕ) (t : LoweredType) → Ascending (bring draws used param t)
-unfolding bring Ascending
+pub bring-ascends : (draws : ℕ → Bool) (used param : ℕ) (t : LoweredType) → Pairwise ByDef (bring draws used param t)
+unfolding bring
 bring-ascends draws used param t = go (t .kind)
   where
-    go : (k : Kind) → Ascending (bringAs k draws used param t)
-    go Plain = tt
+    go : (k : Kind) → Pairwise ByDef (bringAs k draws used param t)
+    go Plain = Pairwise·nil
     go Opaque = one-ascends (anyDrawn draws (lifetimesOf t)) (edge used param 1 0 0)
     go Slice = one-ascends (anyDrawn draws (lifetimesOf t)) (edge used param 2 0 0)
     go (Struct row) = struct-ascends draws used param (optionOf (t .option)) 0 (map fromWord (t .path))
@@ -192,14 +216,22 @@ module _ (pairs : List ℕ) (e : LifetimeEdge) (is : e .kind ≡ 3) (l : e .def 
   note-there def n = rw (eq-eqb (e .kind) 3 is) (getD-set-other pairs (e .def) def (insert (getD pairs (e .def) 0) (e .used)) 0 n)
 
   -- one edge more: its pair, and those that were there
-  note-has : (def used : ℕ) → (member (getD (note pairs e) def 0) used ≡ true) ↔ ((member (getD pairs def 0) used ≡ true) ⊎ ((e .def ≡ def) × (e .used ≡ used)))
+  note-has : (def used : ℕ) → (member (getD (note pairs e) def 0) used ≡ true)
+      ↔ ((member (getD pairs def 0) used ≡ true) ⊎ ((e .def ≡ def) × (e .used ≡ used)))
   note-has def used = go (ℕ-discrete def (e .def))
     where
-      go : Dec (def ≡ e .def) → (member (getD (note pairs e) def 0) used ≡ true) ↔ ((member (getD pairs def 0) used ≡ true) ⊎ ((e .def ≡ def) × (e .used ≡ used)))
-      go (no n) = (λ m. inl (rw (note-there def n) at m), λ c. rw (note-there def n) (⊎-elim (λ m. m) (λ k. absurd (n (sym (k .0)))) c))
+      go : Dec (def ≡ e .def) → (member (getD (note pairs e) def 0) used ≡ true)
+          ↔ ((member (getD pairs def 0) used ≡ true) ⊎ ((e .def ≡ def) × (e .used ≡ used)))
+      go (no n) = (
+        λ m. inl (rw (note-there def n) at m),
+        λ c. rw (note-there def n) (⊎-elim (λ m. m) (λ k. absurd (n (sym (k .0)))) c),
+      )
       go (yes g) = (
-        λ m. ⊎-elim (λ u. inr (sym g, u)) (λ k. inl (rw g k)) (member-insert-true (getD pairs (e .def) 0) (e .used) used (rw (g, note-here) at m)),
-        λ c. rw (g, note-here) (⊎-elim (λ m. member-insert-keeps (getD pairs (e .def) 0) (e .used) used (rw g at m)) (λ k. rw (← k .1) (member-insert-same (getD pairs (e .def) 0) (e .used))) c),
+        λ m. ⊎-elim (λ u. inr (sym g, u)) (λ k. inl (rw g k))
+            (member-insert-true (getD pairs (e .def) 0) (e .used) used (rw (g, note-here) at m)),
+        λ c. rw (g, note-here)
+            (⊎-elim (λ m. member-insert-keeps (getD pairs (e .def) 0) (e .used) used (rw g at m))
+            (λ k. rw (← k .1) (member-insert-same (getD pairs (e .def) 0) (e .used))) c),
       )
 
 notes-have : (pairs : List ℕ) (es : List LifetimeEdge) → OfStructs pairs es → (def used : ℕ)
@@ -209,12 +241,17 @@ notes-have pairs [] h def used = (λ m. inl m, λ c. ⊎-elim (λ m. m) (λ k. a
 notes-have pairs (e ∷ es) h def used =
     let here = h e (List·Memᴰ·head refl) in
     let one = note-has pairs e (here .0) (here .1) def used in
-    let more = notes-have (note pairs e) es (λ x m. let k = h x (List·Memᴰ·tail m) in (k .0, rw (note-size pairs e (here .0) (here .1)) (k .1))) def used in (
-      λ m. ⊎-elim (λ k. ⊎-elim (λ i. inl i) (λ i. inr (e, List·Memᴰ·head refl, i .0, i .1)) (one .0 k)) (λ c. inr (c .0, List·Memᴰ·tail (c .1), c .2, c .3)) (more .0 m),
+    let more =
+    notes-have (note pairs e) es
+    (λ x m. let k = h x (List·Memᴰ·tail m) in (k .0, rw (note-size pairs e (here .0) (here .1)) (k .1))) def used in (
+      λ m. ⊎-elim (λ k. ⊎-elim (λ i. inl i) (λ i. inr (e, List·Memᴰ·head refl, i .0, i .1)) (one .0 k))
+          (λ c. inr (c .0, List·Memᴰ·tail (c .1), c .2, c .3)) (more .0 m),
       λ c. more .1 (⊎-elim (λ m. inl (one .1 (inl m))) (λ k. split k (one .1)) c),
     )
   where
-    split : (k : Carries def used (e ∷ es)) → ((member (getD pairs def 0) used ≡ true) ⊎ ((e .def ≡ def) × (e .used ≡ used)) → member (getD (note pairs e) def 0) used ≡ true)
+    split : (k : Carries def used (e ∷ es))
+        → ((member (getD pairs def 0) used ≡ true) ⊎ ((e .def ≡ def) × (e .used ≡ used))
+        → member (getD (note pairs e) def 0) used ≡ true)
         → (member (getD (note pairs e) def 0) used ≡ true) ⊎ Carries def used es
     split k back =
         ⊎-elim
@@ -223,10 +260,12 @@ notes-have pairs (e ∷ es) h def used =
         (List·Memᴰ·cases-cons (k .1))
 
 -- edges of other kinds carry none
-notes-none : (pairs : List ℕ) (es : List LifetimeEdge) → ((e : LifetimeEdge) → List·Memᴰ e es → e .kind ≡ 3 → ⊥) → notes pairs es ≡ pairs
+notes-none : (pairs : List ℕ) (es : List LifetimeEdge) → ((e : LifetimeEdge) → List·Memᴰ e es → e .kind ≡ 3 → ⊥)
+    → notes pairs es ≡ pairs
 unfolding notes
 notes-none pairs [] h = refl
-notes-none pairs (e ∷ es) h = rw (ne-eqb (e .kind) 3 (h e (List·Memᴰ·head refl))) (notes-none pairs es (λ x m. h x (List·Memᴰ·tail m)))
+notes-none pairs (e ∷ es) h =
+    rw (ne-eqb (e .kind) 3 (h e (List·Memᴰ·head refl))) (notes-none pairs es (λ x m. h x (List·Memᴰ·tail m)))
 
 no-pair : (def used : ℕ) → member (getD noPairs def 0) used ≡ true → ⊥
 no-pair def used h = true≢false (sym h ∙ rw (zeros (decLt def 16)) (member-empty used))
@@ -254,10 +293,13 @@ number-other (Struct row) [] h = inr refl
 number-other (Struct row) (e ∷ es) h = absurd (h refl)
 
 -- of edges that all have this form, with at most 16 lifetimes of a definition
-pub answers : (k : Kind) (param few : ℕ) (es : List LifetimeEdge) → few ≤ 16 → ((e : LifetimeEdge) → List·Memᴰ e es → (used : ℕ) × Formed used param (kindNumber k) few e) → Answers es param k (answerOf k es)
+pub answers : (k : Kind) (param few : ℕ) (es : List LifetimeEdge) → few ≤ 16
+    → ((e : LifetimeEdge) → List·Memᴰ e es → (used : ℕ) × Formed used param (kindNumber k) few e)
+    → Answers es param k (answerOf k es)
 answers k param few es small form = record { number = refl; pairs = carried; no-pairs = none }
   where
-    carried : numberOf k es ≡ 3 → (def used : ℕ) → (member (getD (notes noPairs es) def 0) used ≡ true) ↔ ((option : ℕ) × List·Memᴰ (edge used param 3 def option) es)
+    carried : numberOf k es ≡ 3 → (def used : ℕ) → (member (getD (notes noPairs es) def 0) used ≡ true)
+        ↔ ((option : ℕ) × List·Memᴰ (edge used param 3 def option) es)
     carried h def used =
         let three = number-three k es h in
         let structs : OfStructs noPairs es = λ e m. let f = form e m .1 in (f .what ∙ three, omega (arith, f .below)) in
@@ -274,4 +316,6 @@ answers k param few es small form = record { number = refl; pairs = carried; no-
             subst (λ (x : LifetimeEdge). List·Memᴰ x es) g (c .1)
 
     none : (numberOf k es ≡ 3 → ⊥) → notes noPairs es ≡ noPairs
-    none h = notes-none noPairs es (λ e m q. ⊎-elim (λ n. n (sym (form e m .1 .what) ∙ q)) (λ g. List·Memᴰ·not-nil (subst (List·Memᴰ e) g m)) (number-other k es h))
+    none h = notes-none noPairs es
+        (λ e m q. ⊎-elim (λ n. n (sym (form e m .1 .what) ∙ q)) (λ g. List·Memᴰ·not-nil (subst (List·Memᴰ e) g m))
+        (number-other k es h))

@@ -8,7 +8,8 @@ use native.Mathlib.Nat.{zero-add}
 use native.Mathlib.Decide.{ℕ-discrete}
 use native.Mathlib.Omega.{arith}
 use borrow.Author.Tests.{leb-false, ltb-false}
-use lib.ListN.{length, getD, take, drop, set, replicate, length-map, length-set, length-append, length-replicate, getD-replicate, List·getD-append}
+use lib.ListN.{length, getD, take, drop, set, replicate, length-map, length-set, length-append, length-replicate}
+use lib.ListN.{getD-replicate, List·getD-append}
 use lib.Seq.{ext-getD, getD-set-same, getD-set-other}
 use Rattle.lifetimes.specs.declared.answer.Refusal.{Refusal}
 use Rattle.lifetimes.specs.declared.answer.Refusal.the-variants.{OutOfRange}
@@ -25,7 +26,8 @@ use Rattle.lifetimes.specs.Sets.{member}
 use Rattle.lifetimes.specs.Env.{boundsOf, envChecks}
 use Rattle.lifetimes.specs.Walk.{reachSet}
 use Rattle.lifetimes.specs.Reach.{allSets, noSets, reachSets}
-use Rattle.lifetimes.proofs.RefusalLaws.{due-given, given-due, refused-due, none-first, none-rest, none-split, none-more}
+use Rattle.lifetimes.proofs.RefusalLaws.{due-given, given-due, refused-due, none-first, none-rest, none-split}
+use Rattle.lifetimes.proofs.RefusalLaws.{none-more}
 use Rattle.lifetimes.proofs.SetLaws.{length-ascending}
 use Rattle.hir_types.specs.declared.used.UsedLifetimes.{UsedLifetimes}
 use Rattle.hir_types.specs.declared.used.UsedLifetimes.the-variants as answer
@@ -61,7 +63,8 @@ module _ {used : ℕ} {sets draws₀ draws : List ℕ} {i : ℕ} (inv : Keeping 
   pub keeping-end : 64 ≤ i → draws ≡ keptOf used sets draws₀
   keeping-end h =
       ext-getD 0 draws (keptOf used sets draws₀) (inv .size ∙ sym (places (keptAt used sets draws₀) 64))
-      (λ j k. inv .done j (omega (arith, inv .size)) ∙ ap (keptAt used sets draws₀) (sym (zero-add j)) ∙ sym (at-place (keptAt used sets draws₀) 0 64 j (omega (arith, inv .size))))
+      (λ j k. inv .done j (omega (arith, inv .size)) ∙ ap (keptAt used sets draws₀) (sym (zero-add j))
+      ∙ sym (at-place (keptAt used sets draws₀) 0 64 j (omega (arith, inv .size))))
 
   module _ (h : i < 64) where
     pub keeping-not : false ≡ member used i → Keeping used sets draws₀ draws (i + 1)
@@ -90,21 +93,27 @@ module _ {used : ℕ} {sets draws₀ draws : List ℕ} {i : ℕ} (inv : Keeping 
 
 -- ---- what an accepted method says
 
-not-past : (count : ℕ) (ms : List MaybeStatic) → anyPast count ms ≡ false → (k : ℕ) → List·Memᴰ (NonStatic (lifetime k)) ms → k < count
+not-past : (count : ℕ) (ms : List MaybeStatic) → anyPast count ms ≡ false → (k : ℕ)
+    → List·Memᴰ (NonStatic (lifetime k)) ms → k < count
 unfolding anyPast
 not-past count [] e k m = absurd (List·Memᴰ·not-nil m)
 not-past count (x ∷ ms) e k m = go (isPast count x) refl e (not-past count ms)
   where
-    go : (t : Bool) → isPast count x ≡ t → (t || anyPast count ms) ≡ false → (anyPast count ms ≡ false → (k : ℕ) → List·Memᴰ (NonStatic (lifetime k)) ms → k < count) → k < count
+    go : (t : Bool) → isPast count x ≡ t → (t || anyPast count ms) ≡ false
+        → (anyPast count ms ≡ false → (k : ℕ) → List·Memᴰ (NonStatic (lifetime k)) ms → k < count) → k < count
     go true a b r = absurd (true≢false b)
     go false a b r = ⊎-elim (λ g. leb-false count k (ap (isPast count) g ∙ a)) (r b k) (List·Memᴰ·cases-cons m)
 
-module _ (env : LifetimeEnv) (structs params output force : List ℕ) (none : NoneDue (methodChecks env structs params output force)) where
+module _ (env : LifetimeEnv) (structs params output force : List ℕ)
+    (none : NoneDue (methodChecks env structs params output force)) where
   abbrev past : Check
   past = check (anyPast (env .count) (outputLifetimes structs output)) OutOfRange
 
-  after-first : NoneDue (take 2 (envChecks env)) × NoneDue (placeChecks structs params output ++ (drop 2 (envChecks env) ++ (past ∷ [])))
-  after-first = none-split (take 2 (envChecks env)) (placeChecks structs params output ++ (drop 2 (envChecks env) ++ (past ∷ []))) (none-rest none)
+  after-first : NoneDue (take 2 (envChecks env))
+      × NoneDue (placeChecks structs params output ++ (drop 2 (envChecks env) ++ (past ∷ [])))
+  after-first =
+      none-split (take 2 (envChecks env)) (placeChecks structs params output ++ (drop 2 (envChecks env) ++ (past ∷ [])))
+      (none-rest none)
 
   after-places : NoneDue (placeChecks structs params output) × NoneDue (drop 2 (envChecks env) ++ (past ∷ []))
   after-places = none-split (placeChecks structs params output) (drop 2 (envChecks env) ++ (past ∷ [])) (after-first .1)
@@ -132,13 +141,15 @@ module _ (env : LifetimeEnv) (structs params output force : List ℕ) (none : No
 
 all-size : (env : LifetimeEnv) → env .count ≤ 64 → length (allSets true env) ≡ 64
 unfolding allSets
-all-size env h = let size = places (reachSet true (boundsOf env)) (env .count) in rw (length-append, size, length-replicate) (omega arith)
+all-size env h = let size = places (reachSet true (boundsOf env)) (env .count) in
+    rw (length-append, size, length-replicate) (omega arith)
 
 -- the set of a lifetime stands at its place
 pub set-there : (env : LifetimeEnv) (i : ℕ) → i < env .count → getD (allSets true env) i 0 ≡ reachSet true (boundsOf env) i
 unfolding allSets
 set-there env i below =
-    List·getD-append (map (reachSet true (boundsOf env)) (ascending 0 (env .count))) (replicate (64 - env .count) 0) 0 i (omega (arith, places (reachSet true (boundsOf env)) (env .count)))
+    List·getD-append (map (reachSet true (boundsOf env)) (ascending 0 (env .count))) (replicate (64 - env .count) 0) 0 i
+    (omega (arith, places (reachSet true (boundsOf env)) (env .count)))
     ∙ at-place (reachSet true (boundsOf env)) 0 (env .count) i below
     ∙ ap (reachSet true (boundsOf env)) (zero-add i)
 
@@ -158,7 +169,8 @@ set-same e = cc
 set-refused : {r : Refusal} {v : ℕ} {A : Type 0} → answer.Refused r ≡ answer.Set v → A
 set-refused e = let z : _≡_ {A = ℕ} 0 1 = cc in absurd (omega arith)
 
-module _ (env : LifetimeEnv) (structs params output force : List ℕ) {a : UsedLifetimes} (is : a ≡ usedAnswer (usedSet env structs params output force)) where
+module _ (env : LifetimeEnv) (structs params output force : List ℕ) {a : UsedLifetimes}
+    (is : a ≡ usedAnswer (usedSet env structs params output force)) where
   refuses : {r : Refusal} → a ≡ answer.Refused r → usedSet env structs params output force ≡ Refuses r
   refuses {r} e = go (usedSet env structs params output force) (sym is ∙ e)
     where
@@ -170,7 +182,8 @@ module _ (env : LifetimeEnv) (structs params output force : List ℕ) {a : UsedL
   unfolding usedSet
   used-refused {r} e = refused-due _ r (methodChecks env structs params output force) (refuses e)
 
-  pub new-refused : {r : Refusal} → a ≡ answer.Refused r → record { verdict = Refused r; visitor = noVisitor } ≡ created env structs params output force
+  pub new-refused : {r : Refusal} → a ≡ answer.Refused r
+      → record { verdict = Refused r; visitor = noVisitor } ≡ created env structs params output force
   unfolding created
   new-refused e = rw (refuses e)
 
@@ -187,21 +200,31 @@ module _ (env : LifetimeEnv) (structs params output force : List ℕ) {a : UsedL
     accepted = (given-due _ used (methodChecks env structs params output force) gives) .0
 
     -- the sets of the used lifetimes
-    kept-set : {sets : List ℕ} → sets ≡ allSets true env → (i : ℕ) → i < 64 → keptAt used sets (replicate 64 0) i ≡ drawsTo used (boundsOf env) i
+    kept-set : {sets : List ℕ} → sets ≡ allSets true env → (i : ℕ) → i < 64
+        → keptAt used sets (replicate 64 0) i ≡ drawsTo used (boundsOf env) i
     kept-set {sets} q i h = go (member used i) refl
       where
-        go : (t : Bool) → member used i ≡ t → cond t (getD sets i 0) (getD (replicate 64 0) i 0) ≡ cond t (reachSet true (boundsOf env) i) 0
+        go : (t : Bool) → member used i ≡ t
+            → cond t (getD sets i 0) (getD (replicate 64 0) i 0) ≡ cond t (reachSet true (boundsOf env) i) 0
         go false m = getD-replicate 64 i 0 0 h
-        go true m = ap (λ (l : List ℕ). getD l i 0) q ∙ set-there env i (used-below env structs params output force accepted used gives i m)
+        go true m =
+            ap (λ (l : List ℕ). getD l i 0) q
+            ∙ set-there env i (used-below env structs params output force accepted used gives i m)
 
     pub new-given : {r : ReachSets} → r ≡ reachSets true env → {draws : List ℕ} → draws ≡ keptOf used (r .sets) (replicate 64 0)
-        → record { verdict = Accepted; visitor = record { used = used; draws = draws; stored = 0 } } ≡ created env structs params output force
+        → record { verdict = Accepted; visitor = record { used = used; draws = draws; stored = 0 } }
+        ≡ created env structs params output force
     unfolding created newVisitor reachSets
     new-given {r} q {draws} k =
-        let all : r .sets ≡ allSets true env = ap (λ (x : ReachSets). x .sets) q ∙ rw (due-given (allSets true env) (env-none env structs params output force accepted)) in
+        let all : r .sets ≡ allSets true env =
+        ap (λ (x : ReachSets). x .sets) q
+        ∙ rw (due-given (allSets true env) (env-none env structs params output force accepted)) in
         let same : draws ≡ map (drawsTo used (boundsOf env)) (ascending 0 64) =
-        k ∙ ext-getD 0 (keptOf used (r .sets) (replicate 64 0)) (map (drawsTo used (boundsOf env)) (ascending 0 64)) (places (keptAt used (r .sets) (replicate 64 0)) 64 ∙ sym (places (drawsTo used (boundsOf env)) 64))
+        k ∙ ext-getD 0 (keptOf used (r .sets) (replicate 64 0)) (map (drawsTo used (boundsOf env)) (ascending 0 64))
+        (places (keptAt used (r .sets) (replicate 64 0)) 64 ∙ sym (places (drawsTo used (boundsOf env)) 64))
         (λ i h.
         let l : i < 64 = omega (arith, places (keptAt used (r .sets) (replicate 64 0)) 64) in
-        at-place (keptAt used (r .sets) (replicate 64 0)) 0 64 i l ∙ rw (zero-add i) (kept-set all i l) ∙ ap (drawsTo used (boundsOf env)) (sym (zero-add i)) ∙ sym (at-place (drawsTo used (boundsOf env)) 0 64 i l)) in
+        at-place (keptAt used (r .sets) (replicate 64 0)) 0 64 i l ∙ rw (zero-add i) (kept-set all i l)
+        ∙ ap (drawsTo used (boundsOf env)) (sym (zero-add i))
+        ∙ sym (at-place (drawsTo used (boundsOf env)) 0 64 i l)) in
         rw (gives, same)

@@ -1,5 +1,6 @@
--- Which lifetimes of a parameter draw: the first one, how many, and how many edges that makes.
--- In order: one lifetime; the words that are left to a loop over path words; the first that draws; the path words of a struct, linked; how many draw; edges counted.
+-- Which lifetimes of a parameter draw: the first one, how many, and how many edges that makes. In order: one lifetime;
+-- the words that are left to a loop over path words; the first that draws; the path words of a struct, linked; how many
+-- draw; edges counted.
 use Prim.Native.Nat.{ℕ, zero, suc, _+_, _-_, _≤_, _<_}
 use mathlib.Core.Bool.{Bool, true, false, cond}
 use mathlib.Core.Path.{_≡_, refl, sym, ap, _∙_}
@@ -11,7 +12,6 @@ use native.Mathlib.Omega.{arith}
 use borrow.Author.Tests.{lt-ltb, le-ltb}
 use lib.ListN.{length, getD, take, drop, length-drop, length-map}
 use lib.Seq.{drop-cons, getD-take, getD-drop, length-take-le}
-use Rattle.lifetimes.specs.declared.answer.Refusal.{Refusal}
 use Rattle.lifetimes.specs.declared.maybe_static.MaybeStatic.{MaybeStatic}
 use Rattle.lifetimes.specs.declared.def_lifetime.DefLifetime.{DefLifetime}
 use Rattle.lifetimes.specs.declared.linked.LinkedWord.{LinkedWord}
@@ -23,12 +23,11 @@ use Rattle.lifetimes.specs.LoweredWords.{fromWord}
 use Rattle.lifetimes.specs.Sets.{member}
 use Rattle.lowered_types.specs.declared.types.Kind.{Kind}
 use Rattle.lowered_types.specs.declared.types.Kind.the-variants.{Plain, Opaque, Struct, Slice}
-use Rattle.lowered_types.specs.declared.types.Own.{Own}
-use Rattle.lowered_types.specs.declared.types.Own.the-variants as own
 use Rattle.lowered_types.specs.declared.types.Parts.{Parts}
-use Rattle.lowered_types.specs.declared.types.LifetimeAt.{LifetimeAt}
-use Rattle.lowered_types.specs.declared.types.LifetimeAt.the-variants as entry
-use Rattle.lowered_types.specs.LoweredTypes.{LoweredType, lifetimesOf, ownLifetimes, entryAt}
+use Rattle.lowered_types.specs.declared.types.OwnLifetime.{OwnLifetime}
+use Rattle.lowered_types.specs.declared.types.OwnLifetime.the-variants as behind
+use Rattle.lowered_types.specs.LoweredTypes.{LoweredType, lifetimesOf, ownLifetimes, ownLifetime}
+use Rattle.lowered_types.proofs.LifetimeLaws.{own-one, own-none}
 use Rattle.borrowing_param.specs.declared.edges.First.{First}
 use Rattle.borrowing_param.specs.declared.edges.First.the-variants.{At, Absent}
 use Rattle.borrowing_param.specs.declared.visitor.LifetimeEdge.{LifetimeEdge}
@@ -61,7 +60,8 @@ module _ (words : List ℕ) (from count : ℕ) where
   pub left-none : (i : ℕ) → count ≤ i → left words from count i ≡ []
   left-none i h = let e : count - i ≡ 0 = omega arith in rw e
 
-  pub left-next : Inside words from count → (i : ℕ) → i < count → left words from count i ≡ fromWord (getD words (from + i) 0) ∷ left words from count (i + 1)
+  pub left-next : Inside words from count → (i : ℕ) → i < count
+      → left words from count i ≡ fromWord (getD words (from + i) 0) ∷ left words from count (i + 1)
   left-next fits i h =
       let e : count - i ≡ suc (count - (i + 1)) = omega arith in
       let f : from + (i + 1) ≡ suc (from + i) = omega arith in
@@ -69,7 +69,8 @@ module _ (words : List ℕ) (from count : ℕ) where
 
 taken-many : (words : List ℕ) (from count : ℕ) → Inside words from count → length (take count (drop from words)) ≡ count
 taken-many words from zero fits = refl
-taken-many words from (suc k) fits = let h = fits k (omega arith) in length-take-le (suc k) (drop from words) (rw length-drop (omega arith))
+taken-many words from (suc k) fits = let h = fits k (omega arith) in
+    length-take-le (suc k) (drop from words) (rw length-drop (omega arith))
 
 pub path-many : (words : List ℕ) (from count : ℕ) → Inside words from count → length (allPath words from count) ≡ count
 path-many words from count fits = rw length-map (taken-many words from count fits)
@@ -101,7 +102,8 @@ module _ {draws : ℕ → Bool} {words : List ℕ} {from count i : ℕ} (inv : S
     pub searching-more : false ≡ drawn draws m → Searching draws words from count (i + 1)
     unfolding firstFrom
     searching-more q =
-        let e : firstFrom draws i (left words from count i) ≡ firstFrom draws (i + 1) (left words from count (i + 1)) = rw (left-next words from count fits i h, ← is, ← q, add-one i) in
+        let e : firstFrom draws i (left words from count i) ≡ firstFrom draws (i + 1) (left words from count (i + 1)) =
+        rw (left-next words from count fits i h, ← is, ← q, add-one i) in
         record { here = omega arith; search = sym e ∙ inv .search }
 
 -- among some, then among others
@@ -110,39 +112,24 @@ unfolding firstFrom
 first-path draws i k [] m e = let z : _≡_ {A = ℕ} 0 1 = cc in absurd (omega arith)
 first-path draws i k (x ∷ l) m e = go (drawn draws x) (first-path draws (suc i) k l m) e
   where
-    go : (t : Bool) → (firstFrom draws (suc i) l ≡ At k → firstFrom draws (suc i) (l ++ m) ≡ At k) → cond t (At i) (firstFrom draws (suc i) l) ≡ At k
+    go : (t : Bool) → (firstFrom draws (suc i) l ≡ At k → firstFrom draws (suc i) (l ++ m) ≡ At k)
+        → cond t (At i) (firstFrom draws (suc i) l) ≡ At k
         → cond t (At i) (firstFrom draws (suc i) (l ++ m)) ≡ At k
     go true r e = e
     go false r e = r e
 
-first-behind : (draws : ℕ → Bool) (i : ℕ) (l m : List MaybeStatic) → firstFrom draws i l ≡ Absent → firstFrom draws i (l ++ m) ≡ firstFrom draws (i + length l) m
+first-behind : (draws : ℕ → Bool) (i : ℕ) (l m : List MaybeStatic) → firstFrom draws i l ≡ Absent
+    → firstFrom draws i (l ++ m) ≡ firstFrom draws (i + length l) m
 unfolding firstFrom
 first-behind draws i [] m e = rw (add-zero i)
 first-behind draws i (x ∷ l) m e = go (drawn draws x) (first-behind draws (suc i) l m) e
   where
-    go : (t : Bool) → (firstFrom draws (suc i) l ≡ Absent → firstFrom draws (suc i) (l ++ m) ≡ firstFrom draws (suc i + length l) m) → cond t (At i) (firstFrom draws (suc i) l) ≡ Absent
+    go : (t : Bool)
+        → (firstFrom draws (suc i) l ≡ Absent → firstFrom draws (suc i) (l ++ m) ≡ firstFrom draws (suc i + length l) m)
+        → cond t (At i) (firstFrom draws (suc i) l) ≡ Absent
         → cond t (At i) (firstFrom draws (suc i) (l ++ m)) ≡ firstFrom draws (i + suc (length l)) m
     go true r e = let z : _≡_ {A = ℕ} 0 1 = cc in absurd (omega arith)
     go false r e = let s : suc i + length l ≡ i + suc (length l) = omega arith in rw s at (r e)
-
--- the lifetime behind the path words
-own-one : (o : Own) {m : MaybeStatic} → entryAt (ownLifetimes o) 0 ≡ entry.Lifetime m → ownLifetimes o ≡ m ∷ []
-unfolding entryAt
-own-one own.Absent e = let z : _≡_ {A = ℕ} 0 1 = cc in absurd (omega arith)
-own-one (own.Word w) e = cc
-own-one own.Strs e = cc
-
-own-none : (o : Own) → entryAt (ownLifetimes o) 0 ≡ entry.Absent → ownLifetimes o ≡ []
-unfolding entryAt
-own-none own.Absent e = refl
-own-none (own.Word w) e = let z : _≡_ {A = ℕ} 0 1 = cc in absurd (omega arith)
-own-none own.Strs e = let z : _≡_ {A = ℕ} 0 1 = cc in absurd (omega arith)
-
-own-refused : (o : Own) {r : Refusal} {A : Type 0} → entryAt (ownLifetimes o) 0 ≡ entry.Refused r → A
-unfolding entryAt
-own-refused own.Absent e = let z : _≡_ {A = ℕ} 0 1 = cc in absurd (omega arith)
-own-refused (own.Word w) e = let z : _≡_ {A = ℕ} 0 1 = cc in absurd (omega arith)
-own-refused own.Strs e = let z : _≡_ {A = ℕ} 0 1 = cc in absurd (omega arith)
 
 -- one lifetime, if it draws
 pub one-first : (draws : ℕ → Bool) (m : MaybeStatic) (i : ℕ) → true ≡ drawn draws m → At i ≡ firstFrom draws i (m ∷ [])
@@ -153,7 +140,8 @@ pub one-absent : (draws : ℕ → Bool) (m : MaybeStatic) (i : ℕ) → false �
 unfolding firstFrom
 one-absent draws m i q = rw (← q)
 
-module _ (draws : ℕ → Bool) (words : List ℕ) (p : Parts) {first : First} (is : first ≡ firstFrom draws 0 (allPath words (p .from) (p .count))) where
+module _ (draws : ℕ → Bool) (words : List ℕ) (p : Parts) {first : First}
+    (is : first ≡ firstFrom draws 0 (allPath words (p .from) (p .count))) where
   abbrev all : List MaybeStatic
   all = allPath words (p .from) (p .count) ++ ownLifetimes (p .own)
 
@@ -161,21 +149,20 @@ module _ (draws : ℕ → Bool) (words : List ℕ) (p : Parts) {first : First} (
   drawn-path {k} e = sym (first-path draws 0 k (allPath words (p .from) (p .count)) (ownLifetimes (p .own)) (sym is ∙ e))
 
   module _ (fits : Inside words (p .from) (p .count)) (none : first ≡ Absent) where
-    behind : firstFrom draws 0 all ≡ firstFrom draws (p .count) (ownLifetimes (p .own))
-    behind =
-        let size : 0 + length (allPath words (p .from) (p .count)) ≡ p .count = rw (zero-add, path-many words (p .from) (p .count) fits) in
+    drawn-behind : firstFrom draws 0 all ≡ firstFrom draws (p .count) (ownLifetimes (p .own))
+    drawn-behind =
+        let size : 0 + length (allPath words (p .from) (p .count)) ≡ p .count =
+        rw (zero-add, path-many words (p .from) (p .count) fits) in
         rw size at (first-behind draws 0 (allPath words (p .from) (p .count)) (ownLifetimes (p .own)) (sym is ∙ none))
 
-    module _ {last : LifetimeAt} (a : last ≡ entryAt (ownLifetimes (p .own)) 0) where
-      pub drawn-own : {m : MaybeStatic} → last ≡ entry.Lifetime m → {r : First} → r ≡ firstFrom draws (p .count) (m ∷ []) → r ≡ firstFrom draws 0 all
-      drawn-own e q = q ∙ rw (behind, own-one (p .own) (sym a ∙ e))
+    module _ {last : OwnLifetime} (a : last ≡ ownLifetime (p .own)) where
+      pub drawn-own : {m : MaybeStatic} → last ≡ behind.Lifetime m → {r : First}
+          → r ≡ firstFrom draws (p .count) (m ∷ []) → r ≡ firstFrom draws 0 all
+      drawn-own e q = q ∙ rw (drawn-behind, own-one (p .own) a e)
 
-      pub drawn-absent : last ≡ entry.Absent → Absent ≡ firstFrom draws 0 all
+      pub drawn-absent : last ≡ behind.Absent → Absent ≡ firstFrom draws 0 all
       unfolding firstFrom
-      drawn-absent e = rw (behind, own-none (p .own) (sym a ∙ e))
-
-      pub drawn-refused : {x : Refusal} → last ≡ entry.Refused x → Absent ≡ firstFrom draws 0 all
-      drawn-refused e = own-refused (p .own) (sym a ∙ e)
+      drawn-absent e = rw (drawn-behind, own-none (p .own) a e)
 
 -- whether there is a first one is whether any draws
 pub first-any : (draws : ℕ → Bool) (i : ℕ) {k : ℕ} (ms : List MaybeStatic) → At k ≡ firstFrom draws i ms → anyDrawn draws ms ≡ true
@@ -183,7 +170,8 @@ unfolding firstFrom anyDrawn
 first-any draws i [] e = let z : _≡_ {A = ℕ} 0 1 = cc in absurd (omega arith)
 first-any draws i {k} (m ∷ ms) e = go (drawn draws m) (first-any draws (suc i) ms) e
   where
-    go : (t : Bool) → (At k ≡ firstFrom draws (suc i) ms → anyDrawn draws ms ≡ true) → At k ≡ cond t (At i) (firstFrom draws (suc i) ms) → cond t true (anyDrawn draws ms) ≡ true
+    go : (t : Bool) → (At k ≡ firstFrom draws (suc i) ms → anyDrawn draws ms ≡ true)
+        → At k ≡ cond t (At i) (firstFrom draws (suc i) ms) → cond t true (anyDrawn draws ms) ≡ true
     go true r e = refl
     go false r e = r e
 
@@ -192,7 +180,8 @@ unfolding firstFrom anyDrawn
 none-any draws i [] e = refl
 none-any draws i (m ∷ ms) e = go (drawn draws m) (none-any draws (suc i) ms) e
   where
-    go : (t : Bool) → (Absent ≡ firstFrom draws (suc i) ms → anyDrawn draws ms ≡ false) → Absent ≡ cond t (At i) (firstFrom draws (suc i) ms) → cond t true (anyDrawn draws ms) ≡ false
+    go : (t : Bool) → (Absent ≡ firstFrom draws (suc i) ms → anyDrawn draws ms ≡ false)
+        → Absent ≡ cond t (At i) (firstFrom draws (suc i) ms) → cond t true (anyDrawn draws ms) ≡ false
     go true r e = let z : _≡_ {A = ℕ} 0 1 = cc in absurd (omega arith)
     go false r e = r e
 
@@ -206,7 +195,8 @@ module _ (words path : List ℕ) (from count : ℕ) (part : path ≡ take count 
   part-word {i} h e = e ∙ rw (part, getD-take count (drop from words) i 0 h, getD-drop from words i 0)
 
 -- what their link with as many lifetimes of a definition answers: the word at the place
-module _ (path : List ℕ) (count : ℕ) {def : ℕ} (same : length path ≡ count) (h : def < count) {d : DefLifetime} (is : d ≡ defLifetime def) {r : LinkedWord} (e : r ≡ linkedAnswer (linkedWord path count d)) where
+module _ (path : List ℕ) (count : ℕ) {def : ℕ} (same : length path ≡ count) (h : def < count) {d : DefLifetime}
+    (is : d ≡ defLifetime def) {r : LinkedWord} (e : r ≡ linkedAnswer (linkedWord path count d)) where
   asked : r ≡ linkedAnswer (linkedWord path count (defLifetime def))
   asked = e ∙ ap (λ (x : DefLifetime). linkedAnswer (linkedWord path count x)) is
 
@@ -224,7 +214,12 @@ pub record Counting (draws : ℕ → Bool) (words : List ℕ) (from count n i : 
   pub counts : n + countDrawn draws (left words from count i) ≡ countDrawn draws (allPath words from count)
 
 pub counting-start : (draws : ℕ → Bool) (words : List ℕ) (from count : ℕ) → Counting draws words from count 0 0
-counting-start draws words from count = record { here = omega arith; few = omega arith; counts = zero-add _ ∙ ap (countDrawn draws) (left-all words from count) }
+counting-start draws words from count =
+    record {
+      here = omega arith;
+      few = omega arith;
+      counts = zero-add _ ∙ ap (countDrawn draws) (left-all words from count);
+    }
 
 module _ {draws : ℕ → Bool} {words : List ℕ} {from count n i : ℕ} (inv : Counting draws words from count n i) where
   pub counting-end : count ≤ i → n ≡ countDrawn draws (allPath words from count)
@@ -235,24 +230,29 @@ module _ {draws : ℕ → Bool} {words : List ℕ} {from count n i : ℕ} (inv :
     pub counting-one : true ≡ drawn draws m → Counting draws words from count (n + 1) (i + 1)
     unfolding countDrawn
     counting-one q =
-        let e : countDrawn draws (left words from count i) ≡ suc (countDrawn draws (left words from count (i + 1))) = rw (left-next words from count fits i h, ← is, ← q) in
+        let e : countDrawn draws (left words from count i) ≡ suc (countDrawn draws (left words from count (i + 1))) =
+        rw (left-next words from count fits i h, ← is, ← q) in
         record { here = omega arith; few = omega (arith, inv .few); counts = omega (arith, e, inv .counts) }
 
     pub counting-none : false ≡ drawn draws m → Counting draws words from count n (i + 1)
     unfolding countDrawn
     counting-none q =
-        let e : countDrawn draws (left words from count i) ≡ countDrawn draws (left words from count (i + 1)) = rw (left-next words from count fits i h, ← is, ← q) in
+        let e : countDrawn draws (left words from count i) ≡ countDrawn draws (left words from count (i + 1)) =
+        rw (left-next words from count fits i h, ← is, ← q) in
         record { here = omega arith; few = omega (arith, inv .few); counts = omega (arith, e, inv .counts) }
 
 -- ---- edges counted
 
-struct-many : (draws : ℕ → Bool) (used param option def : ℕ) (ms : List MaybeStatic) → length (structEdges draws used param option def ms) ≡ countDrawn draws ms
+struct-many : (draws : ℕ → Bool) (used param option def : ℕ) (ms : List MaybeStatic)
+    → length (structEdges draws used param option def ms) ≡ countDrawn draws ms
 unfolding structEdges countDrawn
 struct-many draws used param option def [] = refl
 struct-many draws used param option def (m ∷ ms) = go (drawn draws m) (struct-many draws used param option (suc def) ms)
   where
     go : (t : Bool) → length (structEdges draws used param option (suc def) ms) ≡ countDrawn draws ms
-        → length (cond t (edge used param 3 def option ∷ structEdges draws used param option (suc def) ms) (structEdges draws used param option (suc def) ms)) ≡ cond t (suc (countDrawn draws ms)) (countDrawn draws ms)
+        → length (cond t (edge used param 3 def option ∷ structEdges draws used param option (suc def) ms)
+        (structEdges draws used param option (suc def) ms)) ≡ cond t (suc (countDrawn draws ms))
+        (countDrawn draws ms)
     go true r = ap suc r
     go false r = r
 
@@ -275,7 +275,11 @@ module _ (draws : ℕ → Bool) (t : LoweredType) where
 
   pub count-struct : {row : ℕ} → t .kind ≡ Struct row → {n : ℕ} → n ≡ countDrawn draws (map fromWord (t .path)) → CountsFor draws t n
   unfolding bring
-  count-struct e q = record { counts = λ used param. rw (q, e) (sym (struct-many draws used param (optionOf (t .option)) 0 (map fromWord (t .path)))) }
+  count-struct e q =
+      record {
+        counts = λ used param. rw (q, e)
+            (sym (struct-many draws used param (optionOf (t .option)) 0 (map fromWord (t .path))));
+      }
 
 drawn-few : (draws : ℕ → Bool) (ms : List MaybeStatic) → countDrawn draws ms ≤ length ms
 unfolding countDrawn
@@ -299,5 +303,6 @@ bring-few draws used param t h = go (t .kind)
     go Opaque = one-few (anyDrawn draws (lifetimesOf t)) (edge used param 1 0 0)
     go Slice = one-few (anyDrawn draws (lifetimesOf t)) (edge used param 2 0 0)
     go (Struct row) =
-        let few : countDrawn draws (map fromWord (t .path)) ≤ length (t .path) = rw length-map at (drawn-few draws (map fromWord (t .path))) in
+        let few : countDrawn draws (map fromWord (t .path)) ≤ length (t .path) =
+        rw length-map at (drawn-few draws (map fromWord (t .path))) in
         rw (struct-many draws used param (optionOf (t .option)) 0 (map fromWord (t .path))) (omega arith)

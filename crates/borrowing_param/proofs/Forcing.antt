@@ -1,9 +1,10 @@
--- Condition 3: the test by which a new visitor's visits go is that of the numberings, and its visits are those of `visit_param`.
+-- Condition 3: the test by which a new visitor's visits go is that of the numberings, and its visits are those of
+-- `visit_param`.
 use Prim.Native.Nat.{ℕ, zero, suc, _≤_, _<_}
-use mathlib.Core.Bool.{Bool, true, false, cond, not, and-eq-true-iff}
+use mathlib.Core.Bool.{Bool, true, false, cond, not, _&&_, and-eq-true-iff}
 use mathlib.Core.Path.{_≡_, refl, sym, ap, subst, _∙_}
 use mathlib.Core.Logic.{_↔_}
-use mathlib.Core.List.{List, [], _∷_, _++_, map, flatMap, List·Memᴰ}
+use mathlib.Core.List.{List, _∷_, _++_, map, List·Memᴰ}
 use native.Mathlib.Nat.{zero-add}
 use native.Mathlib.Decide.{decLt}
 use native.Mathlib.Omega.{arith}
@@ -12,47 +13,52 @@ use lib.Dec.{ltb}
 use lib.ListN.{length, getD, List·getD-eq-default}
 use Rattle.lifetimes.specs.declared.env.LifetimeEnv.{LifetimeEnv}
 use Rattle.lifetimes.specs.declared.answer.Refusal.the-variants.{Malformed}
-use Rattle.lifetimes.specs.Refusals.{check, Gives, NoneDue, end, next}
+use Rattle.lifetimes.specs.declared.answer.Verdict.the-variants.{Accepted}
+use Rattle.lifetimes.specs.Refusals.{check, Gives, NoneDue, next}
 use Rattle.lifetimes.specs.Ranges.{ascending, select}
 use Rattle.lifetimes.specs.Sets.{empty, member, members, setOf}
-use Rattle.lifetimes.specs.Env.{boundsOf, envChecks, envOf, allBelow}
+use Rattle.lifetimes.specs.Env.{boundsOf, envChecks}
 use Rattle.lifetimes.specs.Walk.{LastFirst, reachSet}
 use Rattle.lifetimes.proofs.RefusalLaws.{due-given, none-first, none-more, none-split}
 use Rattle.lifetimes.proofs.SetLaws.{members-has, ascending-has, select-has}
 use Rattle.lifetimes.proofs.Theorems.{reach-is-outlives, outlives-is-forced}
-use Rattle.records.specs.Reading.{readAll, inShape, itemsOf}
 use Rattle.lowered_types.specs.declared.types.Kind.{Kind}
 use Rattle.lowered_types.specs.declared.types.Kind.the-variants.{Plain, Opaque, Struct, Slice}
 use Rattle.lowered_types.specs.LoweredTypes.{LoweredType}
 use Rattle.lowered_types.specs.Rows.{rowsOf, structsInShape, paramsInShape, methodInShape}
-use Rattle.hir_types.specs.Method.{typesIn, typeChecks, rowChecks, paramChecks, placeChecks, anyPast, methodChecks}
+use Rattle.hir_types.specs.Method.{typesIn, typeChecks, rowChecks, paramChecks, structsAndParamsChecks, methodChecks}
 use Rattle.hir_types.specs.Used.{usedSet, usedNumbers}
 use Rattle.borrowing_param.specs.declared.visitor.LifetimeEdge.{LifetimeEdge}
 use Rattle.borrowing_param.specs.declared.visitor.BorrowingParamVisitor.{BorrowingParamVisitor}
+use Rattle.borrowing_param.specs.declared.visitor.Created.{Created}
 use Rattle.borrowing_param.specs.Brings.{answerOf}
 use Rattle.borrowing_param.specs.Visit.{usedOf, drawsOf, bringTo, bringAll, holding, state, visitWith, visit}
 use Rattle.borrowing_param.specs.VisitParam.{typeAt, visitChecks, visitParam}
-use Rattle.borrowing_param.specs.Visits.{allOf}
+use Rattle.borrowing_param.specs.Visits.{unrefusedBy, allOf}
 use Rattle.borrowing_param.specs.New.{drawsTo, newVisitor, created}
 use Rattle.borrowing_param.specs.Condition3.{Above, Param}
 use Rattle.borrowing_param.specs.Theorems.{IsNew, answerAt, AllVisits}
 use Rattle.borrowing_param.proofs.Joining.{Once, join-part}
-use Rattle.borrowing_param.proofs.Running.{visits-all}
-use Rattle.borrowing_param.proofs.Bringing.{brought-by, bring-ascends, bring-formed, Formed, kindNumber, defs, answers}
-use Rattle.borrowing_param.proofs.Visiting.{both, param-short}
+use Rattle.borrowing_param.proofs.Running.{kept, unrefused-kept, visits-all}
+use Rattle.borrowing_param.proofs.Bringing.{brought-by, bring-ascends, bring-formed, Formed, kindNumber, defs}
+use Rattle.borrowing_param.proofs.Bringing.{answers}
+use Rattle.borrowing_param.proofs.Visiting.{param-short}
 use Rattle.borrowing_param.proofs.Creating.{at-place, places, places-none, env-none, few-lifetimes, used-below}
 
 -- ---- by the numberings
 
-module _ (env : LifetimeEnv) (valid : NoneDue (envChecks env)) (few : env .count ≤ 64) (used : ℕ) (below : (k : ℕ) → member used k ≡ true → k < env .count) where
+module _ (env : LifetimeEnv) (valid : NoneDue (envChecks env)) (few : env .count ≤ 64) (used : ℕ) (below : (k : ℕ)
+    → member used k ≡ true → k < env .count) where
   abbrev v : BorrowingParamVisitor
   v = newVisitor used (boundsOf env)
 
-  draws-above : (l b : ℕ) → List·Memᴰ l (usedOf v) → (drawsOf v l b ≡ true) ↔ Above (boundsOf env) (env .count) l b
+  draws-above : (l b : ℕ) → List·Memᴰ l (usedOf v) → (drawsOf v l b ≡ true) ↔ Above (boundsOf env) (env .count) b l
   unfolding newVisitor
   draws-above l b m =
       let in-used = (members-has used l) .0 m in
-      let set : getD (v .draws) l 0 ≡ reachSet true (boundsOf env) l = at-place (drawsTo used (boundsOf env)) 0 64 l (in-used .0) ∙ ap (drawsTo used (boundsOf env)) (zero-add l) ∙ rw (in-used .1) in
+      let set : getD (v .draws) l 0 ≡ reachSet true (boundsOf env) l =
+      at-place (drawsTo used (boundsOf env)) 0 64 l (in-used .0) ∙ ap (drawsTo used (boundsOf env)) (zero-add l)
+      ∙ rw (in-used .1) in
       let reach = (reach-is-outlives LastFirst true env valid l (below l (in-used .1))) .set b in
       let forced = (outlives-is-forced (boundsOf env) l b) .0 in
       let both = and-eq-true-iff (ltb b 64) (member (getD (v .draws) l 0) b) in (
@@ -69,13 +75,17 @@ module _ (env : LifetimeEnv) (valid : NoneDue (envChecks env)) (few : env .count
       not-member h false e = refl
 
       go : Dec (l < 64) → getD (map (drawsTo used (boundsOf env)) (ascending 0 64)) l 0 ≡ empty
-      go (yes h) = at-place (drawsTo used (boundsOf env)) 0 64 l h ∙ ap (drawsTo used (boundsOf env)) (zero-add l) ∙ not-member h (member used l) refl
-      go (no h) = List·getD-eq-default (map (drawsTo used (boundsOf env)) (ascending 0 64)) 0 {n = l} (omega (arith, h, places (drawsTo used (boundsOf env)) 64))
+      go (yes h) = at-place (drawsTo used (boundsOf env)) 0 64 l h ∙ ap (drawsTo used (boundsOf env)) (zero-add l)
+          ∙ not-member h (member used l) refl
+      go (no h) =
+          List·getD-eq-default (map (drawsTo used (boundsOf env)) (ascending 0 64)) 0 {n = l}
+          (omega (arith, h, places (drawsTo used (boundsOf env)) 64))
 
   -- what one parameter brings and answers
-  param-is : (t : LoweredType) (p : ℕ) → length (t .path) ≤ 16 → Param (boundsOf env) (env .count) v t p (answerOf (t .kind) (bringAll v t p))
+  param-is : (t : LoweredType) (p : ℕ) → length (t .path) ≤ 16
+      → Param (boundsOf env) (env .count) v t p (answerOf (t .kind) (bringAll v t p))
   param-is t p short = record {
-    brought = λ l m e. brought-by (drawsOf v l) (Above (boundsOf env) (env .count) l) (λ b. draws-above l b m) l p t e;
+    brought = λ l m e. brought-by (drawsOf v l) (λ b. Above (boundsOf env) (env .count) b l) (λ b. draws-above l b m) l p t e;
     ascending = λ l. bring-ascends (drawsOf v l) l p t;
     answers = answers (t .kind) p 16 (bringAll v t p) (omega arith) form;
   }
@@ -100,8 +110,13 @@ unfolding ascending select Once
 once-from f x zero = tt
 once-from f x (suc n) = go (f x) (once-from f (suc x) n)
   where
-    go : (t : Bool) → Once (select f (ascending (suc x) n)) → Once (cond t (x ∷ select f (ascending (suc x) n)) (select f (ascending (suc x) n)))
-    go true r = (λ m. let k = (ascending-has (suc x) n x) .0 ((select-has f (ascending (suc x) n) x) .0 m .0) in omega (arith, k .0), r)
+    go : (t : Bool) → Once (select f (ascending (suc x) n))
+        → Once (cond t (x ∷ select f (ascending (suc x) n)) (select f (ascending (suc x) n)))
+    go true r = (
+      λ m. let k = (ascending-has (suc x) n x) .0 ((select-has f (ascending (suc x) n) x) .0
+          m .0) in omega (arith, k .0),
+      r,
+    )
     go false r = r
 
 pub once-used : (used : ℕ) → Once (members used)
@@ -110,30 +125,31 @@ once-used used = once-from (member used) 0 64
 
 -- ---- the visits of an accepted method
 
-module _ (env : LifetimeEnv) (structs params output force : List ℕ) (none : NoneDue (methodChecks env structs params output force)) where
+module _ (env : LifetimeEnv) (structs params output force : List ℕ)
+    (none : NoneDue (methodChecks env structs params output force)) where
   pub in-shape : (structsInShape structs ≡ true) × (paramsInShape (length (rowsOf structs)) params ≡ true)
   unfolding methodInShape
   in-shape =
-      let all = both (structsInShape structs) (not-false _ (none-first none)) in
-      (all .0, both (paramsInShape (length (rowsOf structs)) params) (all .1) .0)
+      let all = (and-eq-true-iff (structsInShape structs) _) .0 (not-false _ (none-first none)) in
+      (all .0, (and-eq-true-iff (paramsInShape (length (rowsOf structs)) params) _) .0 (all .1) .0)
 
-  shape-none : methodInShape structs params [] (0 ∷ []) ≡ true
-  unfolding methodInShape inShape itemsOf readAll
-  shape-none = rw (in-shape .0, in-shape .1)
-
-  pub rows-params : NoneDue (rowChecks (rowsOf structs) 0 (rowsOf structs)) × NoneDue (paramChecks (rowsOf structs) 0 (typesIn structs params))
+  pub rows-params : NoneDue (rowChecks (rowsOf structs) 0 (rowsOf structs))
+      × NoneDue (paramChecks (rowsOf structs) 0 (typesIn structs params))
   rows-params =
-      let a = none-split (rowChecks (rowsOf structs) 0 (rowsOf structs)) (paramChecks (rowsOf structs) 0 (typesIn structs params) ++ typeChecks (rowsOf structs) (typesIn structs output)) (places-none env structs params output force none) in
-      (a .0, none-split (paramChecks (rowsOf structs) 0 (typesIn structs params)) (typeChecks (rowsOf structs) (typesIn structs output)) (a .1) .0)
-
-  places-still : NoneDue (placeChecks structs params [])
-  unfolding typeChecks itemsOf readAll
-  places-still = none-more (rows-params .0) (none-more (rows-params .1) end)
+      let a = none-split (rowChecks (rowsOf structs) 0 (rowsOf structs))
+      (paramChecks (rowsOf structs) 0 (typesIn structs params) ++ typeChecks (rowsOf structs)
+      (typesIn structs output)) (places-none env structs params output force none) in (
+        a .0,
+        none-split (paramChecks (rowsOf structs) 0 (typesIn structs params)) (typeChecks (rowsOf structs)
+            (typesIn structs output)) (a .1) .0,
+      )
 
   -- its structs and params alone, as `visit_param` and `borrow_map` look at them
-  pub params-none : NoneDue (methodChecks (envOf 0 0 []) structs params [] (0 ∷ []))
-  unfolding envOf allBelow anyPast itemsOf readAll flatMap
-  params-none = next {c = check (not (methodInShape structs params [] (0 ∷ []))) Malformed} (rw shape-none) (next refl (next refl (none-more places-still (next refl (next refl (next refl end))))))
+  pub params-none : NoneDue (structsAndParamsChecks structs params)
+  params-none =
+      next {c = check (not (structsInShape structs && paramsInShape (length (rowsOf structs)) params)) Malformed}
+      (rw (in-shape .0, in-shape .1))
+      (none-more (rows-params .0) (rows-params .1))
 
   visit-none : (p : ℕ) → p < length (typesIn structs params) → NoneDue (visitChecks structs params p)
   visit-none p h = next (lt-leb (length (typesIn structs params)) p h) params-none
@@ -148,29 +164,33 @@ module _ (env : LifetimeEnv) (structs params output force : List ℕ) (none : No
   abbrev new : BorrowingParamVisitor
   new = newVisitor used (boundsOf env)
 
-  created-is : created env structs params output force .visitor ≡ new
+  abbrev made : Created
+  made = record { verdict = Accepted; visitor = new }
+
+  created-is : created env structs params output force ≡ made
   unfolding created
   created-is = rw used-given
 
-  pub new-is : IsNew env structs params output force (created env structs params output force)
-  unfolding created newVisitor
-  new-is =
+  made-new : IsNew env structs params output force made
+  unfolding newVisitor
+  made-new =
       let valid = env-none env structs params output force none in
       let few = few-lifetimes env structs params output force none in
       let below = used-below env structs params output force none used used-given in
-      rw used-given (record {
+      record {
         accepted = refl;
         used = used-given;
         draws = λ l m b. draws-above env valid few used below l b m;
         draws-none = λ l out. draws-nothing env valid few used below l out;
         stored = refl;
-      })
+      }
 
   abbrev type : ℕ → LoweredType
   type p = typeAt (typesIn structs params) p
 
   agrees : (e : ℕ) (words : List ℕ) (p : ℕ) → p < length (typesIn structs params)
-      → visitParam structs params (state (holding new e) words) p ≡ visitWith (state (holding new e) words) (answerAt structs params new p) (allOf new (λ l q. bringTo new (type q) q l) p)
+      → visitParam structs params (state (holding new e) words) p ≡ visitWith (state (holding new e) words)
+      (answerAt structs params new p) (allOf new (λ l q. bringTo new (type q) q l) p)
   unfolding visitParam visit
   agrees e words p h = rw (due-given (tt {0}) (visit-none p h))
 
@@ -182,10 +202,38 @@ module _ (env : LifetimeEnv) (structs params output force : List ℕ) (none : No
   unfolding newVisitor
   once-new = once-used used
 
-  pub all-visits : (words ps : List ℕ) → ((p : ℕ) → List·Memᴰ p ps → p < length (typesIn structs params)) → AllVisits env structs params (created env structs params output force .visitor) words ps
-  all-visits words ps within = subst (λ (x : BorrowingParamVisitor). AllVisits env structs params x words ps) (sym created-is) (record {
-    parameters = λ p h. param-is env (env-none env structs params output force none) (few-lifetimes env structs params output force none) used (used-below env structs params output force none used used-given)
-        (type p) p (param-short structs params (in-shape .1) p h);
-    visits = visits-all (visitParam structs params) new (λ l q. bringTo new (type q) q l) (answerAt structs params new) (length (typesIn structs params)) agrees (λ p h. refl)
-        (λ l q e m. bring-formed (drawsOf new l) l q (type q) e m .own) once-new new-empty words ps within;
-  })
+  abbrev Within : List ℕ → Type 0
+  Within ps = (p : ℕ) → List·Memᴰ p ps → p < length (typesIn structs params)
+
+  abbrev brings : ℕ → ℕ → List LifetimeEdge
+  brings l q = bringTo new (type q) q l
+
+  -- which visits are unrefused, by their room
+  unrefused-made : (words ps : List ℕ) → Within ps
+      → unrefusedBy (visitParam structs params) (state new words) ps
+      ≡ kept (λ p. length (allOf new brings p)) (length words) 0 ps
+  unfolding newVisitor
+  unrefused-made words ps within =
+      unrefused-kept (visitParam structs params) new brings (answerAt structs params new)
+      (length (typesIn structs params)) agrees (λ p h. refl) words ps within
+
+  pub all-visits : (words ps : List ℕ) → Within ps
+      → AllVisits env structs params output force (created env structs params output force) words ps
+  all-visits words ps within =
+      subst (λ (c : Created). AllVisits env structs params output force c words ps) (sym created-is) (record {
+        new = made-new;
+        parameters = λ p h.
+            param-is env (env-none env structs params output force none)
+            (few-lifetimes env structs params output force none) used
+            (used-below env structs params output force none used used-given)
+            (type p) p (param-short structs params (in-shape .1) p h);
+        visits =
+            visits-all (visitParam structs params) new brings (answerAt structs params new)
+            (length (typesIn structs params)) agrees (λ p h. refl)
+            (λ l q e m. bring-formed (drawsOf new l) l q (type q) e m .own) once-new new-empty words ps within;
+      })
+
+  pub unrefused-new : (words ps : List ℕ) → Within ps
+      → unrefusedBy (visitParam structs params) (state (created env structs params output force .visitor) words) ps
+      ≡ kept (λ p. length (bringAll (created env structs params output force .visitor) (type p) p)) (length words) 0 ps
+  unrefused-new words ps within = rw created-is (unrefused-made words ps within)

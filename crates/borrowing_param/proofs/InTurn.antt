@@ -1,4 +1,5 @@
--- A visit to each parameter, one after another: with room for all edges none is refused, and they give the listing; without, one is refused.
+-- A visit to each parameter, one after another: with room for all edges none is refused, and they give the listing;
+-- without, one is refused.
 use Prim.Native.Nat.{ℕ, zero, suc, _+_, _*_, _≤_, _<_}
 use mathlib.Core.Bool.{Bool, true, false}
 use mathlib.Core.Path.{_≡_, refl, sym, ap, _∙_}
@@ -9,6 +10,7 @@ use native.Mathlib.Omega.{arith}
 use borrow.Author.Tests.{le-leb, leb-true, leb-false}
 use lib.Dec.{leb}
 use lib.ListN.{length, getD, take}
+use lib.Seq.{take-length}
 use Rattle.lifetimes.specs.declared.answer.Refusal.the-variants.{NoRoom}
 use Rattle.lifetimes.specs.declared.env.LifetimeEnv.{LifetimeEnv}
 use Rattle.lifetimes.specs.Refusals.{NoneDue}
@@ -21,14 +23,15 @@ use Rattle.borrowing_param.specs.declared.visitor.ParamBorrowInfo.{Param
 use Rattle.borrowing_param.specs.declared.visitor.BorrowingParamVisitor.{BorrowingParamVisitor}
 use Rattle.borrowing_param.specs.Edges.{width, edgesIn, edgesOf}
 use Rattle.borrowing_param.specs.Brings.{refuse}
-use Rattle.borrowing_param.specs.Visit.{usedOf, bringTo, bringAll, VisitOutcome}
+use Rattle.borrowing_param.specs.Visit.{usedOf, bringTo, bringAll, VisitOutcome, state}
 use Rattle.borrowing_param.specs.VisitParam.{typeAt, visitParam}
-use Rattle.borrowing_param.specs.Visits.{filled, kept, Visits}
+use Rattle.borrowing_param.specs.Visits.{unrefusedBy, Visits}
 use Rattle.borrowing_param.specs.New.{created}
 use Rattle.borrowing_param.specs.BorrowMap.{listedTo, listedEdges}
 use Rattle.borrowing_param.specs.Theorems.{answerAt, inTurn, visitOf, visited, RoomForAll, AsVisited}
 use Rattle.borrowing_param.proofs.Joining.{of-part, of-others}
-use Rattle.borrowing_param.proofs.Forcing.{all-visits, once-used}
+use Rattle.borrowing_param.proofs.Running.{filled, kept, filled-many, take-member}
+use Rattle.borrowing_param.proofs.Forcing.{all-visits, unrefused-new, once-used}
 use Rattle.borrowing_param.proofs.Listing.{listed-more, listed-none}
 use Rattle.borrowing_param.proofs.Ordering.{to-used, answer-is}
 
@@ -42,13 +45,17 @@ module _ (many : ℕ → ℕ) (room : ℕ) where
   kept-all : (e : ℕ) (ps : List ℕ) → width * (e + sums many ps) ≤ room → kept many room e ps ≡ ps
   unfolding kept sums
   kept-all e [] h = refl
-  kept-all e (p ∷ ps) h = rw (le-leb (width * (e + many p)) room (omega arith)) (ap (λ (l : List ℕ). p ∷ l) (kept-all (e + many p) ps (omega arith)))
+  kept-all e (p ∷ ps) h =
+      rw (le-leb (width * (e + many p)) room (omega arith))
+      (ap (λ (l : List ℕ). p ∷ l) (kept-all (e + many p) ps (omega arith)))
 
-  filled-part : (e : ℕ) (ps : List ℕ) (i : ℕ) → width * (e + sums many ps) ≤ room → i < length ps → width * (filled many room e (take i ps) + many (getD ps i 0)) ≤ room
+  filled-part : (e : ℕ) (ps : List ℕ) (i : ℕ) → width * (e + sums many ps) ≤ room → i < length ps
+      → width * (filled many room e (take i ps) + many (getD ps i 0)) ≤ room
   unfolding filled sums
   filled-part e [] i h l = absurd (omega arith)
   filled-part e (p ∷ ps) zero h l = omega arith
-  filled-part e (p ∷ ps) (suc i) h l = rw (le-leb (width * (e + many p)) room (omega arith)) (filled-part (e + many p) ps i (omega arith) (omega arith))
+  filled-part e (p ∷ ps) (suc i) h l =
+      rw (le-leb (width * (e + many p)) room (omega arith)) (filled-part (e + many p) ps i (omega arith) (omega arith))
 
   record Past (e : ℕ) (ps : List ℕ) : Type 0 where
     place : ℕ
@@ -78,12 +85,15 @@ module _ (v : BorrowingParamVisitor) (all : List LoweredType) where
   same-rest : (k : ℕ) (t : LoweredType) (ts : List LoweredType) → Same k (t ∷ ts) → Same (suc k) ts
   same-rest k t ts s i h = let e : suc k + i ≡ k + suc i = omega arith in ap (typeAt all) e ∙ s (suc i) (omega arith)
 
-  turn-brings : (used k : ℕ) (ts : List LoweredType) → Same k ts → flatMap (λ p. bringTo v (typeAt all p) p used) (ascending k (length ts)) ≡ listedTo v k ts used
+  turn-brings : (used k : ℕ) (ts : List LoweredType) → Same k ts
+      → flatMap (λ p. bringTo v (typeAt all p) p used) (ascending k (length ts)) ≡ listedTo v k ts used
   unfolding ascending flatMap listedTo
   turn-brings used k [] s = refl
   turn-brings used k (t ∷ ts) s = rw (same-first k t ts s, turn-brings used (suc k) ts (same-rest k t ts s))
 
-  turn-sums : (k : ℕ) (ts : List LoweredType) → Same k ts → sums (λ p. length (bringAll v (typeAt all p) p)) (ascending k (length ts)) ≡ length (flatMap (listedTo v k ts) (usedOf v))
+  turn-sums : (k : ℕ) (ts : List LoweredType) → Same k ts
+      → sums (λ p. length (bringAll v (typeAt all p) p)) (ascending k (length ts))
+      ≡ length (flatMap (listedTo v k ts) (usedOf v))
   unfolding ascending sums
   turn-sums k [] s = ap length (sym (listed-none v k (usedOf v)))
   turn-sums k (t ∷ ts) s = rw (same-first k t ts s, turn-sums (suc k) ts (same-rest k t ts s)) (sym (listed-more v k t ts))
@@ -91,7 +101,11 @@ module _ (v : BorrowingParamVisitor) (all : List LoweredType) where
 -- ---- what the visits give
 
 module _ (structs params : List ℕ) (v : BorrowingParamVisitor) (words : List ℕ)
-    (visits : Visits (visitParam structs params) v (λ used p. bringTo v (typeAt (typesIn structs params) p) p used) (answerAt structs params v) words (inTurn structs params)) where
+    (visits : Visits (visitParam structs params) v (λ used p. bringTo v (typeAt (typesIn structs params) p) p used)
+    (answerAt structs params v) words (inTurn structs params))
+    (stays : (i : ℕ)
+    → unrefusedBy (visitParam structs params) (state v words) (take i (inTurn structs params))
+    ≡ kept (λ p. length (bringAll v (typeAt (typesIn structs params) p) p)) (length words) 0 (take i (inTurn structs params))) where
   abbrev types : List LoweredType
   types = typesIn structs params
 
@@ -111,18 +125,37 @@ module _ (structs params : List ℕ) (v : BorrowingParamVisitor) (words : List �
   size : length (inTurn structs params) ≡ length types
   size = length-ascending 0 (length types)
 
+  -- what was brought before the visit with the number i
+  stands : (i : ℕ)
+      → length (flatMap (λ p. bringAll v (typeAt types p) p)
+      (unrefusedBy (visitParam structs params) (state v words) (take i (inTurn structs params))))
+      ≡ filled count (length words) 0 (take i (inTurn structs params))
+  stands i =
+      rw (stays i)
+      (sym (filled-many (λ p. bringAll v (typeAt types p) p) (length words) 0 (take i (inTurn structs params)) ∙ zero-add _))
+
+  all-stay : unrefusedBy (visitParam structs params) (state v words) (inTurn structs params)
+      ≡ kept count (length words) 0 (inTurn structs params)
+  all-stay = rw (take-length (inTurn structs params)) at (stays (length (inTurn structs params)))
+
   fits : RoomForAll structs params v words → width * (0 + sums count (inTurn structs params)) ≤ length words
   fits room = omega (arith, total)
 
-  info : RoomForAll structs params v words → (p : ℕ) → p < length types → visitOf structs params v words p ≡ answerAt structs params v p
+  info : RoomForAll structs params v words → (p : ℕ) → p < length types
+      → visitOf structs params v words p ≡ answerAt structs params v p
   info room p h =
       let k : p < length (inTurn structs params) = omega (arith, size) in
-      visits .answered p k (filled-part count (length words) 0 (inTurn structs params) p (fits room) k) ∙ ap (answerAt structs params v) (number p h)
+      visits .answered p k (rw (stands p) (filled-part count (length words) 0 (inTurn structs params) p (fits room) k))
+      ∙ ap (answerAt structs params v) (number p h)
 
   pub in-turn : AsVisited structs params v words
   unfolding listedEdges
   in-turn = record {
-    answered = λ room p h. (ap (λ (x : ParamBorrowInfo). x .verdict) (info room p h), ap (λ (x : ParamBorrowInfo). x .number) (info room p h) ∙ sym (answer-is v types p h));
+    answered =
+        λ room p h. (
+          ap (λ (x : ParamBorrowInfo). x .verdict) (info room p h),
+          ap (λ (x : ParamBorrowInfo). x .number) (info room p h) ∙ sym (answer-is v types p h),
+        );
     edges = λ room used. by-used room used (decMember used);
     refused = λ none. gone (decLt (length words) (width * length (listedEdges v types))) none;
     listed = listed-to;
@@ -136,26 +169,46 @@ module _ (structs params : List ℕ) (v : BorrowingParamVisitor) (words : List �
         where
           go : Dec (used < 64) → (t : Bool) → member (v .used) used ≡ t → Dec (List·Memᴰ used (usedOf v))
           go (yes h) true e = yes ((members-has (v .used) used) .1 (h, e))
-          go (yes h) false e = no (λ m. let z : true ≡ false = sym ((members-has (v .used) used) .0 m .1) ∙ e in let o : _≡_ {A = ℕ} 0 1 = cc in omega arith)
+          go (yes h) false e =
+              no (λ m. let z : true ≡ false = sym ((members-has (v .used) used) .0 m .1)
+              ∙ e in let o : _≡_ {A = ℕ} 0 1 = cc in omega arith)
           go (no n) t e = no (λ m. n ((members-has (v .used) used) .0 m .0))
 
       by-used : RoomForAll structs params v words → (used : ℕ) → Dec (List·Memᴰ used (usedOf v))
-          → edgesOf used (edgesIn (visited structs params v words .visitor .stored) (visited structs params v words .words)) ≡ edgesOf used (listedEdges v types)
+          → edgesOf used
+          (edgesIn (visited structs params v words .visitor .stored) (visited structs params v words .words))
+          ≡ edgesOf used (listedEdges v types)
       by-used room used (yes m) =
           visits .edges-of used m
-          ∙ ap (flatMap (λ p. bringTo v (typeAt types p) p used)) (kept-all count (length words) 0 (inTurn structs params) (fits room))
+          ∙ ap (flatMap (λ p. bringTo v (typeAt types p) p used))
+          (all-stay ∙ kept-all count (length words) 0 (inTurn structs params) (fits room))
           ∙ turn-brings v types used 0 types itself
           ∙ sym (listed-to used m)
-      by-used room used (no n) = visits .no-edges-of used n ∙ sym (of-others (listedTo v 0 types) (λ l e k. to-used v 0 types l e k) used (usedOf v) n)
+      by-used room used (no n) =
+          visits .no-edges-of used n
+          ∙ sym (of-others (listedTo v 0 types) (λ l e k. to-used v 0 types l e k) used (usedOf v) n)
 
-      gone : Dec (length words < width * length (listedEdges v types)) → (RoomForAll structs params v words → ⊥) → (p : ℕ) × (p < length types) × (visitOf structs params v words p ≡ refuse NoRoom)
+      gone : Dec (length words < width * length (listedEdges v types)) → (RoomForAll structs params v words → ⊥)
+          → (p : ℕ) × (p < length types) × (visitOf structs params v words p ≡ refuse NoRoom)
       gone (no n) none = absurd (none (omega arith))
       gone (yes h) none =
-          let past = first-past count (length words) 0 (inTurn structs params) (omega arith) (omega (arith, total)) in
-          (past .place, omega (arith, past .below, size), ap (λ (x : VisitOutcome). x .info) (visits .refused (past .place) (past .below) (past .past)))
+          let past = first-past count (length words) 0 (inTurn structs params) (omega arith) (omega (arith, total)) in (
+            past .place,
+            omega (arith, past .below, size),
+            ap (λ (x : VisitOutcome). x .info)
+                (visits .refused (past .place) (past .below) (rw (stands (past .place)) (past .past))),
+          )
 
-pub as-visited : (env : LifetimeEnv) (structs params output force : List ℕ) → NoneDue (methodChecks env structs params output force) → (words : List ℕ)
+pub as-visited : (env : LifetimeEnv) (structs params output force : List ℕ)
+    → NoneDue (methodChecks env structs params output force) → (words : List ℕ)
     → AsVisited structs params (created env structs params output force .visitor) words
 as-visited env structs params output force none words =
     in-turn structs params (created env structs params output force .visitor) words
-    (all-visits env structs params output force none words (inTurn structs params) (λ p m. omega (arith, (ascending-has 0 (length (typesIn structs params)) p) .0 m .1)) .visits)
+    (all-visits env structs params output force none words turn within .visits)
+    (λ i. unrefused-new env structs params output force none words (take i turn) (λ p m. within p (take-member i turn p m)))
+  where
+    turn : List ℕ
+    turn = inTurn structs params
+
+    within : (p : ℕ) → List·Memᴰ p (inTurn structs params) → p < length (typesIn structs params)
+    within p m = omega (arith, (ascending-has 0 (length (typesIn structs params)) p) .0 m .1)

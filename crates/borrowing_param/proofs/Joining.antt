@@ -1,16 +1,21 @@
--- Lists joined from parts, their rearrangements, and the words of edges.
--- In order: members and joins; rearrangements; storing one list behind another; edges and their words; the edges of one lifetime.
-use Prim.Native.Nat.{ℕ, suc, _+_, _*_}
+-- Lists joined from parts, their rearrangements, and the words of edges. In order: members and joins; rearrangements;
+-- storing one list behind another; edges and their words; the edges of one lifetime.
+use Prim.Native.Nat.{ℕ, zero, suc, _+_, _*_, _/_, _≤_, _<_}
 use mathlib.Core.Path.{_≡_, refl, sym, ap, subst, _∙_}
 use mathlib.Core.Logic.{⊎-elim, ite}
-use mathlib.Core.List.{List, [], _∷_, _++_, flatMap, filter-append, append-assoc, append-nil, List·Memᴰ, List·Memᴰ·head, List·Memᴰ·tail, List·Memᴰ·cases-cons, List·Memᴰ·append-cases, List·Memᴰ·not-nil, List·Permᴰ, List·Permᴰ·nil, List·Permᴰ·cons, List·Permᴰ·swap, List·Permᴰ·trans, Permᴰ·append-left, Permᴰ·append-right, List·Permᴰ·append-comm}
+use mathlib.Core.List.{List, [], _∷_, _++_, flatMap, filter-append, append-assoc, append-nil, List·Memᴰ, List·Memᴰ·head}
+use mathlib.Core.List.{List·Memᴰ·tail, List·Memᴰ·cases-cons, List·Memᴰ·append-cases, List·Memᴰ·not-nil, List·Permᴰ}
+use mathlib.Core.List.{List·Permᴰ·nil, List·Permᴰ·cons, List·Permᴰ·swap, List·Permᴰ·trans, Permᴰ·append-left}
+use mathlib.Core.List.{Permᴰ·append-right, List·Permᴰ·append-comm}
 use native.Mathlib.Decide.{ℕ-discrete}
-use native.Mathlib.Nat.{add-zero}
+use native.Mathlib.Nat.{add-zero, div-add-mod', mod-lt}
 use native.Mathlib.Omega.{arith}
-use lib.ListN.{length, set}
-use lib.Seq.{sets}
+use borrow.Author.Tests.{le-ltb, lt-ltb}
+use lib.ListN.{length, getD, drop, set}
+use lib.Seq.{sets, getD-drop, drop-drop}
 use Rattle.borrowing_param.specs.declared.visitor.LifetimeEdge.{LifetimeEdge}
-use Rattle.borrowing_param.specs.Edges.{width, edgeWords, edgesIn, edgesOf}
+use Rattle.borrowing_param.specs.declared.edges.EdgeAt.the-variants.{Edge, Absent}
+use Rattle.borrowing_param.specs.Edges.{edge, width, edgeWords, edgeAt, edgesIn, edgeIn, edgesOf}
 
 -- ---- members and joins
 
@@ -49,9 +54,12 @@ perm-length (List·Permᴰ·trans p q) = perm-length p ∙ perm-length q
 
 pub perm-member : {A : Type 0} {l m : List A} → List·Permᴰ l m → (x : A) → List·Memᴰ x l → List·Memᴰ x m
 perm-member List·Permᴰ·nil x h = h
-perm-member (List·Permᴰ·cons e p) x h = ⊎-elim (λ g. List·Memᴰ·head (g ∙ e)) (λ k. List·Memᴰ·tail (perm-member p x k)) (List·Memᴰ·cases-cons h)
+perm-member (List·Permᴰ·cons e p) x h =
+    ⊎-elim (λ g. List·Memᴰ·head (g ∙ e)) (λ k. List·Memᴰ·tail (perm-member p x k)) (List·Memᴰ·cases-cons h)
 perm-member (List·Permᴰ·swap e f) x h =
-    ⊎-elim (λ g. List·Memᴰ·tail (List·Memᴰ·head (g ∙ e))) (λ k. ⊎-elim (λ g. List·Memᴰ·head (g ∙ f)) (λ i. List·Memᴰ·tail (List·Memᴰ·tail i)) (List·Memᴰ·cases-cons k)) (List·Memᴰ·cases-cons h)
+    ⊎-elim (λ g. List·Memᴰ·tail (List·Memᴰ·head (g ∙ e)))
+    (λ k. ⊎-elim (λ g. List·Memᴰ·head (g ∙ f)) (λ i. List·Memᴰ·tail (List·Memᴰ·tail i)) (List·Memᴰ·cases-cons k))
+    (List·Memᴰ·cases-cons h)
 perm-member (List·Permᴰ·trans p q) x h = perm-member q x (perm-member p x h)
 
 pub join-perm : {A B : Type 0} (f : A → List B) {l m : List A} → List·Permᴰ l m → List·Permᴰ (flatMap f l) (flatMap f m)
@@ -84,6 +92,35 @@ unfolding flatMap edgesIn
 words-read [] rest = refl
 words-read (e ∷ es) rest = rw (words-read es rest)
 
+-- ---- an edge by its place
+
+module _ (words : List ℕ) (place : ℕ) where
+  pub edge-absent : length words / 5 ≤ place → Absent ≡ edgeIn words place
+  edge-absent h = rw (le-ltb place (length words / 5) h)
+
+  pub edge-there : place < length words / 5
+      → Edge (edge (getD words (5 * place) 0) (getD words (5 * place + 1) 0) (getD words (5 * place + 2) 0)
+      (getD words (5 * place + 3) 0) (getD words (5 * place + 4) 0))
+      ≡ edgeIn words place
+  edge-there h =
+      let at = getD-drop (5 * place) words in
+      rw (lt-ltb place (length words / 5) h, at 0 0, at 1 0, at 2 0, at 3 0, at 4 0, add-zero (5 * place))
+
+edges-at : (n k : ℕ) (words : List ℕ) (other : LifetimeEdge) → k < n
+    → getD (edgesIn n words) k other ≡ edgeAt (drop (width * k) words)
+unfolding edgesIn
+edges-at zero k words other h = absurd (omega arith)
+edges-at (suc n) zero words other h = refl
+edges-at (suc n) (suc k) words other h =
+    let next : width + width * k ≡ width * suc k = omega arith in
+    edges-at n k (drop width words) other (omega arith) ∙ ap edgeAt (drop-drop (width * k) width words) ∙ rw next
+
+pub edge-by-place : (words : List ℕ) (n k : ℕ) (other : LifetimeEdge) → width * n ≤ length words → k < n
+    → edgeIn words k ≡ Edge (getD (edgesIn n words) k other)
+edge-by-place words n k other h l =
+    let inside : k < length words / 5 = omega (arith, div-add-mod' (length words) 5, mod-lt (length words) {m = 5} (omega arith)) in
+    rw (lt-ltb k (length words / 5) inside, edges-at n k words other l)
+
 -- ---- the edges of one lifetime
 
 abbrev Used : ℕ → List LifetimeEdge → Type 0
@@ -96,7 +133,8 @@ of-own : (used : ℕ) (es : List LifetimeEdge) → Used used es → edgesOf used
 of-own used [] h = refl
 of-own used (e ∷ es) h = go (ℕ-discrete (e .used) used) (of-own used es (λ x m. h x (List·Memᴰ·tail m)))
   where
-    go : (d : Dec (e .used ≡ used)) → edgesOf used es ≡ es → ite {C = List LifetimeEdge} d (e ∷ edgesOf used es) (edgesOf used es) ≡ e ∷ es
+    go : (d : Dec (e .used ≡ used)) → edgesOf used es ≡ es
+        → ite {C = List LifetimeEdge} d (e ∷ edgesOf used es) (edgesOf used es) ≡ e ∷ es
     go (yes g) r = rw r
     go (no g) r = absurd (g (h e (List·Memᴰ·head refl)))
 
@@ -104,7 +142,8 @@ of-none : (used : ℕ) (es : List LifetimeEdge) → ((e : LifetimeEdge) → List
 of-none used [] h = refl
 of-none used (e ∷ es) h = go (ℕ-discrete (e .used) used) (of-none used es (λ x m. h x (List·Memᴰ·tail m)))
   where
-    go : (d : Dec (e .used ≡ used)) → edgesOf used es ≡ [] → ite {C = List LifetimeEdge} d (e ∷ edgesOf used es) (edgesOf used es) ≡ []
+    go : (d : Dec (e .used ≡ used)) → edgesOf used es ≡ []
+        → ite {C = List LifetimeEdge} d (e ∷ edgesOf used es) (edgesOf used es) ≡ []
     go (yes g) r = absurd (h e (List·Memᴰ·head refl) g)
     go (no g) r = r
 
@@ -116,13 +155,24 @@ Once (x ∷ l) = (List·Memᴰ x l → ⊥) × Once l
 -- where each part holds edges of its own lifetime, a lifetime's edges are those of its part
 module _ (part : ℕ → List LifetimeEdge) (own : (used : ℕ) → Used used (part used)) (used : ℕ) where
   pub of-others : (l : List ℕ) → (List·Memᴰ used l → ⊥) → edgesOf used (flatMap part l) ≡ []
-  of-others l h = of-none used (flatMap part l) (λ e m g. let r = join-part part l e m in h (subst (λ (x : ℕ). List·Memᴰ x l) (sym (own (r .part) e (r .holds)) ∙ g) (r .listed)))
+  of-others l h =
+      of-none used (flatMap part l)
+      (λ e m g. let r = join-part part l e m in h
+      (subst (λ (x : ℕ). List·Memᴰ x l) (sym (own (r .part) e (r .holds)) ∙ g) (r .listed)))
 
   pub of-part : (l : List ℕ) → Once l → List·Memᴰ used l → edgesOf used (flatMap part l) ≡ part used
   unfolding flatMap Once
   of-part [] o m = absurd (List·Memᴰ·not-nil m)
   of-part (x ∷ l) o m = of-append used (part x) (flatMap part l) ∙ go (ℕ-discrete x used) (of-part l (o .1))
     where
-      go : Dec (x ≡ used) → (List·Memᴰ used l → edgesOf used (flatMap part l) ≡ part used) → edgesOf used (part x) ++ edgesOf used (flatMap part l) ≡ part used
-      go (yes e) r = rw (of-others l (λ k. o .0 (subst (λ (y : ℕ). List·Memᴰ y l) (sym e) k)), append-nil (edgesOf used (part x)), e) (of-own used (part used) (own used))
-      go (no n) r = rw (of-none used (part x) (λ e k g. n (sym (own x e k) ∙ g))) (⊎-elim (λ e. absurd (n (sym e))) r (List·Memᴰ·cases-cons m))
+      go : Dec (x ≡ used) → (List·Memᴰ used l → edgesOf used (flatMap part l) ≡ part used)
+          → edgesOf used (part x) ++ edgesOf used (flatMap part l) ≡ part used
+      go (yes e) r =
+          rw (
+            of-others l (λ k. o .0 (subst (λ (y : ℕ). List·Memᴰ y l) (sym e) k)),
+            append-nil (edgesOf used (part x)),
+            e,
+          ) (of-own used (part used) (own used))
+      go (no n) r =
+          rw (of-none used (part x) (λ e k g. n (sym (own x e k) ∙ g)))
+          (⊎-elim (λ e. absurd (n (sym e))) r (List·Memᴰ·cases-cons m))

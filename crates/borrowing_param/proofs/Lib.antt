@@ -1,4 +1,5 @@
--- Laws: joined lists and words of edges; a run of visits; what a parameter brings; which lifetimes draw; storing edges; a visit; a new visitor; the numberings; the listing, its order, and the visits that give it.
+-- Laws: joined lists and words of edges; a run of visits; what a parameter brings; which lifetimes draw; storing edges;
+-- a visit; a new visitor; the numberings; the listing, its order, and the visits that give it.
 pub mod Joining
 pub mod Running
 pub mod Bringing

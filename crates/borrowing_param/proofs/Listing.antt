@@ -1,13 +1,14 @@
--- Edges in listing order: passing over all parameters, counting their edges and noting their answers, storing them by used lifetime, and the answers of `borrow_map`.
--- In order: the types of a record; passing over them; how many edges there are; the loops of `store_to`, `store_listed` and `count_params`; the answers.
+-- Edges in listing order: passing over all parameters, counting their edges and noting their answers, storing them by
+-- used lifetime, and the answers of `borrow_map`. In order: the types of a record; passing over them; how many edges
+-- there are; the loops of `store_to`, `store_listed` and `count_params`; the answers.
 use Prim.Native.Nat.{ℕ, zero, suc, _+_, _*_, _/_, _≤_, _<_}
-use mathlib.Core.Bool.{Bool, true, false, _&&_}
+use mathlib.Core.Bool.{Bool, true, false, and-eq-true-iff}
 use mathlib.Core.Path.{_≡_, refl, sym, ap, _∙_}
 use mathlib.Core.List.{List, [], _∷_, _++_, flatMap}
 use native.Mathlib.Nat.{zero-add, mul-suc, div-add-mod', mod-lt}
 use native.Mathlib.Numerals.{add-one}
 use native.Mathlib.Omega.{arith}
-use borrow.Author.Tests.{lt-ltb, le-ltb, leb-false}
+use borrow.Author.Tests.{lt-ltb, le-ltb, leb-false, not-false}
 use lib.Dec.{ltb}
 use lib.ListN.{length, getD, take, drop, set, length-append, length-set, length-drop, drop-of-length-le}
 use lib.Seq.{sets, length-sets, take-at}
@@ -16,24 +17,24 @@ use Rattle.lifetimes.specs.declared.answer.Refusal.the-variants.{NoRoom}
 use Rattle.lifetimes.specs.declared.answer.Verdict.{Verdict}
 use Rattle.lifetimes.specs.declared.answer.Verdict.the-variants.{Accepted, Refused}
 use Rattle.lifetimes.specs.Refusals.{Check, Outcome, Gives, Refuses, unless, FirstDue, here, later, NoneDue, end, next}
-use Rattle.lifetimes.specs.Lent.{written}
-use Rattle.lifetimes.specs.Env.{envOf}
+use Rattle.lifetimes.specs.Lent.{Slice, held, left, room, Fills, Stays}
 use Rattle.lifetimes.specs.Sets.{member, members}
-use Rattle.lifetimes.proofs.RefusalLaws.{due-given, due-refused, refused-first, accepted-none, first-more}
+use Rattle.lifetimes.proofs.RefusalLaws.{due-given, due-refused, refused-first, accepted-none, first-more, none-first}
+use Rattle.lifetimes.proofs.RefusalLaws.{none-rest, none-split}
 use Rattle.lifetimes.proofs.SetLaws.{members-few}
 use Rattle.lifetimes.proofs.Copying.{sets-front}
 use Rattle.records.specs.Copied.{copied}
 use Rattle.records.proofs.CopyLaws.{copied-stores}
 use Rattle.records.specs.Reading.{Read, Fails, readAll, readOr, fewWords, inShape, itemsOf}
-use Rattle.records.proofs.ReadingLaws.{Holds, read, fails, holds-onward, holds-or, passed}
+use Rattle.records.proofs.ReadingLaws.{Holds, read, fails, holds-onward, holds-or, fails-read}
 use Rattle.lowered_types.specs.declared.types.Parts.{Parts}
 use Rattle.lowered_types.specs.declared.types.Located.{Located}
 use Rattle.lowered_types.specs.declared.types.Located.the-variants.{At, Missing}
-use Rattle.lowered_types.specs.LoweredTypes.{LoweredType, readLowered}
-use Rattle.lowered_types.specs.Rows.{Row, rowsOf, readKnown, typesOf, paramsInShape}
-use Rattle.lowered_types.specs.Places.{Locates}
+use Rattle.lowered_types.specs.LoweredTypes.{LoweredType, readLowered, located}
+use Rattle.lowered_types.specs.Rows.{Row, rowsOf, readKnown, typesOf, structsInShape, paramsInShape}
+use Rattle.lowered_types.proofs.LocatedLaws.{type-located}
 use Rattle.lowered_types.proofs.FoundLaws.{found-told, missing-told, path-inside}
-use Rattle.hir_types.specs.Method.{typesIn, paramChecks, methodChecks, methodVerdict}
+use Rattle.hir_types.specs.Method.{typesIn, rowChecks, paramChecks, structsAndParamsChecks, structsAndParamsVerdict}
 use Rattle.borrowing_param.specs.declared.listed.BorrowMap.{BorrowMap}
 use Rattle.borrowing_param.specs.declared.listed.Counted.{Counted}
 use Rattle.borrowing_param.specs.declared.visitor.LifetimeEdge.{LifetimeEdge}
@@ -41,21 +42,24 @@ use Rattle.borrowing_param.specs.declared.visitor.BorrowingParamVisitor.
 use Rattle.borrowing_param.specs.Edges.{width, edgeWords}
 use Rattle.borrowing_param.specs.Brings.{bring, numberOf}
 use Rattle.borrowing_param.specs.Visit.{usedOf, drawsIn, drawsOf, bringTo, bringAll, holding}
-use Rattle.borrowing_param.specs.BorrowMap.{listedTo, listedEdges, answersFrom, Mapping, mappingOf, borrowMap, mapAnswer, mapAnswers, mapEdges}
+use Rattle.borrowing_param.specs.BorrowMap.{listedTo, listedEdges, answersFrom, Mapping, mappingOf, borrowMap}
+use Rattle.borrowing_param.specs.BorrowMap.{mapAnswer, mapAnswers, mapEdges, MapsTo}
 use Rattle.borrowing_param.specs.Inner.{Inside, typeIn, numberBy, Below, CountsAll, StoresWords, Stores}
-use Rattle.borrowing_param.specs.InnerMap.{Lists, done, more, paramTypes, Params, visitorIn, bringFrom, CountsParams, roomChecks, mapOf, Maps}
+use Rattle.borrowing_param.specs.InnerMap.{Lists, done, more, paramTypes, Params, visitorIn, bringFrom}
+use Rattle.borrowing_param.specs.InnerMap.{CountsParams, roomChecks, mapOf}
 use Rattle.borrowing_param.proofs.Joining.{join-cons, words-many}
 use Rattle.borrowing_param.proofs.Drawing.{bring-few}
-use Rattle.borrowing_param.proofs.Storing.{Storing, storing-start, storing-end, storing-fits, storing-part, usedFrom, used-all, used-end, used-here, used-not}
+use Rattle.borrowing_param.proofs.Storing.{Storing, storing-start, storing-end, storing-fits, storing-part}
+use Rattle.borrowing_param.proofs.Storing.{usedFrom, used-all, used-end, used-here, used-not}
 use Rattle.borrowing_param.proofs.Visiting.{known-reads, number-is, parts-type}
-use Rattle.borrowing_param.proofs.Forcing.{in-shape, rows-params}
 
 -- ---- the types of a record in shape
 
 abbrev Reads : ℕ → ℕ → List ℕ → List LoweredType → Type 0
 Reads number steps words ts = Lists words ts × ((end : List ℕ) × (readAll (λ i. readLowered) number steps words ≡ Read ts end))
 
-all-lists : (rows number steps : ℕ) (words : List ℕ) → Holds (λ ts end. Reads number steps words ts) (readAll (λ i. readKnown rows) number steps words)
+all-lists : (rows number steps : ℕ) (words : List ℕ)
+    → Holds (λ ts end. Reads number steps words ts) (readAll (λ i. readKnown rows) number steps words)
 unfolding readAll
 all-lists rows number zero [] = read (done, ([], refl))
 all-lists rows number zero (w ∷ words) = fails
@@ -63,39 +67,43 @@ all-lists rows number (suc steps) [] = read (done, ([], refl))
 all-lists rows number (suc steps) (w ∷ words) =
     let All : List LoweredType → List ℕ → Type 0 = λ ts end. Reads number (suc steps) (w ∷ words) ts in
     holds-onward (λ t rest. readLowered (w ∷ words) ≡ Read t rest) All (known-reads rows (w ∷ words))
-    (λ t rest e. holds-onward (λ ts end. Reads (suc number) steps rest ts) All (all-lists rows (suc number) steps rest) (λ ts end h. read (more e (h .0), (h .1 .0, rw (e, h .1 .1)))))
+    (λ t rest e. holds-onward (λ ts end. Reads (suc number) steps rest ts) All (all-lists rows (suc number) steps rest)
+    (λ ts end h. read (more e (h .0), (h .1 .0, rw (e, h .1 .1)))))
 
-pub types-listed : (rows : ℕ) (params : List ℕ) → paramsInShape rows params ≡ true → Lists params (typesOf rows params) × (paramTypes params ≡ typesOf rows params)
+pub types-listed : (rows : ℕ) (params : List ℕ) → paramsInShape rows params ≡ true → Lists params (typesOf rows params)
+    × (paramTypes params ≡ typesOf rows params)
 unfolding inShape itemsOf
 types-listed rows params shape =
-    let r = holds-or (λ ts. Reads 0 (length params) params ts) [] (all-lists rows 0 (length params) params) (right (fewWords params) shape) in
+    let r = holds-or (λ ts. Reads 0 (length params) params ts) [] (all-lists rows 0 (length params) params)
+    ((and-eq-true-iff (fewWords params) _) .0 shape .1) in
     (r .0, ap (readOr []) (r .1 .1))
-  where
-    right : (t : Bool) {u : Bool} → (t && u) ≡ true → u ≡ true
-    right true e = e
-    right false e = passed e
 
-params-few : (rows : List Row) (number : ℕ) (ts : List LoweredType) → number ≤ 16 → NoneDue (paramChecks rows number ts) → number + length ts ≤ 16
+params-few : (rows : List Row) (number : ℕ) (ts : List LoweredType) → number ≤ 16 → NoneDue (paramChecks rows number ts)
+    → number + length ts ≤ 16
 unfolding paramChecks
 params-few rows number [] h n = omega arith
-params-few rows number (t ∷ ts) h (next k (next l n)) = omega (arith, params-few rows (suc number) ts (omega (arith, leb-false 16 number k)) n)
+params-few rows number (t ∷ ts) h (next k (next l n)) =
+    omega (arith, params-few rows (suc number) ts (omega (arith, leb-false 16 number k)) n)
 
-module _ (structs params : List ℕ) (none : NoneDue (methodChecks (envOf 0 0 []) structs params [] (0 ∷ []))) where
+module _ (structs params : List ℕ) (none : NoneDue (structsAndParamsChecks structs params)) where
+  pub alone-shape : (structsInShape structs ≡ true) × (paramsInShape (length (rowsOf structs)) params ≡ true)
+  alone-shape = (and-eq-true-iff (structsInShape structs) _) .0 (not-false _ (none-first none))
+
   pub few-types : length (typesIn structs params) ≤ 16
-  few-types = omega (arith, params-few (rowsOf structs) 0 (typesIn structs params) (omega arith) (rows-params (envOf 0 0 []) structs params [] (0 ∷ []) none .1))
+  few-types =
+      let n = none-split (rowChecks (rowsOf structs) 0 (rowsOf structs))
+      (paramChecks (rowsOf structs) 0 (typesIn structs params)) (none-rest none) in
+      omega (arith, params-few (rowsOf structs) 0 (typesIn structs params) (omega arith) (n .1))
 
   pub types-are : paramTypes params ≡ typesIn structs params
-  types-are = types-listed (length (rowsOf structs)) params (in-shape (envOf 0 0 []) structs params [] (0 ∷ []) none .1) .1
+  types-are = types-listed (length (rowsOf structs)) params (alone-shape .1) .1
 
   pub are-params : Params params
   are-params =
-      let l = types-listed (length (rowsOf structs)) params (in-shape (envOf 0 0 []) structs params [] (0 ∷ []) none .1) in
+      let l = types-listed (length (rowsOf structs)) params (alone-shape .1) in
       record { lists = rw (l .1) (l .0); few = rw (l .1) few-types }
 
 -- ---- passing over them
-
-not-both : {A B : Type 0} {a : A} {rest : List ℕ} → Read a rest ≡ Fails → B
-not-both e = let z : _≡_ {A = ℕ} 0 1 = cc in absurd (omega arith)
 
 none-fails : (words : List ℕ) → words ≡ [] → readLowered words ≡ Fails
 unfolding readLowered
@@ -103,16 +111,17 @@ none-fails words e = rw e
 
 lists-none : {words : List ℕ} {left : List LoweredType} → Lists words left → words ≡ [] → left ≡ []
 lists-none done e = refl
-lists-none (more {words} {rest} {t} r l) e = not-both (sym r ∙ none-fails words e)
+lists-none (more {words} {rest} {t} r l) e = fails-read (sym (none-fails words e) ∙ r)
 
 record Split (t : LoweredType) (rest : List ℕ) (left : List LoweredType) : Type 0 where
   types : List LoweredType
   split : left ≡ t ∷ types
   lists : Lists rest types
 
-lists-next : {words : List ℕ} {left : List LoweredType} → Lists words left → {u : LoweredType} {behind : List ℕ} → readLowered words ≡ Read u behind → Split u behind left
+lists-next : {words : List ℕ} {left : List LoweredType} → Lists words left → {u : LoweredType} {behind : List ℕ}
+    → readLowered words ≡ Read u behind → Split u behind left
 unfolding readLowered
-lists-next done e = not-both (sym e)
+lists-next done e = fails-read e
 lists-next (more {words} {rest} {t} {ts} r l) {u} {behind} e =
     let both : Read t rest ≡ Read u behind = sym r ∙ e in
     let same : t ≡ u = cc in
@@ -121,7 +130,7 @@ lists-next (more {words} {rest} {t} {ts} r l) {u} {behind} e =
 
 lists-missing : {words : List ℕ} {left : List LoweredType} → Lists words left → (words ≡ [] → ⊥) → readLowered words ≡ Fails → ⊥
 lists-missing done some e = some refl
-lists-missing (more {words} {rest} {t} r l) some e = not-both (sym r ∙ e)
+lists-missing (more {words} {rest} {t} r l) some e = fails-read (sym e ∙ r)
 
 -- what is left from a place on
 pub record Passing (words : List ℕ) (types left : List LoweredType) (at number : ℕ) : Type 0 where
@@ -146,13 +155,15 @@ module _ {words : List ℕ} {types left : List LoweredType} {at number : ℕ} (i
   pub passing-end : length words ≤ at → left ≡ []
   passing-end h = lists-none (inv .reads) (drop-of-length-le words {i = at} h)
 
-  module _ (h : at < length words) {r : Located} (l : Locates words at (readLowered (drop at words)) r) where
+  module _ (h : at < length words) {r : Located} (l : r ≡ located at (length words) (readLowered (drop at words))) where
     pub passing-missing : r ≡ Missing → ⊥
-    passing-missing e = lists-missing (inv .reads) (λ z. omega (arith, ap length z, length-drop at words)) (missing-told l e)
+    passing-missing e =
+        lists-missing (inv .reads) (λ z. omega (arith, ap length z, length-drop at words))
+        (missing-told (type-located words at l) e)
 
     pub passing-next : {p : Parts} → r ≡ At p → Passed words types left at number p
     passing-next {p} e =
-        let f = found-told l e in
+        let f = found-told (type-located words at l) e in
         let s = f .stands in
         let n = lists-next (inv .reads) (f .reads) in
         let is : typeIn words p ≡ f .type = parts-type s in
@@ -172,10 +183,18 @@ module _ {words : List ℕ} {types left : List LoweredType} {at number : ℕ} (i
 
 module _ {A : Type 0} where
   -- the parts of each joined: as many as in two joins
-  joined-many : (f g h : ℕ → List A) → ((x : ℕ) → h x ≡ f x ++ g x) → (l : List ℕ) → length (flatMap h l) ≡ length (flatMap f l) + length (flatMap g l)
+  joined-many : (f g h : ℕ → List A) → ((x : ℕ) → h x ≡ f x ++ g x) → (l : List ℕ)
+      → length (flatMap h l) ≡ length (flatMap f l) + length (flatMap g l)
   unfolding flatMap
   joined-many f g h e [] = refl
-  joined-many f g h e (x ∷ l) = rw (e x, length-append (f x ++ g x) (flatMap h l), length-append (f x) (g x), length-append (f x) (flatMap f l), length-append (g x) (flatMap g l)) (omega (arith, joined-many f g h e l))
+  joined-many f g h e (x ∷ l) =
+      rw (
+        e x,
+        length-append (f x ++ g x) (flatMap h l),
+        length-append (f x) (g x),
+        length-append (f x) (flatMap f l),
+        length-append (g x) (flatMap g l),
+      ) (omega (arith, joined-many f g h e l))
 
   pub join-few : (f : ℕ → List A) (k : ℕ) → ((x : ℕ) → length (f x) ≤ k) → (l : List ℕ) → length (flatMap f l) ≤ k * length l
   unfolding flatMap
@@ -184,9 +203,12 @@ module _ {A : Type 0} where
 
 module _ (v : BorrowingParamVisitor) where
   -- the edges of all by used lifetime, and by parameter: as many
-  pub listed-more : (param : ℕ) (t : LoweredType) (ts : List LoweredType) → length (flatMap (listedTo v param (t ∷ ts)) (usedOf v)) ≡ length (bringAll v t param) + length (flatMap (listedTo v (suc param) ts) (usedOf v))
+  pub listed-more : (param : ℕ) (t : LoweredType) (ts : List LoweredType)
+      → length (flatMap (listedTo v param (t ∷ ts)) (usedOf v)) ≡ length (bringAll v t param) + length
+      (flatMap (listedTo v (suc param) ts) (usedOf v))
   unfolding listedTo
-  listed-more param t ts = joined-many (bringTo v t param) (listedTo v (suc param) ts) (listedTo v param (t ∷ ts)) (λ x. refl) (usedOf v)
+  listed-more param t ts =
+      joined-many (bringTo v t param) (listedTo v (suc param) ts) (listedTo v param (t ∷ ts)) (λ x. refl) (usedOf v)
 
   pub listed-none : (param : ℕ) (l : List ℕ) → flatMap (listedTo v param []) l ≡ []
   unfolding listedTo flatMap
@@ -199,7 +221,12 @@ module _ (v : BorrowingParamVisitor) where
   answers-many param (t ∷ ts) = ap suc (answers-many (suc param) ts)
 
   pub all-few : (t : LoweredType) (param : ℕ) → length (t .path) ≤ 16 → length (bringAll v t param) ≤ 1024
-  all-few t param h = omega (arith, join-few (bringTo v t param) 16 (λ x. bring-few (drawsOf v x) x param t h) (usedOf v), members-few (v .used))
+  all-few t param h =
+      omega (
+        arith,
+        join-few (bringTo v t param) 16 (λ x. bring-few (drawsOf v x) x param t h) (usedOf v),
+        members-few (v .used),
+      )
 
   -- how many edges are stored does not matter
   answers-holding : (n param : ℕ) (ts : List LoweredType) → answersFrom (holding v n) param ts ≡ answersFrom v param ts
@@ -228,38 +255,53 @@ module _ (v : BorrowingParamVisitor) where
 
 -- ---- the loop of `store_to`
 
-pub record StoringTo (draws : ℕ → Bool) (used : ℕ) (words : List ℕ) (types : List LoweredType) (at₀ : ℕ) (pairs₀ edges₀ : List ℕ) (stored param at : ℕ) (pairs edges : List ℕ) : Type 0 where
+pub record StoringTo (draws : ℕ → Bool) (used : ℕ) (words : List ℕ) (types : List LoweredType) (at₀ : ℕ)
+    (pairs₀ edges₀ : List ℕ) (stored param at : ℕ) (pairs edges : List ℕ) : Type 0 where
   pub left : List LoweredType
   pub passing : Passing words types left at param
   pub storing : Storing (bringFrom draws used 0 types) (bringFrom draws used param left) at₀ pairs₀ edges₀ stored pairs edges
 
-pub to-start : (draws : ℕ → Bool) (used : ℕ) {words : List ℕ} {types : List LoweredType} → Lists words types → (at : ℕ) (pairs edges : List ℕ) → length pairs ≡ 16 → width * (at + length (bringFrom draws used 0 types)) ≤ length edges
+pub to-start : (draws : ℕ → Bool) (used : ℕ) {words : List ℕ} {types : List LoweredType} → Lists words types
+    → (at : ℕ) (pairs edges : List ℕ) → length pairs ≡ 16
+    → width * (at + length (bringFrom draws used 0 types)) ≤ length edges
     → StoringTo draws used words types at pairs edges at 0 0 pairs edges
-to-start draws used {words} {types} l at pairs edges h k = record { left = types; passing = passing-start l; storing = storing-start (bringFrom draws used 0 types) at pairs edges h k }
+to-start draws used {words} {types} l at pairs edges h k =
+    record {
+      left = types;
+      passing = passing-start l;
+      storing = storing-start (bringFrom draws used 0 types) at pairs edges h k;
+    }
 
-module _ {draws : ℕ → Bool} {used : ℕ} {words : List ℕ} {types : List LoweredType} {at₀ : ℕ} {pairs₀ edges₀ : List ℕ} {stored param at : ℕ} {pairs edges : List ℕ}
+module _ {draws : ℕ → Bool} {used : ℕ} {words : List ℕ} {types : List LoweredType} {at₀ : ℕ} {pairs₀ edges₀ : List ℕ}
+    {stored param at : ℕ} {pairs edges : List ℕ}
     (inv : StoringTo draws used words types at₀ pairs₀ edges₀ stored param at pairs edges) where
   pub to-end : length words ≤ at → Stores (bringFrom draws used 0 types) at₀ pairs₀ edges₀ stored pairs edges
   unfolding bringFrom
   to-end h = storing-end (inv .storing) (rw (passing-end (inv .passing) h))
 
   module _ {p : Parts} (o : Passed words types (inv .left) at param p) where
-    to-split : bringFrom draws used param (inv .left) ≡ bring draws used param (typeIn words p) ++ bringFrom draws used (param + 1) (o .rest)
+    to-split : bringFrom draws used param (inv .left) ≡ bring draws used param (typeIn words p) ++ bringFrom draws used
+        (param + 1) (o .rest)
     unfolding bringFrom
     to-split = rw (o .split, add-one param)
 
     pub to-fits : width * (stored + length (bring draws used param (typeIn words p))) ≤ length edges
-    to-fits = storing-fits (inv .storing) (bring draws used param (typeIn words p)) (bringFrom draws used (param + 1) (o .rest)) to-split
+    to-fits =
+        storing-fits (inv .storing) (bring draws used param (typeIn words p))
+        (bringFrom draws used (param + 1) (o .rest)) to-split
 
     pub to-few : length types ≤ 16 → param < 16
     to-few h = let size : length (inv .left) ≡ suc (length (o .rest)) = ap length (o .split) in omega (arith, inv .passing .many)
 
-    pub to-more : {stored₁ : ℕ} {pairs₁ edges₁ : List ℕ} → Stores (bring draws used param (typeIn words p)) stored pairs edges stored₁ pairs₁ edges₁
+    pub to-more : {stored₁ : ℕ} {pairs₁ edges₁ : List ℕ}
+        → Stores (bring draws used param (typeIn words p)) stored pairs edges stored₁ pairs₁ edges₁
         → StoringTo draws used words types at₀ pairs₀ edges₀ stored₁ (param + 1) (p .next) pairs₁ edges₁
     to-more s = record {
       left = o .rest;
       passing = o .passing;
-      storing = storing-part (inv .storing) (bring draws used param (typeIn words p)) (bringFrom draws used (param + 1) (o .rest)) to-split s;
+      storing =
+          storing-part (inv .storing) (bring draws used param (typeIn words p))
+          (bringFrom draws used (param + 1) (o .rest)) to-split s;
     }
 
 -- ---- the loop of `store_listed`: what is left, for the used lifetimes from a number on
@@ -277,29 +319,50 @@ module _ (used : ℕ) (drawn : List ℕ) (types : List LoweredType) where
   listed-end b i h = rw (used-end used b i h)
 
   module _ (i : ℕ) (h : i < 64) where
-    pub listed-here : true ≡ member used i → leftListed used drawn types i ≡ bringFrom (drawsIn (getD drawn i 0)) i 0 types ++ leftListed used drawn types (i + 1)
-    listed-here q = rw (used-here used i h q, join-cons (listedTo (visitorIn used drawn) 0 types) i (usedFrom used (i + 1)), to-is (visitorIn used drawn) 0 types i)
+    pub listed-here : true ≡ member used i
+        → leftListed used drawn types i ≡ bringFrom (drawsIn (getD drawn i 0)) i 0 types ++ leftListed used drawn types
+        (i + 1)
+    listed-here q =
+        rw (
+          used-here used i h q,
+          join-cons (listedTo (visitorIn used drawn) 0 types) i (usedFrom used (i + 1)),
+          to-is (visitorIn used drawn) 0 types i,
+        )
 
     pub listed-not : false ≡ member used i → leftListed used drawn types i ≡ leftListed used drawn types (i + 1)
     listed-not q = rw (used-not used i h q)
 
 -- ---- the loop of `count_params`
 
-pub record CountingParams (used : ℕ) (drawn words : List ℕ) (types : List LoweredType) (numbers₀ : List ℕ) (total param at : ℕ) (numbers : List ℕ) : Type 0 where
+pub record CountingParams (used : ℕ) (drawn words : List ℕ) (types : List LoweredType) (numbers₀ : List ℕ)
+    (total param at : ℕ) (numbers : List ℕ) : Type 0 where
   pub left : List LoweredType
   pub passing : Passing words types left at param
   pub few : length types ≤ 16
   pub small : total ≤ 1024 * param
-  pub sum : total + length (flatMap (listedTo (visitorIn used drawn) param left) (members used)) ≡ length (listedEdges (visitorIn used drawn) types)
-  pub notes : sets numbers param (answersFrom (visitorIn used drawn) param left) ≡ sets numbers₀ 0 (answersFrom (visitorIn used drawn) 0 types)
+  pub sum : total + length (flatMap (listedTo (visitorIn used drawn) param left) (members used))
+      ≡ length (listedEdges (visitorIn used drawn) types)
+  pub notes : sets numbers param (answersFrom (visitorIn used drawn) param left)
+      ≡ sets numbers₀ 0 (answersFrom (visitorIn used drawn) 0 types)
   pub size : length numbers ≡ 16
 
-pub params-start : (used : ℕ) (drawn : List ℕ) {words : List ℕ} {types : List LoweredType} → Lists words types → length types ≤ 16 → (numbers : List ℕ) → length numbers ≡ 16
+pub params-start : (used : ℕ) (drawn : List ℕ) {words : List ℕ} {types : List LoweredType} → Lists words types
+    → length types ≤ 16 → (numbers : List ℕ) → length numbers ≡ 16
     → CountingParams used drawn words types numbers 0 0 0 numbers
 unfolding listedEdges
-params-start used drawn {words} {types} l h numbers e = record { left = types; passing = passing-start l; few = h; small = omega arith; sum = zero-add _; notes = refl; size = e }
+params-start used drawn {words} {types} l h numbers e =
+    record {
+      left = types;
+      passing = passing-start l;
+      few = h;
+      small = omega arith;
+      sum = zero-add _;
+      notes = refl;
+      size = e;
+    }
 
-module _ {used : ℕ} {drawn words : List ℕ} {types : List LoweredType} {numbers₀ : List ℕ} {total param at : ℕ} {numbers : List ℕ} (inv : CountingParams used drawn words types numbers₀ total param at numbers) where
+module _ {used : ℕ} {drawn words : List ℕ} {types : List LoweredType} {numbers₀ : List ℕ} {total param at : ℕ}
+    {numbers : List ℕ} (inv : CountingParams used drawn words types numbers₀ total param at numbers) where
   abbrev v : BorrowingParamVisitor
   v = visitorIn used drawn
 
@@ -313,18 +376,23 @@ module _ {used : ℕ} {drawn words : List ℕ} {types : List LoweredType} {numbe
 
   module _ {p : Parts} (o : Passed words types (inv .left) at param p) where
     pub one-more : param < 16
-    one-more = let size : length (inv .left) ≡ suc (length (o .rest)) = ap length (o .split) in omega (arith, inv .passing .many, inv .few)
+    one-more = let size : length (inv .left) ≡ suc (length (o .rest)) = ap length (o .split) in
+        omega (arith, inv .passing .many, inv .few)
 
     module _ {n : ℕ} (c : CountsAll used drawn (typeIn words p) n) where
       pub brought-few : n ≤ 1024
       brought-few = omega (arith, c .counts param, all-few v (typeIn words p) param (o .short))
 
-      pub params-more : {number : ℕ} → number ≡ numberBy (p .kind) n → CountingParams used drawn words types numbers₀ (total + n) (param + 1) (p .next) (set numbers param number)
+      pub params-more : {number : ℕ} → number ≡ numberBy (p .kind) n
+          → CountingParams used drawn words types numbers₀ (total + n) (param + 1) (p .next) (set numbers param number)
       unfolding answersFrom
       params-more {number} q =
-          let named : number ≡ numberOf (p .kind) (bringAll v (typeIn words p) param) = q ∙ ap (numberBy (p .kind)) (c .counts param) ∙ number-is (p .kind) (bringAll v (typeIn words p) param) in
-          let split : total + length (flatMap (listedTo v param (typeIn words p ∷ o .rest)) (members used)) ≡ length (listedEdges v types) = rw (o .split) at (inv .sum) in
-          let noted : sets numbers param (answersFrom v param (typeIn words p ∷ o .rest)) ≡ sets numbers₀ 0 (answersFrom v 0 types) = rw (o .split) at (inv .notes) in
+          let named : number ≡ numberOf (p .kind) (bringAll v (typeIn words p) param) =
+          q ∙ ap (numberBy (p .kind)) (c .counts param) ∙ number-is (p .kind) (bringAll v (typeIn words p) param) in
+          let split : total + length (flatMap (listedTo v param (typeIn words p ∷ o .rest)) (members used))
+          ≡ length (listedEdges v types) = rw (o .split) at (inv .sum) in
+          let noted : sets numbers param (answersFrom v param (typeIn words p ∷ o .rest))
+          ≡ sets numbers₀ 0 (answersFrom v 0 types) = rw (o .split) at (inv .notes) in
           record {
             left = o .rest;
             passing = o .passing;
@@ -337,10 +405,12 @@ module _ {used : ℕ} {drawn words : List ℕ} {types : List LoweredType} {numbe
 
 -- ---- the answers of `map_params`
 
-pub maps-refused : {o : Outcome Mapping} {r : Refusal} {b : BorrowMap} (answers edges : List ℕ) → o ≡ Refuses r → b ≡ mapAnswer (Refuses r) → Maps o answers edges b answers edges
-maps-refused answers edges e q = rw e (record { answer = q; numbers = refl; words = refl })
+maps-refused : {o : Outcome Mapping} {r : Refusal} {b : BorrowMap} {answers edges : Slice}
+    → o ≡ Refuses r → b ≡ mapAnswer (Refuses r) → Stays answers → Stays edges → MapsTo o b answers edges
+maps-refused e q a w = record { counts = rw e q; answers-filled = rw e a; edges-filled = rw e w }
 
-module _ (v : BorrowingParamVisitor) (types : List LoweredType) (answers edges : List ℕ) {numbers₀ : List ℕ} {n : Counted} {numbers : List ℕ} (c : CountsParams (v .used) (v .draws) types numbers₀ n numbers) where
+module _ (v : BorrowingParamVisitor) (types : List LoweredType) {numbers₀ : List ℕ} {n : Counted} {numbers : List ℕ}
+    (c : CountsParams (v .used) (v .draws) types numbers₀ n numbers) where
   answers-size : length (answersFrom v 0 types) ≡ n .params
   answers-size = answers-many v 0 types ∙ sym (c .params)
 
@@ -353,63 +423,92 @@ module _ (v : BorrowingParamVisitor) (types : List LoweredType) (answers edges :
   edges-size : length (flatMap edgeWords (listedEdges v types)) ≡ width * n .edges
   edges-size = words-many (listedEdges v types) ∙ ap (λ (k : ℕ). width * k) (sym (c .edges ∙ ap length edges-are))
 
-  pub no-room-answers : length answers < n .params → {b : BorrowMap} → b ≡ mapAnswer (Refuses NoRoom) → Maps (mapOf v types (length answers) (length edges)) answers edges b answers edges
-  no-room-answers h q =
-      let due : FirstDue NoRoom (roomChecks v types (length answers) (length edges)) = here (lt-ltb (length answers) (length (answersFrom v 0 types)) (omega (arith, answers-size))) refl in
-      maps-refused answers edges (due-refused (mappingOf v types) due) q
+  pub no-room-answers : {answers edges : Slice} → room answers < n .params → {b : BorrowMap} → b ≡ mapAnswer (Refuses NoRoom)
+      → Stays answers → Stays edges → MapsTo (mapOf v types (room answers) (room edges)) b answers edges
+  no-room-answers {answers} {edges} h q a w =
+      let due : FirstDue NoRoom (roomChecks v types (room answers) (room edges)) =
+      here (lt-ltb (room answers) (length (answersFrom v 0 types)) (omega (arith, answers-size))) refl in
+      maps-refused (due-refused (mappingOf v types) due) q a w
 
-  module _ (room : n .params ≤ length answers) where
-    first-none : ltb (length answers) (length (answersFrom v 0 types)) ≡ false
-    first-none = le-ltb (length answers) (length (answersFrom v 0 types)) (omega (arith, answers-size))
+  first-none : (a : ℕ) → n .params ≤ a → ltb a (length (answersFrom v 0 types)) ≡ false
+  first-none a h = le-ltb a (length (answersFrom v 0 types)) (omega (arith, answers-size))
 
-    pub no-room-edges : length edges / 5 < n .edges → {b : BorrowMap} → b ≡ mapAnswer (Refuses NoRoom) → Maps (mapOf v types (length answers) (length edges)) answers edges b answers edges
-    no-room-edges h q =
-        let past : length edges < length (flatMap edgeWords (listedEdges v types)) = omega (arith, edges-size, div-add-mod' (length edges) 5, mod-lt (length edges) {m = 5} (omega arith)) in
-        let due : FirstDue NoRoom (roomChecks v types (length answers) (length edges)) = later first-none (here (lt-ltb (length edges) (length (flatMap edgeWords (listedEdges v types))) past) refl) in
-        maps-refused answers edges (due-refused (mappingOf v types) due) q
+  pub no-room-edges : {answers edges : Slice} → n .params ≤ room answers → room edges / 5 < n .edges → {b : BorrowMap}
+      → b ≡ mapAnswer (Refuses NoRoom) → Stays answers → Stays edges
+      → MapsTo (mapOf v types (room answers) (room edges)) b answers edges
+  no-room-edges {answers} {edges} k h q a w =
+      let past : room edges < length (flatMap edgeWords (listedEdges v types)) =
+      omega (arith, edges-size, div-add-mod' (room edges) 5, mod-lt (room edges) {m = 5} (omega arith)) in
+      let due : FirstDue NoRoom (roomChecks v types (room answers) (room edges)) =
+      later (first-none (room answers) k) (here (lt-ltb (room edges) (length (flatMap edgeWords (listedEdges v types))) past) refl) in
+      maps-refused (due-refused (mappingOf v types) due) q a w
 
-    module _ (fits : n .edges ≤ length edges / 5) where
-      pub listed-room : width * length (listedEdges (visitorIn (v .used) (v .draws)) types) ≤ length edges
-      listed-room = omega (arith, c .edges, div-add-mod' (length edges) 5)
+  pub listed-room : {e : ℕ} → n .edges ≤ e / 5 → width * length (listedEdges (visitorIn (v .used) (v .draws)) types) ≤ e
+  listed-room {e} fits = omega (arith, c .edges, div-add-mod' e 5)
 
-      pub mapped : length numbers₀ ≡ 16 → length types ≤ 16 → {answers₁ edges₁ : List ℕ} {stored : ℕ} → answers₁ ≡ written (copied numbers (n .params) (length answers)) answers → StoresWords (listedEdges (visitorIn (v .used) (v .draws)) types) 0 edges stored edges₁
-          → Maps (mapOf v types (length answers) (length edges)) answers edges (record { verdict = Accepted; params = n .params; edges = stored }) answers₁ edges₁
-      mapped size few {answers₁} {edges₁} {stored} a s =
-          let past : length (flatMap edgeWords (listedEdges v types)) ≤ length edges = omega (arith, edges-size, div-add-mod' (length edges) 5) in
-          let none : NoneDue (roomChecks v types (length answers) (length edges)) = next first-none (next (le-ltb (length edges) (length (flatMap edgeWords (listedEdges v types))) past) end) in
-          let given : mapOf v types (length answers) (length edges) ≡ Gives (mappingOf v types) = due-given (mappingOf v types) none in
-          let named : numbers ≡ answersFrom v 0 types ++ drop (length (answersFrom v 0 types)) numbers₀ =
-          c .noted ∙ ap (sets numbers₀ 0) (answers-holding v 0 0 types) ∙ sets-front numbers₀ (answersFrom v 0 types) (omega (arith, answers-many v 0 types)) in
-          let first : take (n .params) numbers ≡ answersFrom v 0 types = rw (named, ← answers-size) (take-at (answersFrom v 0 types) (drop (length (answersFrom v 0 types)) numbers₀) (length (answersFrom v 0 types)) refl) in
-          let stands : answers₁ ≡ answersFrom v 0 types ++ drop (length (answersFrom v 0 types)) answers =
-          copied-stores numbers (n .params) answers (omega (arith, numbers-size size, c .params)) a room ∙ ap (sets answers 0) first ∙ sets-front answers (answersFrom v 0 types) (omega (arith, answers-size)) in
-          let stored-words : edges₁ ≡ flatMap edgeWords (listedEdges v types) ++ drop (length (flatMap edgeWords (listedEdges v types))) edges =
-          s .stored ∙ ap (λ (l : List LifetimeEdge). sets edges 0 (flatMap edgeWords l)) edges-are ∙ sets-front edges (flatMap edgeWords (listedEdges v types)) past in
-          let count : stored ≡ length (listedEdges v types) = s .count ∙ zero-add _ ∙ ap length edges-are in
-          rw given (record { answer = rw (← answers-size, ← count); numbers = stands; words = stored-words })
+  pub mapped : {answers edges : Slice} → n .params ≤ room answers → n .edges ≤ room edges / 5 → length numbers₀ ≡ 16
+      → {stored : ℕ} → Fills (copied numbers (n .params) (room answers)) answers
+      → length types ≤ 16 → StoresWords (listedEdges (visitorIn (v .used) (v .draws)) types) 0 (held edges) stored (left edges)
+      → MapsTo (mapOf v types (room answers) (room edges))
+      (record { verdict = Accepted; params = n .params; edges = stored }) answers edges
+  mapped {answers} {edges} k fits size {stored} a few s =
+      let past : length (flatMap edgeWords (listedEdges v types)) ≤ room edges =
+      omega (arith, edges-size, div-add-mod' (room edges) 5) in
+      let none : NoneDue (roomChecks v types (room answers) (room edges)) =
+      next (first-none (room answers) k) (next (le-ltb (room edges) (length (flatMap edgeWords (listedEdges v types))) past) end) in
+      let given : mapOf v types (room answers) (room edges) ≡ Gives (mappingOf v types) = due-given (mappingOf v types) none in
+      let named : numbers ≡ answersFrom v 0 types ++ drop (length (answersFrom v 0 types)) numbers₀ =
+      c .noted ∙ ap (sets numbers₀ 0) (answers-holding v 0 0 types)
+      ∙ sets-front numbers₀ (answersFrom v 0 types) (omega (arith, answers-many v 0 types)) in
+      let first : take (n .params) numbers ≡ answersFrom v 0 types =
+      rw (named, ← answers-size)
+      (take-at (answersFrom v 0 types) (drop (length (answersFrom v 0 types)) numbers₀)
+      (length (answersFrom v 0 types)) refl) in
+      let stands : left answers ≡ answersFrom v 0 types ++ drop (length (answersFrom v 0 types)) (held answers) =
+      copied-stores numbers (n .params) (held answers) (omega (arith, numbers-size size, c .params)) a k
+      ∙ ap (sets (held answers) 0) first ∙ sets-front (held answers) (answersFrom v 0 types) (omega (arith, answers-size)) in
+      let stored-words : left edges ≡ flatMap edgeWords (listedEdges v types)
+      ++ drop (length (flatMap edgeWords (listedEdges v types))) (held edges) =
+      s .stored ∙ ap (λ (l : List LifetimeEdge). sets (held edges) 0 (flatMap edgeWords l)) edges-are
+      ∙ sets-front (held edges) (flatMap edgeWords (listedEdges v types)) past in
+      let count : stored ≡ length (listedEdges v types) = s .count ∙ zero-add _ ∙ ap length edges-are in
+      record { counts = rw (given, ← answers-size, ← count); answers-filled = rw given stands; edges-filled = rw given stored-words }
 
 -- ---- the answers of `borrow_map`
 
-pub told : {o p : Outcome Mapping} {answers edges : List ℕ} {b : BorrowMap} {answers₁ edges₁ : List ℕ} → p ≡ o → Maps o answers edges b answers₁ edges₁
-    → (b ≡ mapAnswer p) × ((answers₁ ≡ written (mapAnswers p) answers) × (edges₁ ≡ written (mapEdges p) edges))
-told e m = rw e (m .answer, (m .numbers, m .words))
+maps-same : {o p : Outcome Mapping} {answers edges : Slice} {b : BorrowMap} → p ≡ o → b ≡ mapAnswer o
+    → Fills (mapAnswers o) answers → Fills (mapEdges o) edges → MapsTo p b answers edges
+maps-same e q a w = record { counts = rw e q; answers-filled = rw e a; edges-filled = rw e w }
 
-after-none : {A : Type 0} (a : A) {checks : List Check} (others : List Check) → NoneDue checks → unless (checks ++ others) a ≡ unless others a
+after-none : {A : Type 0} (a : A) {checks : List Check} (others : List Check) → NoneDue checks
+    → unless (checks ++ others) a ≡ unless others a
 unfolding unless
 after-none a others end = refl
 after-none a others (next h n) = rw h (after-none a others n)
 
-module _ (v : BorrowingParamVisitor) (structs params : List ℕ) (answers edges : ℕ) {verdict : Verdict} (judged : verdict ≡ methodVerdict (envOf 0 0 []) structs params [] (0 ∷ [])) where
-  pub map-refused : {r : Refusal} → verdict ≡ Refused r → borrowMap v structs params answers edges ≡ Refuses r
+module _ (v : BorrowingParamVisitor) (structs params : List ℕ) {verdict : Verdict}
+    (judged : verdict ≡ structsAndParamsVerdict structs params) where
+  pub map-none : verdict ≡ Accepted → NoneDue (structsAndParamsChecks structs params)
+  map-none e = accepted-none (tt {0}) (structsAndParamsChecks structs params) (sym judged ∙ e)
+
+  pub map-torn : {r : Refusal} {b : BorrowMap} {answers edges : Slice} → verdict ≡ Refused r → b ≡ mapAnswer (Refuses r)
+      → Stays answers → Stays edges → MapsTo (borrowMap v structs params (room answers) (room edges)) b answers edges
   unfolding borrowMap
-  map-refused {r} e =
-      let due = refused-first (tt {0}) r (methodChecks (envOf 0 0 []) structs params [] (0 ∷ [])) (sym judged ∙ e) in
-      due-refused (mappingOf v (typesIn structs params)) (first-more (roomChecks v (typesIn structs params) answers edges) due)
+  map-torn {r} {b} {answers} {edges} e q =
+      let due = refused-first (tt {0}) r (structsAndParamsChecks structs params) (sym judged ∙ e) in
+      maps-refused
+      (due-refused (mappingOf v (typesIn structs params))
+      (first-more (roomChecks v (typesIn structs params) (room answers) (room edges)) due)) q
 
-  module _ (e : verdict ≡ Accepted) where
-    pub map-none : NoneDue (methodChecks (envOf 0 0 []) structs params [] (0 ∷ []))
-    map-none = accepted-none (tt {0}) (methodChecks (envOf 0 0 []) structs params [] (0 ∷ [])) (sym judged ∙ e)
-
-    pub map-given : borrowMap v structs params answers edges ≡ mapOf v (paramTypes params) answers edges
-    unfolding borrowMap
-    map-given = rw (types-are structs params map-none) (after-none (mappingOf v (typesIn structs params)) (roomChecks v (typesIn structs params) answers edges) map-none)
+  pub map-listed : {b : BorrowMap} {answers edges : Slice} → verdict ≡ Accepted
+      → b ≡ mapAnswer (mapOf v (paramTypes params) (room answers) (room edges))
+      → Fills (mapAnswers (mapOf v (paramTypes params) (room answers) (room edges))) answers
+      → Fills (mapEdges (mapOf v (paramTypes params) (room answers) (room edges))) edges
+      → MapsTo (borrowMap v structs params (room answers) (room edges)) b answers edges
+  unfolding borrowMap
+  map-listed {b} {answers} {edges} e =
+      let none = map-none e in
+      maps-same {o = mapOf v (paramTypes params) (room answers) (room edges)}
+      (rw (types-are structs params none)
+      (after-none (mappingOf v (typesIn structs params))
+      (roomChecks v (typesIn structs params) (room answers) (room edges)) none))

@@ -1,4 +1,5 @@
--- A sheet's method: the first refusal due on ten records in shape is that of the stage which refuses them; if none is due, the method is accepted.
+-- A sheet's method: the first refusal due on ten records in shape is that of the stage which refuses them; if none is
+-- due, the method is accepted.
 use Prim.Native.Nat.{ℕ, _≤_}
 use mathlib.Core.Bool.{true, false, _&&_, not, and-eq-true-iff}
 use mathlib.Core.Path.{_≡_, refl, sym, ap, _∙_}
@@ -15,7 +16,8 @@ use Rattle.lifetimes.specs.declared.env.Made.{Made}
 use Rattle.lifetimes.specs.Refusals.{Check, check, Outcome, Gives, Refuses, FirstDue, here, later, NoneDue, next, end}
 use Rattle.lifetimes.specs.Lent.{verdictOf, resultOr}
 use Rattle.lifetimes.specs.Env.{envChecks, envOf, made}
-use Rattle.lifetimes.proofs.RefusalLaws.{due-given, due-refused, none-first, none-rest, none-split, none-more, first-more, first-after, first-behind, refused-first, accepted-none}
+use Rattle.lifetimes.proofs.RefusalLaws.{due-given, due-refused, none-first, none-rest, none-split, none-more}
+use Rattle.lifetimes.proofs.RefusalLaws.{first-more, first-after, first-behind, refused-first, accepted-none}
 use Rattle.ast_lifetimes.specs.declared.env.LifetimeEnv as ast-env
 use Rattle.ast_lifetimes.specs.declared.env.Made as ast-made
 use Rattle.ast_lifetimes.specs.Shapes.{namesInShape, boundsInShape}
@@ -35,7 +37,8 @@ use Rattle.borrowing_param.specs.SheetMethod.{loweredOf, astEnvOf, envOf
 use Rattle.borrowing_param.specs.InnerSheet.{methodOf}
 
 -- checks in the middle of which none is due
-first-without : {r : Refusal} (checks : List Check) {middle : List Check} (more : List Check) → NoneDue middle → FirstDue r (checks ++ (middle ++ more)) → FirstDue r (checks ++ more)
+first-without : {r : Refusal} (checks : List Check) {middle : List Check} (more : List Check) → NoneDue middle
+    → FirstDue r (checks ++ (middle ++ more)) → FirstDue r (checks ++ more)
 first-without [] more n f = first-behind n f
 first-without (c ∷ cs) more n (here d e) = here {c = c} d e
 first-without (c ∷ cs) more n (later d f) = later d (first-without cs more n f)
@@ -66,7 +69,8 @@ module _ (r : Records) where
     named = refl
 
     few : loweredOf r .count ≤ 64
-    few = rfc141-says names (receiverOf (r .self)) (stepsOf (r .steps)) (stepsOf (r .returns)) .few (omega (arith, accepted-names (r .names) (r .bounds) (r .types) placed)) elided
+    few = rfc141-says names (receiverOf (r .self)) (stepsOf (r .steps)) (stepsOf (r .returns)) .few
+        (omega (arith, accepted-names (r .names) (r .bounds) (r .types) placed)) elided
 
     valid : NoneDue (ast.envChecks (astEnvOf r))
     valid = accepted-valid (r .names) (r .bounds) (r .types) placed
@@ -96,7 +100,8 @@ module _ (r : Records) where
         (p .0, q .0, q .1)
 
     -- refused somewhere
-    refuses : {k : Refusal} {m : Made} → FirstDue k (recordsChecks r) → m ≡ made (envOf 0 0 []) (Refuses k) → m ≡ made (envOf 0 0 []) (methodOf r)
+    refuses : {k : Refusal} {m : Made} → FirstDue k (recordsChecks r) → m ≡ made (envOf 0 0 []) (Refuses k)
+        → m ≡ made (envOf 0 0 []) (methodOf r)
     unfolding methodOf
     refuses f h = rw (due-refused (envOfSheet r) f) h
 
@@ -105,17 +110,21 @@ module _ (r : Records) where
       pub names-first : {k : Refusal} → a .verdict ≡ verdict.Refused k → FirstDue k (recordsChecks r)
       unfolding recordsChecks ast.fromMethodItem
       names-first {k} v =
-          let d = refused-first (astEnvOf r) k (ast.methodChecks (r .names) (r .bounds) (r .types)) (sym (ap (λ (x : ast-made.Made). x .verdict) is) ∙ v) in
+          let d = refused-first (astEnvOf r) k (ast.methodChecks (r .names) (r .bounds) (r .types))
+          (sym (ap (λ (x : ast-made.Made). x .verdict) is) ∙ v) in
           let s : not (namesInShape (r .names) && (boundsInShape (r .bounds) && typesInShape (r .types))) ≡ false = rw (shapes .0) in
           later shape-not (first-more _ (first-behind (next s end) d))
 
-      pub names-refused : {k : Refusal} {m : Made} → a .verdict ≡ verdict.Refused k → m ≡ made (envOf 0 0 []) (Refuses k) → m ≡ made (envOf 0 0 []) (methodOf r)
+      pub names-refused : {k : Refusal} {m : Made} → a .verdict ≡ verdict.Refused k
+          → m ≡ made (envOf 0 0 []) (Refuses k) → m ≡ made (envOf 0 0 []) (methodOf r)
       names-refused v h = refuses (names-first v) h
 
       module _ (fine : a .verdict ≡ verdict.Accepted) where
         ast-none : NoneDue (ast.methodChecks (r .names) (r .bounds) (r .types))
         unfolding ast.fromMethodItem
-        ast-none = accepted-none (astEnvOf r) (ast.methodChecks (r .names) (r .bounds) (r .types)) (sym (ap (λ (x : ast-made.Made). x .verdict) is) ∙ fine)
+        ast-none =
+            accepted-none (astEnvOf r) (ast.methodChecks (r .names) (r .bounds) (r .types))
+            (sym (ap (λ (x : ast-made.Made). x .verdict) is) ∙ fine)
 
         pub ast-is : a .env ≡ astEnvOf r
         unfolding ast.fromMethodItem
@@ -146,18 +155,23 @@ module _ (r : Records) where
           unfolding recordsChecks measureRecords
           steps-first {k} v =
               let e = astEnvOf r in
-              let d = refused-first (recordsOf e (r .self) (r .steps) (r .returns)) k (measureChecks e (r .self) (r .steps) (r .returns)) (sym verdict-is ∙ v) in
-              let f = first-behind (accepted-valid (r .names) (r .bounds) (r .types) placed) (first-behind (next in-shape-not end) d) in
+              let d = refused-first (recordsOf e (r .self) (r .steps) (r .returns)) k
+              (measureChecks e (r .self) (r .steps) (r .returns)) (sym verdict-is ∙ v) in
+              let f = first-behind (accepted-valid (r .names) (r .bounds) (r .types) placed)
+              (first-behind (next in-shape-not end) d) in
               let g : FirstDue k elisionChecks = rw names-are at f in
               later shape-not (first-after placed (first-more _ g))
 
-          pub steps-refused : {k : Refusal} {m : Made} → l .verdict ≡ verdict.Refused k → m ≡ made (envOf 0 0 []) (Refuses k) → m ≡ made (envOf 0 0 []) (methodOf r)
+          pub steps-refused : {k : Refusal} {m : Made} → l .verdict ≡ verdict.Refused k
+              → m ≡ made (envOf 0 0 []) (Refuses k) → m ≡ made (envOf 0 0 []) (methodOf r)
           steps-refused v h = refuses (steps-first v) h
 
           module _ (given : l .verdict ≡ verdict.Accepted) where
             pub measure-none : NoneDue (measureChecks (astEnvOf r) (r .self) (r .steps) (r .returns))
             unfolding measureRecords
-            measure-none = accepted-none (recordsOf (astEnvOf r) (r .self) (r .steps) (r .returns)) (measureChecks (astEnvOf r) (r .self) (r .steps) (r .returns)) (sym verdict-is ∙ given)
+            measure-none =
+                accepted-none (recordsOf (astEnvOf r) (r .self) (r .steps) (r .returns))
+                (measureChecks (astEnvOf r) (r .self) (r .steps) (r .returns)) (sym verdict-is ∙ given)
 
             pub elided : NoneDue elisionChecks
             elided =
@@ -168,14 +182,17 @@ module _ (r : Records) where
             unfolding measureRecords
             env-is =
                 ap (λ (x : Lowering). x .env) measured
-                ∙ ap (λ (o : Outcome rfc.Method). answered (astEnvOf r) o .env) (due-given (recordsOf (astEnvOf r) (r .self) (r .steps) (r .returns)) measure-none)
+                ∙ ap (λ (o : Outcome rfc.Method). answered (astEnvOf r) o .env)
+                (due-given (recordsOf (astEnvOf r) (r .self) (r .steps) (r .returns)) measure-none)
                 ∙ rw names-are
 
             method-shape-not : not (methodInShape (r .structs) (r .params) (r .output) (r .force)) ≡ false
             method-shape-not = rw (shapes .2)
 
             -- structs, params, output and force
-            pub method-first : {k : Refusal} → FirstDue k (methodChecks (l .env) (r .structs) (r .params) (r .output) (r .force)) → FirstDue k (recordsChecks r)
+            pub method-first : {k : Refusal}
+                → FirstDue k (methodChecks (l .env) (r .structs) (r .params) (r .output) (r .force))
+                → FirstDue k (recordsChecks r)
             unfolding recordsChecks
             method-first {k} first =
                 let d : FirstDue k hirChecks = rw env-is at first in
@@ -183,7 +200,8 @@ module _ (r : Records) where
                 let g = first-without hirPlaces (past ∷ []) (limits placed elided .1) f in
                 later shape-not (first-after placed (first-after elided g))
 
-            pub method-none : NoneDue (methodChecks (l .env) (r .structs) (r .params) (r .output) (r .force)) → NoneDue (recordsChecks r)
+            pub method-none : NoneDue (methodChecks (l .env) (r .structs) (r .params) (r .output) (r .force))
+                → NoneDue (recordsChecks r)
             unfolding recordsChecks
             method-none none =
                 let n : NoneDue hirChecks = rw env-is at none in
@@ -193,13 +211,22 @@ module _ (r : Records) where
                 next shape-not (none-more placed (none-more elided (none-more (q .0) (s .1))))
 
             module _ {v : Verdict} (judges : v ≡ methodVerdict (l .env) (r .structs) (r .params) (r .output) (r .force)) where
-              pub method-refused : {k : Refusal} {m : Made} → v ≡ verdict.Refused k → m ≡ made (envOf 0 0 []) (Refuses k) → m ≡ made (envOf 0 0 []) (methodOf r)
-              method-refused {k} w h = refuses (method-first (refused-first (tt {0}) k (methodChecks (l .env) (r .structs) (r .params) (r .output) (r .force)) (sym judges ∙ w))) h
+              pub method-refused : {k : Refusal} {m : Made} → v ≡ verdict.Refused k
+                  → m ≡ made (envOf 0 0 []) (Refuses k) → m ≡ made (envOf 0 0 []) (methodOf r)
+              method-refused {k} w h =
+                  refuses
+                  (method-first
+                  (refused-first (tt {0}) k (methodChecks (l .env) (r .structs) (r .params) (r .output) (r .force))
+                  (sym judges ∙ w))) h
 
-              pub method-given : v ≡ verdict.Accepted → record { verdict = verdict.Accepted; env = l .env } ≡ made (envOf 0 0 []) (methodOf r)
+              pub method-given : v ≡ verdict.Accepted
+                  → record { verdict = verdict.Accepted; env = l .env } ≡ made (envOf 0 0 []) (methodOf r)
               unfolding methodOf
               method-given w =
-                  let due = method-none (accepted-none (tt {0}) (methodChecks (l .env) (r .structs) (r .params) (r .output) (r .force)) (sym judges ∙ w)) in
+                  let due =
+                  method-none
+                  (accepted-none (tt {0}) (methodChecks (l .env) (r .structs) (r .params) (r .output) (r .force))
+                  (sym judges ∙ w)) in
                   rw (due-given (envOfSheet r) due, env-is)
 
   -- T-12b: a method from a sheet is accepted

@@ -14,11 +14,13 @@ use Rattle.lifetimes.specs.declared.answer.Verdict.the-variants as verdict
 use Rattle.lifetimes.specs.declared.answer.Listed.{Listed}
 use Rattle.lifetimes.specs.declared.answer.Listed.the-variants.{Count, Refused}
 use Rattle.lifetimes.specs.declared.env.Made.{Made}
-use Rattle.lifetimes.specs.Refusals.{Check, check, Outcome, Gives, Refuses, unless, FirstDue, here, later, NoneDue, next, end}
+use Rattle.lifetimes.specs.Refusals.{Check, check, Outcome, Gives, Refuses, unless, FirstDue, here, later, NoneDue}
+use Rattle.lifetimes.specs.Refusals.{next, end}
 use Rattle.lifetimes.specs.Lent.{counted, verdictOf, resultOr, roomCheck, written}
 use Rattle.lifetimes.specs.Env.{envOf, made}
 use Rattle.lifetimes.proofs.Copying.{sets-front}
-use Rattle.lifetimes.proofs.RefusalLaws.{due-given, due-refused, none-first, none-split, none-more, first-more, first-after, refused-first, accepted-none}
+use Rattle.lifetimes.proofs.RefusalLaws.{due-given, due-refused, none-first, none-split, none-more, first-more}
+use Rattle.lifetimes.proofs.RefusalLaws.{first-after, refused-first, accepted-none}
 use Rattle.records.specs.Copied.{copied}
 use Rattle.records.proofs.CopyLaws.{copied-stores, copied-all, copied-none}
 use Rattle.records.proofs.VerdictLaws.{refused-accepted}
@@ -33,11 +35,13 @@ use Rattle.sheet.specs.Inner.{recordsAt, Laid, Roomy}
 use Rattle.sheet.proofs.Answers.{last-end}
 use Rattle.sheet.proofs.Placing.{laid-words, laid-records, roomy-fits}
 use Rattle.borrowing_param.specs.declared.method.SheetMethod.{SheetMethod}
-use Rattle.borrowing_param.specs.SheetMethod.{envOfSheet, recordsChecks, sheetRefusals, lowerSheet, methodAnswer, methodWords}
+use Rattle.borrowing_param.specs.SheetMethod.{envOfSheet, recordsChecks, sheetRefusals, lowerSheet, methodAnswer}
+use Rattle.borrowing_param.specs.SheetMethod.{methodWords}
 use Rattle.borrowing_param.specs.InnerSheet.{records, methodOf, Judges}
 
 -- the first due is in the one list or in the other
-first-either : {k : Refusal} (checks more : List Check) → FirstDue k (checks ++ more) → FirstDue k checks ⊎ (NoneDue checks × FirstDue k more)
+first-either : {k : Refusal} (checks more : List Check) → FirstDue k (checks ++ more)
+    → FirstDue k checks ⊎ (NoneDue checks × FirstDue k more)
 first-either {k} [] more f = inr (end, f)
 first-either {k} (c ∷ cs) more (here d e) = inl (here {c = c} d e)
 first-either {k} (c ∷ cs) more (later d f) = go (first-either cs more f)
@@ -48,8 +52,10 @@ first-either {k} (c ∷ cs) more (later d f) = go (first-either cs more f)
 
 -- ten records, found one by one
 pub ten-found : {words ends : List ℕ} → Laid words ends → {a b c d e f g h i j : List ℕ}
-    → a ≡ recordWords words ends 0 → b ≡ recordWords words ends 1 → c ≡ recordWords words ends 2 → d ≡ recordWords words ends 3 → e ≡ recordWords words ends 4
-    → f ≡ recordWords words ends 5 → g ≡ recordWords words ends 6 → h ≡ recordWords words ends 7 → i ≡ recordWords words ends 8 → j ≡ recordWords words ends 9
+    → a ≡ recordWords words ends 0 → b ≡ recordWords words ends 1 → c ≡ recordWords words ends 2
+    → d ≡ recordWords words ends 3 → e ≡ recordWords words ends 4
+    → f ≡ recordWords words ends 5 → g ≡ recordWords words ends 6 → h ≡ recordWords words ends 7
+    → i ≡ recordWords words ends 8 → j ≡ recordWords words ends 9
     → records a b c d e f g h i j ≡ recordsAt words ends
 ten-found l pa pb pc pd pe pf pg ph pi pj =
     rw (
@@ -77,7 +83,8 @@ module _ (bytes : List ℕ) where
   unfolding shape.sheetChecks sheetRefusals recordsChecks
   read-refused {k} f = go (first-either (textChecks bytes) (shapeCheck ∷ []) f)
     where
-      go : FirstDue k (textChecks bytes) ⊎ (NoneDue (textChecks bytes) × FirstDue k (shapeCheck ∷ [])) → FirstDue k (textChecks bytes ++ recordsChecks sheet)
+      go : FirstDue k (textChecks bytes) ⊎ (NoneDue (textChecks bytes) × FirstDue k (shapeCheck ∷ []))
+          → FirstDue k (textChecks bytes ++ recordsChecks sheet)
       go (inl g) = first-more _ g
       go (inr (n, g)) = first-after n (first-more _ g)
 
@@ -87,7 +94,8 @@ module _ (bytes : List ℕ) where
       let p = none-split (textChecks bytes) (shapeCheck ∷ []) n in
       (p .0, not-false (sheetInShape sheet) (none-first (p .1)))
 
-  module _ (scratch : List ℕ) (roomy : Roomy bytes (length scratch)) {t : Text} (read : t ≡ sheetAnswer bytes (length scratch)) {scratch₁ : List ℕ}
+  module _ (scratch : List ℕ) (roomy : Roomy bytes (length scratch)) {t : Text}
+      (read : t ≡ sheetAnswer bytes (length scratch)) {scratch₁ : List ℕ}
       (wrote : scratch₁ ≡ written (shape.sheetWords bytes (length scratch)) scratch) where
     abbrev Ends : Outcome (List ℕ)
     Ends = sheetEnds bytes (length scratch)
@@ -98,16 +106,25 @@ module _ (bytes : List ℕ) where
 
     pub text-first : {k : Refusal} → t .verdict ≡ verdict.Refused k → FirstDue k (sheetRefusals bytes)
     unfolding sheetEnds
-    text-first {k} v = go (first-either (shape.sheetChecks bytes) (roomCheck (length scratch) (wordsOf sheet) ∷ []) (refused-first _ k (callChecks bytes (length scratch)) (sym verdict-is ∙ v)))
+    text-first {k} v =
+        go
+        (first-either (shape.sheetChecks bytes) (roomCheck (length scratch) (wordsOf sheet) ∷ [])
+        (refused-first _ k (callChecks bytes (length scratch)) (sym verdict-is ∙ v)))
       where
-        none-of : FirstDue k (roomCheck (length scratch) (wordsOf sheet) ∷ []) → roomCheck (length scratch) (wordsOf sheet) .due ≡ false → ⊥
+        none-of : FirstDue k (roomCheck (length scratch) (wordsOf sheet) ∷ [])
+            → roomCheck (length scratch) (wordsOf sheet) .due ≡ false → ⊥
         none-of (here d e) z = let y : _≡_ {A = ℕ} 0 1 = cc in omega arith
 
-        go : FirstDue k (shape.sheetChecks bytes) ⊎ (NoneDue (shape.sheetChecks bytes) × FirstDue k (roomCheck (length scratch) (wordsOf sheet) ∷ [])) → FirstDue k (sheetRefusals bytes)
+        go : FirstDue k (shape.sheetChecks bytes)
+            ⊎ (NoneDue (shape.sheetChecks bytes) × FirstDue k (roomCheck (length scratch) (wordsOf sheet) ∷ []))
+            → FirstDue k (sheetRefusals bytes)
         go (inl f) = read-refused f
-        go (inr (n, f)) = absurd (none-of f (le-ltb (length scratch) (length (wordsOf sheet)) (roomy-fits bytes roomy (read-none n .0))))
+        go (inr (n, f)) =
+            absurd
+            (none-of f (le-ltb (length scratch) (length (wordsOf sheet)) (roomy-fits bytes roomy (read-none n .0))))
 
-    pub judge-text : {k : Refusal} {m : SheetMethod} → t .verdict ≡ verdict.Refused k → m ≡ methodAnswer (Refuses k) → Judges bytes m scratch₁
+    pub judge-text : {k : Refusal} {m : SheetMethod} → t .verdict ≡ verdict.Refused k → m ≡ methodAnswer (Refuses k)
+        → Judges bytes m scratch₁
     judge-text v h = record {
       answers = rw (due-refused sheet (text-first v)) h;
       leaves = λ a. refused-accepted (sym (ap (λ (x : SheetMethod). x .verdict) h) ∙ a);
@@ -148,20 +165,29 @@ module _ (bytes : List ℕ) where
         verdict-of : a .verdict ≡ verdictOf (methodOf sheet)
         verdict-of = ap (λ (x : Made). x .verdict) at-sheet
 
-        pub judge-refused : {k : Refusal} {m : SheetMethod} → a .verdict ≡ verdict.Refused k → m ≡ methodAnswer (Refuses k) → Judges bytes m scratch₁
+        pub judge-refused : {k : Refusal} {m : SheetMethod} → a .verdict ≡ verdict.Refused k
+            → m ≡ methodAnswer (Refuses k) → Judges bytes m scratch₁
         unfolding methodOf sheetRefusals
         judge-refused {k} {m} v h =
             let f = refused-first (envOfSheet sheet) k (recordsChecks sheet) (sym verdict-of ∙ v) in
             let g : FirstDue k (sheetRefusals bytes) = first-after (text-none .0) f in
-            record { answers = rw (due-refused sheet g) h; leaves = λ x. refused-accepted (sym (ap (λ (x : SheetMethod). x .verdict) h) ∙ x) }
+            record {
+              answers = rw (due-refused sheet g) h;
+              leaves = λ x. refused-accepted (sym (ap (λ (x : SheetMethod). x .verdict) h) ∙ x);
+            }
 
-        pub judge-given : a .verdict ≡ verdict.Accepted → Judges bytes (record { verdict = verdict.Accepted; ends = t .ends; env = a .env }) scratch₁
+        pub judge-given : a .verdict ≡ verdict.Accepted
+            → Judges bytes (record { verdict = verdict.Accepted; ends = t .ends; env = a .env }) scratch₁
         unfolding methodOf sheetRefusals read-laid
         judge-given v =
             let n = accepted-none (envOfSheet sheet) (recordsChecks sheet) (sym verdict-of ∙ v) in
-            let e : a .env ≡ envOfSheet sheet = ap (λ (x : Made). x .env) at-sheet ∙ ap (resultOr (envOf 0 0 [])) (due-given (envOfSheet sheet) n) in
+            let e : a .env ≡ envOfSheet sheet =
+            ap (λ (x : Made). x .env) at-sheet ∙ ap (resultOr (envOf 0 0 [])) (due-given (envOfSheet sheet) n) in
             let g : NoneDue (sheetRefusals bytes) = none-more (text-none .0) n in
-            record { answers = rw (due-given sheet g, ends-are, e); leaves = λ x. (drop (length (wordsOf sheet)) scratch, read-laid .stored) }
+            record {
+              answers = rw (due-given sheet g, ends-are, e);
+              leaves = λ x. (drop (length (wordsOf sheet)) scratch, read-laid .stored);
+            }
 
   -- `lower_within`: what was judged, and the words
   module _ {m : SheetMethod} {scratch : List ℕ} (judges : Judges bytes m scratch) (words : List ℕ) where
@@ -171,7 +197,8 @@ module _ (bytes : List ℕ) where
     abbrev Answers : SheetMethod → List ℕ → Type 0
     Answers x words₁ = (x ≡ methodAnswer given) × (words₁ ≡ written (methodWords given) words)
 
-    refused-answers : {k : Refusal} {x : SheetMethod} → x ≡ methodAnswer (Refuses k) → FirstDue k (sheetRefusals bytes ++ (roomCheck (length words) (wordsOf sheet) ∷ [])) → Answers x words
+    refused-answers : {k : Refusal} {x : SheetMethod} → x ≡ methodAnswer (Refuses k)
+        → FirstDue k (sheetRefusals bytes ++ (roomCheck (length words) (wordsOf sheet) ∷ [])) → Answers x words
     unfolding lowerSheet
     refused-answers h f = rw (due-refused sheet f) (h, refl)
 
@@ -200,11 +227,14 @@ module _ (bytes : List ℕ) where
       within-inside : getD (m .ends) 9 0 ≤ length scratch
       within-inside = let p = judges .leaves fine in rw (p .1, length-append) (omega (arith, total))
 
-      module _ {words₁ : List ℕ} (left : words₁ ≡ written (copied scratch (getD (m .ends) 9 0) (length words)) words) {r : Listed} (told : r ≡ counted (copied scratch (getD (m .ends) 9 0) (length words))) where
+      module _ {words₁ : List ℕ} (left : words₁ ≡ written (copied scratch (getD (m .ends) 9 0) (length words)) words)
+          {r : Listed} (told : r ≡ counted (copied scratch (getD (m .ends) 9 0) (length words))) where
         pub within-short : {k : Refusal} → r ≡ Refused k → {x : SheetMethod} → x ≡ methodAnswer (Refuses NoRoom) → Answers x words₁
         within-short c h =
             let no = copied-none scratch (getD (m .ends) 9 0) words within-inside left told c in
-            let a = refused-answers h (first-after none (here (lt-ltb (length words) (length (wordsOf sheet)) (omega (arith, total, no .0))) refl)) in
+            let a = refused-answers h
+            (first-after none
+            (here (lt-ltb (length words) (length (wordsOf sheet)) (omega (arith, total, no .0))) refl)) in
             (a .0, no .1 ∙ a .1)
 
         pub within-all : {n : ℕ} → r ≡ Count n → Answers m words₁
@@ -213,7 +243,9 @@ module _ (bytes : List ℕ) where
             let fits : getD (m .ends) 9 0 ≤ length words = copied-all scratch (getD (m .ends) 9 0) words within-inside left told c in
             let p = judges .leaves fine in
             let t : take (getD (m .ends) 9 0) scratch ≡ wordsOf sheet = rw (p .1, total) (take-append-seam (wordsOf sheet) (p .0)) in
-            let room : roomCheck (length words) (wordsOf sheet) .due ≡ false = le-ltb (length words) (length (wordsOf sheet)) (omega (arith, total)) in
-            let g : NoneDue (sheetRefusals bytes ++ (roomCheck (length words) (wordsOf sheet) ∷ [])) = none-more none (next room end) in
+            let room : roomCheck (length words) (wordsOf sheet) .due ≡ false =
+            le-ltb (length words) (length (wordsOf sheet)) (omega (arith, total)) in
+            let g : NoneDue (sheetRefusals bytes ++ (roomCheck (length words) (wordsOf sheet) ∷ [])) =
+            none-more none (next room end) in
             let stored = copied-stores scratch (getD (m .ends) 9 0) words within-inside left fits in
             rw (due-given sheet g) (is-given, stored ∙ ap (sets words 0) t ∙ sets-front words (wordsOf sheet) (omega (arith, total)))

@@ -1,7 +1,7 @@
 -- A visit of one parameter: finding it, the answers of `visit_parts` and of `visit_param`.
 -- In order: the type with a number; its path is short; the records of a method and the parameter; room; the answers.
 use Prim.Native.Nat.{ℕ, zero, suc, _+_, _-_, _*_, _/_, _≤_, _<_}
-use mathlib.Core.Bool.{Bool, true, false, cond, _&&_, not, true≢false}
+use mathlib.Core.Bool.{Bool, true, false, cond, _&&_, not, true≢false, and-eq-true-iff}
 use mathlib.Core.Path.{_≡_, refl, sym, ap, _∙_}
 use mathlib.Core.List.{List, [], _∷_, flatMap}
 use native.Mathlib.Nat.{sub-zero, add-zero}
@@ -22,19 +22,22 @@ use Rattle.lifetimes.specs.Env.{envOf, pairsOf, newEnv, made}
 use Rattle.lifetimes.specs.Refusals as refusals
 use Rattle.lifetimes.specs.Refusals.{check, unless, FirstDue, here, later, NoneDue, next}
 use Rattle.lifetimes.proofs.RefusalLaws.{due-given, due-refused, refused-first, accepted-none, none-first}
-use Rattle.records.specs.Reading.{Reading, Read, Fails, onward, readWord, readLifetimes, readAll, fewWords, inShape, itemsOf}
-use Rattle.records.proofs.ReadingLaws.{Holds, read, fails, holds-read, holds-cond, holds-onward, holds-or, passed}
+use Rattle.records.specs.Reading.{Reading, Read, Fails, onward, readWord, readLifetimes, readAll, fewWords, inShape}
+use Rattle.records.specs.Reading.{itemsOf}
+use Rattle.records.proofs.ReadingLaws.{Holds, read, fails, holds-read, holds-cond, holds-onward, holds-or, passed, fails-read}
 use Rattle.lowered_types.specs.declared.types.Kind.{Kind}
 use Rattle.lowered_types.specs.declared.types.Kind.the-variants.{Plain, Opaque, Struct, Slice}
 use Rattle.lowered_types.specs.declared.types.Own.{Own}
 use Rattle.lowered_types.specs.declared.types.Parts.{Parts}
 use Rattle.lowered_types.specs.declared.types.Located.{Located}
 use Rattle.lowered_types.specs.declared.types.Located.the-variants.{At, Missing}
-use Rattle.lowered_types.specs.LoweredTypes.{LoweredType, readFlag, readOwner, readOpaque, readStruct, readSlice, readBare, readLowered, knows}
-use Rattle.lowered_types.specs.Rows.{rowsOf, readKnown, typesOf, paramsInShape, methodInShape, structsInShape}
-use Rattle.lowered_types.specs.Places.{Stands, Locates, nowhere}
+use Rattle.lowered_types.specs.LoweredTypes.{LoweredType, readFlag, readOwner, readOpaque, readStruct, readSlice}
+use Rattle.lowered_types.specs.LoweredTypes.{readBare, readLowered, knows, located}
+use Rattle.lowered_types.specs.Rows.{rowsOf, readKnown, typesOf, paramsInShape, structsInShape}
+use Rattle.lowered_types.specs.Places.{Stands, nowhere}
+use Rattle.lowered_types.proofs.LocatedLaws.{type-located}
 use Rattle.lowered_types.proofs.FoundLaws.{Found, found-told, missing-told, path-inside}
-use Rattle.hir_types.specs.Method.{typesIn, methodChecks, methodVerdict}
+use Rattle.hir_types.specs.Method.{typesIn, structsAndParamsChecks, structsAndParamsVerdict}
 use Rattle.borrowing_param.specs.declared.visitor.LifetimeEdge.{LifetimeEdge}
 use Rattle.borrowing_param.specs.declared.visitor.BorrowingParamVisitor.{BorrowingParamVisitor}
 use Rattle.borrowing_param.specs.declared.visitor.ParamBorrowInfo.{ParamBorrowInfo}
@@ -55,26 +58,26 @@ pub finding-start : (words : List ℕ) (n : ℕ) → Finding words n 0 0
 finding-start words n = record { here = omega arith; left = rw sub-zero }
 
 module _ {words : List ℕ} {n at i : ℕ} (inv : Finding words n at i) where
-  pub finding-end : n ≤ i → {r : Located} → Locates words at (readLowered (drop at words)) r → FoundAt words n r
+  pub finding-end : n ≤ i → {r : Located} → r ≡ located at (length words) (readLowered (drop at words)) → FoundAt words n r
   unfolding nthType
   finding-end h l =
       let e : n - i ≡ 0 = omega arith in
       let same : nthType n words ≡ readLowered (drop at words) = rw e at (inv .left) in
-      record { at = at; found = rw same l }
+      record { at = at; found = rw same (type-located words at l) }
 
-  module _ (h : i < n) {r : Located} (l : Locates words at (readLowered (drop at words)) r) where
+  module _ (h : i < n) {r : Located} (l : r ≡ located at (length words) (readLowered (drop at words))) where
     one-on : nthType n words ≡ onward (readLowered (drop at words)) (λ t rest. nthType (n - (i + 1)) rest)
     unfolding nthType
     one-on = let e : n - i ≡ suc (n - (i + 1)) = omega arith in rw e at (inv .left)
 
     pub finding-missing : r ≡ Missing → FoundAt words n Missing
     finding-missing e =
-        let none : nthType n words ≡ Fails = one-on ∙ rw (missing-told l e) in
+        let none : nthType n words ≡ Fails = one-on ∙ rw (missing-told (type-located words at l) e) in
         record { at = at; found = rw none nowhere }
 
     pub finding-more : {p : Parts} → r ≡ At p → Finding words n (p .next) (i + 1)
     finding-more {p} e =
-        let f = found-told l e in
+        let f = found-told (type-located words at l) e in
         let same : nthType n words ≡ nthType (n - (i + 1)) (drop (p .next) words) = one-on ∙ rw (f .reads, f .stands .left) in
         record { here = omega arith; left = same }
 
@@ -112,7 +115,9 @@ module _ (option : Bool) where
 
   short-struct : (words : List ℕ) → Holds Short (readStruct option words)
   unfolding readStruct
-  short-struct words = holds-onward {A = ℕ} Any Short (any (readWord words)) (λ row rest u. holds-onward Few Short (few rest) (λ path end h. read h))
+  short-struct words =
+      holds-onward {A = ℕ} Any Short (any (readWord words))
+      (λ row rest u. holds-onward Few Short (few rest) (λ path end h. read h))
 
   short-slice : (words : List ℕ) → Holds Short (readSlice option words)
   unfolding readSlice
@@ -121,7 +126,9 @@ module _ (option : Bool) where
       holds-cond Short (eqb code 0) (λ e. read (omega arith))
       (holds-cond Short (eqb code 1) (λ e. holds-onward {A = ℕ} Any Short (any (readWord words)) (λ w end u. read (omega arith)))
       (holds-cond Short (eqb code 2) (λ e. read (omega arith))
-      (holds-cond Short (eqb code 3) (λ e. holds-onward Few Short (few words) (λ path rest h. holds-onward {A = ℕ} Any Short (any (readWord rest)) (λ w end u. read h)))
+      (holds-cond Short (eqb code 3)
+      (λ e. holds-onward Few Short (few words)
+      (λ path rest h. holds-onward {A = ℕ} Any Short (any (readWord rest)) (λ w end u. read h)))
       fails)))
 
   short-bare : (words : List ℕ) → Holds Short (readBare option words)
@@ -163,11 +170,13 @@ pub known-reads : (rows : ℕ) (words : List ℕ) → Holds (λ t rest. readLowe
 unfolding readKnown
 known-reads rows words = go (readLowered words)
   where
-    go : (r : Reading LoweredType) → Holds (λ t rest. r ≡ Read t rest) (onward r (λ t rest. cond (knows rows (t .kind)) (Read t rest) Fails))
+    go : (r : Reading LoweredType)
+        → Holds (λ t rest. r ≡ Read t rest) (onward r (λ t rest. cond (knows rows (t .kind)) (Read t rest) Fails))
     go (Read t rest) = holds-cond (λ u behind. Read t rest ≡ Read u behind) (knows rows (t .kind)) (λ e. read refl) fails
     go Fails = fails
 
-nth-all : (rows number steps : ℕ) (words : List ℕ) → Holds (λ ts end. (n : ℕ) → NthIs ts n (nthType n words)) (readAll (λ i. readKnown rows) number steps words)
+nth-all : (rows number steps : ℕ) (words : List ℕ)
+    → Holds (λ ts end. (n : ℕ) → NthIs ts n (nthType n words)) (readAll (λ i. readKnown rows) number steps words)
 unfolding readAll nthType
 nth-all rows number zero [] = read none-is
 nth-all rows number zero (w ∷ words) = fails
@@ -175,27 +184,25 @@ nth-all rows number (suc steps) [] = read none-is
 nth-all rows number (suc steps) (w ∷ words) =
     let All : List LoweredType → List ℕ → Type 0 = λ ts end. (n : ℕ) → NthIs ts n (nthType n (w ∷ words)) in
     holds-onward (λ t rest. readLowered (w ∷ words) ≡ Read t rest) All (known-reads rows (w ∷ words))
-    (λ t rest e. holds-onward (λ ts end. (n : ℕ) → NthIs ts n (nthType n rest)) All (nth-all rows (suc number) steps rest) (λ ts end h. read (cons t rest e ts h)))
+    (λ t rest e. holds-onward (λ ts end. (n : ℕ) → NthIs ts n (nthType n rest)) All
+    (nth-all rows (suc number) steps rest) (λ ts end h. read (cons t rest e ts h)))
   where
-    cons : (t : LoweredType) (rest : List ℕ) → readLowered (w ∷ words) ≡ Read t rest → (ts : List LoweredType) → ((n : ℕ) → NthIs ts n (nthType n rest)) → (n : ℕ) → NthIs (t ∷ ts) n (nthType n (w ∷ words))
+    cons : (t : LoweredType) (rest : List ℕ) → readLowered (w ∷ words) ≡ Read t rest → (ts : List LoweredType)
+        → ((n : ℕ) → NthIs ts n (nthType n rest)) → (n : ℕ) → NthIs (t ∷ ts) n (nthType n (w ∷ words))
     cons t rest e ts h zero = record { inside = λ l. (rest, e); past = λ l. absurd (omega arith) }
     cons t rest e ts h (suc n) = record {
       inside = λ l. let k = h n .inside (omega arith) in (k .0, rw e (k .1));
       past = λ l. rw e (h n .past (omega arith));
     }
 
-pub nth-param : (rows : ℕ) (params : List ℕ) → paramsInShape rows params ≡ true → (n : ℕ) → NthIs (typesOf rows params) n (nthType n params)
+pub nth-param : (rows : ℕ) (params : List ℕ) → paramsInShape rows params ≡ true → (n : ℕ)
+    → NthIs (typesOf rows params) n (nthType n params)
 unfolding inShape itemsOf
-nth-param rows params shape = holds-or (λ ts. (n : ℕ) → NthIs ts n (nthType n params)) [] (nth-all rows 0 (length params) params) (right (fewWords params) shape)
-  where
-    right : (t : Bool) {u : Bool} → (t && u) ≡ true → u ≡ true
-    right true e = e
-    right false e = passed e
+nth-param rows params shape =
+    holds-or (λ ts. (n : ℕ) → NthIs ts n (nthType n params)) [] (nth-all rows 0 (length params) params)
+    ((and-eq-true-iff (fewWords params) _) .0 shape .1)
 
 -- ---- the records of a method, and the parameter
-
-no-reading : {A B : Type 0} {a : A} {rest : List ℕ} → Read a rest ≡ Fails → B
-no-reading e = let z : _≡_ {A = ℕ} 0 1 = cc in absurd (omega arith)
 
 read-same : {A : Type 0} {a b : A} {k l : List ℕ} → Read a k ≡ Read b l → a ≡ b
 read-same e = cc
@@ -205,23 +212,18 @@ first-is : {r : Refusal} {c : refusals.Check} {cs : List refusals.Check} → c .
 first-is h (here k e) = e
 first-is h (later k f) = absurd (true≢false (sym h ∙ k))
 
-pub both : (t : Bool) {u : Bool} → (t && u) ≡ true → (t ≡ true) × (u ≡ true)
-both true e = (refl, e)
-both false e = passed e
-
 module _ (structs params : List ℕ) (n : ℕ) where
   abbrev Shape : Bool
-  Shape = methodInShape structs params [] (0 ∷ [])
+  Shape = structsInShape structs && paramsInShape (length (rowsOf structs)) params
 
   abbrev Types : List LoweredType
   Types = typesIn structs params
 
   abbrev Rest : List refusals.Check
-  Rest = methodChecks (envOf 0 0 []) structs params [] (0 ∷ [])
+  Rest = structsAndParamsChecks structs params
 
   is-nth : Shape ≡ true → NthIs Types n (nthType n params)
-  unfolding methodInShape
-  is-nth e = nth-param (length (rowsOf structs)) params (both (paramsInShape (length (rowsOf structs)) params) (both (structsInShape structs) e .1) .0) n
+  is-nth e = nth-param (length (rowsOf structs)) params ((and-eq-true-iff (structsInShape structs) _) .0 e .1) n
 
   -- a parameter that is not there
   pub nowhere-refused : nthType n params ≡ Fails → FirstDue Malformed (visitChecks structs params n)
@@ -231,8 +233,7 @@ module _ (structs params : List ℕ) (n : ℕ) where
       go s e true f = here f refl
       go true e false f =
           let k = is-nth e .inside (leb-false (length Types) n f) in
-          let z : Read (typeAt Types n) (k .0) ≡ Fails = sym (k .1) ∙ none in
-          no-reading z
+          fails-read (sym none ∙ k .1)
       go false e false f = later f (here {c = check (not Shape) Malformed} (rw e) refl)
 
   module _ {t : LoweredType} {rest : List ℕ} (found : nthType n params ≡ Read t rest) where
@@ -241,9 +242,10 @@ module _ (structs params : List ℕ) (n : ℕ) where
       where
         go : Dec (n < length Types) → (n < length Types) × (t ≡ typeAt Types n)
         go (yes h) = let k = is-nth e .inside h in (h, read-same (sym found ∙ k .1))
-        go (no h) = let z : Read t rest ≡ Fails = sym found ∙ is-nth e .past (omega arith) in no-reading z
+        go (no h) = fails-read (sym (is-nth e .past (omega arith)) ∙ found)
 
-    pub records-refused : {v : Verdict} {r : Refusal} → v ≡ methodVerdict (envOf 0 0 []) structs params [] (0 ∷ []) → v ≡ Refused r → FirstDue r (visitChecks structs params n)
+    pub records-refused : {v : Verdict} {r : Refusal} → v ≡ structsAndParamsVerdict structs params → v ≡ Refused r
+        → FirstDue r (visitChecks structs params n)
     records-refused {v} {r} a b = go Shape refl (leb (length Types) n) refl
       where
         due : FirstDue r Rest
@@ -254,7 +256,8 @@ module _ (structs params : List ℕ) (n : ℕ) where
         go true e true f = let k = there e .0 in absurd (omega (arith, leb-true (length Types) n f))
         go false e true f = here f (first-is (rw e) due)
 
-    pub records-accepted : {v : Verdict} → v ≡ methodVerdict (envOf 0 0 []) structs params [] (0 ∷ []) → v ≡ Accepted → NoneDue (visitChecks structs params n) × (t ≡ typeAt Types n)
+    pub records-accepted : {v : Verdict} → v ≡ structsAndParamsVerdict structs params → v ≡ Accepted
+        → NoneDue (visitChecks structs params n) × (t ≡ typeAt Types n)
     records-accepted {v} a b =
         let none : NoneDue Rest = accepted-none (tt {0}) Rest (sym a ∙ b) in
         let e : Shape ≡ true = not-false _ (none-first none) in
@@ -263,10 +266,12 @@ module _ (structs params : List ℕ) (n : ℕ) where
 
 -- ---- what stands there, and room
 
-pub parts-type : {words : List ℕ} {at : ℕ} {t : LoweredType} {rest : List ℕ} {p : Parts} → Stands words at t rest p → typeIn words p ≡ t
+pub parts-type : {words : List ℕ} {at : ℕ} {t : LoweredType} {rest : List ℕ} {p : Parts} → Stands words at t rest p
+    → typeIn words p ≡ t
 parts-type s = rw (s .option, s .kind, s .path, s .own)
 
-pub parts-short : (n : ℕ) {words : List ℕ} {at : ℕ} {p : Parts} → (f : Found words at (nthType n words) p) → Inside words (p .from) (p .count) × (p .count ≤ 16)
+pub parts-short : (n : ℕ) {words : List ℕ} {at : ℕ} {p : Parts} → (f : Found words at (nthType n words) p)
+    → Inside words (p .from) (p .count) × (p .count ≤ 16)
 parts-short n {words} {at} {p} f =
     let few : length (f .type .path) ≤ 16 = holds-read Short (f .type) (f .rest) (rw (f .reads) at (short-nth n words)) in
     (path-inside (f .stands), omega (arith, f .stands .count))
@@ -282,13 +287,15 @@ number-is (Struct row) (e ∷ es) = rw (ne-eqb (suc (length es)) 0 (λ z. omega 
 
 -- a visit that brings nothing leaves all as it was
 stays : (v : BorrowingParamVisitor) (words : List ℕ) (k : Kind) (l : List LifetimeEdge) → length l ≡ 0
-    → outcome (record { verdict = Accepted; number = numberOf k l; pairs = noPairs }) (state v words) ≡ visitWith (state v words) (answerOf k l) l
+    → outcome (record { verdict = Accepted; number = numberOf k l; pairs = noPairs }) (state v words)
+    ≡ visitWith (state v words) (answerOf k l) l
 unfolding flatMap notes
 stays v words k [] e = rw (add-zero (v .stored))
 stays v words k (x ∷ l) e = absurd (omega arith)
 
 -- one that has no room goes back
-goes : (v : BorrowingParamVisitor) (words : List ℕ) (info : ParamBorrowInfo) (l : List LifetimeEdge) → (length l ≡ 0 → ⊥) → length words < width * (v .stored + length l)
+goes : (v : BorrowingParamVisitor) (words : List ℕ) (info : ParamBorrowInfo) (l : List LifetimeEdge)
+    → (length l ≡ 0 → ⊥) → length words < width * (v .stored + length l)
     → visitWith (state v words) info l ≡ outcome (refuse NoRoom) (state v words)
 goes v words info [] some h = absurd (some refl)
 goes v words info (x ∷ l) some h = rw (lt-leb (width * (v .stored + length (x ∷ l))) (length words) h)
@@ -303,7 +310,8 @@ no-room-behind n stored words room r h k = omega (arith, div-add-mod' words 5, m
 pub room-behind : (n stored words room : ℕ) → room ≡ words / 5 → n ≤ room → stored ≤ room - n → width * (stored + n) ≤ words
 room-behind n stored words room r h k = omega (arith, div-add-mod' words 5, mod-lt words {m = 5} (omega arith))
 
-module _ (v : BorrowingParamVisitor) (words : List ℕ) (t : LoweredType) (param : ℕ) {n number : ℕ} (c : CountsAll (v .used) (v .draws) t n) (q : number ≡ numberBy (t .kind) n) where
+module _ (v : BorrowingParamVisitor) (words : List ℕ) (t : LoweredType) (param : ℕ) {n number : ℕ}
+    (c : CountsAll (v .used) (v .draws) t n) (q : number ≡ numberBy (t .kind) n) where
   abbrev es : List LifetimeEdge
   es = bringAll v t param
 
@@ -313,17 +321,21 @@ module _ (v : BorrowingParamVisitor) (words : List ℕ) (t : LoweredType) (param
   named : number ≡ numberOf (t .kind) es
   named = q ∙ ap (numberBy (t .kind)) many ∙ number-is (t .kind) es
 
-  pub visit-nothing : n ≡ 0 → outcome (record { verdict = Accepted; number = number; pairs = noPairs }) (state v words) ≡ visit (state v words) t param
+  pub visit-nothing : n ≡ 0 → outcome (record { verdict = Accepted; number = number; pairs = noPairs }) (state v words)
+      ≡ visit (state v words) t param
   unfolding visit
   visit-nothing z = rw named (stays v words (t .kind) es (sym many ∙ z))
 
   module _ (some : n ≡ 0 → ⊥) where
-    pub visit-no-room : length words < width * (v .stored + n) → outcome (refuse NoRoom) (state v words) ≡ visit (state v words) t param
+    pub visit-no-room : length words < width * (v .stored + n)
+        → outcome (refuse NoRoom) (state v words) ≡ visit (state v words) t param
     unfolding visit
     visit-no-room h = sym (goes v words (answerOf (t .kind) es) es (λ e. some (many ∙ e)) (rw (← many) h))
 
-    pub visit-room : width * (v .stored + n) ≤ length words → {next : ℕ} {pairs words₁ : List ℕ} → Stores es (v .stored) noPairs words next pairs words₁
-        → outcome (record { verdict = Accepted; number = number; pairs = pairs }) (state (holding v next) words₁) ≡ visit (state v words) t param
+    pub visit-room : width * (v .stored + n) ≤ length words → {next : ℕ} {pairs words₁ : List ℕ}
+        → Stores es (v .stored) noPairs words next pairs words₁
+        → outcome (record { verdict = Accepted; number = number; pairs = pairs }) (state (holding v next) words₁)
+        ≡ visit (state v words) t param
     unfolding visit
     visit-room h s =
         sym (visit-stores (state v words) (answerOf (t .kind) es) es (rw (← many) h)
@@ -344,22 +356,26 @@ unfolding newEnv pairsOf
 no-lifetimes {m} e = ap (λ (x : Made). x .env) e ∙ either-way (envOf 0 0 []) _
 
 -- room for what is counted is room for what is brought
-pub brought-room : (v : BorrowingParamVisitor) (t : LoweredType) (param words : ℕ) {n : ℕ} → CountsAll (v .used) (v .draws) t n → width * (v .stored + n) ≤ words
+pub brought-room : (v : BorrowingParamVisitor) (t : LoweredType) (param words : ℕ) {n : ℕ}
+    → CountsAll (v .used) (v .draws) t n → width * (v .stored + n) ≤ words
     → width * (v .stored + length (allIn (v .used) (v .draws) t param)) ≤ words
 brought-room v t param words c h = rw (← c .counts param) h
 
 -- `visit_param` where a check is due, and where none is
-pub visit-refuses : (structs params : List ℕ) (s : State) (param : ℕ) {r : Refusal} → FirstDue r (visitChecks structs params param) → visitParam structs params s param ≡ outcome (refuse r) s
+pub visit-refuses : (structs params : List ℕ) (s : State) (param : ℕ) {r : Refusal}
+    → FirstDue r (visitChecks structs params param) → visitParam structs params s param ≡ outcome (refuse r) s
 unfolding visitParam
 visit-refuses structs params s param due = rw (due-refused (tt {0}) due)
 
-pub visit-goes-on : (structs params : List ℕ) (s : State) (param : ℕ) {at : ℕ} {t : LoweredType} {rest : List ℕ} {p : Parts} → Stands params at t rest p → NoneDue (visitChecks structs params param)
+pub visit-goes-on : (structs params : List ℕ) (s : State) (param : ℕ) {at : ℕ} {t : LoweredType} {rest : List ℕ}
+    {p : Parts} → Stands params at t rest p → NoneDue (visitChecks structs params param)
     → t ≡ typeAt (typesIn structs params) param → visitParam structs params s param ≡ visit s (typeIn params p) param
 unfolding visitParam
 visit-goes-on structs params s param stands none e = rw (due-given (tt {0}) none, parts-type stands, e)
 
 -- the path of a parameter is short
-pub param-short : (structs params : List ℕ) → paramsInShape (length (rowsOf structs)) params ≡ true → (n : ℕ) → n < length (typesIn structs params) → length (typeAt (typesIn structs params) n .path) ≤ 16
+pub param-short : (structs params : List ℕ) → paramsInShape (length (rowsOf structs)) params ≡ true → (n : ℕ)
+    → n < length (typesIn structs params) → length (typeAt (typesIn structs params) n .path) ≤ 16
 param-short structs params shape n h =
     let k = nth-param (length (rowsOf structs)) params shape n .inside h in
     holds-read Short (typeAt (typesIn structs params) n) (k .0) (rw (k .1) at (short-nth n params))

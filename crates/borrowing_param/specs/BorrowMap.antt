@@ -1,13 +1,14 @@
--- The edges in listing order (01: by used lifetime, parameter, def), and the answers by parameter: of a visitor and the types of the parameters.
+-- The edges in listing order (01: by used lifetime, parameter, def), and the answers by parameter: of a visitor and the
+-- types of the parameters.
 use Prim.Native.Nat.{ℕ, suc}
+use mathlib.Core.Path.{_≡_}
 use mathlib.Core.List.{List, [], _∷_, _++_, flatMap}
 use lib.ListN.{length}
 use Rattle.lifetimes.specs.declared.answer.Verdict.the-variants as verdict
-use Rattle.lifetimes.specs.Refusals.{Check, Outcome, Gives, Refuses, unless}
-use Rattle.lifetimes.specs.Lent.{roomCheck}
-use Rattle.lifetimes.specs.Env.{envOf}
+use Rattle.lifetimes.specs.Refusals.{Check, Outcome, Gives, Refuses, unless, over}
+use Rattle.lifetimes.specs.Lent.{Slice, Fills, roomCheck}
 use Rattle.lowered_types.specs.LoweredTypes.{LoweredType}
-use Rattle.hir_types.specs.Method.{typesIn, methodChecks}
+use Rattle.hir_types.specs.Method.{typesIn, structsAndParamsChecks}
 use Rattle.borrowing_param.specs.declared.listed.BorrowMap.{BorrowMap}
 use Rattle.borrowing_param.specs.declared.visitor.LifetimeEdge.{LifetimeEdge}
 use Rattle.borrowing_param.specs.declared.visitor.BorrowingParamVisitor.{BorrowingParamVisitor}
@@ -37,26 +38,34 @@ pub record Mapping : Type 0 where
 abbrev pub mappingOf : BorrowingParamVisitor → List LoweredType → Mapping
 mappingOf v types = record { answers = answersFrom v 0 types; edges = listedEdges v types }
 
--- `borrow_map`: refused as a method with these records is, whatever its environment, output and force (1, then 4 and 7 by place); then where a slice is too short (9)
+-- `borrow_map`: refused as any method with these two records is (1, then 4 and 7 by place); then where a slice is too
+-- short (9)
 abbrev pub mapChecks : BorrowingParamVisitor → List ℕ → List ℕ → ℕ → ℕ → List Check
 mapChecks v structs params answers edges =
-    methodChecks (envOf 0 0 []) structs params [] (0 ∷ [])
+    structsAndParamsChecks structs params
     ++ (roomCheck answers (answersFrom v 0 (typesIn structs params))
     ∷ roomCheck edges (flatMap edgeWords (listedEdges v (typesIn structs params)))
     ∷ [])
 
 unfoldable pub borrowMap : BorrowingParamVisitor → List ℕ → List ℕ → ℕ → ℕ → Outcome Mapping
-borrowMap v structs params answers edges = unless (mapChecks v structs params answers edges) (mappingOf v (typesIn structs params))
+borrowMap v structs params answers edges =
+    unless (mapChecks v structs params answers edges) (mappingOf v (typesIn structs params))
 
--- what the call answers, and what it writes
+-- what the call answers: how many parameters and edges there are, beside a refusal none
 abbrev pub mapAnswer : Outcome Mapping → BorrowMap
-mapAnswer (Gives m) = record { verdict = verdict.Accepted; params = length (m .answers); edges = length (m .edges) }
+mapAnswer (Gives m) =
+    record { verdict = verdict.Accepted; params = length (m .answers); edges = length (m .edges) }
 mapAnswer (Refuses r) = record { verdict = verdict.Refused r; params = 0; edges = 0 }
 
+-- what it writes
 abbrev pub mapAnswers : Outcome Mapping → Outcome (List ℕ)
-mapAnswers (Gives m) = Gives (m .answers)
-mapAnswers (Refuses r) = Refuses r
+mapAnswers o = over (λ m. m .answers) o
 
 abbrev pub mapEdges : Outcome Mapping → Outcome (List ℕ)
-mapEdges (Gives m) = Gives (flatMap edgeWords (m .edges))
-mapEdges (Refuses r) = Refuses r
+mapEdges o = over (λ m. flatMap edgeWords (m .edges)) o
+
+-- both, of what the call gives
+pub record MapsTo (o : Outcome Mapping) (r : BorrowMap) (answers edges : Slice) : Type 0 where
+  pub counts : r ≡ mapAnswer o
+  pub answers-filled : Fills (mapAnswers o) answers
+  pub edges-filled : Fills (mapEdges o) edges

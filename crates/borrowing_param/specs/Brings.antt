@@ -63,7 +63,8 @@ numberOf Slice (e ∷ es) = 2
 numberOf (Struct row) [] = 0
 numberOf (Struct row) (e ∷ es) = 3
 
--- the pairs of def and used that `Struct` carries: for each of 16 definition lifetimes the set of the used ones. An edge of another kind carries none
+-- the pairs of def and used that `Struct` carries: for each of 16 definition lifetimes the set of the used ones. An
+-- edge of another kind carries none
 abbrev pub note : List ℕ → LifetimeEdge → List ℕ
 note pairs e = cond (eqb (e .kind) 3) (set pairs (e .def) (insert (getD pairs (e .def) 0) (e .used))) pairs
 

@@ -1,4 +1,5 @@
--- For private functions only: searching, counting and storing the edges of one parameter. No public contract cites this file.
+-- For private functions only: searching, counting and storing the edges of one parameter. No public contract cites this
+-- file.
 use Prim.Native.Nat.{ℕ, zero, suc, _+_, _*_, _^_, _≤_, _<_}
 use mathlib.Core.Bool.{Bool, true, false, cond}
 use mathlib.Core.Path.{_≡_}
@@ -30,7 +31,8 @@ Inside words from count = (i : ℕ) → i < count → from + i < length words
 
 -- the type that stands in some words by its parts
 abbrev pub typeIn : List ℕ → Parts → LoweredType
-typeIn words p = record { option = p .option; kind = p .kind; path = take (p .count) (drop (p .from) words); own = p .own }
+typeIn words p =
+    record { option = p .option; kind = p .kind; path = take (p .count) (drop (p .from) words); own = p .own }
 
 -- the first lifetime that draws, counted from a number on
 unfoldable pub firstFrom : (ℕ → Bool) → ℕ → List MaybeStatic → First
@@ -38,7 +40,8 @@ firstFrom draws i [] = Absent
 firstFrom draws i (m ∷ ms) = cond (drawn draws m) (At i) (firstFrom draws (suc i) ms)
 
 abbrev pub FirstDrawn : (ℕ → Bool) → List ℕ → Parts → First → Type 0
-FirstDrawn draws words p r = r ≡ firstFrom draws 0 (map fromWord (take (p .count) (drop (p .from) words)) ++ ownLifetimes (p .own))
+FirstDrawn draws words p r =
+    r ≡ firstFrom draws 0 (map fromWord (take (p .count) (drop (p .from) words)) ++ ownLifetimes (p .own))
 
 -- how many draw
 unfoldable pub countDrawn : (ℕ → Bool) → List MaybeStatic → ℕ
@@ -73,7 +76,8 @@ pub record StoresWords (es : List LifetimeEdge) (at : ℕ) (words : List ℕ) (a
   pub count : at₁ ≡ at + length es
   pub stored : words₁ ≡ sets words (width * at) (flatMap edgeWords es)
 
-pub record Stores (es : List LifetimeEdge) (at : ℕ) (pairs words : List ℕ) (at₁ : ℕ) (pairs₁ words₁ : List ℕ) : Type 0 where
+pub record Stores (es : List LifetimeEdge) (at : ℕ) (pairs words : List ℕ) (at₁ : ℕ)
+    (pairs₁ words₁ : List ℕ) : Type 0 where
   pub stores : StoresWords es at words at₁ words₁
   pub carries : pairs₁ ≡ notes pairs es
 

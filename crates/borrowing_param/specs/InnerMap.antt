@@ -1,4 +1,5 @@
--- For private functions only: passing over all parameters, counting and storing their edges. No public contract cites this file.
+-- For private functions only: passing over all parameters, counting and storing their edges. No public contract cites
+-- this file.
 use Prim.Native.Nat.{ℕ, suc, _≤_}
 use mathlib.Core.Bool.{Bool}
 use mathlib.Core.Path.{_≡_}
@@ -6,21 +7,21 @@ use mathlib.Core.List.{List, [], _∷_, _++_, flatMap}
 use lib.ListN.{length}
 use lib.Seq.{sets}
 use Rattle.lifetimes.specs.Refusals.{Check, Outcome, unless}
-use Rattle.lifetimes.specs.Lent.{roomCheck, written}
+use Rattle.lifetimes.specs.Lent.{roomCheck}
 use Rattle.records.specs.Reading.{Read, itemsOf}
 use Rattle.lowered_types.specs.LoweredTypes.{LoweredType, readLowered}
-use Rattle.borrowing_param.specs.declared.listed.BorrowMap.{BorrowMap}
 use Rattle.borrowing_param.specs.declared.listed.Counted.{Counted}
 use Rattle.borrowing_param.specs.declared.visitor.LifetimeEdge.{LifetimeEdge}
 use Rattle.borrowing_param.specs.declared.visitor.BorrowingParamVisitor.{BorrowingParamVisitor}
 use Rattle.borrowing_param.specs.Edges.{edgeWords}
 use Rattle.borrowing_param.specs.Brings.{bring}
-use Rattle.borrowing_param.specs.BorrowMap.{listedEdges, answersFrom, Mapping, mappingOf, mapAnswer, mapAnswers, mapEdges}
+use Rattle.borrowing_param.specs.BorrowMap.{listedEdges, answersFrom, Mapping, mappingOf}
 
 -- types one after another, to the end of some words
 pub data Lists : List ℕ → List LoweredType → Type 0 where
   done : Lists [] []
-  more : {words rest : List ℕ} {t : LoweredType} {ts : List LoweredType} → readLowered words ≡ Read t rest → Lists rest ts → Lists words (t ∷ ts)
+  more : {words rest : List ℕ} {t : LoweredType} {ts : List LoweredType} → readLowered words ≡ Read t rest
+      → Lists rest ts → Lists words (t ∷ ts)
 
 -- the types of a record, their rows not looked up
 abbrev pub paramTypes : List ℕ → List LoweredType
@@ -41,7 +42,8 @@ bringFrom draws used param [] = []
 bringFrom draws used param (t ∷ ts) = bring draws used param t ++ bringFrom draws used (suc param) ts
 
 -- how many parameters there are, how many edges, and the numbers of the answers
-pub record CountsParams (used : ℕ) (drawn : List ℕ) (types : List LoweredType) (numbers : List ℕ) (r : Counted) (numbers₁ : List ℕ) : Type 0 where
+pub record CountsParams (used : ℕ) (drawn : List ℕ) (types : List LoweredType) (numbers : List ℕ) (r : Counted)
+    (numbers₁ : List ℕ) : Type 0 where
   pub params : r .params ≡ length types
   pub edges : r .edges ≡ length (listedEdges (visitorIn used drawn) types)
   pub noted : numbers₁ ≡ sets numbers 0 (answersFrom (visitorIn used drawn) 0 types)
@@ -55,9 +57,3 @@ roomChecks v types answers edges =
 
 abbrev pub mapOf : BorrowingParamVisitor → List LoweredType → ℕ → ℕ → Outcome Mapping
 mapOf v types answers edges = unless (roomChecks v types answers edges) (mappingOf v types)
-
--- what a call answers and leaves in its two slices
-pub record Maps (o : Outcome Mapping) (answers edges : List ℕ) (r : BorrowMap) (answers₁ edges₁ : List ℕ) : Type 0 where
-  pub answer : r ≡ mapAnswer o
-  pub numbers : answers₁ ≡ written (mapAnswers o) answers
-  pub words : edges₁ ≡ written (mapEdges o) edges

@@ -15,7 +15,8 @@ use Rattle.hir_types.specs.Used.{usedSet}
 use Rattle.borrowing_param.specs.declared.visitor.BorrowingParamVisitor.{BorrowingParamVisitor}
 use Rattle.borrowing_param.specs.declared.visitor.Created.{Created}
 
--- what draws an edge to a used lifetime: all that its traversal in the direction longer lists. Nothing draws one to a lifetime that is not used
+-- what draws an edge to a used lifetime: all that its traversal in the direction longer lists. Nothing draws one to a
+-- lifetime that is not used
 abbrev pub drawsTo : ℕ → List Bound → ℕ → ℕ
 drawsTo used bs lifetime = cond (member used lifetime) (reachSet true bs lifetime) empty
 

@@ -1,4 +1,5 @@
--- A sheet's *method* (01's word): its environment beside the records structs, params, output and force; and the refusals of a sheet, one list in 01's order.
+-- A sheet's *method* (01's word): its environment beside the records structs, params, output and force; and the
+-- refusals of a sheet, one list in 01's order.
 use Prim.Native.Nat.{ℕ}
 use mathlib.Core.Bool.{not}
 use mathlib.Core.List.{List, [], _∷_, _++_}
@@ -6,7 +7,7 @@ use lib.ListN.{replicate}
 use Rattle.lifetimes.specs.declared.answer.Refusal.the-variants.{Malformed, OutOfRange}
 use Rattle.lifetimes.specs.declared.answer.Verdict.the-variants as verdict
 use Rattle.lifetimes.specs.declared.env.LifetimeEnv.{LifetimeEnv}
-use Rattle.lifetimes.specs.Refusals.{Check, check, Outcome, Gives, Refuses, unless}
+use Rattle.lifetimes.specs.Refusals.{Check, check, Outcome, Gives, Refuses, unless, over}
 use Rattle.lifetimes.specs.Env.{envOf}
 use Rattle.ast_lifetimes.specs.declared.env.LifetimeEnv as ast-env
 use Rattle.ast_lifetimes.specs.Env as ast
@@ -23,7 +24,8 @@ use Rattle.borrowing_param.specs.declared.method.SheetMethod.{SheetMetho
 
 -- what RFC 141 says of the records self, steps and returns
 abbrev pub loweredOf : Records → rfc.Method
-loweredOf r = rfc.methodOf (ast.allNamesOf (r .names)) (receiverOf (r .self)) (stepsOf (r .steps)) (stepsOf (r .returns))
+loweredOf r =
+    rfc.methodOf (ast.allNamesOf (r .names)) (receiverOf (r .self)) (stepsOf (r .steps)) (stepsOf (r .returns))
 
 -- the AST's environment, of names, bounds and types; and the method's
 abbrev pub astEnvOf : Records → ast-env.LifetimeEnv
@@ -32,7 +34,8 @@ astEnvOf r = ast.envOf (ast.allNamesOf (r .names)) (ast.methodBounds (r .names) 
 abbrev pub envOfSheet : Records → LifetimeEnv
 envOfSheet r = finished (astEnvOf r) (loweredOf r .count)
 
--- 1 over all ten records; then by place: names, bounds and types (2, 3, 4); self, steps and returns (3, 4, 5, 6); structs, params and output (4, 7); then a lifetime of the output that there is not (8)
+-- 1 over all ten records; then by place: names, bounds and types (2, 3, 4); self, steps and returns (3, 4, 5, 6);
+-- structs, params and output (4, 7); then a lifetime of the output that there is not (8)
 unfoldable pub recordsChecks : Records → List Check
 recordsChecks r =
     check (not (sheetInShape r)) Malformed
@@ -55,5 +58,4 @@ methodAnswer (Gives r) = record { verdict = verdict.Accepted; ends = endsFrom 0 
 methodAnswer (Refuses k) = record { verdict = verdict.Refused k; ends = replicate 10 0; env = envOf 0 0 [] }
 
 abbrev pub methodWords : Outcome Records → Outcome (List ℕ)
-methodWords (Gives r) = Gives (wordsOf r)
-methodWords (Refuses k) = Refuses k
+methodWords o = over wordsOf o

@@ -53,13 +53,16 @@ pub record VisitOutcome : Type 0 where
 abbrev pub outcome : ParamBorrowInfo → State → VisitOutcome
 outcome info left = record { info = info; left = left }
 
--- a visit with this answer that brings these edges: if there is room for them they are stored behind those that are stored; else it is refused by 9, and leaves all as it was. A visit that brings nothing needs no room
+-- a visit with this answer that brings these edges: if there is room for them they are stored behind those that are
+-- stored; else it is refused by 9, and leaves all as it was. A visit that brings nothing needs no room
 abbrev pub roomFor : State → List LifetimeEdge → Bool
 roomFor s [] = true
 roomFor s (e ∷ es) = leb (width * (s .visitor .stored + length (e ∷ es))) (length (s .words))
 
 abbrev pub stored : State → List LifetimeEdge → State
-stored s es = state (holding (s .visitor) (s .visitor .stored + length es)) (sets (s .words) (width * s .visitor .stored) (flatMap edgeWords es))
+stored s es =
+    state (holding (s .visitor) (s .visitor .stored + length es))
+    (sets (s .words) (width * s .visitor .stored) (flatMap edgeWords es))
 
 abbrev pub visitWith : State → ParamBorrowInfo → List LifetimeEdge → VisitOutcome
 visitWith s info es = cond (roomFor s es) (outcome info (stored s es)) (outcome (refuse NoRoom) s)

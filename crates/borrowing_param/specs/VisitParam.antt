@@ -6,11 +6,10 @@ use lib.Dec.{leb}
 use lib.ListN.{length, getD}
 use Rattle.lifetimes.specs.declared.answer.Refusal.the-variants.{Malformed}
 use Rattle.lifetimes.specs.Refusals.{Check, check, Outcome, Gives, Refuses, unless}
-use Rattle.lifetimes.specs.Env.{envOf}
 use Rattle.lowered_types.specs.declared.types.Kind.the-variants.{Plain}
 use Rattle.lowered_types.specs.declared.types.Own.the-variants.{Absent}
 use Rattle.lowered_types.specs.LoweredTypes.{LoweredType, lowered}
-use Rattle.hir_types.specs.Method.{typesIn, methodChecks}
+use Rattle.hir_types.specs.Method.{typesIn, structsAndParamsChecks}
 use Rattle.borrowing_param.specs.Brings.{refuse}
 use Rattle.borrowing_param.specs.Visit.{State, VisitOutcome, outcome, visit}
 
@@ -18,11 +17,11 @@ use Rattle.borrowing_param.specs.Visit.{State, VisitOutcome, outcome, vi
 abbrev pub typeAt : List LoweredType → ℕ → LoweredType
 typeAt types param = getD types param (lowered false Plain [] Absent)
 
--- a parameter that is not there (1); else as a method with these records is refused, whatever its environment, output and force: 1, then 4 and 7 by place
+-- a parameter that is not there (1); else as any method with these two records is refused: 1, then 4 and 7 by place
 abbrev pub visitChecks : List ℕ → List ℕ → ℕ → List Check
 visitChecks structs params param =
     check (leb (length (typesIn structs params)) param) Malformed
-    ∷ methodChecks (envOf 0 0 []) structs params [] (0 ∷ [])
+    ∷ structsAndParamsChecks structs params
 
 -- refused by these the visit leaves all as it was; else it goes on
 abbrev pub visitIf : Outcome (Unit {0}) → State → LoweredType → ℕ → VisitOutcome
@@ -30,4 +29,5 @@ visitIf (Gives u) s t param = visit s t param
 visitIf (Refuses r) s t param = outcome (refuse r) s
 
 unfoldable pub visitParam : List ℕ → List ℕ → State → ℕ → VisitOutcome
-visitParam structs params s param = visitIf (unless (visitChecks structs params param) (tt {0})) s (typeAt (typesIn structs params) param) param
+visitParam structs params s param =
+    visitIf (unless (visitChecks structs params param) (tt {0})) s (typeAt (typesIn structs params) param) param

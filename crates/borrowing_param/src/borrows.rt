@@ -1,14 +1,15 @@
-// A whole method, and a whole sheet: the used lifetimes, the answers by parameter, and the edges in listing order, each to a lent slice.
+// A whole method, and a whole sheet: the used lifetimes, the answers by parameter, and the edges in listing order, each
+// to a lent slice.
 ghost use Prim.Native.Nat.{_≤_};
 ghost use mathlib.Core.Path.{_≡_};
 ghost use lib.ListN.{length, take};
 ghost use Rattle.lifetimes.specs.Refusals.{Refuses};
-ghost use Rattle.lifetimes.specs.Lent.{written};
+ghost use Rattle.lifetimes.specs.Lent.{held, room, left};
 ghost use Rattle.sheet.specs.Inner.{Roomy};
 ghost use Rattle.borrowing_param.specs.Edges.{edgesIn};
-ghost use Rattle.borrowing_param.specs.Borrows.{borrowMethod, borrowSheet, borrowsAnswer, usedWords, answerWords, edgesWords};
+ghost use Rattle.borrowing_param.specs.Borrows.{borrowMethod, borrowSheet, borrowsAnswer, BorrowsTo};
 ghost use Rattle.borrowing_param.specs.Consistent.{Consistent};
-ghost use Rattle.borrowing_param.specs.InnerSheet.{OfMethod, borrowBy, Gave};
+ghost use Rattle.borrowing_param.specs.InnerSheet.{OfMethod, borrowBy};
 use super::method::judge_sheet;
 use super::visitor::BorrowingParamVisitor;
 use lifetimes::LifetimeEnv;
@@ -25,19 +26,20 @@ pub struct Borrows {
     pub edges: usize,
 }
 
-// What a sheet's wrapper has to hold on to: the used lifetimes, ascending, to the first slice; the number of each parameter's answer to the second; the edges, in listing order, to the third.
-// Refused in the scope paper's order: 10; 1 over all records; 2 to 7 at the first bad place; 8; then 9 where a slice is too short. 64, 16 and 81,920 words are always enough.
+// What a sheet's wrapper has to hold on to: the used lifetimes, ascending, to the first slice; the number of each
+// parameter's answer to the second; the edges, in listing order, to the third. Refused in the scope paper's order: 10;
+// 1 over all records; 2 to 7 at the first bad place; 8; then 9 where a slice is too short. 64, 16 and 81,920 words are
+// always enough.
 pub fn borrow_sheet(
     sheet: &[u8],
     used: &mut [usize],
     answers: &mut [usize],
     edges: &mut [usize],
 ) -> Borrows
-    ensures { λ r. ⌜ r ≡ borrowsAnswer (borrowSheet (now (sheet .entry)) (length (now (used .entry))) (length (now (answers .entry))) (length (now (edges .entry)))) ⌝ }
-    ensures { λ _. ⌜ now (used .exit) ≡ written (usedWords (borrowSheet (now (sheet .entry)) (length (now (used .entry))) (length (now (answers .entry))) (length (now (edges .entry))))) (now (used .entry)) ⌝ }
-    ensures { λ _. ⌜ now (answers .exit) ≡ written (answerWords (borrowSheet (now (sheet .entry)) (length (now (used .entry))) (length (now (answers .entry))) (length (now (edges .entry))))) (now (answers .entry)) ⌝ }
-    ensures { λ _. ⌜ now (edges .exit) ≡ written (edgesWords (borrowSheet (now (sheet .entry)) (length (now (used .entry))) (length (now (answers .entry))) (length (now (edges .entry))))) (now (edges .entry)) ⌝ }
-    ensures { λ r. ⌜ (r .verdict ≡ Verdict.Accepted → Consistent (take (r .used) (now (used .exit))) (take (r .params) (now (answers .exit))) (edgesIn (r .edges) (now (edges .exit)))) ⌝ }
+    ensures answer { λ r. ⌜ BorrowsTo (borrowSheet (held sheet) (room used) (room answers) (room edges))
+        r used answers edges ⌝ }
+    ensures consistent { λ r. ⌜ (r .verdict ≡ Verdict.Accepted → Consistent (take (r .used) (left used))
+        (take (r .params) (left answers)) (edgesIn (r .edges) (left edges))) ⌝ }
 {
     if sheet.len() <= 1024 {
         return borrow_small(sheet, used, answers, edges);
@@ -53,7 +55,8 @@ fn borrow_small(
     edges: &mut [usize],
 ) -> Borrows
     requires { ⌜ length (now sheet) ≤ 1024 ⌝ }
-    ensures { λ r. ⌜ Gave (borrowSheet (now (sheet .entry)) (length (now (used .entry))) (length (now (answers .entry))) (length (now (edges .entry)))) (now (used .entry)) (now (answers .entry)) (now (edges .entry)) r (now (used .exit)) (now (answers .exit)) (now (edges .exit)) ⌝ }
+    ensures { λ r. ⌜ BorrowsTo (borrowSheet (held sheet) (room used) (room answers) (room edges))
+        r used answers edges ⌝ }
 {
     let mut scratch = [0usize; 512];
     borrow_within(sheet, &mut scratch, used, answers, edges)
@@ -65,7 +68,8 @@ fn borrow_large(
     answers: &mut [usize],
     edges: &mut [usize],
 ) -> Borrows
-    ensures { λ r. ⌜ Gave (borrowSheet (now (sheet .entry)) (length (now (used .entry))) (length (now (answers .entry))) (length (now (edges .entry)))) (now (used .entry)) (now (answers .entry)) (now (edges .entry)) r (now (used .exit)) (now (answers .exit)) (now (edges .exit)) ⌝ }
+    ensures { λ r. ⌜ BorrowsTo (borrowSheet (held sheet) (room used) (room answers) (room edges))
+        r used answers edges ⌝ }
 {
     let mut scratch = [0usize; 10240];
     borrow_within(sheet, &mut scratch, used, answers, edges)
@@ -80,7 +84,8 @@ fn borrow_within(
     edges: &mut [usize],
 ) -> Borrows
     requires { ⌜ Roomy (now sheet) (length (now scratch)) ⌝ }
-    ensures { λ r. ⌜ Gave (borrowSheet (now (sheet .entry)) (length (now (used .entry))) (length (now (answers .entry))) (length (now (edges .entry)))) (now (used .entry)) (now (answers .entry)) (now (edges .entry)) r (now (used .exit)) (now (answers .exit)) (now (edges .exit)) ⌝ }
+    ensures { λ r. ⌜ BorrowsTo (borrowSheet (held sheet) (room used) (room answers) (room edges))
+        r used answers edges ⌝ }
 {
     let method = judge_sheet(sheet, scratch);
     let verdict = method.verdict;
@@ -101,7 +106,8 @@ fn borrow_within(
     )
 }
 
-// The same of a method made by hand, from its environment and its records. Refused as the method is (1, 4, 7, 8), then by 9.
+// The same of a method made by hand, from its environment and its records. Refused as the method is (1, 4, 7, 8), then
+// by 9.
 pub fn borrow_method(
     env: LifetimeEnv,
     structs: &[usize],
@@ -112,10 +118,9 @@ pub fn borrow_method(
     answers: &mut [usize],
     edges: &mut [usize],
 ) -> Borrows
-    ensures { λ r. ⌜ r ≡ borrowsAnswer (borrowMethod env (now (structs .entry)) (now (params .entry)) (now (output .entry)) (now (force .entry)) (length (now (used .entry))) (length (now (answers .entry))) (length (now (edges .entry)))) ⌝ }
-    ensures { λ _. ⌜ now (used .exit) ≡ written (usedWords (borrowMethod env (now (structs .entry)) (now (params .entry)) (now (output .entry)) (now (force .entry)) (length (now (used .entry))) (length (now (answers .entry))) (length (now (edges .entry))))) (now (used .entry)) ⌝ }
-    ensures { λ _. ⌜ now (answers .exit) ≡ written (answerWords (borrowMethod env (now (structs .entry)) (now (params .entry)) (now (output .entry)) (now (force .entry)) (length (now (used .entry))) (length (now (answers .entry))) (length (now (edges .entry))))) (now (answers .entry)) ⌝ }
-    ensures { λ _. ⌜ now (edges .exit) ≡ written (edgesWords (borrowMethod env (now (structs .entry)) (now (params .entry)) (now (output .entry)) (now (force .entry)) (length (now (used .entry))) (length (now (answers .entry))) (length (now (edges .entry))))) (now (edges .entry)) ⌝ }
+    ensures answer { λ r. ⌜ BorrowsTo
+        (borrowMethod env (held structs) (held params) (held output) (held force)
+        (room used) (room answers) (room edges)) r used answers edges ⌝ }
 {
     let created = BorrowingParamVisitor::new(env, structs, params, output, force);
     let verdict = created.verdict;
@@ -136,7 +141,8 @@ fn borrow_by(
     edges: &mut [usize],
 ) -> Borrows
     requires { ⌜ OfMethod (now structs) (now params) ⌝ }
-    ensures { λ r. ⌜ Gave (borrowBy visitor (now (structs .entry)) (now (params .entry)) (length (now (used .entry))) (length (now (answers .entry))) (length (now (edges .entry)))) (now (used .entry)) (now (answers .entry)) (now (edges .entry)) r (now (used .exit)) (now (answers .exit)) (now (edges .exit)) ⌝ }
+    ensures { λ r. ⌜ BorrowsTo (borrowBy visitor (held structs) (held params) (room used) (room answers) (room edges))
+        r used answers edges ⌝ }
 {
     let members = visitor.used;
     let count = set::count(members);

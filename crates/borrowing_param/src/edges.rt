@@ -6,12 +6,14 @@ ghost use mathlib.Core.List.{[], _∷_, map};
 ghost use Prim.Native.Nat.{_+_, _*_, _≤_, _<_};
 ghost use lib.ListN.{length, getD, take, drop};
 ghost use lib.Seq.{sets};
+ghost use Rattle.lifetimes.specs.Lent.{held, left};
 ghost use Rattle.lifetimes.specs.LoweredWords.{fromWord};
-ghost use Rattle.borrowing_param.specs.Edges.{width, edgeWords};
+ghost use Rattle.borrowing_param.specs.Edges.{width, edgeWords, edgeIn};
 ghost use Rattle.lowered_types.specs.LoweredTypes.{lifetimesOf};
 ghost use Rattle.borrowing_param.specs.Brings.{drawn, anyDrawn, oneEdge, optionOf, bring};
 ghost use Rattle.borrowing_param.specs.Visit.{drawsIn};
-ghost use Rattle.borrowing_param.specs.Inner.{Below, Inside, typeIn, firstFrom, FirstDrawn, countDrawn, oneIf, CountsFor, CountsAll, structOf, allIn, Stores, StoresWords};
+ghost use Rattle.borrowing_param.specs.Inner.{Below, Inside, typeIn, firstFrom, FirstDrawn, countDrawn, oneIf};
+ghost use Rattle.borrowing_param.specs.Inner.{CountsFor, CountsAll, structOf, allIn, Stores, StoresWords};
 use super::visitor::BorrowingParamVisitor;
 use super::visitor::LifetimeEdge;
 use lifetimes::DefLifetime;
@@ -21,9 +23,38 @@ use lifetimes::MaybeStatic;
 use lifetimes::linked_word;
 use lifetimes::set;
 use lowered_types::Kind;
-use lowered_types::LifetimeAt;
+use lowered_types::OwnLifetime;
 use lowered_types::Parts;
 use lowered_types::path_words;
+
+// The edge at a place of a slice of edges. Absent past its last whole edge.
+pub enum EdgeAt {
+    Edge(LifetimeEdge),
+    Absent,
+}
+
+// The edge with a number, from 0, of those that a slice has room for: how a call's edges are read again.
+pub fn edge_at(edges: &[usize], place: usize) -> EdgeAt
+    ensures answer { λ r. ⌜ r ≡ edgeIn (held edges) place ⌝ }
+{
+    let room = edges.len() / BorrowingParamVisitor::EDGE_WORDS;
+    if room <= place {
+        return EdgeAt::Absent;
+    }
+    let from = BorrowingParamVisitor::EDGE_WORDS * place;
+    let used = edges[from];
+    let param = edges[from + 1];
+    let kind = edges[from + 2];
+    let def = edges[from + 3];
+    let option = edges[from + 4];
+    EdgeAt::Edge(LifetimeEdge {
+        used,
+        param,
+        kind,
+        def,
+        option,
+    })
+}
 
 // The first lifetime of a type that draws, by its index.
 enum First {
@@ -54,7 +85,7 @@ fn is_in(set: u64, lifetime: Lifetime) -> bool
 // The first of some lowered words that draws.
 fn first_word(set: u64, words: &[usize], from: usize, count: usize) -> First
     requires { ⌜ Inside (now words) from count ⌝ }
-    ensures { λ r. ⌜ r ≡ firstFrom (drawsIn set) 0 (map fromWord (take count (drop from (now (words .entry))))) ⌝ }
+    ensures { λ r. ⌜ r ≡ firstFrom (drawsIn set) 0 (map fromWord (take count (drop from (held words)))) ⌝ }
 {
     let mut i = 0;
     while i < count {
@@ -69,7 +100,7 @@ fn first_word(set: u64, words: &[usize], from: usize, count: usize) -> First
 // The first lifetime of a type that draws: among its path words, then its own.
 fn first_drawn(set: u64, words: &[usize], parts: Parts) -> First
     requires { ⌜ Inside (now words) (parts .from) (parts .count) ⌝ }
-    ensures { λ r. ⌜ FirstDrawn (drawsIn set) (now (words .entry)) parts r ⌝ }
+    ensures { λ r. ⌜ FirstDrawn (drawsIn set) (held words) parts r ⌝ }
 {
     let count = parts.count;
     let first = first_word(set, words, parts.from, count);
@@ -79,9 +110,8 @@ fn first_drawn(set: u64, words: &[usize], parts: Parts) -> First
     let own = parts.own;
     let last = own.lifetime();
     match last {
-        LifetimeAt::Lifetime(lifetime) => first_own(set, lifetime, count),
-        LifetimeAt::Absent => First::Absent,
-        LifetimeAt::Refused(_) => First::Absent,
+        OwnLifetime::Lifetime(lifetime) => first_own(set, lifetime, count),
+        OwnLifetime::Absent => First::Absent,
     }
 }
 
@@ -95,11 +125,12 @@ fn first_own(set: u64, lifetime: MaybeStatic, index: usize) -> First
     First::Absent
 }
 
-// The method's lifetime at the use of a struct for a lifetime of its definition, by the struct's path words. The definition's count is how many they are: the check of the records has
-// refused by 7 where its row says another, so that a visit does not look the row up.
+// The method's lifetime at the use of a struct for a lifetime of its definition, by the struct's path words. The
+// definition's count is how many they are: the check of the records has refused by 7 where its row says another, so
+// that a visit does not look the row up.
 fn linked_lifetime(path: &[usize], count: usize, def: usize) -> MaybeStatic
     requires { ⌜ (length (now path) ≡ count) × (def < count) ⌝ }
-    ensures { λ r. ⌜ r ≡ fromWord (getD (now (path .entry)) def 0) ⌝ }
+    ensures { λ r. ⌜ r ≡ fromWord (getD (held path) def 0) ⌝ }
 {
     let linked = linked_word(path, count, DefLifetime::new(def));
     let LinkedWord::Word(word) = linked else {
@@ -111,7 +142,7 @@ fn linked_lifetime(path: &[usize], count: usize, def: usize) -> MaybeStatic
 // How many of a struct's lowered words draw.
 fn count_words(set: u64, words: &[usize], from: usize, count: usize) -> usize
     requires { ⌜ Inside (now words) from count ⌝ }
-    ensures { λ r. ⌜ r ≡ countDrawn (drawsIn set) (map fromWord (take count (drop from (now (words .entry))))) ⌝ }
+    ensures { λ r. ⌜ r ≡ countDrawn (drawsIn set) (map fromWord (take count (drop from (held words)))) ⌝ }
 {
     let path = path_words(words, from, count);
     let mut n = 0;
@@ -128,7 +159,7 @@ fn count_words(set: u64, words: &[usize], from: usize, count: usize) -> usize
 // How many edges a parameter brings to one used lifetime.
 fn count_for(set: u64, words: &[usize], parts: Parts) -> usize
     requires { ⌜ Inside (now words) (parts .from) (parts .count) ⌝ }
-    ensures { λ r. ⌜ CountsFor (drawsIn set) (typeIn (now (words .entry)) parts) r ⌝ }
+    ensures { λ r. ⌜ CountsFor (drawsIn set) (typeIn (held words) parts) r ⌝ }
 {
     let kind = parts.kind;
     match kind {
@@ -142,7 +173,7 @@ fn count_for(set: u64, words: &[usize], parts: Parts) -> usize
 // One edge if a lifetime draws.
 fn count_one(set: u64, words: &[usize], parts: Parts) -> usize
     requires { ⌜ Inside (now words) (parts .from) (parts .count) ⌝ }
-    ensures { λ r. ⌜ r ≡ oneIf (anyDrawn (drawsIn set) (lifetimesOf (typeIn (now (words .entry)) parts))) ⌝ }
+    ensures { λ r. ⌜ r ≡ oneIf (anyDrawn (drawsIn set) (lifetimesOf (typeIn (held words) parts))) ⌝ }
 {
     let first = first_drawn(set, words, parts);
     match first {
@@ -161,7 +192,7 @@ pub(crate) fn past_last(set: u64) -> usize
 // How many edges a parameter brings to all used lifetimes.
 pub(crate) fn count_all(used: u64, drawn: &[u64; 64], words: &[usize], parts: Parts) -> usize
     requires { ⌜ Inside (now words) (parts .from) (parts .count) × (parts .count ≤ 16) × (length (now drawn) ≡ 64) ⌝ }
-    ensures { λ r. ⌜ CountsAll used (now (drawn .entry)) (typeIn (now (words .entry)) parts) r ⌝ }
+    ensures { λ r. ⌜ CountsAll used (held drawn) (typeIn (held words) parts) r ⌝ }
 {
     let limit = past_last(used);
     let mut n = 0;
@@ -178,7 +209,7 @@ pub(crate) fn count_all(used: u64, drawn: &[u64; 64], words: &[usize], parts: Pa
 // Store one edge behind so many.
 fn put(edges: &mut [usize], at: usize, edge: LifetimeEdge)
     requires { ⌜ width * (at + 1) ≤ length (now edges) ⌝ }
-    ensures { λ _. ⌜ now (edges .exit) ≡ sets (now (edges .entry)) (width * at) (edgeWords edge) ⌝ }
+    ensures { λ _. ⌜ left edges ≡ sets (held edges) (width * at) (edgeWords edge) ⌝ }
 {
     let from = at * BorrowingParamVisitor::EDGE_WORDS;
     edges[from] = edge.used;
@@ -199,9 +230,12 @@ fn store_struct(
     at: usize,
     pairs: &mut [u64; 16],
 ) -> usize
-    requires { ⌜ Inside (now words) (parts .from) (parts .count) × (parts .count ≤ 16) × (used < 64) × (length (now pairs) ≡ 16) ⌝ }
-    requires { ⌜ width * (at + length (structOf (drawsIn set) used param (typeIn (now words) parts))) ≤ length (now edges) ⌝ }
-    ensures { λ r. ⌜ Stores (structOf (drawsIn set) used param (typeIn (now (words .entry)) parts)) at (now (pairs .entry)) (now (edges .entry)) r (now (pairs .exit)) (now (edges .exit)) ⌝ }
+    requires { ⌜ Inside (now words) (parts .from) (parts .count) × (parts .count ≤ 16) × (used < 64)
+        × (length (now pairs) ≡ 16) ⌝ }
+    requires { ⌜ width * (at + length (structOf (drawsIn set) used param (typeIn (now words) parts)))
+        ≤ length (now edges) ⌝ }
+    ensures { λ r. ⌜ Stores (structOf (drawsIn set) used param (typeIn (held words) parts)) at (held pairs) (held edges)
+        r (left pairs) (left edges) ⌝ }
 {
     let from = parts.from;
     let count = parts.count;
@@ -229,8 +263,9 @@ fn store_struct(
 
 // Store one edge of a struct behind so many, and its pair.
 fn store_pair(edge: LifetimeEdge, edges: &mut [usize], at: usize, pairs: &mut [u64; 16]) -> usize
-    requires { ⌜ (edge .kind ≡ 3) × (edge .def < 16) × (edge .used < 64) × (length (now pairs) ≡ 16) × (width * (at + 1) ≤ length (now edges)) ⌝ }
-    ensures { λ r. ⌜ Stores (edge ∷ []) at (now (pairs .entry)) (now (edges .entry)) r (now (pairs .exit)) (now (edges .exit)) ⌝ }
+    requires { ⌜ (edge .kind ≡ 3) × (edge .def < 16) × (edge .used < 64) × (length (now pairs) ≡ 16)
+        × (width * (at + 1) ≤ length (now edges)) ⌝ }
+    ensures { λ r. ⌜ Stores (edge ∷ []) at (held pairs) (held edges) r (left pairs) (left edges) ⌝ }
 {
     let def = edge.def;
     let used = edge.used;
@@ -260,8 +295,11 @@ fn store_one(
     edges: &mut [usize],
     at: usize,
 ) -> usize
-    requires { ⌜ Inside (now words) (parts .from) (parts .count) × (width * (at + length (oneEdge (drawsIn set) used param kind (lifetimesOf (typeIn (now words) parts)))) ≤ length (now edges)) ⌝ }
-    ensures { λ r. ⌜ StoresWords (oneEdge (drawsIn set) used param kind (lifetimesOf (typeIn (now (words .entry)) parts))) at (now (edges .entry)) r (now (edges .exit)) ⌝ }
+    requires { ⌜ Inside (now words) (parts .from) (parts .count)
+        × (width * (at + length (oneEdge (drawsIn set) used param kind (lifetimesOf (typeIn (now words) parts))))
+        ≤ length (now edges)) ⌝ }
+    ensures { λ r. ⌜ StoresWords (oneEdge (drawsIn set) used param kind (lifetimesOf (typeIn (held words) parts)))
+        at (held edges) r (left edges) ⌝ }
 {
     let first = first_drawn(set, words, parts);
     let First::At(_) = first else {
@@ -278,7 +316,8 @@ fn store_one(
     at + 1
 }
 
-// Store the edges of a parameter to one used lifetime behind so many, and the pairs of a struct. Answers how many there are then.
+// Store the edges of a parameter to one used lifetime behind so many, and the pairs of a struct. Answers how many there
+// are then.
 pub(crate) fn store_for(
     set: u64,
     words: &[usize],
@@ -289,9 +328,12 @@ pub(crate) fn store_for(
     at: usize,
     pairs: &mut [u64; 16],
 ) -> usize
-    requires { ⌜ Inside (now words) (parts .from) (parts .count) × (parts .count ≤ 16) × (used < 64) × (length (now pairs) ≡ 16) ⌝ }
-    requires { ⌜ width * (at + length (bring (drawsIn set) used param (typeIn (now words) parts))) ≤ length (now edges) ⌝ }
-    ensures { λ r. ⌜ Stores (bring (drawsIn set) used param (typeIn (now (words .entry)) parts)) at (now (pairs .entry)) (now (edges .entry)) r (now (pairs .exit)) (now (edges .exit)) ⌝ }
+    requires { ⌜ Inside (now words) (parts .from) (parts .count) × (parts .count ≤ 16) × (used < 64)
+        × (length (now pairs) ≡ 16) ⌝ }
+    requires { ⌜ width * (at + length (bring (drawsIn set) used param (typeIn (now words) parts)))
+        ≤ length (now edges) ⌝ }
+    ensures { λ r. ⌜ Stores (bring (drawsIn set) used param (typeIn (held words) parts)) at (held pairs) (held edges) r
+        (left pairs) (left edges) ⌝ }
 {
     let kind = parts.kind;
     match kind {
@@ -313,9 +355,12 @@ pub(crate) fn store_all(
     at: usize,
     pairs: &mut [u64; 16],
 ) -> usize
-    requires { ⌜ Inside (now words) (parts .from) (parts .count) × (parts .count ≤ 16) × (length (now pairs) ≡ 16) × (length (now drawn) ≡ 64) ⌝ }
-    requires { ⌜ width * (at + length (allIn used (now drawn) (typeIn (now words) parts) param)) ≤ length (now edges) ⌝ }
-    ensures { λ r. ⌜ Stores (allIn used (now (drawn .entry)) (typeIn (now (words .entry)) parts) param) at (now (pairs .entry)) (now (edges .entry)) r (now (pairs .exit)) (now (edges .exit)) ⌝ }
+    requires { ⌜ Inside (now words) (parts .from) (parts .count) × (parts .count ≤ 16) × (length (now pairs) ≡ 16)
+        × (length (now drawn) ≡ 64) ⌝ }
+    requires { ⌜ width * (at + length (allIn used (now drawn) (typeIn (now words) parts) param))
+        ≤ length (now edges) ⌝ }
+    ensures { λ r. ⌜ Stores (allIn used (held drawn) (typeIn (held words) parts) param) at (held pairs) (held edges) r
+        (left pairs) (left edges) ⌝ }
 {
     let limit = past_last(used);
     let mut next = at;

@@ -1,15 +1,14 @@
 // Edges in listing order: by used lifetime, parameter, lifetime of the definition; and the answers by parameter.
 ghost use mathlib.Core.Path.{_≡_};
 ghost use Prim.Native.Nat.{_+_, _*_, _≤_, _<_};
-ghost use lib.ListN.{length, take};
-ghost use lib.Seq.{sets};
+ghost use lib.ListN.{length};
 ghost use Rattle.lifetimes.specs.Refusals.{Refuses};
-ghost use Rattle.lifetimes.specs.Lent.{written};
+ghost use Rattle.lifetimes.specs.Lent.{held, room, left};
 ghost use Rattle.borrowing_param.specs.Edges.{width};
 ghost use Rattle.borrowing_param.specs.Visit.{drawsIn};
-ghost use Rattle.borrowing_param.specs.BorrowMap.{listedEdges, borrowMap, mapAnswer, mapAnswers, mapEdges};
+ghost use Rattle.borrowing_param.specs.BorrowMap.{listedEdges, borrowMap, mapAnswer, MapsTo};
 ghost use Rattle.borrowing_param.specs.Inner.{Stores, StoresWords};
-ghost use Rattle.borrowing_param.specs.InnerMap.{paramTypes, Params, visitorIn, bringFrom, CountsParams, mapOf, Maps};
+ghost use Rattle.borrowing_param.specs.InnerMap.{paramTypes, Params, visitorIn, bringFrom, CountsParams, mapOf};
 use super::edges::count_all;
 use super::edges::past_last;
 use super::edges::store_for;
@@ -38,8 +37,11 @@ struct Counted {
 }
 
 impl BorrowingParamVisitor {
-    // All parameters of a method: the numbers of their answers to one slice, and their edges to the used lifetimes, in listing order, to the other. The edges that the visitor has stored do not
-    // matter: the Rust's call of this name gives the edges of the visits made so far, this one visits all parameters itself, with the same edges (Theorems.ListingIsVisits). Refused by 1, 4 and 7 as the records of a method are, then by 9 where a slice is too short.
+    // All parameters of a method: the numbers of their answers to one slice, and their edges to the used lifetimes, in
+    // listing order, to the other. The edges that the visitor has stored do not matter: the Rust's call of this name
+    // gives the edges of the visits made so far, this one visits all parameters itself, with the same edges
+    // (Theorems.ListingIsVisits). Refused by 1, 4 and 7 as the records of a method are, then by 9 where a slice is too
+    // short.
     pub fn borrow_map(
         self,
         structs: &[usize],
@@ -47,9 +49,8 @@ impl BorrowingParamVisitor {
         answers: &mut [usize],
         edges: &mut [usize],
     ) -> BorrowMap
-        ensures { λ r. ⌜ r ≡ mapAnswer (borrowMap self (now (structs .entry)) (now (params .entry)) (length (now (answers .entry))) (length (now (edges .entry)))) ⌝ }
-        ensures { λ _. ⌜ now (answers .exit) ≡ written (mapAnswers (borrowMap self (now (structs .entry)) (now (params .entry)) (length (now (answers .entry))) (length (now (edges .entry))))) (now (answers .entry)) ⌝ }
-        ensures { λ _. ⌜ now (edges .exit) ≡ written (mapEdges (borrowMap self (now (structs .entry)) (now (params .entry)) (length (now (answers .entry))) (length (now (edges .entry))))) (now (edges .entry)) ⌝ }
+        ensures answer { λ r. ⌜ MapsTo (borrowMap self (held structs) (held params) (room answers) (room edges))
+            r answers edges ⌝ }
     {
         let verdict = check_structs_and_params(structs, params);
         match verdict {
@@ -78,7 +79,7 @@ fn map_params(
     edges: &mut [usize],
 ) -> BorrowMap
     requires { ⌜ Params (now params) ⌝ }
-    ensures { λ r. ⌜ Maps (mapOf visitor (paramTypes (now (params .entry))) (length (now (answers .entry))) (length (now (edges .entry)))) (now (answers .entry)) (now (edges .entry)) r (now (answers .exit)) (now (edges .exit)) ⌝ }
+    ensures { λ r. ⌜ MapsTo (mapOf visitor (paramTypes (held params)) (room answers) (room edges)) r answers edges ⌝ }
 {
     let used = visitor.used;
     let draws = visitor.draws;
@@ -109,7 +110,7 @@ fn count_params(
     numbers: &mut [usize; 16],
 ) -> Counted
     requires { ⌜ Params (now params) × (length (now drawn) ≡ 64) × (length (now numbers) ≡ 16) ⌝ }
-    ensures { λ r. ⌜ CountsParams used (now (drawn .entry)) (paramTypes (now (params .entry))) (now (numbers .entry)) r (now (numbers .exit)) ⌝ }
+    ensures { λ r. ⌜ CountsParams used (held drawn) (paramTypes (held params)) (held numbers) r (left numbers) ⌝ }
 {
     let mut total = 0;
     let mut param = 0;
@@ -137,8 +138,10 @@ fn count_params(
 
 // Store the edges of all parameters, by used lifetime. Answers how many there are.
 fn store_listed(used: u64, drawn: &[u64; 64], params: &[usize], edges: &mut [usize]) -> usize
-    requires { ⌜ Params (now params) × (length (now drawn) ≡ 64) × (width * length (listedEdges (visitorIn used (now drawn)) (paramTypes (now params))) ≤ length (now edges)) ⌝ }
-    ensures { λ r. ⌜ StoresWords (listedEdges (visitorIn used (now (drawn .entry))) (paramTypes (now (params .entry)))) 0 (now (edges .entry)) r (now (edges .exit)) ⌝ }
+    requires { ⌜ Params (now params) × (length (now drawn) ≡ 64)
+        × (width * length (listedEdges (visitorIn used (now drawn)) (paramTypes (now params))) ≤ length (now edges)) ⌝ }
+    ensures { λ r. ⌜ StoresWords (listedEdges (visitorIn used (held drawn)) (paramTypes (held params))) 0 (held edges) r
+        (left edges) ⌝ }
 {
     let limit = past_last(used);
     let mut pairs = [0u64; 16];
@@ -155,7 +158,8 @@ fn store_listed(used: u64, drawn: &[u64; 64], params: &[usize], edges: &mut [usi
     next
 }
 
-// Store the edges of all parameters to one used lifetime behind so many. Answers how many there are then. `store_for` notes the pairs of structs too; they are not used here.
+// Store the edges of all parameters to one used lifetime behind so many. Answers how many there are then. `store_for`
+// notes the pairs of structs too; they are not used here.
 fn store_to(
     set: u64,
     params: &[usize],
@@ -165,8 +169,10 @@ fn store_to(
     pairs: &mut [u64; 16],
 ) -> usize
     requires { ⌜ Params (now params) × (used < 64) × (length (now pairs) ≡ 16) ⌝ }
-    requires { ⌜ width * (stored + length (bringFrom (drawsIn set) used 0 (paramTypes (now params)))) ≤ length (now edges) ⌝ }
-    ensures { λ r. ⌜ Stores (bringFrom (drawsIn set) used 0 (paramTypes (now (params .entry)))) stored (now (pairs .entry)) (now (edges .entry)) r (now (pairs .exit)) (now (edges .exit)) ⌝ }
+    requires { ⌜ width * (stored + length (bringFrom (drawsIn set) used 0 (paramTypes (now params))))
+        ≤ length (now edges) ⌝ }
+    ensures { λ r. ⌜ Stores (bringFrom (drawsIn set) used 0 (paramTypes (held params))) stored (held pairs) (held edges)
+        r (left pairs) (left edges) ⌝ }
 {
     let mut next = stored;
     let mut param = 0;

@@ -1,13 +1,14 @@
 // A sheet's method: bytes to an environment and ten records, refused in the scope paper's order.
 //
-// A refused call writes nothing, so the words are judged in scratch. It has two sizes, so that a small sheet does not pay for a large one.
-ghost use Prim.Native.Nat.{_*_, _≤_};
+// A refused call writes nothing, so the words are judged in scratch. It has two sizes, so that a small sheet does not
+// pay for a large one.
+ghost use Prim.Native.Nat.{_≤_};
 ghost use mathlib.Core.Bool.{true};
 ghost use mathlib.Core.Path.{_≡_};
 ghost use mathlib.Core.List.{[]};
 ghost use lib.ListN.{length};
 ghost use Rattle.lifetimes.specs.Refusals.{Refuses};
-ghost use Rattle.lifetimes.specs.Lent.{written};
+ghost use Rattle.lifetimes.specs.Lent.{held, room, left, Fills};
 ghost use Rattle.lifetimes.specs.Env.{envOf, made};
 ghost use Rattle.sheet.specs.Shape.{sheetInShape};
 ghost use Rattle.sheet.specs.Inner.{Laid, recordsAt, Roomy};
@@ -24,18 +25,20 @@ use records::copy_words;
 use sheet::read_sheet;
 use sheet::record_words;
 
-// A sheet's method: where each of its ten records ends in the words that were written, and its environment. Beside a refusal all ends are 0, and the environment has no lifetimes.
+// A sheet's method: where each of its ten records ends in the words that were written, and its environment. Beside a
+// refusal all ends are 0, and the environment has no lifetimes.
 pub struct SheetMethod {
     pub verdict: Verdict,
     pub ends: [usize; 10],
     pub env: LifetimeEnv,
 }
 
-// Read a sheet, lower its lifetimes and judge its method. The words of its ten records are written to a slice, one record after another (`sheet::record_words` finds each).
-// Refused in the scope paper's order: 10; 1 over all records; 2 to 7 at the first bad place; 8; then 9 where the slice is too short. 10,240 words are always enough.
+// Read a sheet, lower its lifetimes and judge its method. The words of its ten records are written to a slice, one
+// record after another (`sheet::record_words` finds each). Refused in the scope paper's order: 10; 1 over all records;
+// 2 to 7 at the first bad place; 8; then 9 where the slice is too short. 10,240 words are always enough.
 pub fn lower_sheet(sheet: &[u8], words: &mut [usize]) -> SheetMethod
-    ensures { λ r. ⌜ r ≡ methodAnswer (lowerSheet (now (sheet .entry)) (length (now (words .entry)))) ⌝ }
-    ensures { λ _. ⌜ now (words .exit) ≡ written (methodWords (lowerSheet (now (sheet .entry)) (length (now (words .entry))))) (now (words .entry)) ⌝ }
+    ensures answer { λ r. ⌜ r ≡ methodAnswer (lowerSheet (held sheet) (room words)) ⌝ }
+    ensures stored { λ _. ⌜ Fills (methodWords (lowerSheet (held sheet) (room words))) words ⌝ }
 {
     if sheet.len() <= 1024 {
         return lower_small(sheet, words);
@@ -46,16 +49,16 @@ pub fn lower_sheet(sheet: &[u8], words: &mut [usize]) -> SheetMethod
 // The same with scratch of one size.
 fn lower_small(sheet: &[u8], words: &mut [usize]) -> SheetMethod
     requires { ⌜ length (now sheet) ≤ 1024 ⌝ }
-    ensures { λ r. ⌜ r ≡ methodAnswer (lowerSheet (now (sheet .entry)) (length (now (words .entry)))) ⌝ }
-    ensures { λ _. ⌜ now (words .exit) ≡ written (methodWords (lowerSheet (now (sheet .entry)) (length (now (words .entry))))) (now (words .entry)) ⌝ }
+    ensures { λ r. ⌜ r ≡ methodAnswer (lowerSheet (held sheet) (room words)) ⌝ }
+    ensures { λ _. ⌜ Fills (methodWords (lowerSheet (held sheet) (room words))) words ⌝ }
 {
     let mut scratch = [0usize; 512];
     lower_within(sheet, &mut scratch, words)
 }
 
 fn lower_large(sheet: &[u8], words: &mut [usize]) -> SheetMethod
-    ensures { λ r. ⌜ r ≡ methodAnswer (lowerSheet (now (sheet .entry)) (length (now (words .entry)))) ⌝ }
-    ensures { λ _. ⌜ now (words .exit) ≡ written (methodWords (lowerSheet (now (sheet .entry)) (length (now (words .entry))))) (now (words .entry)) ⌝ }
+    ensures { λ r. ⌜ r ≡ methodAnswer (lowerSheet (held sheet) (room words)) ⌝ }
+    ensures { λ _. ⌜ Fills (methodWords (lowerSheet (held sheet) (room words))) words ⌝ }
 {
     let mut scratch = [0usize; 10240];
     lower_within(sheet, &mut scratch, words)
@@ -64,8 +67,8 @@ fn lower_large(sheet: &[u8], words: &mut [usize]) -> SheetMethod
 // The same with scratch that takes the words of any sheet of so many bytes.
 fn lower_within(sheet: &[u8], scratch: &mut [usize], words: &mut [usize]) -> SheetMethod
     requires { ⌜ Roomy (now sheet) (length (now scratch)) ⌝ }
-    ensures { λ r. ⌜ r ≡ methodAnswer (lowerSheet (now (sheet .entry)) (length (now (words .entry)))) ⌝ }
-    ensures { λ _. ⌜ now (words .exit) ≡ written (methodWords (lowerSheet (now (sheet .entry)) (length (now (words .entry))))) (now (words .entry)) ⌝ }
+    ensures { λ r. ⌜ r ≡ methodAnswer (lowerSheet (held sheet) (room words)) ⌝ }
+    ensures { λ _. ⌜ Fills (methodWords (lowerSheet (held sheet) (room words))) words ⌝ }
 {
     let method = judge_sheet(sheet, scratch);
     let verdict = method.verdict;
@@ -82,7 +85,7 @@ fn lower_within(sheet: &[u8], scratch: &mut [usize], words: &mut [usize]) -> She
 // A sheet's method, its words left in scratch.
 pub(crate) fn judge_sheet(sheet: &[u8], scratch: &mut [usize]) -> SheetMethod
     requires { ⌜ Roomy (now sheet) (length (now scratch)) ⌝ }
-    ensures { λ r. ⌜ Judges (now (sheet .entry)) r (now (scratch .exit)) ⌝ }
+    ensures { λ r. ⌜ Judges (held sheet) r (left scratch) ⌝ }
 {
     let text = read_sheet(sheet, scratch);
     let verdict = text.verdict;
@@ -106,7 +109,7 @@ pub(crate) fn judge_sheet(sheet: &[u8], scratch: &mut [usize]) -> SheetMethod
 // The environment of records in shape whose words stand one record after another, or the first refusal due on them.
 fn lower_laid(words: &[usize], ends: [usize; 10]) -> Made
     requires { ⌜ Laid (now words) ends × (sheetInShape (recordsAt (now words) ends) ≡ true) ⌝ }
-    ensures { λ r. ⌜ r ≡ made (envOf 0 0 []) (methodOf (recordsAt (now (words .entry)) ends)) ⌝ }
+    ensures { λ r. ⌜ r ≡ made (envOf 0 0 []) (methodOf (recordsAt (held words) ends)) ⌝ }
 {
     lower_records(
         record_words(words, ends, 0),
@@ -135,8 +138,14 @@ fn lower_records(
     output: &[usize],
     force: &[usize],
 ) -> Made
-    requires { ⌜ sheetInShape (records (now names) (now bounds) (now types) (now receiver) (now steps) (now returns) (now structs) (now params) (now output) (now force)) ≡ true ⌝ }
-    ensures { λ r. ⌜ r ≡ made (envOf 0 0 []) (methodOf (records (now (names .entry)) (now (bounds .entry)) (now (types .entry)) (now (receiver .entry)) (now (steps .entry)) (now (returns .entry)) (now (structs .entry)) (now (params .entry)) (now (output .entry)) (now (force .entry)))) ⌝ }
+    requires { ⌜ sheetInShape
+        (records (now names) (now bounds) (now types) (now receiver) (now steps) (now returns) (now structs)
+        (now params) (now output) (now force)) ≡ true ⌝ }
+    ensures { λ r. ⌜ r
+        ≡ made (envOf 0 0 [])
+        (methodOf
+        (records (held names) (held bounds) (held types) (held receiver) (held steps) (held returns) (held structs)
+        (held params) (held output) (held force))) ⌝ }
 {
     let ast = ast_lifetimes::LifetimeEnv::from_method_item(names, bounds, types);
     let declared = ast.verdict;

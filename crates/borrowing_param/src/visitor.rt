@@ -2,13 +2,14 @@
 ghost use mathlib.Core.Path.{_≡_};
 ghost use mathlib.Core.Bool.{cond};
 ghost use lib.Dec.{eqb};
-ghost use Prim.Native.Nat.{_+_, _≤_};
+ghost use Prim.Native.Nat.{_≤_};
 ghost use lib.ListN.{length};
 ghost use Rattle.borrowing_param.specs.Brings.{refuse};
 ghost use Rattle.borrowing_param.specs.Visit.{state, outcome, visit};
 ghost use Rattle.borrowing_param.specs.VisitParam.{visitParam};
 ghost use Rattle.borrowing_param.specs.New.{created};
 ghost use Rattle.borrowing_param.specs.Inner.{Inside, typeIn, FoundAt, numberBy, keptOf};
+ghost use Rattle.lifetimes.specs.Lent.{held, left};
 use super::edges::count_all;
 use super::edges::store_all;
 use hir_types::UsedLifetimes;
@@ -24,7 +25,8 @@ use lowered_types::Located;
 use lowered_types::Parts;
 use lowered_types::type_at;
 
-// One edge: the values of its line in the listing. Kind 1 is the Rust's `OpaqueParam`, 2 `SliceParam`, 3 `StructLifetime`; the used lifetime is the key of its map.
+// One edge: the values of its line in the listing. Kind 1 is the Rust's `OpaqueParam`, 2 `SliceParam`, 3
+// `StructLifetime`; the used lifetime is the key of its map.
 pub struct LifetimeEdge {
     pub used: usize,
     pub param: usize,
@@ -33,15 +35,16 @@ pub struct LifetimeEdge {
     pub option: usize,
 }
 
-// What a visit answers: whether it is refused; 01's number of the answer, 0 to 4; and for each lifetime of a struct's definition the set of the used lifetimes that it has an edge to (the
-// map in the Rust's `StructBorrowInfo`).
+// What a visit answers: whether it is refused; 01's number of the answer, 0 to 4; and for each lifetime of a struct's
+// definition the set of the used lifetimes that it has an edge to (the map in the Rust's `StructBorrowInfo`).
 pub struct ParamBorrowInfo {
     pub verdict: Verdict,
     pub number: usize,
     pub pairs: [u64; 16],
 }
 
-// The used lifetimes as a set; for each of them the set of the lifetimes that draw an edge to it, which are those that outlive it (the Rust's `all_longer_lifetimes`); and how many edges are stored.
+// The used lifetimes as a set; for each of them the set of the lifetimes that draw an edge to it, which are those that
+// outlive it (the Rust's `all_longer_lifetimes`); and how many edges are stored.
 pub struct BorrowingParamVisitor {
     pub used: u64,
     pub draws: [u64; 64],
@@ -64,7 +67,8 @@ impl BorrowingParamVisitor {
     // How many words an edge has in a lent slice.
     pub const EDGE_WORDS: usize = 5;
 
-    // A visitor of a method, from its environment and its records: its used lifetimes, what draws an edge to each of them, and no edges. Refused as the method is (1, 4, 7, 8).
+    // A visitor of a method, from its environment and its records: its used lifetimes, what draws an edge to each of
+    // them, and no edges. Refused as the method is (1, 4, 7, 8).
     pub fn new(
         env: LifetimeEnv,
         structs: &[usize],
@@ -72,7 +76,7 @@ impl BorrowingParamVisitor {
         output: &[usize],
         force: &[usize],
     ) -> Created
-        ensures { λ r. ⌜ r ≡ created env (now (structs .entry)) (now (params .entry)) (now (output .entry)) (now (force .entry)) ⌝ }
+        ensures answer { λ r. ⌜ r ≡ created env (held structs) (held params) (held output) (held force) ⌝ }
     {
         let lifetimes = used_method_lifetimes(env, structs, params, output, force);
         let mut draws = [0u64; 64];
@@ -101,8 +105,9 @@ impl BorrowingParamVisitor {
         }
     }
 
-    // Visit one parameter: store its edges to all used lifetimes behind those that are stored. Refused by 1 where there is no such parameter; by 1, 4 and 7 as the records of a method are; by 9
-    // where the slice takes no more. Refused, the visitor and the slice stay as they were.
+    // Visit one parameter: store its edges to all used lifetimes behind those that are stored. Refused by 1 where there
+    // is no such parameter; by 1, 4 and 7 as the records of a method are; by 9 where the slice takes no more. Refused,
+    // the visitor and the slice stay as they were.
     pub fn visit_param(
         self,
         structs: &[usize],
@@ -110,7 +115,8 @@ impl BorrowingParamVisitor {
         param: usize,
         edges: &mut [usize],
     ) -> Visited
-        ensures { λ r. ⌜ outcome (r .info) (state (r .visitor) (now (edges .exit))) ≡ visitParam (now (structs .entry)) (now (params .entry)) (state self (now (edges .entry))) param ⌝ }
+        ensures answer { λ r. ⌜ outcome (r .info) (state (r .visitor) (left edges))
+            ≡ visitParam (held structs) (held params) (state self (held edges)) param ⌝ }
     {
         let found = param_at(params, param);
         let Located::At(parts) = found else {
@@ -127,7 +133,7 @@ impl BorrowingParamVisitor {
 // The sets of the used lifetimes, each at its place; at the others the set stays empty.
 fn keep_used(used: u64, sets: &[u64; 64], draws: &mut [u64; 64])
     requires { ⌜ (length (now sets) ≡ 64) × (length (now draws) ≡ 64) ⌝ }
-    ensures { λ _. ⌜ now (draws .exit) ≡ keptOf used (now (sets .entry)) (now (draws .entry)) ⌝ }
+    ensures { λ _. ⌜ left draws ≡ keptOf used (held sets) (held draws) ⌝ }
 {
     let mut i = 0;
     'lifetimes: while i < 64 {
@@ -157,7 +163,7 @@ fn refused(visitor: BorrowingParamVisitor, refusal: Refusal) -> Visited
 
 // The parameter with a number, where it stands.
 fn param_at(params: &[usize], param: usize) -> Located
-    ensures { λ r. ⌜ FoundAt (now (params .entry)) param r ⌝ }
+    ensures { λ r. ⌜ FoundAt (held params) param r ⌝ }
 {
     let mut at = 0;
     let mut i = 0;
@@ -181,7 +187,8 @@ fn visit_parts(
     edges: &mut [usize],
 ) -> Visited
     requires { ⌜ Inside (now params) (parts .from) (parts .count) × (parts .count ≤ 16) ⌝ }
-    ensures { λ r. ⌜ outcome (r .info) (state (r .visitor) (now (edges .exit))) ≡ visit (state visitor (now (edges .entry))) (typeIn (now (params .entry)) parts) param ⌝ }
+    ensures { λ r. ⌜ outcome (r .info) (state (r .visitor) (left edges))
+        ≡ visit (state visitor (held edges)) (typeIn (held params) parts) param ⌝ }
 {
     let used = visitor.used;
     let draws = visitor.draws;
@@ -231,7 +238,8 @@ fn visit_parts(
     }
 }
 
-// The answer's number, by the kind of the parameter and by how many edges it brings: 0 the Rust's `NotBorrowed`, 1 `TemporarySlice`, 2 `BorrowedSlice`, 3 `Struct`, 4 `BorrowedOpaque`.
+// The answer's number, by the kind of the parameter and by how many edges it brings: 0 the Rust's `NotBorrowed`, 1
+// `TemporarySlice`, 2 `BorrowedSlice`, 3 `Struct`, 4 `BorrowedOpaque`.
 pub(crate) fn number_of(kind: Kind, brought: usize) -> usize
     ensures { λ r. ⌜ r ≡ numberBy kind brought ⌝ }
 {

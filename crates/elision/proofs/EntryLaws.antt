@@ -1,6 +1,6 @@
 -- What `measure` and `lower` answer and write, by what their tests and calls show.
 use Prim.Native.Nat.{ℕ, _-_, _≤_, _<_}
-use mathlib.Core.Bool.{Bool, true, false, _&&_, not}
+use mathlib.Core.Bool.{Bool, true, false, not, and-eq-true-iff}
 use mathlib.Core.Path.{_≡_, refl, sym, ap, subst, _∙_}
 use mathlib.Core.List.{List, [], _++_, map}
 use native.Mathlib.Nat.{sub-zero}
@@ -13,13 +13,15 @@ use Rattle.lifetimes.specs.declared.answer.Refusal.the-variants.{Malformed, NoR
 use Rattle.lifetimes.specs.declared.answer.Verdict.{Verdict}
 use Rattle.lifetimes.specs.declared.answer.Verdict.the-variants as verdict
 use Rattle.lifetimes.specs.declared.maybe_static.MaybeStatic.{MaybeStatic}
-use Rattle.lifetimes.specs.Refusals.{Check, check, Outcome, Gives, Refuses, unless, FirstDue, NoneDue, here, later, next, end}
-use Rattle.lifetimes.specs.Lent.{written, roomCheck, verdictOf}
+use Rattle.lifetimes.specs.Refusals.{Check, check, Outcome, Gives, Refuses, unless, FirstDue, NoneDue, here, later}
+use Rattle.lifetimes.specs.Refusals.{next, end}
+use Rattle.lifetimes.specs.Lent.{roomCheck, verdictOf, Slice, held, left, room, Stays}
 use Rattle.lifetimes.specs.LoweredWords.{wordOf}
 use Rattle.lifetimes.specs.Env.{envOf}
 use Rattle.lifetimes.specs.Env as hirenv
 use Rattle.lifetimes.specs.declared.env.Made as hir
-use Rattle.lifetimes.proofs.RefusalLaws.{refused-first, accepted-none, due-given, due-refused, refused-due, given-due, none-first, none-rest, none-split, first-more, first-after, none-more}
+use Rattle.lifetimes.proofs.RefusalLaws.{refused-first, accepted-none, due-given, due-refused, refused-due, given-due}
+use Rattle.lifetimes.proofs.RefusalLaws.{none-first, none-rest, none-split, first-more, first-after, none-more}
 use Rattle.lifetimes.proofs.Copying.{sets-front}
 use Rattle.records.specs.Reading.{shapeVerdict}
 use Rattle.ast_lifetimes.specs.declared.env.LifetimeEnv as ast
@@ -29,7 +31,8 @@ use Rattle.elision.specs.declared.method.Totals.{Totals}
 use Rattle.elision.specs.Steps.{selfInShape, stepsInShape, stepsOf, receiverOf}
 use Rattle.elision.specs.Rfc.{Method, methodChecks, rfc141}
 use Rattle.elision.specs.Machine.{runMethod}
-use Rattle.elision.specs.Lowering.{words, recordsOf, inShapeAll, measureChecks, roomChecks, lowerChecks, measureRecords, finished, finishEnv, lowerRecords, answered, ownWords, stepWords, returnWords}
+use Rattle.elision.specs.Lowering.{words, recordsOf, inShapeAll, measureChecks, roomChecks, lowerChecks}
+use Rattle.elision.specs.Lowering.{measureRecords, finished, finishEnv, lowerRecords, answered, LowersTo}
 use Rattle.elision.specs.Inner.{shown, totals, RunsAll}
 use Rattle.elision.proofs.RfcLaws.{method-said}
 use Rattle.elision.proofs.ShapeLaws.{shape-in, shape-out}
@@ -41,7 +44,8 @@ totals-refused : (o : Outcome Method) {t : Totals} {k : Refusal} → t ≡ total
 totals-refused (Gives m) e v = refused-accepted (sym v ∙ ap (λ (x : Totals). x .verdict) e)
 totals-refused (Refuses j) e v = let h : verdict.Refused j ≡ verdict.Refused _ = sym (ap (λ (x : Totals). x .verdict) e) ∙ v in cc
 
-totals-given : (o : Outcome Method) {t : Totals} → t ≡ totals o → t .verdict ≡ verdict.Accepted → (m : Method) × ((o ≡ Gives m) × (t ≡ totals (Gives m)))
+totals-given : (o : Outcome Method) {t : Totals} → t ≡ totals o → t .verdict ≡ verdict.Accepted
+    → (m : Method) × ((o ≡ Gives m) × (t ≡ totals (Gives m)))
 totals-given (Gives m) e v = (m, (refl, e))
 totals-given (Refuses j) e v = refused-accepted (sym (ap (λ (x : Totals). x .verdict) e) ∙ v)
 
@@ -49,37 +53,39 @@ not-false : (b : Bool) → not b ≡ false → b ≡ true
 not-false true h = refl
 not-false false h = sym h
 
-both : (a b : Bool) → (a && b) ≡ true → (a ≡ true) × (b ≡ true)
-both true b e = (refl, e)
-both false b e = let z : _≡_ {A = ℕ} 0 1 = cc in absurd (omega arith)
-
 -- a refusal beside which nothing is counted
 abbrev refusedBy : Refusal → Lowering
 refusedBy r = record { verdict = verdict.Refused r; selves = 0; steps = 0; returns = 0; env = envOf 0 0 [] }
 
 -- what an answer tells of the outcome
-answer-refused : (e : ast.LifetimeEnv) (o : Outcome Method) {x : Lowering} {r : Refusal} → x ≡ answered e o → x .verdict ≡ verdict.Refused r → (o ≡ Refuses r) × (x ≡ refusedBy r)
+answer-refused : (e : ast.LifetimeEnv) (o : Outcome Method) {x : Lowering} {r : Refusal} → x ≡ answered e o
+    → x .verdict ≡ verdict.Refused r → (o ≡ Refuses r) × (x ≡ refusedBy r)
 answer-refused e (Gives m) a v = refused-accepted (sym v ∙ ap (λ (x : Lowering). x .verdict) a)
 answer-refused e (Refuses j) {x} {r} a v =
     let h : verdict.Refused j ≡ verdict.Refused r = sym (ap (λ (x : Lowering). x .verdict) a) ∙ v in
     let q : j ≡ r = cc in
     (rw q, a ∙ ap refusedBy q)
 
-answer-given : (e : ast.LifetimeEnv) (o : Outcome Method) {x : Lowering} → x ≡ answered e o → x .verdict ≡ verdict.Accepted → (m : Method) × ((o ≡ Gives m) × (x ≡ answered e (Gives m)))
+answer-given : (e : ast.LifetimeEnv) (o : Outcome Method) {x : Lowering} → x ≡ answered e o
+    → x .verdict ≡ verdict.Accepted → (m : Method) × ((o ≡ Gives m) × (x ≡ answered e (Gives m)))
 answer-given e (Gives m) a v = (m, (refl, a))
 answer-given e (Refuses j) a v = refused-accepted (sym (ap (λ (x : Lowering). x .verdict) a) ∙ v)
 
-all-shaped : (self steps returns : List ℕ) → inShapeAll self steps returns ≡ true → (stepsInShape steps ≡ true) × (stepsInShape returns ≡ true)
-all-shaped self steps returns h = both (stepsInShape steps) (stepsInShape returns) ((both (selfInShape self) (stepsInShape steps && stepsInShape returns) h) .1)
+all-shaped : (self steps returns : List ℕ) → inShapeAll self steps returns ≡ true → (stepsInShape steps ≡ true)
+    × (stepsInShape returns ≡ true)
+all-shaped self steps returns h =
+    (and-eq-true-iff (stepsInShape steps) _) .0 ((and-eq-true-iff (selfInShape self) _) .0 h .1)
 
 -- ---- `measure`
 
 module _ (e : ast.LifetimeEnv) (self steps returns : List ℕ) where
-  measure-due : {r : Refusal} {x : Lowering} → x ≡ refusedBy r → FirstDue r (measureChecks e self steps returns) → x ≡ answered e (measureRecords e self steps returns)
+  measure-due : {r : Refusal} {x : Lowering} → x ≡ refusedBy r → FirstDue r (measureChecks e self steps returns)
+      → x ≡ answered e (measureRecords e self steps returns)
   unfolding measureRecords
   measure-due h f = rw (due-refused (recordsOf e self steps returns) f) h
 
-  pub measure-shape : {v : Verdict} {r : Refusal} {x : Lowering} → v ≡ shapeVerdict (inShapeAll self steps returns) → v ≡ verdict.Refused r → x ≡ refusedBy r
+  pub measure-shape : {v : Verdict} {r : Refusal} {x : Lowering} → v ≡ shapeVerdict (inShapeAll self steps returns)
+      → v ≡ verdict.Refused r → x ≡ refusedBy r
       → x ≡ answered e (measureRecords e self steps returns)
   measure-shape {v} {r} a b h =
       let p = shape-out (inShapeAll self steps returns) a b in
@@ -89,7 +95,8 @@ module _ (e : ast.LifetimeEnv) (self steps returns : List ℕ) where
 pub record Shaped (e : ast.LifetimeEnv) (self steps returns : List ℕ) : Type 0 where
   pub shape : inShapeAll self steps returns ≡ true
 
-pub shape-told : (e : ast.LifetimeEnv) (self steps returns : List ℕ) {v : Verdict} → v ≡ shapeVerdict (inShapeAll self steps returns) → v ≡ verdict.Accepted → Shaped e self steps returns
+pub shape-told : (e : ast.LifetimeEnv) (self steps returns : List ℕ) {v : Verdict}
+    → v ≡ shapeVerdict (inShapeAll self steps returns) → v ≡ verdict.Accepted → Shaped e self steps returns
 shape-told e self steps returns a b = record { shape = shape-in (inShapeAll self steps returns) a b }
 
 module _ {e : ast.LifetimeEnv} {self steps returns : List ℕ} (h : Shaped e self steps returns) where
@@ -99,7 +106,8 @@ module _ {e : ast.LifetimeEnv} {self steps returns : List ℕ} (h : Shaped e sel
   shape-not : not (inShapeAll self steps returns) ≡ false
   shape-not = rw (h .shape)
 
-  pub measure-env : {r : Refusal} {x : Lowering} → FirstDue r (envChecks e) → x ≡ refusedBy r → x ≡ answered e (measureRecords e self steps returns)
+  pub measure-env : {r : Refusal} {x : Lowering} → FirstDue r (envChecks e) → x ≡ refusedBy r
+      → x ≡ answered e (measureRecords e self steps returns)
   measure-env f n = measure-due e self steps returns n (later shape-not (first-more _ f))
 
 -- the records are in shape, and the environment is valid
@@ -128,7 +136,8 @@ module _ {e : ast.LifetimeEnv} {self steps returns : List ℕ} (h : Valid e self
   lent-run : lent ≡ run
   lent-run = rw sub-zero
 
-  pub measure-refused : {t : Totals} {r : Refusal} {x : Lowering} → t ≡ totals lent → t .verdict ≡ verdict.Refused r → x ≡ refusedBy r → x ≡ answered e (measureRecords e self steps returns)
+  pub measure-refused : {t : Totals} {r : Refusal} {x : Lowering} → t ≡ totals lent → t .verdict ≡ verdict.Refused r
+      → x ≡ refusedBy r → x ≡ answered e (measureRecords e self steps returns)
   measure-refused {t} {r} a b n =
       let f = refused-due records r checks (sym said ∙ totals-refused run (a ∙ ap totals lent-run) b) in
       measure-due e self steps returns n (later (shape-not (h .shaped)) (first-after (h .none) f))
@@ -143,38 +152,54 @@ module _ {e : ast.LifetimeEnv} {self steps returns : List ℕ} (h : Valid e self
     told : t ≡ totals (Gives records)
     told = given-run .1 .1 ∙ ap (λ (m : Method). totals (Gives m)) (sym (passed .1))
 
-    pub measure-all : record { verdict = verdict.Accepted; selves = t .selves; steps = t .steps; returns = t .returns; env = finished e (t .count) } ≡ answered e (measureRecords e self steps returns)
+    pub measure-all : record {
+      verdict = verdict.Accepted;
+      selves = t .selves;
+      steps = t .steps;
+      returns = t .returns;
+      env = finished e (t .count);
+    } ≡ answered e (measureRecords e self steps returns)
     unfolding measureRecords
     measure-all =
         let due : NoneDue (measureChecks e self steps returns) = next (shape-not (h .shaped)) (none-more (h .none) (passed .0)) in
-        rw (due-given records due, told, length-map (records .self) wordOf, length-map (records .steps) wordOf, length-map (records .returns) wordOf)
+        rw (
+          due-given records due,
+          told,
+          length-map (records .self) wordOf,
+          length-map (records .steps) wordOf,
+          length-map (records .returns) wordOf,
+        )
 
 -- ---- `lower`
 
-module _ (e : ast.LifetimeEnv) (self steps returns own given taken : List ℕ) where
+module _ (e : ast.LifetimeEnv) (self steps returns : List ℕ) (own given taken : Slice) where
   abbrev whole : Outcome Method
-  whole = lowerRecords e self steps returns (length own) (length given) (length taken)
+  whole = lowerRecords e self steps returns (room own) (room given) (room taken)
 
-  abbrev Answers : Lowering → List ℕ → List ℕ → List ℕ → Type 0
-  Answers x own₁ given₁ taken₁ =
-      (x ≡ answered e whole) × ((own₁ ≡ written (ownWords whole) own) × ((given₁ ≡ written (stepWords whole) given) × (taken₁ ≡ written (returnWords whole) taken)))
-
-  refused-answers : {r : Refusal} {x : Lowering} → x ≡ refusedBy r → FirstDue r (lowerChecks e self steps returns (length own) (length given) (length taken)) → Answers x own given taken
+  refused-answers : {r : Refusal} {x : Lowering} → x ≡ refusedBy r
+      → FirstDue r (lowerChecks e self steps returns (room own) (room given) (room taken))
+      → Stays own → Stays given → Stays taken → LowersTo e whole x own given taken
   unfolding lowerRecords
-  refused-answers h due = rw (due-refused (recordsOf e self steps returns) due) (h, (refl, (refl, refl)))
+  refused-answers h due a b c =
+      let q = due-refused (recordsOf e self steps returns) due in
+      record { answer = rw q h; own-filled = rw q a; given-filled = rw q b; taken-filled = rw q c }
 
-  pub lower-refused : {m : Lowering} {r : Refusal} → m ≡ answered e (measureRecords e self steps returns) → m .verdict ≡ verdict.Refused r → Answers m own given taken
+  pub lower-refused : {m : Lowering} {r : Refusal} → m ≡ answered e (measureRecords e self steps returns)
+      → m .verdict ≡ verdict.Refused r → Stays own → Stays given → Stays taken → LowersTo e whole m own given taken
   unfolding measureRecords
   lower-refused {m} {r} counted v =
       let p = answer-refused e (measureRecords e self steps returns) counted v in
-      refused-answers (p .1) (first-more _ (refused-due (recordsOf e self steps returns) r (measureChecks e self steps returns) (p .0)))
+      refused-answers (p .1)
+      (first-more _ (refused-due (recordsOf e self steps returns) r (measureChecks e self steps returns) (p .0)))
 
 -- what `measure` leaves where it accepts
 pub record Measured (e : ast.LifetimeEnv) (self steps returns : List ℕ) (m : Lowering) : Type 0 where
   pub none : NoneDue (measureChecks e self steps returns)
   pub is : m ≡ answered e (Gives (recordsOf e self steps returns))
 
-pub measures : (e : ast.LifetimeEnv) (self steps returns : List ℕ) {m : Lowering} → m ≡ answered e (measureRecords e self steps returns) → m .verdict ≡ verdict.Accepted → Measured e self steps returns m
+pub measures : (e : ast.LifetimeEnv) (self steps returns : List ℕ) {m : Lowering}
+    → m ≡ answered e (measureRecords e self steps returns) → m .verdict ≡ verdict.Accepted
+    → Measured e self steps returns m
 unfolding measureRecords
 measures e self steps returns counted fine =
     let g = answer-given e (measureRecords e self steps returns) counted fine in
@@ -205,37 +230,58 @@ module _ {e : ast.LifetimeEnv} {self steps returns : List ℕ} {m : Lowering} (h
   lower-shaped = all-shaped self steps returns (not-false (inShapeAll self steps returns) (none-first (h .none)))
 
   parted : NoneDue (envChecks e) × NoneDue (methodChecks (namesOf e) (receiverOf self) (stepsOf steps) (stepsOf returns))
-  parted = none-split (envChecks e) (methodChecks (namesOf e) (receiverOf self) (stepsOf steps) (stepsOf returns)) (none-rest (h .none))
+  parted = none-split (envChecks e) (methodChecks (namesOf e) (receiverOf self) (stepsOf steps) (stepsOf returns))
+      (none-rest (h .none))
 
   pub lower-named : e .named ≤ 32
   lower-named = ltb-false 32 (e .named) (none-first (parted .0))
 
-  module _ {own given taken : List ℕ} {x : Lowering} where
-    no-room : x ≡ refusedBy NoRoom → FirstDue NoRoom (roomChecks method (length own) (length given) (length taken)) → Answers e self steps returns own given taken x own given taken
+  module _ {own given taken : Slice} {x : Lowering} where
+    no-room : x ≡ refusedBy NoRoom → FirstDue NoRoom (roomChecks method (room own) (room given) (room taken))
+        → Stays own → Stays given → Stays taken
+        → LowersTo e (whole e self steps returns own given taken) x own given taken
     no-room n f = refused-answers e self steps returns own given taken n (first-after (h .none) f)
 
-    pub lower-own : length own < m .selves → x ≡ refusedBy NoRoom → Answers e self steps returns own given taken x own given taken
+    pub lower-own : room own < m .selves → x ≡ refusedBy NoRoom → Stays own → Stays given → Stays taken
+        → LowersTo e (whole e self steps returns own given taken) x own given taken
     lower-own l n = no-room n (here (lacks (words (method .self)) selves l) refl)
 
-    pub lower-given : m .selves ≤ length own → length given < m .steps → x ≡ refusedBy NoRoom → Answers e self steps returns own given taken x own given taken
-    lower-given room₁ l n = no-room n (later (fits (words (method .self)) selves room₁) (here (lacks (words (method .steps)) stepped l) refl))
+    pub lower-given : m .selves ≤ room own → room given < m .steps → x ≡ refusedBy NoRoom → Stays own → Stays given → Stays taken
+        → LowersTo e (whole e self steps returns own given taken) x own given taken
+    lower-given room₁ l n =
+        no-room n
+        (later (fits (words (method .self)) selves room₁) (here (lacks (words (method .steps)) stepped l) refl))
 
-    pub lower-taken : m .selves ≤ length own → m .steps ≤ length given → length taken < m .returns → x ≡ refusedBy NoRoom → Answers e self steps returns own given taken x own given taken
-    lower-taken room₁ room₂ l n = no-room n (later (fits (words (method .self)) selves room₁) (later (fits (words (method .steps)) stepped room₂) (here (lacks (words (method .returns)) returned l) refl)))
+    pub lower-taken : m .selves ≤ room own → m .steps ≤ room given → room taken < m .returns → x ≡ refusedBy NoRoom
+        → Stays own → Stays given → Stays taken
+        → LowersTo e (whole e self steps returns own given taken) x own given taken
+    lower-taken room₁ room₂ l n =
+        no-room n
+        (later (fits (words (method .self)) selves room₁)
+        (later (fits (words (method .steps)) stepped room₂) (here (lacks (words (method .returns)) returned l) refl)))
 
-  module _ {own given taken own₁ given₁ taken₁ : List ℕ} {t : Totals} (room₁ : m .selves ≤ length own) (room₂ : m .steps ≤ length given) (room₃ : m .returns ≤ length taken) (full : length (e .names) ≡ 32)
-      (lays : RunsAll (runMethod (take (e .named - 0) (drop 0 (e .names))) (receiverOf self) (stepsOf steps) (stepsOf returns)) own given taken own₁ given₁ taken₁ t) where
+  module _ (own given taken : Slice) {t : Totals} (room₁ : m .selves ≤ room own) (room₂ : m .steps ≤ room given)
+      (room₃ : m .returns ≤ room taken) (full : length (e .names) ≡ 32)
+      (lays : RunsAll
+      (runMethod (take (e .named - 0) (drop 0 (e .names))) (receiverOf self) (stepsOf steps) (stepsOf returns))
+      (held own) (held given) (held taken) (left own) (left given) (left taken) t) where
     is : runMethod (namesOf e) (receiverOf self) (stepsOf steps) (stepsOf returns) ≡ Gives method
     unfolding rfc141
     is = method-said (namesOf e) (receiverOf self) (stepsOf steps) (stepsOf returns) ∙ due-given method (parted .1)
 
-    stores : RunsAll (runMethod (namesOf e) (receiverOf self) (stepsOf steps) (stepsOf returns)) own given taken own₁ given₁ taken₁ t
-    stores = subst (λ (ns : List ℕ). RunsAll (runMethod ns (receiverOf self) (stepsOf steps) (stepsOf returns)) own given taken own₁ given₁ taken₁ t) (rw sub-zero) lays
+    stores : RunsAll (runMethod (namesOf e) (receiverOf self) (stepsOf steps) (stepsOf returns)) (held own) (held given)
+        (held taken) (left own) (left given) (left taken) t
+    stores = subst
+        (λ (ns : List ℕ). RunsAll (runMethod ns (receiverOf self) (stepsOf steps) (stepsOf returns)) (held own)
+        (held given) (held taken) (left own) (left given) (left taken) t) (rw sub-zero) lays
 
     all : whole e self steps returns own given taken ≡ Gives method
     unfolding lowerRecords
     all =
-        let rooms : NoneDue (roomChecks method (length own) (length given) (length taken)) = next (fits (words (method .self)) selves room₁) (next (fits (words (method .steps)) stepped room₂) (next (fits (words (method .returns)) returned room₃) end)) in
+        let rooms : NoneDue (roomChecks method (room own) (room given) (room taken)) =
+        next (fits (words (method .self)) selves room₁)
+        (next (fits (words (method .steps)) stepped room₂)
+        (next (fits (words (method .returns)) returned room₃) end)) in
         due-given method (none-more (h .none) rooms)
 
     few : length (namesOf e) ≤ 32
@@ -244,44 +290,53 @@ module _ {e : ast.LifetimeEnv} {self steps returns : List ℕ} {m : Lowering} (h
     small : AllSmall (method .self) × (AllSmall (method .steps) × AllSmall (method .returns))
     small = subst (SmallMethod (namesOf e) few) is (method-small (namesOf e) few (receiverOf self) (stepsOf steps) (stepsOf returns))
 
-    laid : (slice slice₁ : List ℕ) (ls : List MaybeStatic) → AllSmall ls → slice₁ ≡ sets slice 0 (map shown ls) → length (words ls) ≤ length slice → slice₁ ≡ words ls ++ drop (length (words ls)) slice
+    laid : (slice slice₁ : List ℕ) (ls : List MaybeStatic) → AllSmall ls → slice₁ ≡ sets slice 0 (map shown ls)
+        → length (words ls) ≤ length slice → slice₁ ≡ words ls ++ drop (length (words ls)) slice
     laid slice slice₁ ls p q r = q ∙ rw (small-words ls p) (sets-front slice (words ls) r)
 
-    pub lower-all : Answers e self steps returns own given taken m own₁ given₁ taken₁
-    lower-all =
-        rw all (
-          h .is,
-          (
-            laid own own₁ (method .self) (small .0) (stores .self method is) (omega (arith, selves)),
-            (
-              laid given given₁ (method .steps) (small .1 .0) (stores .steps method is) (omega (arith, stepped)),
-              laid taken taken₁ (method .returns) (small .1 .1) (stores .returns method is) (omega (arith, returned)),
-            ),
-          ),
-        )
+    pub lower-all : LowersTo e (whole e self steps returns own given taken) m own given taken
+    lower-all = record {
+      answer = rw all (h .is);
+      own-filled = rw all (laid (held own) (left own) (method .self) (small .0) (stores .self method is) (omega (arith, selves)));
+      given-filled =
+          rw all (laid (held given) (left given) (method .steps) (small .1 .0) (stores .steps method is) (omega (arith, stepped)));
+      taken-filled =
+          rw all (laid (held taken) (left taken) (method .returns) (small .1 .1) (stores .returns method is)
+          (omega (arith, returned)));
+    }
 
 -- ---- `finish`
 
 module _ (e : ast.LifetimeEnv) (count : ℕ) where
-  pub finish-env : {v : Verdict} {r : Refusal} {x : hir.Made} → v ≡ verdictOf (unless (envChecks e) e) → v ≡ verdict.Refused r → x ≡ record { verdict = verdict.Refused r; env = envOf 0 0 [] }
+  pub finish-env : {v : Verdict} {r : Refusal} {x : hir.Made} → v ≡ verdictOf (unless (envChecks e) e)
+      → v ≡ verdict.Refused r → x ≡ record { verdict = verdict.Refused r; env = envOf 0 0 [] }
       → x ≡ hirenv.made (envOf 0 0 []) (finishEnv e count)
   unfolding finishEnv
   finish-env {v} {r} a b h =
-      let f : FirstDue r (envChecks e ++ hirenv.envChecks (finished e count)) = first-more _ (refused-first e r (envChecks e) (sym a ∙ b)) in
+      let f : FirstDue r (envChecks e ++ hirenv.envChecks (finished e count)) =
+      first-more _ (refused-first e r (envChecks e) (sym a ∙ b)) in
       rw (due-refused (finished e count) f) h
 
-  module _ {v : Verdict} (valid : v ≡ verdictOf (unless (envChecks e) e)) (fine : v ≡ verdict.Accepted) {w : Verdict} (checked : w ≡ verdictOf (unless (hirenv.envChecks (finished e count)) (finished e count))) where
+  module _ {v : Verdict} (valid : v ≡ verdictOf (unless (envChecks e) e)) (fine : v ≡ verdict.Accepted) {w : Verdict}
+      (checked : w ≡ verdictOf (unless (hirenv.envChecks (finished e count)) (finished e count))) where
     checks-none : NoneDue (envChecks e)
     checks-none = accepted-none e (envChecks e) (sym valid ∙ fine)
 
-    pub finish-refused : {r : Refusal} {x : hir.Made} → w ≡ verdict.Refused r → x ≡ record { verdict = verdict.Refused r; env = envOf 0 0 [] } → x ≡ hirenv.made (envOf 0 0 []) (finishEnv e count)
+    pub finish-refused : {r : Refusal} {x : hir.Made} → w ≡ verdict.Refused r
+        → x ≡ record { verdict = verdict.Refused r; env = envOf 0 0 [] }
+        → x ≡ hirenv.made (envOf 0 0 []) (finishEnv e count)
     unfolding finishEnv
     finish-refused {r} b h =
-        let f : FirstDue r (envChecks e ++ hirenv.envChecks (finished e count)) = first-after checks-none (refused-first (finished e count) r (hirenv.envChecks (finished e count)) (sym checked ∙ b)) in
+        let f : FirstDue r (envChecks e ++ hirenv.envChecks (finished e count)) =
+        first-after checks-none
+        (refused-first (finished e count) r (hirenv.envChecks (finished e count)) (sym checked ∙ b)) in
         rw (due-refused (finished e count) f) h
 
-    pub finish-given : w ≡ verdict.Accepted → record { verdict = verdict.Accepted; env = finished e count } ≡ hirenv.made (envOf 0 0 []) (finishEnv e count)
+    pub finish-given : w ≡ verdict.Accepted → record { verdict = verdict.Accepted; env = finished e count }
+        ≡ hirenv.made (envOf 0 0 []) (finishEnv e count)
     unfolding finishEnv
     finish-given b =
-        let f : NoneDue (envChecks e ++ hirenv.envChecks (finished e count)) = none-more checks-none (accepted-none (finished e count) (hirenv.envChecks (finished e count)) (sym checked ∙ b)) in
+        let f : NoneDue (envChecks e ++ hirenv.envChecks (finished e count)) =
+        none-more checks-none
+        (accepted-none (finished e count) (hirenv.envChecks (finished e count)) (sym checked ∙ b)) in
         rw (due-given (finished e count) f)

@@ -25,7 +25,8 @@ pub record Filled (done : List MaybeStatic) (list : List Lowered) (i : ℕ) : Ty
 pub filled-none : Filled [] (replicate 16 (lowered Static)) 0
 filled-none = record { size = refl; stands = refl }
 
-lowered-last : (ls : List MaybeStatic) (l : MaybeStatic) (rest : List Lowered) → map lowered (ls ++ (l ∷ [])) ++ rest ≡ map lowered ls ++ lowered l ∷ rest
+lowered-last : (ls : List MaybeStatic) (l : MaybeStatic) (rest : List Lowered)
+    → map lowered (ls ++ (l ∷ [])) ++ rest ≡ map lowered ls ++ lowered l ∷ rest
 lowered-last [] l rest = refl
 lowered-last (m ∷ ls) l rest = ap (λ (x : List Lowered). lowered m ∷ x) (lowered-last ls l rest)
 
@@ -37,7 +38,8 @@ module _ {done : List MaybeStatic} {list : List Lowered} {i : ℕ} (inv : Filled
       record {
         size = length-append done (l ∷ []) ∙ ap (λ (n : ℕ). n + 1) (inv .size);
         stands = rw (inv .stands, a, b, lowered-last done l (replicate (15 - i) (lowered Static)))
-            (set-at (map lowered done) (lowered Static) (replicate (15 - i) (lowered Static)) (lowered l) i (length-lowered done ∙ inv .size));
+            (set-at (map lowered done) (lowered Static) (replicate (15 - i) (lowered Static)) (lowered l) i
+            (length-lowered done ∙ inv .size));
       }
 
   pub filled-laid : record { n = i; list = list } ≡ laid done
@@ -75,8 +77,10 @@ module _ {own : Lifetimes} {n : ℕ} {list : List Lowered} {i : ℕ} (inv : Firs
   module _ (full : length (own .list) ≡ 16) where
     pub firsts-more : i < n → (x : Lowered) → x ≡ getD (own .list) i (lowered Static) → Firsts own n (set list i x) (i + 1)
     firsts-more h x e =
-        let one : map (λ (y : Lowered). y .lifetime) (take (i + 1) (own .list)) ≡ map (λ (y : Lowered). y .lifetime) (take i (own .list)) ++ (x .lifetime ∷ []) =
-        rw (add-one i, take-suc (own .list) i (lowered Static) (omega (arith, firsts-few h)), ← e) (lifetimes-last (take i (own .list)) x) in
+        let one : map (λ (y : Lowered). y .lifetime) (take (i + 1) (own .list)) ≡ map (λ (y : Lowered). y .lifetime)
+        (take i (own .list)) ++ (x .lifetime ∷ []) =
+        rw (add-one i, take-suc (own .list) i (lowered Static) (omega (arith, firsts-few h)), ← e)
+        (lifetimes-last (take i (own .list)) x) in
         record { here = omega arith; most = inv .most; filled = rw one (filled-more (inv .filled) (firsts-few h) (x .lifetime)) }
 
     pub firsts-end : n ≤ i → record { n = n; list = list } ≡ laid (valuesIn own)
@@ -86,7 +90,9 @@ module _ {own : Lifetimes} {n : ℕ} {list : List Lowered} {i : ℕ} (inv : Firs
       where
         go : (t : Bool) → ltb (own .n) 16 ≡ t → take (cond t (own .n) 16) (own .list) ≡ take (own .n) (own .list)
         go true k = refl
-        go false k = take-all 16 (own .list) (omega arith) ∙ sym (take-all (own .n) (own .list) (omega (arith, ltb-false (own .n) 16 k)))
+        go false k =
+            take-all 16 (own .list) (omega arith)
+            ∙ sym (take-all (own .n) (own .list) (omega (arith, ltb-false (own .n) 16 k)))
 
         same : map (λ (y : Lowered). y .lifetime) (take n (own .list)) ≡ valuesIn own
         same = rw (inv .most, go (ltb (own .n) 16) refl)

@@ -13,7 +13,8 @@ pub mod StepRefusing
 pub mod Filling
 pub mod Running
 pub mod Stepping
--- The whole records: taking a step, a step lowered and stored, a step by its words, one record, three records, every lifetime has a word, the answers.
+-- The whole records: taking a step, a step lowered and stored, a step by its words, one record, three records, every
+-- lifetime has a word, the answers.
 pub mod Taking
 pub mod Showing
 pub mod Wording

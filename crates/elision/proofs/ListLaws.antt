@@ -1,4 +1,5 @@
--- Lists by place: an element is the same whatever stands for one that is not there; a run of stores; an array filled from its front.
+-- Lists by place: an element is the same whatever stands for one that is not there; a run of stores; an array filled
+-- from its front.
 use Prim.Native.Nat.{ℕ, zero, suc, _≤_, _<_}
 use mathlib.Core.Path.{_≡_, refl}
 use mathlib.Core.List.{List, [], _∷_}

@@ -1,4 +1,5 @@
--- The loop of `position`: the names that were read are others, so the name's place among those that are left, counted from here, is its number.
+-- The loop of `position`: the names that were read are others, so the name's place among those that are left, counted
+-- from here, is its number.
 use Prim.Native.Nat.{ℕ, suc, _+_, _≤_, _<_}
 use mathlib.Core.Path.{_≡_}
 use mathlib.Core.List.{List}
@@ -30,5 +31,6 @@ module _ {names : List ℕ} {word i : ℕ} (inv : Placing names word i) where
     pub placing-more : (getD names i 0 ≡ word → ⊥) → Placing names word (i + 1)
     unfolding place
     placing-more n =
-        let e : i + suc (place (drop (suc i) names) word) ≡ place names word = rw (drop-cons names i 0 h, ne-eqb (getD names i 0) word n) at (inv .left) in
+        let e : i + suc (place (drop (suc i) names) word) ≡ place names word =
+        rw (drop-cons names i 0 h, ne-eqb (getD names i 0) word n) at (inv .left) in
         record { here = omega arith; left = rw (add-one i) (omega arith) }

@@ -19,14 +19,18 @@ use Rattle.elision.specs.declared.lowerer.Standing.{Standing}
 use Rattle.elision.specs.declared.lowerer.Standing.the-variants.{Input, Aside, Output}
 use Rattle.elision.specs.declared.lowerer.Lowerer.{Lowerer}
 use Rattle.elision.specs.Steps.{Step, Lifetime, Generics, SelfType, Receiver, readStep, stepsOf}
-use Rattle.elision.specs.Rfc.{throughout, Occurrence, occurs, makes, isNew, anonymous, countOf, elidedCheck, checks, selfOccurrences, occurrences, stepChecks, inputs, outputs, methodChecks, sourceCheck, sourceAt, valueAt, checksAt, Item, isSelfType, hasSelfType, occurrencesAt, ownFrom, loweredAt}
+use Rattle.elision.specs.Rfc.{throughout, Occurrence, occurs, makes, isNew, anonymous, countOf, elidedCheck}
+use Rattle.elision.specs.Rfc.{checks, selfOccurrences, occurrences, stepChecks, inputs, outputs, methodChecks}
+use Rattle.elision.specs.Rfc.{sourceCheck, sourceAt, valueAt, checksAt, Item, isSelfType, hasSelfType}
+use Rattle.elision.specs.Rfc.{occurrencesAt, ownFrom, loweredAt}
 use Rattle.elision.specs.Machine.{Answer, answer, inTurn, fits, lowerStep, oneStep, runSteps}
 use Rattle.elision.proofs.RfcLaws.{count-more, own-again, occurrences-last}
 use Rattle.elision.proofs.Recording.{one-fits}
 use Rattle.elision.proofs.Taking.{step-fits}
 
 module _ (names : List ℕ) (self : Receiver) where
-  pub elided-is : (st : Standing) → makes st ≡ true → (before : List Occurrence) → valueAt names self before (occurs st 1) ≡ NonStatic (lifetime (countOf names before))
+  pub elided-is : (st : Standing) → makes st ≡ true → (before : List Occurrence)
+      → valueAt names self before (occurs st 1) ≡ NonStatic (lifetime (countOf names before))
   elided-is Input h before = refl
   elided-is Aside h before = refl
   elided-is Output h before = passed h
@@ -34,17 +38,20 @@ module _ (names : List ℕ) (self : Receiver) where
   pub static-is : (st : Standing) (before : List Occurrence) → valueAt names self before (occurs st 0) ≡ Static
   static-is st before = refl
 
-  pub named-is : (st : Standing) (before : List Occurrence) (word : ℕ) → 2 ≤ word → valueAt names self before (occurs st word) ≡ NonStatic (lifetime (place names word))
+  pub named-is : (st : Standing) (before : List Occurrence) (word : ℕ) → 2 ≤ word
+      → valueAt names self before (occurs st word) ≡ NonStatic (lifetime (place names word))
   named-is st before word h = rw (ne-eqb word 1 (λ e. omega arith), ne-eqb word 0 (λ e. omega arith))
 
-  pub source-is : (before : List Occurrence) → NoneDue (checksAt names self before (occurs Output 1)) → (l : MaybeStatic) × (sourceAt names self before ≡ Gives l)
+  pub source-is : (before : List Occurrence) → NoneDue (checksAt names self before (occurs Output 1))
+      → (l : MaybeStatic) × (sourceAt names self before ≡ Gives l)
   source-is before n = go (sourceAt names self before) (none-first (none-rest n))
     where
       go : (o : Outcome MaybeStatic) → sourceCheck true o .due ≡ false → (l : MaybeStatic) × (o ≡ Gives l)
       go (Gives l) e = (l, refl)
       go (Refuses r) e = passed (sym e)
 
-  pub again-is : (before : List Item) (i : Item) → hasSelfType before ≡ true → isSelfType (i .step) ≡ true → (loweredAt names self before i ≡ ownFrom names self [] before) × (occurrencesAt before i ≡ [])
+  pub again-is : (before : List Item) (i : Item) → hasSelfType before ≡ true → isSelfType (i .step) ≡ true
+      → (loweredAt names self before i ≡ ownFrom names self [] before) × (occurrencesAt before i ≡ [])
   again-is before i h k = (rw (k, own-again names self [] before (i ∷ []) h), none (i .step) k)
     where
       none : (s : Step) → isSelfType s ≡ true → occurrencesAt before (record { output = i .output; step = s }) ≡ []
@@ -52,16 +59,20 @@ module _ (names : List ℕ) (self : Receiver) where
       none (Generics g words) e = passed e
       none (SelfType words) e = rw h
 
-anonymous-grows : (before behind : List Occurrence) (o : Occurrence) → isNew o ≡ true → anonymous before < anonymous (before ++ (o ∷ behind))
+anonymous-grows : (before behind : List Occurrence) (o : Occurrence) → isNew o ≡ true
+    → anonymous before < anonymous (before ++ (o ∷ behind))
 unfolding anonymous
 anonymous-grows [] behind o h = rw h (omega arith)
 anonymous-grows (p ∷ before) behind o h = go (isNew p) (anonymous-grows before behind o h)
   where
-    go : (t : Bool) → anonymous before < anonymous (before ++ (o ∷ behind)) → cond t (suc (anonymous before)) (anonymous before) < cond t (suc (anonymous (before ++ (o ∷ behind)))) (anonymous (before ++ (o ∷ behind)))
+    go : (t : Bool) → anonymous before < anonymous (before ++ (o ∷ behind))
+        → cond t (suc (anonymous before)) (anonymous before) < cond t (suc (anonymous (before ++ (o ∷ behind))))
+        (anonymous (before ++ (o ∷ behind)))
     go true k = omega arith
     go false k = k
 
-pub another-is : (names : List ℕ) (before behind : List Occurrence) (o : Occurrence) → isNew o ≡ true → countOf names before < countOf names (before ++ (o ∷ behind))
+pub another-is : (names : List ℕ) (before behind : List Occurrence) (o : Occurrence) → isNew o ≡ true
+    → countOf names before < countOf names (before ++ (o ∷ behind))
 another-is names before behind o h = omega (arith, anonymous-grows before behind o h)
 
 -- ---- the steps of a record fit
@@ -77,7 +88,8 @@ all-fit number zero (w ∷ words) = fails
 all-fit number (suc fuel) [] = read tt
 all-fit number (suc fuel) (w ∷ words) =
     holds-onward (λ step rest. fits step ≡ true) (λ items rest. AllFit items) (step-fits (w ∷ words))
-    (λ s rest p. holds-onward (λ items last. AllFit items) (λ items last. AllFit items) (all-fit (suc number) fuel rest) (λ items last q. read (p, q)))
+    (λ s rest p. holds-onward (λ items last. AllFit items) (λ items last. AllFit items) (all-fit (suc number) fuel rest)
+    (λ items last q. read (p, q)))
 
 pub steps-fit : (words : List ℕ) → AllFit (stepsOf words)
 unfolding itemsOf
@@ -87,24 +99,31 @@ steps-fit words = go (all-fit 0 (length words) words)
     go (read p) = p
     go fails = tt
 
-steps-same : (names : List ℕ) (out : Bool) (l : List Step) → AllFit l → (s : Lowerer) → runSteps names out l s ≡ inTurn (oneStep names out) l s
+steps-same : (names : List ℕ) (out : Bool) (l : List Step) → AllFit l → (s : Lowerer)
+    → runSteps names out l s ≡ inTurn (oneStep names out) l s
 unfolding inTurn
 steps-same names out [] p s = refl
 steps-same names out (x ∷ l) p s = rw (one-fits names out x s (p .0)) (go (lowerStep names out x s) (steps-same names out l (p .1)))
   where
     go : (o : Outcome (Answer Lowerer)) → ((s : Lowerer) → runSteps names out l s ≡ inTurn (oneStep names out) l s)
-        → after o (λ first. after (runSteps names out l (first .left)) (λ rest. Gives (answer (first .given ++ rest .given) (rest .left))))
-        ≡ after o (λ first. after (inTurn (oneStep names out) l (first .left)) (λ rest. Gives (answer (first .given ++ rest .given) (rest .left))))
+        → after o
+        (λ first. after (runSteps names out l (first .left))
+        (λ rest. Gives (answer (first .given ++ rest .given) (rest .left))))
+        ≡ after o
+        (λ first. after (inTurn (oneStep names out) l (first .left))
+        (λ rest. Gives (answer (first .given ++ rest .given) (rest .left))))
     go (Gives a) more = rw (more (a .left))
     go (Refuses r) more = refl
 
-pub steps-one-by-one : (names : List ℕ) (out : Bool) (words : List ℕ) (s : Lowerer) → runSteps names out (stepsOf words) s ≡ inTurn (oneStep names out) (stepsOf words) s
+pub steps-one-by-one : (names : List ℕ) (out : Bool) (words : List ℕ) (s : Lowerer)
+    → runSteps names out (stepsOf words) s ≡ inTurn (oneStep names out) (stepsOf words) s
 steps-one-by-one names out words s = steps-same names out (stepsOf words) (steps-fit words) s
 
 -- ---- no refusal due, the count is at most 64
 
 module _ (names : List ℕ) (self : Receiver) where
-  one-few : (before : List Occurrence) (st : Standing) (word : ℕ) → elidedCheck names self before st (eqb word 1) .due ≡ false → countOf names before ≤ 64
+  one-few : (before : List Occurrence) (st : Standing) (word : ℕ)
+      → elidedCheck names self before st (eqb word 1) .due ≡ false → countOf names before ≤ 64
       → countOf names before + cond (isNew (occurs st word)) 1 0 ≤ 64
   one-few before Input word e h = grows (eqb word 1) e
     where
@@ -118,21 +137,26 @@ module _ (names : List ℕ) (self : Receiver) where
       grows false k = omega arith
   one-few before Output word e h = omega arith
 
-  occurrences-few : (before l : List Occurrence) → NoneDue (checks names self before l) → countOf names before ≤ 64 → countOf names (before ++ l) ≤ 64
+  occurrences-few : (before l : List Occurrence) → NoneDue (checks names self before l) → countOf names before ≤ 64
+      → countOf names (before ++ l) ≤ 64
   unfolding throughout
   occurrences-few before [] n h = rw append-nil h
   occurrences-few before (o ∷ l) n h =
       let p = none-split (checksAt names self before o) (checks names self (before ++ (o ∷ [])) l) n in
-      let one : countOf names (before ++ (o ∷ [])) ≤ 64 = rw (count-more names before o) (one-few before (o .standing) (o .word) (none-first (none-rest (p .0))) h) in
+      let one : countOf names (before ++ (o ∷ [])) ≤ 64 =
+      rw (count-more names before o) (one-few before (o .standing) (o .word) (none-first (none-rest (p .0))) h) in
       let all : countOf names ((before ++ (o ∷ [])) ++ l) ≤ 64 = occurrences-few (before ++ (o ∷ [])) l (p .1) one in
       rw append-assoc at all
 
-  items-few : (before l : List Item) → NoneDue (throughout (stepChecks names self) before l) → countOf names (occurrences self before) ≤ 64 → countOf names (occurrences self (before ++ l)) ≤ 64
+  items-few : (before l : List Item) → NoneDue (throughout (stepChecks names self) before l)
+      → countOf names (occurrences self before) ≤ 64 → countOf names (occurrences self (before ++ l)) ≤ 64
   unfolding throughout
   items-few before [] n h = rw (append-nil before) h
   items-few before (i ∷ l) n h =
       let p = none-split (stepChecks names self before i) (throughout (stepChecks names self) (before ++ (i ∷ [])) l) n in
-      let one : countOf names (occurrences self (before ++ (i ∷ []))) ≤ 64 = rw (occurrences-last names self before i) (occurrences-few (occurrences self before) (occurrencesAt before i) (p .0) h) in
+      let one : countOf names (occurrences self (before ++ (i ∷ []))) ≤ 64 =
+      rw (occurrences-last names self before i)
+      (occurrences-few (occurrences self before) (occurrencesAt before i) (p .0) h) in
       let all : countOf names (occurrences self ((before ++ (i ∷ [])) ++ l)) ≤ 64 = items-few (before ++ (i ∷ [])) l (p .1) one in
       rw (append-assoc before (i ∷ []) l) at all
 
@@ -144,8 +168,14 @@ module _ (names : List ℕ) (self : Receiver) where
   unfolding throughout
   first-few h = rw (append-nil (selfOccurrences self)) h
 
-  pub method-few : (steps returns : List Step) → length names ≤ 64 → NoneDue (methodChecks names self steps returns) → countOf names (occurrences self (inputs steps ++ outputs returns)) ≤ 64
+  pub method-few : (steps returns : List Step) → length names ≤ 64 → NoneDue (methodChecks names self steps returns)
+      → countOf names (occurrences self (inputs steps ++ outputs returns)) ≤ 64
   method-few steps returns h n =
-      let p = none-split (checks names self [] (selfOccurrences self)) (throughout (stepChecks names self) [] (inputs steps) ++ throughout (stepChecks names self) (inputs steps) (outputs returns)) n in
-      let q = none-split (throughout (stepChecks names self) [] (inputs steps)) (throughout (stepChecks names self) (inputs steps) (outputs returns)) (p .1) in
-      items-few (inputs steps) (outputs returns) (q .1) (items-few [] (inputs steps) (q .0) (first-few (occurrences-few [] (selfOccurrences self) (p .0) (none-few h))))
+      let p = none-split (checks names self [] (selfOccurrences self))
+      (throughout (stepChecks names self) [] (inputs steps) ++ throughout (stepChecks names self) (inputs steps)
+      (outputs returns)) n in
+      let q = none-split (throughout (stepChecks names self) [] (inputs steps))
+      (throughout (stepChecks names self) (inputs steps) (outputs returns)) (p .1) in
+      items-few (inputs steps) (outputs returns) (q .1)
+      (items-few [] (inputs steps) (q .0)
+      (first-few (occurrences-few [] (selfOccurrences self) (p .0) (none-few h))))

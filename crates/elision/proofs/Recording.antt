@@ -1,8 +1,9 @@
--- A record lowered step by step: the loop of `put_record`. What is left to be read, lowered from here behind what is done, is what the whole record gives.
+-- A record lowered step by step: the loop of `put_record`. What is left to be read, lowered from here behind what is
+-- done, is what the whole record gives.
 use Prim.Native.Nat.{ℕ, zero, suc, _+_, _*_, _≤_, _<_}
-use mathlib.Core.Bool.{Bool, true}
+use mathlib.Core.Bool.{Bool, true, and-eq-true-iff}
 use mathlib.Core.Path.{_≡_, refl, sym, ap, _∙_}
-use mathlib.Core.List.{List, [], _∷_, _++_, map, append-nil, append-assoc}
+use mathlib.Core.List.{List, [], _∷_, _++_, map, append-nil, append-assoc, map-append}
 use native.Mathlib.Nat.{zero-add}
 use native.Mathlib.Omega.{arith}
 use borrow.Author.Tests.{leb-true}
@@ -17,23 +18,18 @@ use Rattle.records.specs.declared.End.the-variants as end
 use Rattle.records.specs.Reading.{Reading, Read, Fails, onward, isRead, readOr, readAll, inShape, itemsOf, fewWords}
 use Rattle.records.specs.Ends.{EndsAt, ends}
 use Rattle.records.proofs.VerdictLaws.{refused-accepted}
-use Rattle.records.proofs.ReadingLaws.{passed}
+use Rattle.records.proofs.ReadingLaws.{passed, fails-read}
 use Rattle.elision.specs.declared.lowerer.Lowerer.{Lowerer}
 use Rattle.elision.specs.declared.lowerer.Seen.{Seen}
 use Rattle.elision.specs.declared.put.Took.{Took}
 use Rattle.elision.specs.Steps.{Step, readStep, stepsInShape, stepsOf}
 use Rattle.elision.specs.Machine.{Answer, answer, inTurn, fits, lowerStep, oneStep, runSteps}
 use Rattle.elision.specs.Inner.{shown, Shows, Given, Lowers, PutsStep}
-use Rattle.elision.proofs.Running.{map-append}
-use Rattle.elision.proofs.Taking.{both}
 
 abbrev item : ℕ → List ℕ → Reading Step
 item number = readStep
 
 -- ---- what is read, one step more
-
-read-contra : {A : Type 0} {B : Type 0} {b : B} {rest : List ℕ} → Fails ≡ Read b rest → A
-read-contra e = let z : _≡_ {A = ℕ} 0 1 = cc in absurd (omega arith)
 
 read-is : (r : Reading (List Step)) → isRead r ≡ true → (tail : List ℕ) × (r ≡ Read (readOr [] r) tail)
 read-is (Read items tail) e = (tail, refl)
@@ -48,27 +44,31 @@ pub record Turn (number : ℕ) (words : List ℕ) (rest : List Step) (tail : Lis
   pub more : readAll item (suc number) fuel behind ≡ Read items tail
   pub all : rest ≡ step ∷ items
 
-read-turn : (number fuel : ℕ) (words : List ℕ) (rest : List Step) (tail : List ℕ) → 0 < length words → readAll item number fuel words ≡ Read rest tail → Turn number words rest tail
+read-turn : (number fuel : ℕ) (words : List ℕ) (rest : List Step) (tail : List ℕ) → 0 < length words
+    → readAll item number fuel words ≡ Read rest tail → Turn number words rest tail
 unfolding readAll
 read-turn number fuel [] rest tail h e = absurd (omega arith)
-read-turn number zero (w ∷ words) rest tail h e = read-contra e
+read-turn number zero (w ∷ words) rest tail h e = fails-read e
 read-turn number (suc fuel) (w ∷ words) rest tail h e = go (readStep (w ∷ words)) refl e
   where
     whole : Step → Reading (List Step) → Reading (List Step)
     whole s r = onward r (λ items last. Read (s ∷ items) last)
 
-    inside : (s : Step) (b : List ℕ) → readStep (w ∷ words) ≡ Read s b → (r : Reading (List Step)) → readAll item (suc number) fuel b ≡ r
+    inside : (s : Step) (b : List ℕ) → readStep (w ∷ words) ≡ Read s b → (r : Reading (List Step))
+        → readAll item (suc number) fuel b ≡ r
         → onward r (λ items last. Read (s ∷ items) last) ≡ Read rest tail → Turn number (w ∷ words) rest tail
     inside s b q (Read items last) k f =
         let t : last ≡ tail = cc in
         let a : rest ≡ s ∷ items = cc in
         record { step = s; behind = b; items = items; fuel = fuel; is = q; more = rw (← t) k; all = a }
-    inside s b q Fails k f = read-contra f
+    inside s b q Fails k f = fails-read f
 
-    go : (r : Reading Step) → readStep (w ∷ words) ≡ r → onward r (λ a behind. onward (readAll item (suc number) fuel behind) (λ items last. Read (a ∷ items) last)) ≡ Read rest tail
+    go : (r : Reading Step) → readStep (w ∷ words) ≡ r
+        → onward r (λ a behind. onward (readAll item (suc number) fuel behind) (λ items last. Read (a ∷ items) last))
+        ≡ Read rest tail
         → Turn number (w ∷ words) rest tail
     go (Read s b) q f = inside s b q (readAll item (suc number) fuel b) refl f
-    go Fails q f = read-contra f
+    go Fails q f = fails-read f
 
 read-none : (number fuel : ℕ) (rest : List Step) (tail : List ℕ) → readAll item number fuel [] ≡ Read rest tail → rest ≡ []
 unfolding readAll
@@ -80,8 +80,10 @@ read-none number (suc fuel) rest tail e = cc
 abbrev behindDone : List MaybeStatic → Answer Lowerer → Outcome (Answer Lowerer)
 behindDone done a = Gives (answer (done ++ a .given) (a .left))
 
--- from the lowerer that the record starts with: what is left of the record, the lowerer that it is left to, shown as it is passed on, and what is done
-pub record Reached (names : List ℕ) (out : Bool) (words : List ℕ) (start : Lowerer) (slice₀ slice list : List ℕ) (seen : Seen) (kept : Bool) (own n at : ℕ) : Type 0 where
+-- from the lowerer that the record starts with: what is left of the record, the lowerer that it is left to, shown as it
+-- is passed on, and what is done
+pub record Reached (names : List ℕ) (out : Bool) (words : List ℕ) (start : Lowerer) (slice₀ slice list : List ℕ)
+    (seen : Seen) (kept : Bool) (own n at : ℕ) : Type 0 where
   pub number : ℕ
   pub fuel : ℕ
   pub rest : List Step
@@ -95,7 +97,8 @@ pub record Reached (names : List ℕ) (out : Bool) (words : List ℕ) (start : L
   pub stored : slice ≡ sets slice₀ 0 (map shown done)
 
 -- the loop: numbers that are safe, and the above for every lowerer that the first numbers show
-pub record Recording (names : List ℕ) (out : Bool) (words : List ℕ) (before : Seen) (was : Bool) (had : ℕ) (list₀ slice₀ list slice : List ℕ) (seen : Seen) (kept : Bool) (own n at : ℕ) : Type 0 where
+pub record Recording (names : List ℕ) (out : Bool) (words : List ℕ) (before : Seen) (was : Bool) (had : ℕ)
+    (list₀ slice₀ list slice : List ℕ) (seen : Seen) (kept : Bool) (own n at : ℕ) : Type 0 where
   pub few : length words ≤ 1024
   pub within : at ≤ length words
   pub small : n ≤ 16 * at
@@ -107,11 +110,12 @@ after-itself : (o : Outcome (Answer Lowerer)) → o ≡ after o (behindDone [])
 after-itself (Gives a) = refl
 after-itself (Refuses r) = refl
 
-pub recording-start : (names : List ℕ) (out : Bool) (words : List ℕ) (before : Seen) (was : Bool) (had : ℕ) (list slice : List ℕ) → stepsInShape words ≡ true → had ≤ 16
+pub recording-start : (names : List ℕ) (out : Bool) (words : List ℕ) (before : Seen) (was : Bool) (had : ℕ)
+    (list slice : List ℕ) → stepsInShape words ≡ true → had ≤ 16
     → Recording names out words before was had list slice list slice before was had 0 0
 unfolding inShape itemsOf
 recording-start names out words before was had list slice e few =
-    let p = both (fewWords words) (isRead (readAll item 0 (length words) words)) e in
+    let p = (and-eq-true-iff (fewWords words) (isRead (readAll item 0 (length words) words))) .0 e in
     let q = read-is (readAll item 0 (length words) words) (p .1) in
     record {
       few = leb-true (length words) 1024 (p .0);
@@ -135,23 +139,31 @@ recording-start names out words before was had list slice e few =
     }
 
 -- where a step that was read ends
-ends-behind : {words : List ℕ} {at next : ℕ} {reading : Reading Step} (s : Step) (b : List ℕ) → EndsAt words at reading (end.At next) → reading ≡ Read s b → drop next words ≡ b
+ends-behind : {words : List ℕ} {at next : ℕ} {reading : Reading Step} (s : Step) (b : List ℕ)
+    → EndsAt words at reading (end.At next) → reading ≡ Read s b → drop next words ≡ b
 ends-behind s b (ends {a} {rest} d x e) q = let r : rest ≡ b = cc in d ∙ r
 
-ends-order : {words : List ℕ} {at next : ℕ} {reading : Reading Step} → EndsAt words at reading (end.At next) → (at < next) × (next ≤ length words)
+ends-order : {words : List ℕ} {at next : ℕ} {reading : Reading Step} → EndsAt words at reading (end.At next)
+    → (at < next) × (next ≤ length words)
 ends-order (ends d x e) = (x, e)
 
-pub one-fits : (names : List ℕ) (out : Bool) (step : Step) (s : Lowerer) → fits step ≡ true → oneStep names out step s ≡ lowerStep names out step s
+pub one-fits : (names : List ℕ) (out : Bool) (step : Step) (s : Lowerer) → fits step ≡ true
+    → oneStep names out step s ≡ lowerStep names out step s
 unfolding oneStep
 one-fits names out step s h = rw h
 
 -- one lowerer: the end, and one step more
-module _ {names : List ℕ} {out : Bool} {words : List ℕ} {start : Lowerer} {slice₀ slice list : List ℕ} {seen : Seen} {kept : Bool} {own n at : ℕ}
+module _ {names : List ℕ} {out : Bool} {words : List ℕ} {start : Lowerer} {slice₀ slice list : List ℕ} {seen : Seen}
+    {kept : Bool} {own n at : ℕ}
     (inv : Reached names out words start slice₀ slice list seen kept own n at) where
-  reached-end : length words ≤ at → {to : ℕ} → Lowers (runSteps names out (stepsOf words) start) 0 list slice₀ slice (record { verdict = verdict.Accepted; seen = seen; kept = kept; own = own; n = n; to = to })
+  reached-end : length words ≤ at → {to : ℕ}
+      → Lowers (runSteps names out (stepsOf words) start) 0 list slice₀ slice
+      (record { verdict = verdict.Accepted; seen = seen; kept = kept; own = own; n = n; to = to })
   unfolding inTurn
   reached-end h =
-      let none : inv .rest ≡ [] = read-none (inv .number) (inv .fuel) (inv .rest) (inv .tail) (rw (drop-of-length-le words {i = at} h) at (inv .reads)) in
+      let none : inv .rest ≡ [] =
+      read-none (inv .number) (inv .fuel) (inv .rest) (inv .tail)
+      (rw (drop-of-length-le words {i = at} h) at (inv .reads)) in
       record {
         accepted = λ v. record {
           it = answer (inv .done) (inv .here);
@@ -168,10 +180,13 @@ module _ {names : List ℕ} {out : Bool} {words : List ℕ} {start : Lowerer} {s
     turn = read-turn (inv .number) (inv .fuel) (drop at words) (inv .rest) (inv .tail) (rw length-drop (omega arith)) (inv .reads)
 
     next : runSteps names out (stepsOf words) start
-        ≡ after (after (lowerStep names out (turn .step) (inv .here)) (λ first. after (runSteps names out (turn .items) (first .left)) (λ rest. Gives (answer (first .given ++ rest .given) (rest .left)))))
+        ≡ after (after (lowerStep names out (turn .step) (inv .here))
+        (λ first. after (runSteps names out (turn .items) (first .left))
+        (λ rest. Gives (answer (first .given ++ rest .given) (rest .left)))))
         (behindDone (inv .done))
     unfolding inTurn
-    next = inv .left ∙ ap (λ (o : Outcome (Answer Lowerer)). after o (behindDone (inv .done))) (ap (λ (l : List Step). runSteps names out l (inv .here)) (turn .all))
+    next = inv .left ∙ ap (λ (o : Outcome (Answer Lowerer)). after o (behindDone (inv .done)))
+        (ap (λ (l : List Step). runSteps names out l (inv .here)) (turn .all))
 
     module _ {list₁ slice₁ : List ℕ} {r : Took} (put : PutsStep names words out at seen kept own n list list₁ slice slice₁ r) where
       one : Lowers (lowerStep names out (turn .step) (inv .here)) n list₁ slice slice₁ r
@@ -180,15 +195,18 @@ module _ {names : List ℕ} {out : Bool} {words : List ℕ} {start : Lowerer} {s
       reached-refused : (k : Refusal) → r .verdict ≡ verdict.Refused k → runSteps names out (stepsOf words) start ≡ Refuses k
       reached-refused k v = rw (next, one .refused k v)
 
-      reached-more : r .verdict ≡ verdict.Accepted → Reached names out words start slice₀ slice₁ list₁ (r .seen) (r .kept) (r .own) (r .n) (r .to)
+      reached-more : r .verdict ≡ verdict.Accepted
+          → Reached names out words start slice₀ slice₁ list₁ (r .seen) (r .kept) (r .own) (r .n) (r .to)
       reached-more v = go (one .accepted v)
         where
           join : (a : Answer Lowerer) (o : Outcome (Answer Lowerer))
-              → after (after o (λ rest. Gives (answer (a .given ++ rest .given) (rest .left)))) (behindDone (inv .done)) ≡ after o (behindDone (inv .done ++ a .given))
+              → after (after o (λ rest. Gives (answer (a .given ++ rest .given) (rest .left)))) (behindDone (inv .done))
+              ≡ after o (behindDone (inv .done ++ a .given))
           join a (Gives b) = rw append-assoc
           join a (Refuses k) = refl
 
-          go : Given (lowerStep names out (turn .step) (inv .here)) n list₁ slice slice₁ r → Reached names out words start slice₀ slice₁ list₁ (r .seen) (r .kept) (r .own) (r .n) (r .to)
+          go : Given (lowerStep names out (turn .step) (inv .here)) n list₁ slice slice₁ r
+              → Reached names out words start slice₀ slice₁ list₁ (r .seen) (r .kept) (r .own) (r .n) (r .to)
           go g =
               let a = g .it in
               let size : length (map shown (inv .done)) ≡ n = length-map (inv .done) shown ∙ inv .count in
@@ -204,25 +222,37 @@ module _ {names : List ℕ} {out : Bool} {words : List ℕ} {start : Lowerer} {s
                 here = a .left;
                 shows = g .shows;
                 left = rw (next, g .is) (join a (runSteps names out (turn .items) (a .left)));
-                stored = rw (g .stored, inv .stored, map-append (inv .done) (a .given), sets-append slice₀ 0 (map shown (inv .done)) (map shown (a .given)), len);
+                stored = rw (
+                  g .stored,
+                  inv .stored,
+                  map-append shown (inv .done) (a .given),
+                  sets-append slice₀ 0 (map shown (inv .done)) (map shown (a .given)),
+                  len,
+                );
               }
 
-pub recording-less : {names words : List ℕ} {out : Bool} {at : ℕ} {seen : Seen} {kept : Bool} {own n : ℕ} {list list₁ slice slice₁ : List ℕ} {r : Took}
-    → PutsStep names words out at seen kept own n list list₁ slice slice₁ r → r .verdict ≡ verdict.Accepted → (at < r .to) × (r .to ≤ length words)
+pub recording-less : {names words : List ℕ} {out : Bool} {at : ℕ} {seen : Seen} {kept : Bool} {own n : ℕ}
+    {list list₁ slice slice₁ : List ℕ} {r : Took}
+    → PutsStep names words out at seen kept own n list list₁ slice slice₁ r → r .verdict ≡ verdict.Accepted
+    → (at < r .to) × (r .to ≤ length words)
 recording-less put v = ends-order (put .ends v)
 
-module _ {names : List ℕ} {out : Bool} {words : List ℕ} {before : Seen} {was : Bool} {had : ℕ} {list₀ slice₀ list slice : List ℕ} {seen : Seen} {kept : Bool} {own n at : ℕ}
+module _ {names : List ℕ} {out : Bool} {words : List ℕ} {before : Seen} {was : Bool} {had : ℕ}
+    {list₀ slice₀ list slice : List ℕ} {seen : Seen} {kept : Bool} {own n at : ℕ}
     (inv : Recording names out words before was had list₀ slice₀ list slice seen kept own n at) where
   pub recording-room : at < length words → (own ≤ 16) × (n ≤ 65536)
   recording-room h = (inv .held, omega (arith, inv .small, inv .few))
 
   pub recording-end : length words ≤ at → {to : ℕ} → (own ≤ 16) × ((s : Lowerer) → Shows s before was had list₀
-      → Lowers (runSteps names out (stepsOf words) s) 0 list slice₀ slice (record { verdict = verdict.Accepted; seen = seen; kept = kept; own = own; n = n; to = to }))
+      → Lowers (runSteps names out (stepsOf words) s) 0 list slice₀ slice
+      (record { verdict = verdict.Accepted; seen = seen; kept = kept; own = own; n = n; to = to }))
   recording-end h = (inv .held, λ s sh. reached-end (inv .reached s sh) h)
 
   module _ {list₁ slice₁ : List ℕ} {r : Took} (put : PutsStep names words out at seen kept own n list list₁ slice slice₁ r) where
     pub recording-refused : {k : Refusal} → at < length words → r .verdict ≡ verdict.Refused k
-        → (r .own ≤ 16) × ((s : Lowerer) → Shows s before was had list₀ → Lowers (runSteps names out (stepsOf words) s) 0 list₁ slice₀ slice₁ r)
+        → (r .own ≤ 16)
+        × ((s : Lowerer) → Shows s before was had list₀
+        → Lowers (runSteps names out (stepsOf words) s) 0 list₁ slice₀ slice₁ r)
     recording-refused {k} h v = (
       put .few,
       λ s sh. record {
@@ -231,7 +261,8 @@ module _ {names : List ℕ} {out : Bool} {words : List ℕ} {before : Seen} {was
       },
     )
 
-    pub recording-more : r .verdict ≡ verdict.Accepted → length slice₁ ≡ length slice → Recording names out words before was had list₀ slice₀ list₁ slice₁ (r .seen) (r .kept) (r .own) (r .n) (r .to)
+    pub recording-more : r .verdict ≡ verdict.Accepted → length slice₁ ≡ length slice
+        → Recording names out words before was had list₀ slice₀ list₁ slice₁ (r .seen) (r .kept) (r .own) (r .n) (r .to)
     recording-more v size =
         let order = recording-less put v in
         let h : at < length words = omega (arith, order .0, order .1) in

@@ -1,4 +1,5 @@
--- The lowerer's steps give what RFC 141 says: its state after some steps, as a function of what stands before, and what one lifetime, one step and one record more bring.
+-- The lowerer's steps give what RFC 141 says: its state after some steps, as a function of what stands before, and what
+-- one lifetime, one step and one record more bring.
 use Prim.Native.Nat.{ℕ, zero, suc, _+_}
 use mathlib.Core.Bool.{Bool, true, false, cond, _&&_, _||_, not}
 use mathlib.Core.Path.{_≡_, refl, ap, _∙_}
@@ -15,20 +16,28 @@ use Rattle.lifetimes.specs.Numbers.{lifetime}
 use Rattle.lifetimes.specs.Refusals.{Check, check, Outcome, Gives, Refuses, unless, after}
 use Rattle.ast_lifetimes.specs.Env.{place, isDeclared}
 use Rattle.elision.specs.declared.source.ElisionSource.{ElisionSource}
-use Rattle.elision.specs.declared.source.ElisionSource.the-variants.{NoBorrows, SelfParam, OneParam, MultipleBorrows}
+use Rattle.elision.specs.declared.source.ElisionSource.the-variants.{NoBorrows, SelfParam, OneParam}
+use Rattle.elision.specs.declared.source.ElisionSource.the-variants.{MultipleBorrows}
 use Rattle.elision.specs.declared.lowerer.Standing.{Standing}
 use Rattle.elision.specs.declared.lowerer.Standing.the-variants.{Input, Aside, Output}
 use Rattle.elision.specs.declared.lowerer.Lowered.{Lowered}
 use Rattle.elision.specs.declared.lowerer.Seen.{Seen}
 use Rattle.elision.specs.declared.lowerer.Lowerer.{Lowerer}
 use Rattle.elision.specs.Steps.{Step, Lifetime, Generics, SelfType, Receiver, NoSelf, SelfRef}
-use Rattle.elision.specs.Rfc.{throughout, Occurrence, occurs, makes, isNew, anonymous, countOf, madeAt, positionAt, positions, only, sourceAt, sourceOr, valueAt, values, sourceCheck, elidedCheck, checksAt, checks, Item, standingIn, padded, isSelfType, hasSelfType, stepOccurrences, occurrencesAt, selfOccurrences, occurrences, ownFrom, loweredAt, stepChecks, inputs, outputs, Method, methodOf, rfc141}
-use Rattle.elision.specs.Machine.{visit, Answer, answer, inTurn, visited, lowers, fromSource, lowerWord, lowerWords, lowered, valuesIn, laid, wordsStep, lowerStep, unused, firstOr, selfRef, lowerSelf, runSteps, runMethod}
+use Rattle.elision.specs.Rfc.{throughout, Occurrence, occurs, makes, isNew, anonymous, countOf, madeAt}
+use Rattle.elision.specs.Rfc.{positionAt, positions, only, sourceAt, sourceOr, valueAt, values, sourceCheck}
+use Rattle.elision.specs.Rfc.{elidedCheck, checksAt, checks, Item, standingIn, padded, isSelfType, hasSelfType}
+use Rattle.elision.specs.Rfc.{stepOccurrences, occurrencesAt, selfOccurrences, occurrences, ownFrom, loweredAt}
+use Rattle.elision.specs.Rfc.{stepChecks, inputs, outputs, Method, methodOf, rfc141}
+use Rattle.elision.specs.Machine.{visit, Answer, answer, inTurn, visited, lowers, fromSource, lowerWord}
+use Rattle.elision.specs.Machine.{lowerWords, lowered, valuesIn, laid, wordsStep, lowerStep, unused, firstOr}
+use Rattle.elision.specs.Machine.{selfRef, lowerSelf, runSteps, runMethod}
 
 -- ---- what each of a list brings, over joined lists
 
 module _ {A B : Type 0} (each : List A → A → List B) where
-  pub throughout-append : (before l m : List A) → throughout each before (l ++ m) ≡ throughout each before l ++ throughout each (before ++ l) m
+  pub throughout-append : (before l m : List A)
+      → throughout each before (l ++ m) ≡ throughout each before l ++ throughout each (before ++ l) m
   unfolding throughout
   throughout-append before [] m = rw append-nil
   throughout-append before (a ∷ l) m = rw (throughout-append (before ++ (a ∷ [])) l m, append-assoc, append-assoc)
@@ -44,24 +53,32 @@ unfolding unless
 after-gives [] a f = refl
 after-gives (c ∷ cs) a f = go (c .due) (after-gives cs a f)
   where
-    go : (t : Bool) → after (unless cs a) (λ x. Gives (f x)) ≡ unless cs (f a) → after (cond t (Refuses (c .refusal)) (unless cs a)) (λ x. Gives (f x)) ≡ cond t (Refuses (c .refusal)) (unless cs (f a))
+    go : (t : Bool) → after (unless cs a) (λ x. Gives (f x)) ≡ unless cs (f a)
+        → after (cond t (Refuses (c .refusal)) (unless cs a)) (λ x. Gives (f x))
+        ≡ cond t (Refuses (c .refusal)) (unless cs (f a))
     go true h = refl
     go false h = h
 
-pub after-unless : {A B : Type 0} (cs ds : List Check) (a : A) (b : B) (f : A → Outcome B) → f a ≡ unless ds b → after (unless cs a) f ≡ unless (cs ++ ds) b
+pub after-unless : {A B : Type 0} (cs ds : List Check) (a : A) (b : B) (f : A → Outcome B) → f a ≡ unless ds b
+    → after (unless cs a) f ≡ unless (cs ++ ds) b
 unfolding unless
 after-unless [] ds a b f h = h
 after-unless (c ∷ cs) ds a b f h = go (c .due) (after-unless cs ds a b f h)
   where
-    go : (t : Bool) → after (unless cs a) f ≡ unless (cs ++ ds) b → after (cond t (Refuses (c .refusal)) (unless cs a)) f ≡ cond t (Refuses (c .refusal)) (unless (cs ++ ds) b)
+    go : (t : Bool) → after (unless cs a) f ≡ unless (cs ++ ds) b
+        → after (cond t (Refuses (c .refusal)) (unless cs a)) f ≡ cond t (Refuses (c .refusal)) (unless (cs ++ ds) b)
     go true k = refl
     go false k = k
 
 -- steps one after another, where each gives what is said of it in view of those before it
-module _ {X Y S : Type 0} (step : X → S → Outcome (Answer S)) (item : X → Y) (state : List Y → S) (check-at : List Y → Y → List Check) (value-at : List Y → Y → List MaybeStatic)
-    (one : (before : List Y) (x : X) → step x (state before) ≡ unless (check-at before (item x)) (answer (value-at before (item x)) (state (before ++ (item x ∷ []))))) where
+module _ {X Y S : Type 0} (step : X → S → Outcome (Answer S)) (item : X → Y) (state : List Y → S) (check-at : List Y → Y
+    → List Check) (value-at : List Y → Y → List MaybeStatic)
+    (one : (before : List Y) (x : X)
+    → step x (state before) ≡ unless (check-at before (item x))
+    (answer (value-at before (item x)) (state (before ++ (item x ∷ []))))) where
   pub in-turn : (before : List Y) (l : List X)
-      → inTurn step l (state before) ≡ unless (throughout check-at before (map item l)) (answer (throughout value-at before (map item l)) (state (before ++ map item l)))
+      → inTurn step l (state before) ≡ unless (throughout check-at before (map item l))
+      (answer (throughout value-at before (map item l)) (state (before ++ map item l)))
   unfolding inTurn throughout unless
   in-turn before [] = rw append-nil
   in-turn before (x ∷ l) =
@@ -70,10 +87,12 @@ module _ {X Y S : Type 0} (step : X → S → Outcome (Answer S)) (item : X → 
       let vs = throughout value-at here (map item l) in
       let e : state (here ++ map item l) ≡ state (before ++ (item x ∷ map item l)) = rw append-assoc in
       let join : Answer S → Answer S = λ r. answer (value-at before (item x) ++ r .given) (r .left) in
-      let more : after (inTurn step l (state here)) (λ r. Gives (join r)) ≡ unless rest (join (answer vs (state (here ++ map item l)))) =
+      let more : after (inTurn step l (state here)) (λ r. Gives (join r))
+      ≡ unless rest (join (answer vs (state (here ++ map item l)))) =
       rw (in-turn here l) (after-gives rest (answer vs (state (here ++ map item l))) join) in
       rw (one before x, ← e)
-      (after-unless (check-at before (item x)) rest (answer (value-at before (item x)) (state here)) (join (answer vs (state (here ++ map item l))))
+      (after-unless (check-at before (item x)) rest (answer (value-at before (item x)) (state here))
+      (join (answer vs (state (here ++ map item l))))
       (λ first. after (inTurn step l (first .left)) (λ r. Gives (answer (first .given ++ r .given) (r .left)))) more)
 
 -- ---- one lifetime
@@ -88,7 +107,8 @@ anonymous-last [] o = go (isNew o)
 anonymous-last (p ∷ l) o = go (isNew p) (anonymous-last l o)
   where
     go : (t : Bool) → anonymous (l ++ (o ∷ [])) ≡ anonymous l + cond (isNew o) 1 0
-        → cond t (suc (anonymous (l ++ (o ∷ [])))) (anonymous (l ++ (o ∷ []))) ≡ cond t (suc (anonymous l)) (anonymous l) + cond (isNew o) 1 0
+        → cond t (suc (anonymous (l ++ (o ∷ [])))) (anonymous (l ++ (o ∷ [])))
+        ≡ cond t (suc (anonymous l)) (anonymous l) + cond (isNew o) 1 0
     go true h = omega arith
     go false h = h
 
@@ -113,7 +133,9 @@ position-more (p ∷ []) l = refl
 position-more (p ∷ q ∷ ps) l = refl
 
 -- in the output, the machine's source is that of RFC 141
-elided-source : (ps : List MaybeStatic) (s : Seen) → fromSource (fromPositions ps) s ≡ unless (check false Undeclared ∷ sourceCheck true (only ps) ∷ []) (answer (sourceOr (only ps) ∷ []) s)
+elided-source : (ps : List MaybeStatic) (s : Seen)
+    → fromSource (fromPositions ps) s ≡ unless (check false Undeclared ∷ sourceCheck true (only ps) ∷ [])
+    (answer (sourceOr (only ps) ∷ []) s)
 unfolding fromPositions unless
 elided-source [] s = refl
 elided-source (p ∷ []) s = refl
@@ -129,19 +151,29 @@ cond-not true a b = refl
 cond-not false a b = refl
 
 module _ (names : List ℕ) where
-  pub count-more : (before : List Occurrence) (o : Occurrence) → countOf names (before ++ (o ∷ [])) ≡ countOf names before + cond (isNew o) 1 0
+  pub count-more : (before : List Occurrence) (o : Occurrence)
+      → countOf names (before ++ (o ∷ [])) ≡ countOf names before + cond (isNew o) 1 0
   count-more before o = omega (arith, anonymous-last before o)
 
-  positions-last : (before : List Occurrence) (o : Occurrence) → positions names (before ++ (o ∷ [])) ≡ positions names before ++ positionAt names before o
+  positions-last : (before : List Occurrence) (o : Occurrence)
+      → positions names (before ++ (o ∷ [])) ≡ positions names before ++ positionAt names before o
   positions-last before o = throughout-last (positionAt names) before o
 
   -- what is seen with one occurrence more
   seen-more : (self : Receiver) (before : List Occurrence) (st : Standing) (word : ℕ)
       → seenOf names self (before ++ (occurs st word ∷ []))
-      ≡ visited st (madeAt names before word) (sourceFrom names self before) (countOf names before + cond (isNew (occurs st word)) 1 0)
-  seen-more NoSelf before Input word = rw (count-more before (occurs Input word), positions-last before (occurs Input word), position-more (positions names before) (madeAt names before word))
-  seen-more NoSelf before Aside word = rw (count-more before (occurs Aside word), positions-last before (occurs Aside word), append-nil)
-  seen-more NoSelf before Output word = rw (count-more before (occurs Output word), positions-last before (occurs Output word), append-nil)
+      ≡ visited st (madeAt names before word) (sourceFrom names self before)
+      (countOf names before + cond (isNew (occurs st word)) 1 0)
+  seen-more NoSelf before Input word =
+      rw (
+        count-more before (occurs Input word),
+        positions-last before (occurs Input word),
+        position-more (positions names before) (madeAt names before word),
+      )
+  seen-more NoSelf before Aside word =
+      rw (count-more before (occurs Aside word), positions-last before (occurs Aside word), append-nil)
+  seen-more NoSelf before Output word =
+      rw (count-more before (occurs Output word), positions-last before (occurs Output word), append-nil)
   seen-more (SelfRef own) before Input word = rw (count-more before (occurs Input word))
   seen-more (SelfRef own) before Aside word = rw (count-more before (occurs Aside word))
   seen-more (SelfRef own) before Output word = rw (count-more before (occurs Output word))
@@ -159,7 +191,9 @@ module _ (names : List ℕ) where
   abbrev AsSaid : Receiver → Standing → List Occurrence → ℕ → Type 0
   AsSaid self st before word =
       lowerWord names st word (seenOf names self before)
-      ≡ unless (checksAt names self before (occurs st word)) (answer (valueAt names self before (occurs st word) ∷ []) (seenOf names self (before ++ (occurs st word ∷ []))))
+      ≡ unless (checksAt names self before (occurs st word))
+      (answer (valueAt names self before (occurs st word) ∷ [])
+      (seenOf names self (before ++ (occurs st word ∷ []))))
 
   -- one lifetime gives what RFC 141 says
   static-said : (self : Receiver) (st : Standing) (before : List Occurrence) → AsSaid self st before 0
@@ -172,14 +206,26 @@ module _ (names : List ℕ) where
   unfolding lowerWord unless
   anonymous-said self Input before = rw (seen-more self before Input 1)
   anonymous-said self Aside before = rw (seen-more self before Aside 1)
-  anonymous-said NoSelf Output before = rw (seen-more NoSelf before Output 1, add-zero) (elided-source (positions names before) (seenOf names NoSelf before))
+  anonymous-said NoSelf Output before =
+      rw (seen-more NoSelf before Output 1, add-zero)
+      (elided-source (positions names before) (seenOf names NoSelf before))
   anonymous-said (SelfRef own) Output before = rw (seen-more (SelfRef own) before Output 1, add-zero)
 
   name-said : (self : Receiver) (st : Standing) (before : List Occurrence) (k : ℕ) → AsSaid self st before (suc (suc k))
   unfolding lowerWord unless
   name-said self st before k =
-      rw (seen-more self before st (suc (suc k)), ne-eqb (suc (suc k)) 1 (omega arith), ne-eqb (suc (suc k)) 0 (omega arith), le-leb 2 (suc (suc k)) (omega arith), unmade st, add-zero, not-elided self before st)
-      (cond-not (isDeclared names (suc (suc k))) (lowers st (NonStatic (lifetime (place names (suc (suc k))))) (sourceFrom names self before) (countOf names before)) (Refuses Undeclared))
+      rw (
+        seen-more self before st (suc (suc k)),
+        ne-eqb (suc (suc k)) 1 (omega arith),
+        ne-eqb (suc (suc k)) 0 (omega arith),
+        le-leb 2 (suc (suc k)) (omega arith),
+        unmade st,
+        add-zero,
+        not-elided self before st,
+      )
+      (cond-not (isDeclared names (suc (suc k)))
+      (lowers st (NonStatic (lifetime (place names (suc (suc k))))) (sourceFrom names self before)
+      (countOf names before)) (Refuses Undeclared))
 
   pub word-said : (self : Receiver) (st : Standing) (before : List Occurrence) (word : ℕ) → AsSaid self st before word
   word-said self st before zero = static-said self st before
@@ -189,9 +235,12 @@ module _ (names : List ℕ) where
   -- some lifetimes that stand alike
   pub words-said : (self : Receiver) (st : Standing) (before : List Occurrence) (words : List ℕ)
       → lowerWords names st words (seenOf names self before)
-      ≡ unless (checks names self before (map (occurs st) words)) (answer (values names self before (map (occurs st) words)) (seenOf names self (before ++ map (occurs st) words)))
+      ≡ unless (checks names self before (map (occurs st) words))
+      (answer (values names self before (map (occurs st) words))
+      (seenOf names self (before ++ map (occurs st) words)))
   words-said self st before words =
-      in-turn (lowerWord names st) (occurs st) (seenOf names self) (checksAt names self) (λ b o. valueAt names self b o ∷ []) (word-said self st) before words
+      in-turn (lowerWord names st) (occurs st) (seenOf names self) (checksAt names self)
+      (λ b o. valueAt names self b o ∷ []) (word-said self st) before words
 
 -- ---- lists in 16 places
 
@@ -227,7 +276,8 @@ has-self (j ∷ l) i h = go (isSelfType (j .step)) (has-self l i h)
     go false k = k
 
 module _ (names : List ℕ) (self : Receiver) where
-  own-other : (before l : List Item) (i : Item) → isSelfType (i .step) ≡ false → ownFrom names self before (l ++ (i ∷ [])) ≡ ownFrom names self before l
+  own-other : (before l : List Item) (i : Item) → isSelfType (i .step) ≡ false
+      → ownFrom names self before (l ++ (i ∷ [])) ≡ ownFrom names self before l
   unfolding ownFrom
   own-other before [] i h = rw h
   own-other before (j ∷ l) i h = rw (own-other (before ++ (j ∷ [])) l i h)
@@ -240,12 +290,16 @@ module _ (names : List ℕ) (self : Receiver) where
       v : List MaybeStatic
       v = values names self (occurrences self before) (stepOccurrences false (j .output) (j .step))
 
-      go : (t : Bool) → (hasSelfType l ≡ true → ownFrom names self (before ++ (j ∷ [])) (l ++ m) ≡ ownFrom names self (before ++ (j ∷ [])) l) → (t || hasSelfType l) ≡ true
+      go : (t : Bool)
+          → (hasSelfType l ≡ true
+          → ownFrom names self (before ++ (j ∷ [])) (l ++ m) ≡ ownFrom names self (before ++ (j ∷ [])) l)
+          → (t || hasSelfType l) ≡ true
           → cond t v (ownFrom names self (before ++ (j ∷ [])) (l ++ m)) ≡ cond t v (ownFrom names self (before ++ (j ∷ [])) l)
       go true f k = refl
       go false f k = f k
 
-  own-first : (before l m : List Item) → hasSelfType l ≡ false → ownFrom names self before (l ++ m) ≡ ownFrom names self (before ++ l) m
+  own-first : (before l m : List Item) → hasSelfType l ≡ false
+      → ownFrom names self before (l ++ m) ≡ ownFrom names self (before ++ l) m
   unfolding ownFrom hasSelfType
   own-first before [] m h = rw append-nil
   own-first before (j ∷ l) m h = go (isSelfType (j .step)) (own-first (before ++ (j ∷ [])) l m) h
@@ -253,7 +307,10 @@ module _ (names : List ℕ) (self : Receiver) where
       v : List MaybeStatic
       v = values names self (occurrences self before) (stepOccurrences false (j .output) (j .step))
 
-      go : (t : Bool) → (hasSelfType l ≡ false → ownFrom names self (before ++ (j ∷ [])) (l ++ m) ≡ ownFrom names self ((before ++ (j ∷ [])) ++ l) m) → (t || hasSelfType l) ≡ false
+      go : (t : Bool)
+          → (hasSelfType l ≡ false
+          → ownFrom names self (before ++ (j ∷ [])) (l ++ m) ≡ ownFrom names self ((before ++ (j ∷ [])) ++ l) m)
+          → (t || hasSelfType l) ≡ false
           → cond t v (ownFrom names self (before ++ (j ∷ [])) (l ++ m)) ≡ ownFrom names self (before ++ (j ∷ l)) m
       go true f k = let z : _≡_ {A = ℕ} 0 1 = cc in absurd (omega arith)
       go false f k = f k ∙ rw append-assoc
@@ -269,42 +326,67 @@ module _ (names : List ℕ) (self : Receiver) where
       → wordsStep names st words (stateOf before)
       ≡ unless (checks names self (occurrences self before) (map (occurs st) words))
       (answer (values names self (occurrences self before) (map (occurs st) words))
-      (record { seen = seenOf names self (occurrences self before ++ map (occurs st) words); kept = hasSelfType before; own = laid (ownFrom names self [] before) }))
+      (record {
+        seen = seenOf names self (occurrences self before ++ map (occurs st) words);
+        kept = hasSelfType before;
+        own = laid (ownFrom names self [] before);
+      }))
   words-step st before words =
-      let left : Answer Seen → Answer Lowerer = λ a. answer (a .given) (record { seen = a .left; kept = hasSelfType before; own = laid (ownFrom names self [] before) }) in
+      let left : Answer Seen → Answer Lowerer =
+      λ a. answer (a .given)
+      (record { seen = a .left; kept = hasSelfType before; own = laid (ownFrom names self [] before) }) in
       rw (words-said names self st (occurrences self before) words)
       (after-gives (checks names self (occurrences self before) (map (occurs st) words))
-      (answer (values names self (occurrences self before) (map (occurs st) words)) (seenOf names self (occurrences self before ++ map (occurs st) words))) left)
+      (answer (values names self (occurrences self before) (map (occurs st) words))
+      (seenOf names self (occurrences self before ++ map (occurs st) words))) left)
 
   abbrev StepSaid : Bool → List Item → Step → Type 0
   StepSaid out before step =
       lowerStep names out step (stateOf before)
-      ≡ unless (stepChecks names self before (itemOf out step)) (answer (loweredAt names self before (itemOf out step)) (stateOf (before ++ (itemOf out step ∷ []))))
+      ≡ unless (stepChecks names self before (itemOf out step))
+      (answer (loweredAt names self before (itemOf out step)) (stateOf (before ++ (itemOf out step ∷ []))))
 
   self-again : (out : Bool) (before : List Item) (words : List ℕ) → hasSelfType before ≡ true → StepSaid out before (SelfType words)
   unfolding lowerStep unless throughout
   self-again out before words h =
       let i = itemOf out (SelfType words) in
-      rw (occurrences-last before i, has-self before i refl, own-again [] before (i ∷ []) h, h, append-nil, laid-values (ownFrom names self [] before))
+      rw (
+        occurrences-last before i,
+        has-self before i refl,
+        own-again [] before (i ∷ []) h,
+        h,
+        append-nil,
+        laid-values (ownFrom names self [] before),
+      )
 
   self-first : (out : Bool) (before : List Item) (words : List ℕ) → hasSelfType before ≡ false → StepSaid out before (SelfType words)
   unfolding lowerStep ownFrom
   self-first out before words h =
       let i = itemOf out (SelfType words) in
-      let left : Answer Seen → Answer Lowerer = λ a. answer (a .given) (record { seen = a .left; kept = true; own = laid (a .given) }) in
-      rw (occurrences-last before i, has-self before i refl, own-first [] before (i ∷ []) h, h, words-said names self Aside (occurrences self before) words)
+      let left : Answer Seen → Answer Lowerer =
+      λ a. answer (a .given) (record { seen = a .left; kept = true; own = laid (a .given) }) in
+      rw (
+        occurrences-last before i,
+        has-self before i refl,
+        own-first [] before (i ∷ []) h,
+        h,
+        words-said names self Aside (occurrences self before) words,
+      )
       (after-gives (checks names self (occurrences self before) (map (occurs Aside) words))
-      (answer (values names self (occurrences self before) (map (occurs Aside) words)) (seenOf names self (occurrences self before ++ map (occurs Aside) words))) left)
+      (answer (values names self (occurrences self before) (map (occurs Aside) words))
+      (seenOf names self (occurrences self before ++ map (occurs Aside) words))) left)
 
   -- one step gives what RFC 141 says
   pub step-said : (out : Bool) (before : List Item) (step : Step) → StepSaid out before step
   unfolding lowerStep
   step-said out before (Lifetime word) =
       let i = itemOf out (Lifetime word) in
-      rw (occurrences-last before i, has-other before i refl, own-other [] before i refl) (words-step (standingIn out) before (word ∷ []))
+      rw (occurrences-last before i, has-other before i refl, own-other [] before i refl)
+      (words-step (standingIn out) before (word ∷ []))
   step-said out before (Generics g words) =
       let i = itemOf out (Generics g words) in
-      rw (occurrences-last before i, has-other before i refl, own-other [] before i refl) (words-step (standingIn out) before (padded g words))
+      rw (occurrences-last before i, has-other before i refl, own-other [] before i refl)
+      (words-step (standingIn out) before (padded g words))
   step-said out before (SelfType words) = go (hasSelfType before) refl
     where
       go : (t : Bool) → hasSelfType before ≡ t → StepSaid out before (SelfType words)
@@ -314,8 +396,12 @@ module _ (names : List ℕ) (self : Receiver) where
   -- and the steps of a record
   pub steps-said : (out : Bool) (before : List Item) (steps : List Step)
       → runSteps names out steps (stateOf before)
-      ≡ unless (throughout (stepChecks names self) before (map (itemOf out) steps)) (answer (throughout (loweredAt names self) before (map (itemOf out) steps)) (stateOf (before ++ map (itemOf out) steps)))
-  steps-said out before steps = in-turn (lowerStep names out) (itemOf out) stateOf (stepChecks names self) (loweredAt names self) (step-said out) before steps
+      ≡ unless (throughout (stepChecks names self) before (map (itemOf out) steps))
+      (answer (throughout (loweredAt names self) before (map (itemOf out) steps))
+      (stateOf (before ++ map (itemOf out) steps)))
+  steps-said out before steps =
+      in-turn (lowerStep names out) (itemOf out) stateOf (stepChecks names self) (loweredAt names self) (step-said out)
+      before steps
 
 -- ---- the first step, and the whole method
 
@@ -326,31 +412,54 @@ unused-seen names = rw add-zero
 self-ref-said : (names : List ℕ) (word : ℕ)
     → selfRef names word
     ≡ unless (checksAt names NoSelf [] (occurs Aside word))
-    (answer (madeAt names [] word ∷ []) (record { seen = record { source = SelfParam (madeAt names [] word); count = countOf names (occurs Aside word ∷ []) }; kept = false; own = laid [] }))
+    (answer (madeAt names [] word ∷ [])
+    (record {
+      seen = record { source = SelfParam (madeAt names [] word); count = countOf names (occurs Aside word ∷ []) };
+      kept = false;
+      own = laid [];
+    }))
 unfolding selfRef
 self-ref-said names word =
-    let left : Answer Seen → Answer Lowerer = λ a. answer (a .given) (record { seen = record { source = SelfParam (firstOr (a .given)); count = a .left .count }; kept = false; own = laid [] }) in
+    let left : Answer Seen → Answer Lowerer =
+    λ a. answer (a .given)
+    (record {
+      seen = record { source = SelfParam (firstOr (a .given)); count = a .left .count };
+      kept = false;
+      own = laid [];
+    }) in
     rw (unused-seen names, word-said names NoSelf Aside [] word)
-    (after-gives (checksAt names NoSelf [] (occurs Aside word)) (answer (madeAt names [] word ∷ []) (seenOf names NoSelf (occurs Aside word ∷ []))) left)
+    (after-gives (checksAt names NoSelf [] (occurs Aside word))
+    (answer (madeAt names [] word ∷ []) (seenOf names NoSelf (occurs Aside word ∷ []))) left)
 
-pub self-said : (names : List ℕ) (self : Receiver) → lowerSelf names self ≡ unless (checks names self [] (selfOccurrences self)) (answer (values names self [] (selfOccurrences self)) (stateOf names self []))
+pub self-said : (names : List ℕ) (self : Receiver)
+    → lowerSelf names self ≡ unless (checks names self [] (selfOccurrences self))
+    (answer (values names self [] (selfOccurrences self)) (stateOf names self []))
 unfolding unused unless throughout anonymous hasSelfType ownFrom fromPositions
 self-said names NoSelf = rw add-zero
 self-said names (SelfRef word) = rw (self-ref-said names word)
 
-pub method-said : (names : List ℕ) (self : Receiver) (steps returns : List Step) → runMethod names self steps returns ≡ rfc141 names self steps returns
+pub method-said : (names : List ℕ) (self : Receiver) (steps returns : List Step)
+    → runMethod names self steps returns ≡ rfc141 names self steps returns
 unfolding runMethod rfc141
 method-said names self steps returns =
     let second = throughout (stepChecks names self) [] (inputs steps) in
     let third = throughout (stepChecks names self) (inputs steps) (outputs returns) in
     let a = answer (values names self [] (selfOccurrences self)) (stateOf names self []) in
     let b = answer (throughout (loweredAt names self) [] (inputs steps)) (stateOf names self (inputs steps)) in
-    let c = answer (throughout (loweredAt names self) (inputs steps) (outputs returns)) (stateOf names self (inputs steps ++ outputs returns)) in
-    let whole : Answer Lowerer → Answer Lowerer → Answer Lowerer → Method = λ x y z. record { self = x .given; steps = y .given; returns = z .given; count = z .left .seen .count } in
-    let last : after (runSteps names true returns (stateOf names self (inputs steps))) (λ z. Gives (whole a b z)) ≡ unless third (methodOf names self steps returns) =
+    let c = answer (throughout (loweredAt names self) (inputs steps) (outputs returns))
+    (stateOf names self (inputs steps ++ outputs returns)) in
+    let whole : Answer Lowerer → Answer Lowerer → Answer Lowerer → Method =
+    λ x y z. record { self = x .given; steps = y .given; returns = z .given; count = z .left .seen .count } in
+    let last : after (runSteps names true returns (stateOf names self (inputs steps))) (λ z. Gives (whole a b z))
+    ≡ unless third (methodOf names self steps returns) =
     rw (steps-said names self true (inputs steps) returns) (after-gives third c (whole a b)) in
-    let middle : after (runSteps names false steps (stateOf names self [])) (λ y. after (runSteps names true returns (y .left)) (λ z. Gives (whole a y z))) ≡ unless (second ++ third) (methodOf names self steps returns) =
-    rw (steps-said names self false [] steps) (after-unless second third b (methodOf names self steps returns) (λ y. after (runSteps names true returns (y .left)) (λ z. Gives (whole a y z))) last) in
+    let middle : after (runSteps names false steps (stateOf names self []))
+    (λ y. after (runSteps names true returns (y .left)) (λ z. Gives (whole a y z)))
+    ≡ unless (second ++ third) (methodOf names self steps returns) =
+    rw (steps-said names self false [] steps)
+    (after-unless second third b (methodOf names self steps returns)
+    (λ y. after (runSteps names true returns (y .left)) (λ z. Gives (whole a y z))) last) in
     rw (self-said names self)
     (after-unless (checks names self [] (selfOccurrences self)) (second ++ third) a (methodOf names self steps returns)
-    (λ x. after (runSteps names false steps (x .left)) (λ y. after (runSteps names true returns (y .left)) (λ z. Gives (whole x y z)))) middle)
+    (λ x. after (runSteps names false steps (x .left))
+    (λ y. after (runSteps names true returns (y .left)) (λ z. Gives (whole x y z)))) middle)

@@ -1,12 +1,14 @@
--- The loops of `lower_words` and `put_words`: what is left, lowered from here behind what is done, is what all gives from the start.
+-- The loops of `lower_words` and `put_words`: what is left, lowered from here behind what is done, is what all gives
+-- from the start.
 use Prim.Native.Nat.{ℕ, zero, suc, _+_, _-_, _≤_, _<_}
 use mathlib.Core.Bool.{Bool, true, false, cond}
 use mathlib.Core.Path.{_≡_, refl, sym, ap, _∙_}
-use mathlib.Core.List.{List, [], _∷_, _++_, map, append-nil, append-assoc}
+use mathlib.Core.List.{List, [], _∷_, _++_, map, append-nil, append-assoc, map-append}
 use native.Mathlib.Numerals.{add-one}
 use native.Mathlib.Omega.{arith}
 use lib.Dec.{eqb, leb}
-use lib.ListN.{length, getD, drop, set, replicate, length-append, length-replicate, getD-replicate, drop-of-length-le, length-map, length-set}
+use lib.ListN.{length, getD, drop, set, replicate, length-append, length-replicate, getD-replicate, drop-of-length-le}
+use lib.ListN.{length-map, length-set}
 use lib.Seq.{drop-cons, sets}
 use Rattle.lifetimes.specs.declared.answer.Refusal.{Refusal}
 use Rattle.lifetimes.specs.declared.answer.Refusal.the-variants.{Undeclared, Full}
@@ -17,22 +19,20 @@ use Rattle.lifetimes.specs.Numbers.{lifetime}
 use Rattle.lifetimes.specs.Refusals.{Outcome, Gives, Refuses, after}
 use Rattle.ast_lifetimes.specs.Env.{place, isDeclared}
 use Rattle.elision.specs.declared.source.ElisionSource.{ElisionSource}
-use Rattle.elision.specs.declared.source.ElisionSource.the-variants.{NoBorrows, SelfParam, OneParam, MultipleBorrows}
+use Rattle.elision.specs.declared.source.ElisionSource.the-variants.{NoBorrows, SelfParam, OneParam}
+use Rattle.elision.specs.declared.source.ElisionSource.the-variants.{MultipleBorrows}
 use Rattle.elision.specs.declared.lowerer.Standing.{Standing}
 use Rattle.elision.specs.declared.lowerer.Standing.the-variants.{Input, Aside, Output}
 use Rattle.elision.specs.declared.lowerer.Lowered.{Lowered}
 use Rattle.elision.specs.declared.lowerer.Seen.{Seen}
 use Rattle.elision.specs.declared.lowerer.Worded.{Worded}
 use Rattle.elision.specs.Rfc.{padded}
-use Rattle.elision.specs.Machine.{Answer, answer, inTurn, lowers, fromSource, lowerAnonymous, lowerWord, lowerWords, lowered, laid, firstOr}
+use Rattle.elision.specs.Machine.{Answer, answer, inTurn, lowers, fromSource, lowerAnonymous, lowerWord}
+use Rattle.elision.specs.Machine.{lowerWords, lowered, laid, firstOr}
 use Rattle.elision.specs.Inner.{worded, ran, shown, Puts}
 use Rattle.lifetimes.proofs.Copying.{sets-append}
 use Rattle.records.proofs.VerdictLaws.{refused-accepted}
 use Rattle.elision.proofs.Filling.{Filled, filled-none, filled-more, filled-laid}
-
-pub map-append : (a b : List MaybeStatic) → map shown (a ++ b) ≡ map shown a ++ map shown b
-map-append [] b = refl
-map-append (x ∷ a) b = ap (λ (l : List ℕ). shown x ∷ l) (map-append a b)
 
 -- ---- one word gives one lifetime
 
@@ -51,8 +51,12 @@ single-source (OneParam l) s = refl
 single-source MultipleBorrows s = tt
 
 single-anonymous : (st : Standing) (s : Seen) → Single (lowerAnonymous st s)
-single-anonymous Input s = single-cond (leb 64 (s .count)) (Refuses Full) (lowers Input (NonStatic (lifetime (s .count))) (s .source) (s .count + 1)) tt refl
-single-anonymous Aside s = single-cond (leb 64 (s .count)) (Refuses Full) (lowers Aside (NonStatic (lifetime (s .count))) (s .source) (s .count + 1)) tt refl
+single-anonymous Input s =
+    single-cond (leb 64 (s .count)) (Refuses Full)
+    (lowers Input (NonStatic (lifetime (s .count))) (s .source) (s .count + 1)) tt refl
+single-anonymous Aside s =
+    single-cond (leb 64 (s .count)) (Refuses Full)
+    (lowers Aside (NonStatic (lifetime (s .count))) (s .source) (s .count + 1)) tt refl
 single-anonymous Output s = single-source (s .source) s
 
 pub single-word : (names : List ℕ) (st : Standing) (word : ℕ) (s : Seen) → Single (lowerWord names st word s)
@@ -65,7 +69,8 @@ single-word names st word s =
     (single-cond (eqb word 0) static name refl (single-cond (isDeclared names word) named (Refuses Undeclared) refl tt))
 
 module _ {r : Worded} (s : Seen) where
-  pub accepted-word : (o : Outcome (Answer Seen)) → r ≡ worded s o → Single o → r .verdict ≡ verdict.Accepted → o ≡ Gives (answer (r .lifetime ∷ []) (r .seen))
+  pub accepted-word : (o : Outcome (Answer Seen)) → r ≡ worded s o → Single o → r .verdict ≡ verdict.Accepted
+      → o ≡ Gives (answer (r .lifetime ∷ []) (r .seen))
   accepted-word (Gives a) e one v = rw e (ap (λ (l : List MaybeStatic). Gives (answer l (a .left))) one)
   accepted-word (Refuses k) e one v = refused-accepted (sym (ap (λ (w : Worded). w .verdict) e) ∙ v)
 
@@ -89,7 +94,8 @@ abbrev behind : List MaybeStatic → Answer Seen → Outcome (Answer Seen)
 behind done a = Gives (answer (done ++ a .given) (a .left))
 
 -- what is left to lower, and what is done
-pub record Going (names : List ℕ) (st : Standing) (g : ℕ) (words : List ℕ) (seen : Seen) (total : ℕ) (here : Seen) (i : ℕ) : Type 0 where
+pub record Going (names : List ℕ) (st : Standing) (g : ℕ) (words : List ℕ) (seen : Seen) (total : ℕ) (here : Seen)
+    (i : ℕ) : Type 0 where
   pub count : total ≡ length words + (g - length words)
   pub few : total ≤ 16
   pub within : i ≤ total
@@ -101,7 +107,8 @@ after-itself : (o : Outcome (Answer Seen)) → o ≡ after o (behind [])
 after-itself (Gives a) = refl
 after-itself (Refuses r) = refl
 
-unfoldable going-start : (names : List ℕ) (st : Standing) (g : ℕ) (words : List ℕ) (seen : Seen) {total : ℕ} → total ≡ length words + (g - length words) → length words ≤ 16 → g ≤ 16
+unfoldable going-start : (names : List ℕ) (st : Standing) (g : ℕ) (words : List ℕ) (seen : Seen) {total : ℕ}
+    → total ≡ length words + (g - length words) → length words ≤ 16 → g ≤ 16
     → Going names st g words seen total seen 0
 going-start names st g words seen e h k = record {
   count = e;
@@ -112,16 +119,20 @@ going-start names st g words seen e h k = record {
   left = after-itself (lowerWords names st (padded g words) seen);
 }
 
-module _ {names : List ℕ} {st : Standing} {g : ℕ} {words : List ℕ} {seen : Seen} {total : ℕ} {here : Seen} {i : ℕ} (inv : Going names st g words seen total here i) where
+module _ {names : List ℕ} {st : Standing} {g : ℕ} {words : List ℕ} {seen : Seen} {total : ℕ} {here : Seen} {i : ℕ}
+    (inv : Going names st g words seen total here i) where
   going-end : total ≤ i → lowerWords names st (padded g words) seen ≡ Gives (answer (inv .done) here)
   unfolding inTurn
   going-end h =
       let past : length (padded g words) ≤ i = omega (arith, padded-length g words, inv .count) in
       rw (inv .left, drop-of-length-le (padded g words) {i = i} past, append-nil (inv .done))
 
-  module _ (h : i < total) {word : ℕ} (w : word ≡ getD words i 1) {r : Worded} (said : r ≡ worded here (lowerWord names st word here)) where
+  module _ (h : i < total) {word : ℕ} (w : word ≡ getD words i 1) {r : Worded}
+      (said : r ≡ worded here (lowerWord names st word here)) where
     next : lowerWords names st (drop i (padded g words)) here
-        ≡ after (lowerWord names st word here) (λ first. after (lowerWords names st (drop (i + 1) (padded g words)) (first .left)) (λ rest. Gives (answer (first .given ++ rest .given) (rest .left))))
+        ≡ after (lowerWord names st word here)
+        (λ first. after (lowerWords names st (drop (i + 1) (padded g words)) (first .left))
+        (λ rest. Gives (answer (first .given ++ rest .given) (rest .left))))
     unfolding inTurn
     next =
         let inside : i < length (padded g words) = omega (arith, padded-length g words, inv .count) in
@@ -141,55 +152,75 @@ module _ {names : List ℕ} {st : Standing} {g : ℕ} {words : List ℕ} {seen :
           (join (lowerWords names st (drop (i + 1) (padded g words)) (r .seen)));
     }
       where
-        join : (o : Outcome (Answer Seen)) → after (after o (λ rest. Gives (answer ((r .lifetime ∷ []) ++ rest .given) (rest .left)))) (behind (inv .done)) ≡ after o (behind (inv .done ++ (r .lifetime ∷ [])))
+        join : (o : Outcome (Answer Seen))
+            → after (after o (λ rest. Gives (answer ((r .lifetime ∷ []) ++ rest .given) (rest .left))))
+            (behind (inv .done)) ≡ after o (behind (inv .done ++ (r .lifetime ∷ [])))
         join (Gives a) = rw append-assoc
         join (Refuses k) = refl
 
 -- ---- `lower_words`: what is done stands in the list
 
-pub record Running (names : List ℕ) (st : Standing) (g : ℕ) (words : List ℕ) (seen : Seen) (total : ℕ) (list : List Lowered) (here : Seen) (i : ℕ) : Type 0 where
+pub record Running (names : List ℕ) (st : Standing) (g : ℕ) (words : List ℕ) (seen : Seen) (total : ℕ)
+    (list : List Lowered) (here : Seen) (i : ℕ) : Type 0 where
   pub going : Going names st g words seen total here i
   pub filled : Filled (going .done) list i
 
-pub running-start : (names : List ℕ) (st : Standing) (g : ℕ) (words : List ℕ) (seen : Seen) {total : ℕ} → total ≡ length words + (g - length words) → length words ≤ 16 → g ≤ 16
+pub running-start : (names : List ℕ) (st : Standing) (g : ℕ) (words : List ℕ) (seen : Seen) {total : ℕ}
+    → total ≡ length words + (g - length words) → length words ≤ 16 → g ≤ 16
     → Running names st g words seen total (replicate 16 (lowered Static)) seen 0
 unfolding going-start
 running-start names st g words seen e h k = record { going = going-start names st g words seen e h k; filled = filled-none }
 
-module _ {names : List ℕ} {st : Standing} {g : ℕ} {words : List ℕ} {seen : Seen} {total : ℕ} {list : List Lowered} {here : Seen} {i : ℕ}
+module _ {names : List ℕ} {st : Standing} {g : ℕ} {words : List ℕ} {seen : Seen} {total : ℕ} {list : List Lowered}
+    {here : Seen} {i : ℕ}
     (inv : Running names st g words seen total list here i) where
   pub running-few : i < total → i < 16
   running-few h = omega (arith, inv .going .few)
 
-  pub running-end : total ≤ i → record { verdict = verdict.Accepted; seen = here; lifetimes = record { n = total; list = list } } ≡ ran seen (lowerWords names st (padded g words) seen)
+  pub running-end : total ≤ i
+      → record { verdict = verdict.Accepted; seen = here; lifetimes = record { n = total; list = list } }
+      ≡ ran seen (lowerWords names st (padded g words) seen)
   running-end h =
       let e : total ≡ i = omega (arith, inv .going .within) in
       rw (going-end (inv .going) h, ← filled-laid (inv .filled), e)
 
-  module _ (h : i < total) {word : ℕ} (w : word ≡ getD words i 1) {r : Worded} (said : r ≡ worded here (lowerWord names st word here)) where
+  module _ (h : i < total) {word : ℕ} (w : word ≡ getD words i 1) {r : Worded}
+      (said : r ≡ worded here (lowerWord names st word here)) where
     pub running-refused : {k : Refusal} → r .verdict ≡ verdict.Refused k
-        → record { verdict = verdict.Refused k; seen = seen; lifetimes = laid [] } ≡ ran seen (lowerWords names st (padded g words) seen)
+        → record { verdict = verdict.Refused k; seen = seen; lifetimes = laid [] }
+        ≡ ran seen (lowerWords names st (padded g words) seen)
     running-refused v = rw (going-refused (inv .going) h w said v)
 
-    pub running-more : r .verdict ≡ verdict.Accepted → Running names st g words seen total (set list i (lowered (r .lifetime))) (r .seen) (i + 1)
+    pub running-more : r .verdict ≡ verdict.Accepted
+        → Running names st g words seen total (set list i (lowered (r .lifetime))) (r .seen) (i + 1)
     unfolding going-more
-    running-more v = record { going = going-more (inv .going) h w said v; filled = filled-more (inv .filled) (running-few h) (r .lifetime) }
+    running-more v =
+        record {
+          going = going-more (inv .going) h w said v;
+          filled = filled-more (inv .filled) (running-few h) (r .lifetime);
+        }
 
 -- ---- `put_words`: the words of what is done stand in the slice, from a place on
 
-pub record Putting (names : List ℕ) (st : Standing) (g : ℕ) (words : List ℕ) (seen : Seen) (total at : ℕ) (slice₀ slice : List ℕ) (here : Seen) (i : ℕ) : Type 0 where
+pub record Putting (names : List ℕ) (st : Standing) (g : ℕ) (words : List ℕ) (seen : Seen) (total at : ℕ)
+    (slice₀ slice : List ℕ) (here : Seen) (i : ℕ) : Type 0 where
   pub going : Going names st g words seen total here i
   pub size : length slice ≡ length slice₀
   pub stored : slice ≡ sets slice₀ at (map shown (going .done))
 
-pub putting-start : (names : List ℕ) (st : Standing) (g : ℕ) (words : List ℕ) (seen : Seen) {total : ℕ} (at : ℕ) (slice : List ℕ) → total ≡ length words + (g - length words) → length words ≤ 16 → g ≤ 16
+pub putting-start : (names : List ℕ) (st : Standing) (g : ℕ) (words : List ℕ) (seen : Seen) {total : ℕ} (at : ℕ)
+    (slice : List ℕ) → total ≡ length words + (g - length words) → length words ≤ 16 → g ≤ 16
     → Putting names st g words seen total at slice slice seen 0
 unfolding going-start
-putting-start names st g words seen at slice e h k = record { going = going-start names st g words seen e h k; size = refl; stored = refl }
+putting-start names st g words seen at slice e h k =
+    record { going = going-start names st g words seen e h k; size = refl; stored = refl }
 
-module _ {names : List ℕ} {st : Standing} {g : ℕ} {words : List ℕ} {seen : Seen} {total at : ℕ} {slice₀ slice : List ℕ} {here : Seen} {i : ℕ}
+module _ {names : List ℕ} {st : Standing} {g : ℕ} {words : List ℕ} {seen : Seen} {total at : ℕ} {slice₀ slice : List ℕ}
+    {here : Seen} {i : ℕ}
     (inv : Putting names st g words seen total at slice₀ slice here i) where
-  pub putting-end : total ≤ i → Puts seen (lowerWords names st (padded g words) seen) at slice₀ slice (record { verdict = verdict.Accepted; seen = here; at = at + total })
+  pub putting-end : total ≤ i
+      → Puts seen (lowerWords names st (padded g words) seen) at slice₀ slice
+      (record { verdict = verdict.Accepted; seen = here; at = at + total })
   putting-end h =
       let e : total ≡ length (inv .going .done) = omega (arith, inv .going .within, inv .going .many) in
       let whole = going-end (inv .going) h in
@@ -202,13 +233,21 @@ module _ {names : List ℕ} {st : Standing} {g : ℕ} {words : List ℕ} {seen :
       given : {a : Answer Seen} → Gives (answer (inv .going .done) here) ≡ Gives a → inv .going .done ≡ a .given
       given {a} k = let q : answer (inv .going .done) here ≡ a = cc in ap (λ (x : Answer Seen). x .given) q
 
-  module _ (h : i < total) {word : ℕ} (w : word ≡ getD words i 1) {r : Worded} (said : r ≡ worded here (lowerWord names st word here)) where
-    pub putting-refused : {k : Refusal} → r .verdict ≡ verdict.Refused k → Puts seen (lowerWords names st (padded g words) seen) at slice₀ slice (record { verdict = verdict.Refused k; seen = seen; at = at })
+  module _ (h : i < total) {word : ℕ} (w : word ≡ getD words i 1) {r : Worded}
+      (said : r ≡ worded here (lowerWord names st word here)) where
+    pub putting-refused : {k : Refusal} → r .verdict ≡ verdict.Refused k
+        → Puts seen (lowerWords names st (padded g words) seen) at slice₀ slice
+        (record { verdict = verdict.Refused k; seen = seen; at = at })
     putting-refused {k} v =
         let whole = going-refused (inv .going) h w said v in
-        record { answers = rw whole; few = omega arith; stores = λ a e. let z : _≡_ {A = ℕ} 0 1 = cc (sym e ∙ whole) in absurd (omega arith) }
+        record {
+          answers = rw whole;
+          few = omega arith;
+          stores = λ a e. let z : _≡_ {A = ℕ} 0 1 = cc (sym e ∙ whole) in absurd (omega arith);
+        }
 
-    pub putting-more : r .verdict ≡ verdict.Accepted → {shows : ℕ} → shows ≡ shown (r .lifetime) → {slice₁ : List ℕ} → slice₁ ≡ set slice (at + i) shows
+    pub putting-more : r .verdict ≡ verdict.Accepted → {shows : ℕ} → shows ≡ shown (r .lifetime) → {slice₁ : List ℕ}
+        → slice₁ ≡ set slice (at + i) shows
         → Putting names st g words seen total at slice₀ slice₁ (r .seen) (i + 1)
     unfolding going-more
     putting-more v {shows} sh {slice₁} put =
@@ -216,5 +255,12 @@ module _ {names : List ℕ} {st : Standing} {g : ℕ} {words : List ℕ} {seen :
         record {
           going = going-more (inv .going) h w said v;
           size = ap length put ∙ rw length-set (inv .size);
-          stored = rw (put, inv .stored, sh, map-append (inv .going .done) (r .lifetime ∷ []), sets-append slice₀ at (map shown (inv .going .done)) (shown (r .lifetime) ∷ []), len);
+          stored = rw (
+            put,
+            inv .stored,
+            sh,
+            map-append shown (inv .going .done) (r .lifetime ∷ []),
+            sets-append slice₀ at (map shown (inv .going .done)) (shown (r .lifetime) ∷ []),
+            len,
+          );
         }

@@ -1,4 +1,5 @@
--- One step lowered and stored, where the lowerer is shown by small numbers and a list of words: what `put_given`, `put_self` and `put_step` answer. Each law is over any lowerer that is shown.
+-- One step lowered and stored, where the lowerer is shown by small numbers and a list of words: what `put_given`,
+-- `put_self` and `put_step` answer. Each law is over any lowerer that is shown.
 use Prim.Native.Nat.{ℕ, _+_, _-_, _≤_, _<_}
 use mathlib.Core.Bool.{Bool, true, false}
 use mathlib.Core.Path.{_≡_, refl, sym, ap, subst, _∙_}
@@ -32,6 +33,7 @@ use Rattle.elision.specs.Inner as inner
 use Rattle.elision.proofs.RfcLaws.{laid-values}
 use Rattle.elision.proofs.StepLaws.{ends-lifetime, ends-generics, ends-self}
 use Rattle.elision.proofs.Taking.{told}
+use Rattle.records.proofs.ReadingLaws.{fails-read}
 
 -- ---- what `put_words` answers, by its verdict
 
@@ -43,7 +45,8 @@ record GivenWords (o : Outcome (Answer Seen)) (at : ℕ) (before behind : List �
   stored : behind ≡ sets before at (map shown (it .given))
 
 module _ {seen : Seen} {at : ℕ} {before behind : List ℕ} {p : Put} where
-  words-given : (o : Outcome (Answer Seen)) → Puts seen o at before behind p → p .verdict ≡ verdict.Accepted → GivenWords o at before behind p
+  words-given : (o : Outcome (Answer Seen)) → Puts seen o at before behind p → p .verdict ≡ verdict.Accepted
+      → GivenWords o at before behind p
   words-given (Gives a) h v = record {
     it = a;
     is = refl;
@@ -53,13 +56,16 @@ module _ {seen : Seen} {at : ℕ} {before behind : List ℕ} {p : Put} where
   }
   words-given (Refuses k) h v = refused-accepted (sym (ap (λ (x : Put). x .verdict) (h .answers)) ∙ v)
 
-  words-refused : {k : Refusal} (o : Outcome (Answer Seen)) → Puts seen o at before behind p → p .verdict ≡ verdict.Refused k → o ≡ Refuses k
+  words-refused : {k : Refusal} (o : Outcome (Answer Seen)) → Puts seen o at before behind p
+      → p .verdict ≡ verdict.Refused k → o ≡ Refuses k
   words-refused (Gives a) h v = refused-accepted (sym v ∙ ap (λ (x : Put). x .verdict) (h .answers))
-  words-refused (Refuses j) h v = let e : verdict.Refused j ≡ verdict.Refused _ = sym (ap (λ (x : Put). x .verdict) (h .answers)) ∙ v in cc
+  words-refused (Refuses j) h v = let e : verdict.Refused j ≡ verdict.Refused _ =
+      sym (ap (λ (x : Put). x .verdict) (h .answers)) ∙ v in cc
 
 -- ---- kinds 0 and 1
 
-pub given-puts : (names : List ℕ) {st : Standing} (out : Bool) (words : List ℕ) (seen : Seen) (kept : Bool) (own n to : ℕ) {before behind : List ℕ} {p : Put}
+pub given-puts : (names : List ℕ) {st : Standing} (out : Bool) (words : List ℕ) (seen : Seen) (kept : Bool)
+    (own n to : ℕ) {before behind : List ℕ} {p : Put}
     → st ≡ standingIn out → own ≤ 16 → Puts seen (lowerWords names st words seen) n before behind p
     → (list : List ℕ) → PutsOne (wordsStep names (standingIn out) words) seen kept own n to list list before behind
     (record { verdict = p .verdict; seen = p .seen; kept = kept; own = own; n = p .at; to = to })
@@ -74,7 +80,8 @@ given-puts names {st} out words seen kept own n to {before} {behind} {p} e few p
 }
   where
     go : (s : Lowerer) → Shows s seen kept own list → GivenWords (lowerWords names st words seen) n before behind p
-        → Given (wordsStep names (standingIn out) words s) n list before behind (record { verdict = p .verdict; seen = p .seen; kept = kept; own = own; n = p .at; to = to })
+        → Given (wordsStep names (standingIn out) words s) n list before behind
+        (record { verdict = p .verdict; seen = p .seen; kept = kept; own = own; n = p .at; to = to })
     go s sh g = record {
       it = answer (g .it .given) (record { seen = g .it .left; kept = s .kept; own = s .own });
       is = rw (sh .saw, ← e, g .is);
@@ -107,9 +114,11 @@ module _ {list : List ℕ} {count at : ℕ} {out₀ out : List ℕ} {i : ℕ} (i
 -- ---- kind 2: a later use, and the first
 
 -- whatever is given, the words in the list
-pub self-again : (names words : List ℕ) (seen : Seen) {kept : Bool} (own n to : ℕ) (list : List ℕ) {before behind : List ℕ} → kept ≡ true → own ≤ 16
+pub self-again : (names words : List ℕ) (seen : Seen) {kept : Bool} (own n to : ℕ) (list : List ℕ)
+    {before behind : List ℕ} → kept ≡ true → own ≤ 16
     → (length list ≡ 16 → behind ≡ sets before n (take own list))
-    → PutsOne (selfStep names words) seen kept own n to list list before behind (record { verdict = verdict.Accepted; seen = seen; kept = kept; own = own; n = n + own; to = to })
+    → PutsOne (selfStep names words) seen kept own n to list list before behind
+    (record { verdict = verdict.Accepted; seen = seen; kept = kept; own = own; n = n + own; to = to })
 self-again names words seen own n to list k few stored = record {
   few = few;
   near = omega arith;
@@ -126,27 +135,32 @@ self-again names words seen own n to list k few stored = record {
   };
 }
 
-module _ (names words : List ℕ) (seen : Seen) {kept : Bool} (own n to : ℕ) (list : List ℕ) {list₁ : List ℕ} {p : Put} (k : kept ≡ false) (few : own ≤ 16)
+module _ (names words : List ℕ) (seen : Seen) {kept : Bool} (own n to : ℕ) (list : List ℕ) {list₁ : List ℕ} {p : Put}
+    (k : kept ≡ false) (few : own ≤ 16)
     (call : Puts seen (lowerWords names Aside (padded 0 words) seen) 0 list list₁ p) where
   -- no anonymous ones are appended
   said : Puts seen (lowerWords names Aside words seen) 0 list list₁ p
   said = rw (zero-sub (length words), append-nil words) at call
 
   pub self-refused : {j : Refusal} {before behind : List ℕ} → p .verdict ≡ verdict.Refused j
-      → PutsOne (selfStep names words) seen kept own n to list list₁ before behind (record { verdict = verdict.Refused j; seen = seen; kept = kept; own = own; n = n; to = to })
+      → PutsOne (selfStep names words) seen kept own n to list list₁ before behind
+      (record { verdict = verdict.Refused j; seen = seen; kept = kept; own = own; n = n; to = to })
   self-refused {j} v = record {
     few = few;
     near = omega arith;
     place = refl;
     lowers = λ s sh. record {
       accepted = λ a. refused-accepted a;
-      refused = λ i e. let same : j ≡ i = cc in rw (sh .keeps, k, sh .saw, words-refused (lowerWords names Aside words seen) said v, same);
+      refused = λ i e. let same : j ≡ i = cc in
+          rw (sh .keeps, k, sh .saw, words-refused (lowerWords names Aside words seen) said v, same);
     };
   }
 
   -- the words given are in the list, and from there in the slice
-  pub self-first : {before behind : List ℕ} → p .verdict ≡ verdict.Accepted → (length list₁ ≡ 16 → behind ≡ sets before n (take (p .at) list₁))
-      → PutsOne (selfStep names words) seen kept own n to list list₁ before behind (record { verdict = verdict.Accepted; seen = p .seen; kept = true; own = p .at; n = n + p .at; to = to })
+  pub self-first : {before behind : List ℕ} → p .verdict ≡ verdict.Accepted
+      → (length list₁ ≡ 16 → behind ≡ sets before n (take (p .at) list₁))
+      → PutsOne (selfStep names words) seen kept own n to list list₁ before behind
+      (record { verdict = verdict.Accepted; seen = p .seen; kept = true; own = p .at; n = n + p .at; to = to })
   self-first {before} {behind} v stored = record {
     few = omega (arith, call .few);
     near = omega (arith, call .few);
@@ -158,7 +172,8 @@ module _ (names words : List ℕ) (seen : Seen) {kept : Bool} (own n to : ℕ) (
   }
     where
       go : (s : Lowerer) → Shows s seen kept own list → GivenWords (lowerWords names Aside words seen) 0 list list₁ p
-          → Given (selfStep names words s) n list₁ before behind (record { verdict = verdict.Accepted; seen = p .seen; kept = true; own = p .at; n = n + p .at; to = to })
+          → Given (selfStep names words s) n list₁ before behind
+          (record { verdict = verdict.Accepted; seen = p .seen; kept = true; own = p .at; n = n + p .at; to = to })
       go s sh g =
           let ws = map shown (g .it .given) in
           let many : p .at ≡ length (g .it .given) = g .count ∙ zero-add (length (g .it .given)) in
@@ -186,32 +201,39 @@ module _ (names words : List ℕ) (seen : Seen) {kept : Bool} (own n to : ℕ) (
 same-step : {s t : Step} {b rest : List ℕ} → Read s b ≡ Read t rest → s ≡ t
 same-step e = cc
 
-same-lifetime : (names : List ℕ) (out : Bool) {words : List ℕ} {at : ℕ} {reading : Reading Step} {word to : ℕ} → StandsAt words at reading (standing.Lifetime word to)
-    → (step : Step) (rest : List ℕ) → reading ≡ Read step rest → (s : Lowerer) → wordsStep names (standingIn out) (padded 0 (take (to - (to - 1)) (drop (to - 1) words))) s ≡ lowerStep names out step s
+same-lifetime : (names : List ℕ) (out : Bool) {words : List ℕ} {at : ℕ} {reading : Reading Step} {word to : ℕ}
+    → StandsAt words at reading (standing.Lifetime word to)
+    → (step : Step) (rest : List ℕ) → reading ≡ Read step rest → (s : Lowerer)
+    → wordsStep names (standingIn out) (padded 0 (take (to - (to - 1)) (drop (to - 1) words))) s
+    ≡ lowerStep names out step s
 unfolding lowerStep
 same-lifetime names out {to = to} (inner.lifetime w d b l) step rest e s =
     let one : to - (to - 1) ≡ 1 = omega arith in
     rw (← same-step e, one, w)
 
-same-generics : (names : List ℕ) (out : Bool) {words : List ℕ} {at : ℕ} {reading : Reading Step} {g from to : ℕ} → StandsAt words at reading (standing.Generics g from to)
-    → (step : Step) (rest : List ℕ) → reading ≡ Read step rest → (s : Lowerer) → wordsStep names (standingIn out) (padded g (take (to - from) (drop from words))) s ≡ lowerStep names out step s
+same-generics : (names : List ℕ) (out : Bool) {words : List ℕ} {at : ℕ} {reading : Reading Step} {g from to : ℕ}
+    → StandsAt words at reading (standing.Generics g from to)
+    → (step : Step) (rest : List ℕ) → reading ≡ Read step rest → (s : Lowerer)
+    → wordsStep names (standingIn out) (padded g (take (to - from) (drop from words))) s
+    ≡ lowerStep names out step s
 unfolding lowerStep
 same-generics names out (inner.generics l d b m x) step rest e s = rw (← same-step e, l)
 
-same-self : (names : List ℕ) (out : Bool) {words : List ℕ} {at : ℕ} {reading : Reading Step} {from to : ℕ} → StandsAt words at reading (standing.SelfType from to)
-    → (step : Step) (rest : List ℕ) → reading ≡ Read step rest → (s : Lowerer) → selfStep names (take (to - from) (drop from words)) s ≡ lowerStep names out step s
+same-self : (names : List ℕ) (out : Bool) {words : List ℕ} {at : ℕ} {reading : Reading Step} {from to : ℕ}
+    → StandsAt words at reading (standing.SelfType from to)
+    → (step : Step) (rest : List ℕ) → reading ≡ Read step rest → (s : Lowerer)
+    → selfStep names (take (to - from) (drop from words)) s ≡ lowerStep names out step s
 unfolding lowerStep
 same-self names out (inner.selfType l d b m x) step rest e s = rw (← same-step e, l)
 
 missing-fails : {words : List ℕ} {at : ℕ} {reading : Reading Step} → StandsAt words at reading standing.Missing → reading ≡ Fails
 missing-fails inner.missing = refl
 
-fails-read : {A : Type 0} {step : Step} {rest : List ℕ} → Fails ≡ Read step rest → A
-fails-read e = let z : _≡_ {A = ℕ} 0 1 = cc in absurd (omega arith)
-
 module _ {words : List ℕ} {at : ℕ} {r : StepAt} (stands : StandsAt words at (readStep (drop at words)) r) where
-  pub puts-missing : (names : List ℕ) (out : Bool) (seen : Seen) (kept : Bool) (own n : ℕ) (list : List ℕ) {before : List ℕ} → r ≡ standing.Missing → own ≤ 16
-      → PutsStep names words out at seen kept own n list list before before (record { verdict = verdict.Refused Malformed; seen = seen; kept = kept; own = own; n = n; to = at })
+  pub puts-missing : (names : List ℕ) (out : Bool) (seen : Seen) (kept : Bool) (own n : ℕ) (list : List ℕ)
+      {before : List ℕ} → r ≡ standing.Missing → own ≤ 16
+      → PutsStep names words out at seen kept own n list list before before
+      (record { verdict = verdict.Refused Malformed; seen = seen; kept = kept; own = own; n = n; to = at })
   puts-missing names out seen kept own n list e few = record {
     few = few;
     near = omega arith;
@@ -219,29 +241,41 @@ module _ {words : List ℕ} {at : ℕ} {r : StepAt} (stands : StandsAt words at 
     lowers = λ s sh step rest q. fails-read (sym (missing-fails (told stands e)) ∙ q);
   }
 
-  module _ (names : List ℕ) (out : Bool) (seen : Seen) (kept : Bool) (own n : ℕ) (list : List ℕ) {list₁ before behind : List ℕ} {t : Took} where
+  module _ (names : List ℕ) (out : Bool) (seen : Seen) (kept : Bool) (own n : ℕ) (list : List ℕ)
+      {list₁ before behind : List ℕ} {t : Took} where
     -- one step, where it is the one that stands there
     puts : {to : ℕ} (step : Lowerer → Outcome (Answer Lowerer)) → EndsAt words at (readStep (drop at words)) (end.At to)
-        → ((step₁ : Step) (rest : List ℕ) → readStep (drop at words) ≡ Read step₁ rest → (s : Lowerer) → step s ≡ lowerStep names out step₁ s)
-        → PutsOne step seen kept own n to list list₁ before behind t → PutsStep names words out at seen kept own n list list₁ before behind t
+        → ((step₁ : Step) (rest : List ℕ) → readStep (drop at words) ≡ Read step₁ rest → (s : Lowerer)
+        → step s ≡ lowerStep names out step₁ s)
+        → PutsOne step seen kept own n to list list₁ before behind t
+        → PutsStep names words out at seen kept own n list list₁ before behind t
     puts step ended same p = record {
       few = p .few;
       near = p .near;
       ends = λ v. subst (λ (x : ℕ). EndsAt words at (readStep (drop at words)) (end.At x)) (sym (p .place)) ended;
-      lowers = λ s sh step₁ rest e. subst (λ (o : Outcome (Answer Lowerer)). Lowers o n list₁ before behind t) (same step₁ rest e s) (p .lowers s sh);
+      lowers = λ s sh step₁ rest e. subst (λ (o : Outcome (Answer Lowerer)). Lowers o n list₁ before behind t)
+          (same step₁ rest e s) (p .lowers s sh);
     }
 
     pub puts-lifetime : {word to : ℕ} → r ≡ standing.Lifetime word to
-        → PutsOne (wordsStep names (standingIn out) (padded 0 (take (to - (to - 1)) (drop (to - 1) words)))) seen kept own n to list list₁ before behind t
+        → PutsOne (wordsStep names (standingIn out) (padded 0 (take (to - (to - 1)) (drop (to - 1) words)))) seen kept
+        own n to list list₁ before behind t
         → PutsStep names words out at seen kept own n list list₁ before behind t
-    puts-lifetime {word} {to} e p = puts (wordsStep names (standingIn out) (padded 0 (take (to - (to - 1)) (drop (to - 1) words)))) (ends-lifetime stands e) (same-lifetime names out (told stands e)) p
+    puts-lifetime {word} {to} e p =
+        puts (wordsStep names (standingIn out) (padded 0 (take (to - (to - 1)) (drop (to - 1) words))))
+        (ends-lifetime stands e) (same-lifetime names out (told stands e)) p
 
     pub puts-generics : {g from to : ℕ} → r ≡ standing.Generics g from to
-        → PutsOne (wordsStep names (standingIn out) (padded g (take (to - from) (drop from words)))) seen kept own n to list list₁ before behind t
+        → PutsOne (wordsStep names (standingIn out) (padded g (take (to - from) (drop from words)))) seen kept own n to
+        list list₁ before behind t
         → PutsStep names words out at seen kept own n list list₁ before behind t
-    puts-generics {g} {from} {to} e p = puts (wordsStep names (standingIn out) (padded g (take (to - from) (drop from words)))) (ends-generics stands e) (same-generics names out (told stands e)) p
+    puts-generics {g} {from} {to} e p =
+        puts (wordsStep names (standingIn out) (padded g (take (to - from) (drop from words)))) (ends-generics stands e)
+        (same-generics names out (told stands e)) p
 
     pub puts-self : {from to : ℕ} → r ≡ standing.SelfType from to
         → PutsOne (selfStep names (take (to - from) (drop from words))) seen kept own n to list list₁ before behind t
         → PutsStep names words out at seen kept own n list list₁ before behind t
-    puts-self {from} {to} e p = puts (selfStep names (take (to - from) (drop from words))) (ends-self stands e) (same-self names out (told stands e)) p
+    puts-self {from} {to} e p =
+        puts (selfStep names (take (to - from) (drop from words))) (ends-self stands e)
+        (same-self names out (told stands e)) p

@@ -15,14 +15,17 @@ use Rattle.lifetimes.specs.Refusals.{Outcome, Gives, Refuses, after}
 use Rattle.lifetimes.specs.LoweredWords.{wordOf}
 use Rattle.ast_lifetimes.specs.Env.{place, isDeclared}
 use Rattle.elision.specs.declared.source.ElisionSource.{ElisionSource}
-use Rattle.elision.specs.declared.source.ElisionSource.the-variants.{NoBorrows, SelfParam, OneParam, MultipleBorrows}
+use Rattle.elision.specs.declared.source.ElisionSource.the-variants.{NoBorrows, SelfParam, OneParam}
+use Rattle.elision.specs.declared.source.ElisionSource.the-variants.{MultipleBorrows}
 use Rattle.elision.specs.declared.lowerer.Standing.{Standing}
 use Rattle.elision.specs.declared.lowerer.Standing.the-variants.{Input, Aside, Output}
 use Rattle.elision.specs.declared.lowerer.Seen.{Seen}
 use Rattle.elision.specs.declared.lowerer.Lowerer.{Lowerer}
 use Rattle.elision.specs.Steps.{Step, Lifetime, Generics, SelfType, Receiver, NoSelf, SelfRef}
 use Rattle.elision.specs.Rfc.{Method, padded, standingIn}
-use Rattle.elision.specs.Machine.{visit, Answer, answer, inTurn, lowers, fromSource, lowerAnonymous, lowerWord, lowerWords, valuesIn, laid, lowerStep, unused, firstOr, selfRef, lowerSelf, runSteps, runMethod}
+use Rattle.elision.specs.Machine.{visit, Answer, answer, inTurn, lowers, fromSource, lowerAnonymous, lowerWord}
+use Rattle.elision.specs.Machine.{lowerWords, valuesIn, laid, lowerStep, unused, firstOr, selfRef, lowerSelf}
+use Rattle.elision.specs.Machine.{runSteps, runMethod}
 use Rattle.elision.specs.Lowering.{words}
 use Rattle.elision.specs.Inner.{shown}
 use Rattle.elision.proofs.RfcLaws.{laid-values}
@@ -40,7 +43,8 @@ small-append (l ∷ a) b p q = (p .0, small-append a b (p .1) q)
 
 pub small-words : (ls : List MaybeStatic) → AllSmall ls → map shown ls ≡ words ls
 small-words [] p = refl
-small-words (l ∷ ls) p = rw (lt-ltb (wordOf l) (2 ^ 64) (omega (arith, p .0))) (ap (λ (m : List ℕ). wordOf l ∷ m) (small-words ls (p .1)))
+small-words (l ∷ ls) p =
+    rw (lt-ltb (wordOf l) (2 ^ 64) (omega (arith, p .0))) (ap (λ (m : List ℕ). wordOf l ∷ m) (small-words ls (p .1)))
 
 abbrev SmallSource : ElisionSource → Type 0
 SmallSource NoBorrows = Unit {0}
@@ -59,12 +63,15 @@ Out P (Gives a) = AllSmall (a .given) × P (a .left)
 Out P (Refuses r) = Unit {0}
 
 module _ {X S : Type 0} (step : X → S → Outcome (Answer S)) (P : S → Type 0) (fine : (x : X) (s : S) → P s → Out P (step x s)) where
-  rest-fine : (a : Answer S) → AllSmall (a .given) → (o : Outcome (Answer S)) → Out P o → Out P (after o (λ rest. Gives (answer (a .given ++ rest .given) (rest .left))))
+  rest-fine : (a : Answer S) → AllSmall (a .given) → (o : Outcome (Answer S)) → Out P o
+      → Out P (after o (λ rest. Gives (answer (a .given ++ rest .given) (rest .left))))
   rest-fine a p (Gives b) q = (small-append (a .given) (b .given) p (q .0), q .1)
   rest-fine a p (Refuses r) q = tt
 
   first-fine : (l : List X) → ((s : S) → P s → Out P (inTurn step l s)) → (o : Outcome (Answer S)) → Out P o
-      → Out P (after o (λ first. after (inTurn step l (first .left)) (λ rest. Gives (answer (first .given ++ rest .given) (rest .left)))))
+      → Out P (after o
+      (λ first. after (inTurn step l (first .left))
+      (λ rest. Gives (answer (first .given ++ rest .given) (rest .left)))))
   first-fine l more (Gives a) q = rest-fine a (q .0) (inTurn step l (a .left)) (more (a .left) (q .1))
   first-fine l more (Refuses r) q = tt
 
@@ -83,7 +90,8 @@ visit-small (SelfParam k) l p q = p
 visit-small (OneParam k) l p q = tt
 visit-small MultipleBorrows l p q = tt
 
-lowers-fine : (st : Standing) (l : MaybeStatic) (e : ElisionSource) (count : ℕ) → SmallSource e → Small l → Out Fine (lowers st l e count)
+lowers-fine : (st : Standing) (l : MaybeStatic) (e : ElisionSource) (count : ℕ) → SmallSource e → Small l
+    → Out Fine (lowers st l e count)
 lowers-fine Input l e count p q = ((q, tt), visit-small e l p q)
 lowers-fine Aside l e count p q = ((q, tt), p)
 lowers-fine Output l e count p q = ((q, tt), p)
@@ -94,7 +102,9 @@ source-fine (SelfParam l) s p q = ((p, tt), q)
 source-fine (OneParam l) s p q = ((p, tt), q)
 source-fine MultipleBorrows s p q = tt
 
-new-fine : (st : Standing) (s : Seen) → Fine s → Out Fine (cond (leb 64 (s .count)) (Refuses Full) (lowers st (NonStatic (lifetime (s .count))) (s .source) (s .count + 1)))
+new-fine : (st : Standing) (s : Seen) → Fine s
+    → Out Fine
+    (cond (leb 64 (s .count)) (Refuses Full) (lowers st (NonStatic (lifetime (s .count))) (s .source) (s .count + 1)))
 new-fine st s p =
     out-cond (leb 64 (s .count)) (Refuses Full) (lowers st (NonStatic (lifetime (s .count))) (s .source) (s .count + 1)) (λ e. tt)
     (λ e. lowers-fine st (NonStatic (lifetime (s .count))) (s .source) (s .count + 1) p (omega (arith, leb-false 64 (s .count) e)))
@@ -114,7 +124,8 @@ module _ (names : List ℕ) (few : length names ≤ 32) where
       out-cond (eqb word 1) (lowerAnonymous st s) (cond (eqb word 0) static name) (λ e. anonymous-fine st s p)
       (λ e. out-cond (eqb word 0) static name (λ f. lowers-fine st Static (s .source) (s .count) p (omega arith))
       (λ f. out-cond (isDeclared names word) named (Refuses Undeclared)
-      (λ g. lowers-fine st (NonStatic (lifetime (place names word))) (s .source) (s .count) p (omega (arith, ltb-true (place names word) (length names) g))) (λ g. tt)))
+      (λ g. lowers-fine st (NonStatic (lifetime (place names word))) (s .source) (s .count) p
+      (omega (arith, ltb-true (place names word) (length names) g))) (λ g. tt)))
 
   words-fine : (st : Standing) (l : List ℕ) (s : Seen) → Fine s → Out Fine (lowerWords names st l s)
   words-fine st = turn-fine (lowerWord names st) Fine (word-fine st)
@@ -124,18 +135,25 @@ module _ (names : List ℕ) (few : length names ≤ 32) where
   keep-fine kept s p (Gives a) q = (q .0, (q .1, p))
   keep-fine kept s p (Refuses r) q = tt
 
-  make-fine : (o : Outcome (Answer Seen)) → Out Fine o → Out FineLowerer (after o (λ a. Gives (answer (a .given) (record { seen = a .left; kept = true; own = laid (a .given) }))))
+  make-fine : (o : Outcome (Answer Seen)) → Out Fine o
+      → Out FineLowerer
+      (after o (λ a. Gives (answer (a .given) (record { seen = a .left; kept = true; own = laid (a .given) }))))
   make-fine (Gives a) q = (q .0, (q .1, rw (laid-values (a .given)) (q .0)))
   make-fine (Refuses r) q = tt
 
   step-fine : (out : Bool) (step : Step) (s : Lowerer) → FineLowerer s → Out FineLowerer (lowerStep names out step s)
   unfolding lowerStep
-  step-fine out (Lifetime word) s p = keep-fine (s .kept) s (p .1) (lowerWords names (standingIn out) (word ∷ []) (s .seen)) (words-fine (standingIn out) (word ∷ []) (s .seen) (p .0))
-  step-fine out (Generics g l) s p = keep-fine (s .kept) s (p .1) (lowerWords names (standingIn out) (padded g l) (s .seen)) (words-fine (standingIn out) (padded g l) (s .seen) (p .0))
+  step-fine out (Lifetime word) s p =
+      keep-fine (s .kept) s (p .1) (lowerWords names (standingIn out) (word ∷ []) (s .seen))
+      (words-fine (standingIn out) (word ∷ []) (s .seen) (p .0))
+  step-fine out (Generics g l) s p =
+      keep-fine (s .kept) s (p .1) (lowerWords names (standingIn out) (padded g l) (s .seen))
+      (words-fine (standingIn out) (padded g l) (s .seen) (p .0))
   step-fine out (SelfType l) s p = go (s .kept)
     where
       first : Outcome (Answer Lowerer)
-      first = after (lowerWords names Aside l (s .seen)) (λ a. Gives (answer (a .given) (record { seen = a .left; kept = true; own = laid (a .given) })))
+      first = after (lowerWords names Aside l (s .seen))
+          (λ a. Gives (answer (a .given) (record { seen = a .left; kept = true; own = laid (a .given) })))
 
       go : (t : Bool) → Out FineLowerer (cond t (Gives (answer (valuesIn (s .own)) s)) first)
       go true = (p .1, p)
@@ -152,7 +170,15 @@ module _ (names : List ℕ) (few : length names ≤ 32) where
   unused-fine = (tt, own-fine)
 
   ref-fine : (o : Outcome (Answer Seen)) → Out Fine o
-      → Out FineLowerer (after o (λ a. Gives (answer (a .given) (record { seen = record { source = SelfParam (firstOr (a .given)); count = a .left .count }; kept = false; own = laid [] }))))
+      → Out FineLowerer
+      (after o
+      (λ a. Gives
+      (answer (a .given)
+      (record {
+        seen = record { source = SelfParam (firstOr (a .given)); count = a .left .count };
+        kept = false;
+        own = laid [];
+      }))))
   ref-fine (Gives a) q = (q .0, (one (a .given) (q .0), own-fine))
     where
       one : (ls : List MaybeStatic) → AllSmall ls → Small (firstOr ls)
@@ -163,7 +189,9 @@ module _ (names : List ℕ) (few : length names ≤ 32) where
   self-fine : (self : Receiver) → Out FineLowerer (lowerSelf names self)
   unfolding selfRef
   self-fine NoSelf = (tt, unused-fine)
-  self-fine (SelfRef word) = ref-fine (lowerWord names Aside word (unused names .seen)) (word-fine Aside word (unused names .seen) (unused-fine .0))
+  self-fine (SelfRef word) =
+      ref-fine (lowerWord names Aside word (unused names .seen))
+      (word-fine Aside word (unused names .seen) (unused-fine .0))
 
   abbrev pub SmallMethod : Outcome Method → Type 0
   SmallMethod (Gives m) = AllSmall (m .self) × (AllSmall (m .steps) × AllSmall (m .returns))
@@ -174,16 +202,28 @@ module _ (names : List ℕ) (few : length names ≤ 32) where
   method-small self steps returns = first (lowerSelf names self) (self-fine self)
     where
       third : (a b : Answer Lowerer) → AllSmall (a .given) → AllSmall (b .given) → (o : Outcome (Answer Lowerer)) → Out FineLowerer o
-          → SmallMethod (after o (λ c. Gives (record { self = a .given; steps = b .given; returns = c .given; count = c .left .seen .count })))
+          → SmallMethod
+          (after o
+          (λ c. Gives
+          (record { self = a .given; steps = b .given; returns = c .given; count = c .left .seen .count })))
       third a b p q (Gives c) r = (p, (q, r .0))
       third a b p q (Refuses k) r = tt
 
       second : (a : Answer Lowerer) → AllSmall (a .given) → (o : Outcome (Answer Lowerer)) → Out FineLowerer o
-          → SmallMethod (after o (λ b. after (runSteps names true returns (b .left)) (λ c. Gives (record { self = a .given; steps = b .given; returns = c .given; count = c .left .seen .count }))))
+          → SmallMethod
+          (after o
+          (λ b. after (runSteps names true returns (b .left))
+          (λ c. Gives
+          (record { self = a .given; steps = b .given; returns = c .given; count = c .left .seen .count }))))
       second a p (Gives b) q = third a b p (q .0) (runSteps names true returns (b .left)) (steps-fine true returns (b .left) (q .1))
       second a p (Refuses k) q = tt
 
       first : (o : Outcome (Answer Lowerer)) → Out FineLowerer o
-          → SmallMethod (after o (λ a. after (runSteps names false steps (a .left)) (λ b. after (runSteps names true returns (b .left)) (λ c. Gives (record { self = a .given; steps = b .given; returns = c .given; count = c .left .seen .count })))))
+          → SmallMethod
+          (after o
+          (λ a. after (runSteps names false steps (a .left))
+          (λ b. after (runSteps names true returns (b .left))
+          (λ c. Gives
+          (record { self = a .given; steps = b .given; returns = c .given; count = c .left .seen .count })))))
       first (Gives a) p = second a (p .0) (runSteps names false steps (a .left)) (steps-fine false steps (a .left) (p .1))
       first (Refuses k) p = tt

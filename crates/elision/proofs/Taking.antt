@@ -1,6 +1,6 @@
 -- What `lower_step_at` answers of the step that stands at a place; what is read fits.
 use Prim.Native.Nat.{ℕ, _-_, _≤_}
-use mathlib.Core.Bool.{Bool, true, false, _&&_}
+use mathlib.Core.Bool.{Bool, true, _&&_, and-eq-true-iff}
 use mathlib.Core.Path.{_≡_, refl, subst}
 use mathlib.Core.List.{List, [], _∷_}
 use native.Mathlib.Omega.{arith}
@@ -11,7 +11,7 @@ use borrow.Author.Tests.{leb-true}
 use Rattle.lifetimes.specs.declared.answer.Refusal.the-variants.{Malformed}
 use Rattle.lifetimes.specs.declared.answer.Verdict.the-variants as verdict
 use Rattle.records.specs.Reading.{Reading, readWord, readLifetimes}
-use Rattle.records.proofs.ReadingLaws.{Holds, read, fails, passed, holds-cond, holds-onward, holds-read}
+use Rattle.records.proofs.ReadingLaws.{Holds, read, fails, holds-cond, holds-onward, holds-read}
 use Rattle.elision.specs.declared.steps.StepAt.{StepAt}
 use Rattle.elision.specs.declared.steps.StepAt.the-variants as standing
 use Rattle.elision.specs.declared.lowerer.Lowerer.{Lowerer}
@@ -22,15 +22,18 @@ use Rattle.elision.specs.Inner.{StandsAt, takes}
 use Rattle.elision.specs.Inner as inner
 
 module _ (names : List ℕ) (out : Bool) (s : Lowerer) {d : Stepped} where
-  lifetime-takes : {words : List ℕ} {at : ℕ} {reading : Reading Step} {word to : ℕ} → StandsAt words at reading (standing.Lifetime word to)
+  lifetime-takes : {words : List ℕ} {at : ℕ} {reading : Reading Step} {word to : ℕ}
+      → StandsAt words at reading (standing.Lifetime word to)
       → d ≡ stepped s (oneStep names out (Lifetime word) s) → d ≡ takes names out s reading
   lifetime-takes (inner.lifetime w x b e) h = h
 
-  generics-takes : {words : List ℕ} {at : ℕ} {reading : Reading Step} {g from to : ℕ} → StandsAt words at reading (standing.Generics g from to)
+  generics-takes : {words : List ℕ} {at : ℕ} {reading : Reading Step} {g from to : ℕ}
+      → StandsAt words at reading (standing.Generics g from to)
       → d ≡ stepped s (oneStep names out (Generics g (take (to - from) (drop from words))) s) → d ≡ takes names out s reading
   generics-takes (inner.generics l x b m e) h = rw l at h
 
-  self-takes : {words : List ℕ} {at : ℕ} {reading : Reading Step} {from to : ℕ} → StandsAt words at reading (standing.SelfType from to)
+  self-takes : {words : List ℕ} {at : ℕ} {reading : Reading Step} {from to : ℕ}
+      → StandsAt words at reading (standing.SelfType from to)
       → d ≡ stepped s (oneStep names out (SelfType (take (to - from) (drop from words))) s) → d ≡ takes names out s reading
   self-takes (inner.selfType l x b m e) h = rw l at h
 
@@ -43,29 +46,33 @@ module _ {words : List ℕ} {at : ℕ} {reading : Reading Step} {r : StepAt} (s 
   told e = subst (StandsAt words at reading) e s
 
   module _ (names : List ℕ) (out : Bool) (l : Lowerer) {d : Stepped} where
-    pub takes-lifetime : {word to : ℕ} → r ≡ standing.Lifetime word to → d ≡ stepped l (oneStep names out (Lifetime word) l) → d ≡ takes names out l reading
+    pub takes-lifetime : {word to : ℕ} → r ≡ standing.Lifetime word to
+        → d ≡ stepped l (oneStep names out (Lifetime word) l) → d ≡ takes names out l reading
     takes-lifetime e h = lifetime-takes names out l (told e) h
 
-    pub takes-generics : {g from to : ℕ} → r ≡ standing.Generics g from to → d ≡ stepped l (oneStep names out (Generics g (take (to - from) (drop from words))) l) → d ≡ takes names out l reading
+    pub takes-generics : {g from to : ℕ} → r ≡ standing.Generics g from to
+        → d ≡ stepped l (oneStep names out (Generics g (take (to - from) (drop from words))) l)
+        → d ≡ takes names out l reading
     takes-generics e h = generics-takes names out l (told e) h
 
-    pub takes-self : {from to : ℕ} → r ≡ standing.SelfType from to → d ≡ stepped l (oneStep names out (SelfType (take (to - from) (drop from words))) l) → d ≡ takes names out l reading
+    pub takes-self : {from to : ℕ} → r ≡ standing.SelfType from to
+        → d ≡ stepped l (oneStep names out (SelfType (take (to - from) (drop from words))) l)
+        → d ≡ takes names out l reading
     takes-self e h = self-takes names out l (told e) h
 
-    pub takes-missing : r ≡ standing.Missing → d ≡ record { verdict = verdict.Refused Malformed; lowerer = l; lifetimes = laid [] } → d ≡ takes names out l reading
+    pub takes-missing : r ≡ standing.Missing
+        → d ≡ record { verdict = verdict.Refused Malformed; lowerer = l; lifetimes = laid [] }
+        → d ≡ takes names out l reading
     takes-missing e h = missing-takes names out l (told e) h
 
 -- ---- what is read fits
-
-pub both : (a b : Bool) → (a && b) ≡ true → (a ≡ true) × (b ≡ true)
-both true b e = (refl, e)
-both false b e = passed e
 
 lifetimes-fit : (words : List ℕ) → Holds (λ ls rest. leb (length ls) 16 ≡ true) (readLifetimes words)
 lifetimes-fit [] = fails
 lifetimes-fit (n ∷ words) =
     holds-cond (λ ls rest. leb (length ls) 16 ≡ true) (leb n 16 && leb n (length words))
-    (λ e. let p = both (leb n 16) (leb n (length words)) e in read (rw (length-take-le n words (leb-true n (length words) (p .1))) (p .0))) fails
+    (λ e. let p = (and-eq-true-iff (leb n 16) (leb n (length words))) .0 e in read
+    (rw (length-take-le n words (leb-true n (length words) (p .1))) (p .0))) fails
 
 word-fits : (words : List ℕ) → Holds (λ (l : ℕ) rest. Unit {0}) (readWord words)
 word-fits [] = fails
@@ -82,8 +89,11 @@ step-fits (kind ∷ words) =
     let P : Step → List ℕ → Type 0 = λ step rest. fits step ≡ true in
     holds-cond P (eqb kind 0) (λ e. holds-onward (λ (l : ℕ) rest. Unit {0}) P (word-fits words) (λ l rest p. read refl))
     (holds-cond P (eqb kind 1)
-    (λ e. holds-onward (λ g rest. leb g 16 ≡ true) P (generics-fit words) (λ g rest p. holds-onward (λ ls behind. leb (length ls) 16 ≡ true) P (lifetimes-fit rest) (λ ls behind q. read (rw (p, q)))))
-    (holds-cond P (eqb kind 2) (λ e. holds-onward (λ ls rest. leb (length ls) 16 ≡ true) P (lifetimes-fit words) (λ ls rest p. read p)) fails))
+    (λ e. holds-onward (λ g rest. leb g 16 ≡ true) P (generics-fit words)
+    (λ g rest p. holds-onward (λ ls behind. leb (length ls) 16 ≡ true) P (lifetimes-fit rest)
+    (λ ls behind q. read (rw (p, q)))))
+    (holds-cond P (eqb kind 2)
+    (λ e. holds-onward (λ ls rest. leb (length ls) 16 ≡ true) P (lifetimes-fit words) (λ ls rest p. read p)) fails))
 
 -- the words of a step, in its record
 pub record Part (words : List ℕ) (from to : ℕ) : Type 0 where
@@ -91,18 +101,22 @@ pub record Part (words : List ℕ) (from to : ℕ) : Type 0 where
   pub ends : to ≤ length words
   pub few : length (take (to - from) (drop from words)) ≤ 16
 
-lifetime-part : {words : List ℕ} {at : ℕ} {reading : Reading Step} {word to : ℕ} → StandsAt words at reading (standing.Lifetime word to) → (1 ≤ to) × Part words (to - 1) to
+lifetime-part : {words : List ℕ} {at : ℕ} {reading : Reading Step} {word to : ℕ}
+    → StandsAt words at reading (standing.Lifetime word to) → (1 ≤ to) × Part words (to - 1) to
 lifetime-part {to = to} (inner.lifetime w d b l) =
     let one : to - (to - 1) ≡ 1 = omega arith in
     (omega arith, record { starts = omega arith; ends = l; few = rw (one, w) (omega arith) })
 
-generics-part : {words : List ℕ} {at : ℕ} {reading : Reading Step} {g from to : ℕ} → StandsAt words at reading (standing.Generics g from to) → Holds (λ step rest. fits step ≡ true) reading
+generics-part : {words : List ℕ} {at : ℕ} {reading : Reading Step} {g from to : ℕ}
+    → StandsAt words at reading (standing.Generics g from to) → Holds (λ step rest. fits step ≡ true) reading
     → (g ≤ 16) × Part words from to
 generics-part {g = g} (inner.generics {ls = ls} {rest = rest} l d b m x) h =
-    let p = both (leb g 16) (leb (length ls) 16) (holds-read (λ step rest. fits step ≡ true) (Generics g ls) rest h) in
+    let p = (and-eq-true-iff (leb g 16) (leb (length ls) 16)) .0 (holds-read (λ step rest. fits step ≡ true) (Generics g ls) rest h) in
     (leb-true g 16 (p .0), record { starts = m; ends = x; few = rw l (leb-true (length ls) 16 (p .1)) })
 
-self-part : {words : List ℕ} {at : ℕ} {reading : Reading Step} {from to : ℕ} → StandsAt words at reading (standing.SelfType from to) → Holds (λ step rest. fits step ≡ true) reading → Part words from to
+self-part : {words : List ℕ} {at : ℕ} {reading : Reading Step} {from to : ℕ}
+    → StandsAt words at reading (standing.SelfType from to) → Holds (λ step rest. fits step ≡ true) reading
+    → Part words from to
 self-part (inner.selfType {ls = ls} {rest = rest} l d b m x) h = record {
   starts = m;
   ends = x;

@@ -10,7 +10,8 @@ use Rattle.elision.specs.Steps as steps
 use Rattle.elision.specs.Rfc as rfc
 use Rattle.elision.specs.Machine as machine
 use Rattle.elision.specs.Lowering as lowering
-use Rattle.elision.specs.Theorems.{ElisionIsRfc141, Rfc141Says, StepsOneByOne, LentSteps, StepRefusedIfFirstDue, ExamplesHold}
+use Rattle.elision.specs.Theorems.{ElisionIsRfc141, Rfc141Says, StepsOneByOne, LentSteps, StepRefusedIfFirstDue}
+use Rattle.elision.specs.Theorems.{ExamplesHold}
 use Rattle.elision.proofs.RfcLaws.{method-said}
 use Rattle.elision.proofs.ReadingLaws as laws
 use Rattle.elision.proofs.Lending.{steps-whole, steps-together}
@@ -30,10 +31,19 @@ rfc141-says names self steps returns = record {
   returned = λ before l e. rw e;
   source = laws.source-is names self;
   again = laws.again-is names self;
-  count = λ m e. sym (ap (λ (x : rfc.Method). x .count) ((given-due (rfc.methodOf names self steps returns) m (rfc.methodChecks names self steps returns) e) .1));
+  count = λ m e. sym
+      (ap (λ (x : rfc.Method). x .count)
+      ((given-due (rfc.methodOf names self steps returns) m (rfc.methodChecks names self steps returns) e) .1));
   few = laws.method-few names self steps returns;
-  given = λ m. (given-due (rfc.methodOf names self steps returns) m (rfc.methodChecks names self steps returns), λ h. due-given (rfc.methodOf names self steps returns) (h .0) ∙ rw (h .1));
-  refused = λ r. (refused-due (rfc.methodOf names self steps returns) r (rfc.methodChecks names self steps returns), due-refused (rfc.methodOf names self steps returns));
+  given = λ m. (
+    given-due (rfc.methodOf names self steps returns) m (rfc.methodChecks names self steps returns),
+    λ h. due-given (rfc.methodOf names self steps returns) (h .0) ∙ rw (h .1),
+  );
+  refused =
+      λ r. (
+        refused-due (rfc.methodOf names self steps returns) r (rfc.methodChecks names self steps returns),
+        due-refused (rfc.methodOf names self steps returns),
+      );
 }
 
 pub steps-one-by-one : StepsOneByOne
@@ -54,6 +64,7 @@ step-refused-if-first-due names out s = record {
 }
 
 pub examples-hold : ExamplesHold
-unfolding lowering.lowerRecords env.envOf env.place hir.allBelow refusals.unless rfc.throughout rfc.anonymous rfc.hasSelfType rfc.ownFrom steps.readStep reading.readAll reading.inShape reading.itemsOf
+unfolding lowering.lowerRecords env.envOf env.place hir.allBelow refusals.unless rfc.throughout rfc.anonymous
+    rfc.hasSelfType rfc.ownFrom steps.readStep reading.readAll reading.inShape reading.itemsOf
     machine.inTurn machine.lowerWord machine.lowerStep machine.oneStep machine.wordedStep machine.unused
-examples-hold = (refl, (refl, (refl, (refl, (refl, (refl, (refl, (refl, tt))))))))
+examples-hold = ((refl, (refl, (refl, (refl, (refl, tt))))), (refl, (refl, (refl, tt))))

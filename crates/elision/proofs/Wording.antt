@@ -31,21 +31,24 @@ module _ (names : List ℕ) (out : Bool) (words : List ℕ) (s : Lowerer) where
   no-step : {reading : Reading Step} → EndsAt words 0 reading Missing → torn s ≡ answers names out s reading
   no-step missing = refl
 
-  more-words : {reading : Reading Step} {to : ℕ} → EndsAt words 0 reading (At to) → (to ≡ length words → ⊥) → torn s ≡ answers names out s reading
+  more-words : {reading : Reading Step} {to : ℕ} → EndsAt words 0 reading (At to) → (to ≡ length words → ⊥)
+      → torn s ≡ answers names out s reading
   more-words {to = to} (ends {a} {rest} e past within) other = go rest e
     where
       go : (rest : List ℕ) → drop to words ≡ rest → torn s ≡ answers names out s (Read a rest)
       go [] e = absurd (other (omega (arith, within, sym (length-drop to words) ∙ ap length e)))
       go (word ∷ rest) e = refl
 
-  one-step : {reading : Reading Step} {to : ℕ} → EndsAt words 0 reading (At to) → to ≡ length words → takes names out s reading ≡ answers names out s reading
+  one-step : {reading : Reading Step} {to : ℕ} → EndsAt words 0 reading (At to) → to ≡ length words
+      → takes names out s reading ≡ answers names out s reading
   one-step {to = to} (ends {a} {rest} e past within) all = go rest e
     where
       go : (rest : List ℕ) → drop to words ≡ rest → takes names out s (Read a rest) ≡ answers names out s (Read a rest)
       go [] e = refl
       go (word ∷ rest) e = absurd (omega (arith, all, sym (length-drop to words) ∙ ap length e))
 
-module _ (names : List ℕ) (out : Bool) {words : List ℕ} (s : Lowerer) {d : Stepped} {r : End} (h : EndsAt words 0 (readStep words) r) where
+module _ (names : List ℕ) (out : Bool) {words : List ℕ} (s : Lowerer) {d : Stepped} {r : End}
+    (h : EndsAt words 0 (readStep words) r) where
   pub worded-none : r ≡ Missing → d ≡ torn s → d ≡ stepped s (wordedStep names out words s)
   unfolding wordedStep
   worded-none e t = t ∙ no-step names out words s (ends-told h e)
@@ -54,6 +57,7 @@ module _ (names : List ℕ) (out : Bool) {words : List ℕ} (s : Lowerer) {d : S
   unfolding wordedStep
   worded-more e other t = t ∙ more-words names out words s (ends-told h e) other
 
-  pub worded-one : {to : ℕ} → r ≡ At to → to ≡ length words → d ≡ takes names out s (readStep words) → d ≡ stepped s (wordedStep names out words s)
+  pub worded-one : {to : ℕ} → r ≡ At to → to ≡ length words → d ≡ takes names out s (readStep words)
+      → d ≡ stepped s (wordedStep names out words s)
   unfolding wordedStep
   worded-one e all t = t ∙ one-step names out words s (ends-told h e) all

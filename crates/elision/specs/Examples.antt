@@ -1,4 +1,5 @@
--- 01's starred examples about elision, and three more (a later use of kind 2, refused steps), as one list of questions and answers. Theorems.ExamplesHold: each question has its answer.
+-- 01's starred examples about elision, and three more (a later use of kind 2, refused steps), as questions and answers.
+-- Theorems.ExamplesHold: each question has its answer.
 use Prim.Native.Nat.{ℕ}
 use mathlib.Core.Bool.{Bool, true, false}
 use mathlib.Core.Path.{_≡_}
@@ -6,7 +7,7 @@ use mathlib.Core.List.{List, [], _∷_}
 use lib.ListN.{length}
 use Rattle.lifetimes.specs.declared.answer.Refusal.the-variants.{Undeclared, NoSource, Ambiguous}
 use Rattle.lifetimes.specs.declared.answer.Verdict.the-variants.{Refused}
-use Rattle.lifetimes.specs.Refusals.{Outcome, Gives, Refuses}
+use Rattle.lifetimes.specs.Refusals.{Outcome, Gives, Refuses, over}
 use Rattle.ast_lifetimes.specs.Env.{envOf}
 use Rattle.elision.specs.declared.lowerer.Stepped.{Stepped}
 use Rattle.elision.specs.Steps.{NoSelf, stepsOf}
@@ -34,8 +35,7 @@ pub data Answer : Type 0 where
   Steps : Stepped → Answer
 
 abbrev pub wordsOf : Outcome Method → Outcome Words
-wordsOf (Gives m) = Gives (record { self = words (m .self); steps = words (m .steps); returns = words (m .returns) })
-wordsOf (Refuses r) = Refuses r
+wordsOf o = over (λ m. record { self = words (m .self); steps = words (m .steps); returns = words (m .returns) }) o
 
 abbrev pub answer : Question → Answer
 answer (Lower names self steps returns) = Lowered (wordsOf (lowerRecords (envOf names []) self steps returns 16 16 16))
@@ -49,21 +49,32 @@ pub record Example : Type 0 where
 abbrev pub asked : Question → Answer → Example
 asked q a = record { question = q; expected = a }
 
-abbrev pub examples : List Example
-examples =
+-- 01's, each starred there
+abbrev pub starred : List Example
+starred =
     -- no names, self `1`, steps `0 1`, returns `0 1`: lowered 1, 2, 1
-    asked (Lower [] (1 ∷ []) (0 ∷ 1 ∷ []) (0 ∷ 1 ∷ [])) (Lowered (Gives (record { self = 1 ∷ []; steps = 2 ∷ []; returns = 1 ∷ [] })))
+    asked (Lower [] (1 ∷ []) (0 ∷ 1 ∷ []) (0 ∷ 1 ∷ []))
+    (Lowered (Gives (record { self = 1 ∷ []; steps = 2 ∷ []; returns = 1 ∷ [] })))
     -- returns `0 1`: no input 5; steps `0 0` give 0; steps `0 7 0 7` give 6
     ∷ asked (Lower [] [] [] (0 ∷ 1 ∷ [])) (Lowered (Refuses NoSource))
-    ∷ asked (Lower [] [] (0 ∷ 0 ∷ []) (0 ∷ 1 ∷ [])) (Lowered (Gives (record { self = []; steps = 0 ∷ []; returns = 0 ∷ [] })))
+    ∷ asked (Lower [] [] (0 ∷ 0 ∷ []) (0 ∷ 1 ∷ []))
+    (Lowered (Gives (record { self = []; steps = 0 ∷ []; returns = 0 ∷ [] })))
     ∷ asked (Lower (7 ∷ []) [] (0 ∷ 7 ∷ 0 ∷ 7 ∷ []) (0 ∷ 1 ∷ [])) (Lowered (Refuses Ambiguous))
     -- step `1 2 1 7` is two positions
     ∷ asked (Positions (7 ∷ []) (1 ∷ 2 ∷ 1 ∷ 7 ∷ [])) (Count 2)
-    -- not starred, to the end. Over the name 7, steps `2 1 7 2 1 9` lowered 1, 1: the words of the second use are not looked up
-    ∷ asked (Lower (7 ∷ []) [] (2 ∷ 1 ∷ 7 ∷ 2 ∷ 1 ∷ 9 ∷ []) []) (Lowered (Gives (record { self = []; steps = 1 ∷ 1 ∷ []; returns = [] })))
-    -- a refused step leaves the lowerer as it was: `0 1` in the output gives 5; `1 0 2 1 9` gives 3 behind the new lifetime of its first word
-    ∷ asked (OneStep [] true (0 ∷ 1 ∷ [])) (Steps (record { verdict = Refused NoSource; lowerer = unused []; lifetimes = laid [] }))
-    ∷ asked (OneStep [] false (1 ∷ 0 ∷ 2 ∷ 1 ∷ 9 ∷ [])) (Steps (record { verdict = Refused Undeclared; lowerer = unused []; lifetimes = laid [] }))
+    ∷ []
+
+abbrev pub further : List Example
+further =
+    -- over the name 7, steps `2 1 7 2 1 9` lowered 1, 1: the words of the second use are not looked up
+    asked (Lower (7 ∷ []) [] (2 ∷ 1 ∷ 7 ∷ 2 ∷ 1 ∷ 9 ∷ []) [])
+    (Lowered (Gives (record { self = []; steps = 1 ∷ 1 ∷ []; returns = [] })))
+    -- a refused step leaves the lowerer as it was: `0 1` in the output gives 5; `1 0 2 1 9` gives 3 behind the new
+    -- lifetime of its first word
+    ∷ asked (OneStep [] true (0 ∷ 1 ∷ []))
+    (Steps (record { verdict = Refused NoSource; lowerer = unused []; lifetimes = laid [] }))
+    ∷ asked (OneStep [] false (1 ∷ 0 ∷ 2 ∷ 1 ∷ 9 ∷ []))
+    (Steps (record { verdict = Refused Undeclared; lowerer = unused []; lifetimes = laid [] }))
     ∷ []
 
 -- each question of a list has its expected answer

@@ -1,4 +1,5 @@
--- For private functions only: where a step stands in a record, and what the inner functions answer. No public contract cites this file.
+-- For private functions only: where a step stands in a record, and what the inner functions answer. No public contract
+-- cites this file.
 use Prim.Native.Nat.{ℕ, _+_, _-_, _≤_, _<_}
 use mathlib.Core.Path.{_≡_}
 use mathlib.Core.Bool.{Bool, true, cond}
@@ -34,11 +35,13 @@ use Rattle.elision.specs.Machine.{Answer, firstOr, valuesIn, laid, lower
 
 -- where a step stands that is read at a place of some words
 pub data StandsAt (words : List ℕ) (at : ℕ) : Reading Step → StepAt → Type 0 where
-  lifetime : {word to : ℕ} {rest : List ℕ} → drop (to - 1) words ≡ word ∷ rest → drop to words ≡ rest → at < to → to ≤ length words
-      → StandsAt words at (Read (Lifetime word) rest) (standing.Lifetime word to)
-  generics : {g from to : ℕ} {ls rest : List ℕ} → take (to - from) (drop from words) ≡ ls → drop to words ≡ rest → at < to → from ≤ to → to ≤ length words
+  lifetime : {word to : ℕ} {rest : List ℕ} → drop (to - 1) words ≡ word ∷ rest → drop to words ≡ rest → at < to
+      → to ≤ length words → StandsAt words at (Read (Lifetime word) rest) (standing.Lifetime word to)
+  generics : {g from to : ℕ} {ls rest : List ℕ} → take (to - from) (drop from words) ≡ ls → drop to words ≡ rest
+      → at < to → from ≤ to → to ≤ length words
       → StandsAt words at (Read (Generics g ls) rest) (standing.Generics g from to)
-  selfType : {from to : ℕ} {ls rest : List ℕ} → take (to - from) (drop from words) ≡ ls → drop to words ≡ rest → at < to → from ≤ to → to ≤ length words
+  selfType : {from to : ℕ} {ls rest : List ℕ} → take (to - from) (drop from words) ≡ ls → drop to words ≡ rest → at < to
+      → from ≤ to → to ≤ length words
       → StandsAt words at (Read (SelfType ls) rest) (standing.SelfType from to)
   missing : StandsAt words at Fails standing.Missing
 
@@ -72,13 +75,15 @@ abbrev pub putOf : Seen → ℕ → Outcome (Answer Seen) → Put
 putOf s at (Gives a) = record { verdict = verdict.Accepted; seen = a .left; at = at + length (a .given) }
 putOf s at (Refuses r) = record { verdict = verdict.Refused r; seen = s; at = at }
 
--- some words lowered and stored from a place on: the answer; given, their words are in the slice, as far as it takes them
+-- some words lowered and stored from a place on: the answer; given, their words are in the slice, as far as it takes
+-- them
 pub record Puts (s : Seen) (o : Outcome (Answer Seen)) (at : ℕ) (before behind : List ℕ) (r : Put) : Type 0 where
   pub answers : r ≡ putOf s at o
   pub few : r .at ≤ at + 16
   pub stores : (a : Answer Seen) → o ≡ Gives a → behind ≡ sets before at (map shown (a .given))
 
--- A lowerer as the loops over a record pass it on: what is seen, whether the `Self` type was there, how many lifetimes it has then, and their words in front of a list of 16.
+-- A lowerer as the loops over a record pass it on: what is seen, whether the `Self` type was there, how many lifetimes
+-- it has then, and their words in front of a list of 16.
 pub record Shows (s : Lowerer) (seen : Seen) (kept : Bool) (own : ℕ) (list : List ℕ) : Type 0 where
   pub saw : s .seen ≡ seen
   pub keeps : s .kept ≡ kept
@@ -86,7 +91,8 @@ pub record Shows (s : Lowerer) (seen : Seen) (kept : Bool) (own : ℕ) (list : L
   pub many : kept ≡ true → length (valuesIn (s .own)) ≡ own
   pub words : kept ≡ true → take own list ≡ map shown (valuesIn (s .own))
 
--- what is given: the answer shows the next lowerer, and the words are in the slice from a place on, as far as it takes them
+-- what is given: the answer shows the next lowerer, and the words are in the slice from a place on, as far as it takes
+-- them
 pub record Given (o : Outcome (Answer Lowerer)) (n : ℕ) (list before behind : List ℕ) (r : Took) : Type 0 where
   pub it : Answer Lowerer
   pub is : o ≡ Gives it
@@ -94,27 +100,38 @@ pub record Given (o : Outcome (Answer Lowerer)) (n : ℕ) (list before behind : 
   pub count : r .n ≡ n + length (it .given)
   pub stored : behind ≡ sets before n (map shown (it .given))
 
--- Steps lowered and stored. Refused, nothing is said of list and slice: words may have been stored before the bad place.
+-- Steps lowered and stored. Refused, nothing is said of list and slice: words may have been stored before the bad
+-- place.
 pub record Lowers (o : Outcome (Answer Lowerer)) (n : ℕ) (list before behind : List ℕ) (r : Took) : Type 0 where
   pub accepted : r .verdict ≡ verdict.Accepted → Given o n list before behind r
   pub refused : (k : Refusal) → r .verdict ≡ verdict.Refused k → o ≡ Refuses k
 
 -- one step, whatever lowerer is shown
-pub record PutsOne (step : Lowerer → Outcome (Answer Lowerer)) (seen : Seen) (kept : Bool) (own n to : ℕ) (list list₁ before behind : List ℕ) (r : Took) : Type 0 where
+pub record PutsOne (step : Lowerer → Outcome (Answer Lowerer)) (seen : Seen) (kept : Bool) (own n to : ℕ)
+    (list list₁ before behind : List ℕ) (r : Took) : Type 0 where
   pub few : r .own ≤ 16
   pub near : r .n ≤ n + 16
   pub place : r .to ≡ to
   pub lowers : (s : Lowerer) → Shows s seen kept own list → Lowers (step s) n list₁ before behind r
 
 -- the step that stands at a place of a record
-pub record PutsStep (names words : List ℕ) (out : Bool) (at : ℕ) (seen : Seen) (kept : Bool) (own n : ℕ) (list list₁ before behind : List ℕ) (r : Took) : Type 0 where
+pub record PutsStep (names words : List ℕ) (out : Bool) (at : ℕ) (seen : Seen) (kept : Bool) (own n : ℕ)
+    (list list₁ before behind : List ℕ) (r : Took) : Type 0 where
   pub few : r .own ≤ 16
   pub near : r .n ≤ n + 16
   pub ends : r .verdict ≡ verdict.Accepted → EndsAt words at (readStep (drop at words)) (end.At (r .to))
-  pub lowers : (s : Lowerer) → Shows s seen kept own list → (step : Step) (rest : List ℕ) → readStep (drop at words) ≡ Read step rest → Lowers (lowerStep names out step s) n list₁ before behind r
+  pub lowers : (s : Lowerer) → Shows s seen kept own list → (step : Step) (rest : List ℕ)
+      → readStep (drop at words) ≡ Read step rest → Lowers (lowerStep names out step s) n list₁ before behind r
 
 abbrev pub totals : Outcome Method → Totals
-totals (Gives m) = record { verdict = verdict.Accepted; selves = length (m .self); steps = length (m .steps); returns = length (m .returns); count = m .count }
+totals (Gives m) =
+    record {
+      verdict = verdict.Accepted;
+      selves = length (m .self);
+      steps = length (m .steps);
+      returns = length (m .returns);
+      count = m .count;
+    }
 totals (Refuses r) = record { verdict = verdict.Refused r; selves = 0; steps = 0; returns = 0; count = 0 }
 
 pub record RunsAll (o : Outcome Method) (own given taken own₁ given₁ taken₁ : List ℕ) (r : Totals) : Type 0 where

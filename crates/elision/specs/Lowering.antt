@@ -1,14 +1,16 @@
--- The whole records `self`, `steps` and `returns` over the names of an AST environment: their lowered words, and the method's environment (`finish`).
+-- The whole records `self`, `steps` and `returns` over the names of an AST environment: their lowered words, and the
+-- method's environment (`finish`).
 use Prim.Native.Nat.{ℕ}
 use mathlib.Core.Bool.{Bool, _&&_, not}
+use mathlib.Core.Path.{_≡_}
 use mathlib.Core.List.{List, [], _∷_, _++_, map}
 use lib.ListN.{length}
 use Rattle.lifetimes.specs.declared.answer.Refusal.the-variants.{Malformed}
 use Rattle.lifetimes.specs.declared.answer.Verdict.the-variants as verdict
 use Rattle.lifetimes.specs.declared.maybe_static.MaybeStatic.{MaybeStatic}
 use Rattle.lifetimes.specs.declared.env.LifetimeEnv as hir
-use Rattle.lifetimes.specs.Refusals.{Check, check, Outcome, Gives, Refuses, unless}
-use Rattle.lifetimes.specs.Lent.{roomCheck}
+use Rattle.lifetimes.specs.Refusals.{Check, check, Outcome, Gives, Refuses, unless, over}
+use Rattle.lifetimes.specs.Lent.{Slice, Fills, roomCheck}
 use Rattle.lifetimes.specs.LoweredWords.{wordOf}
 use Rattle.lifetimes.specs.Env.{envOf}
 use Rattle.lifetimes.specs.Env as hirenv
@@ -39,16 +41,19 @@ measureChecks e self steps returns =
 
 -- then a slice too short (9)
 abbrev pub roomChecks : Method → ℕ → ℕ → ℕ → List Check
-roomChecks m own given taken = roomCheck own (words (m .self)) ∷ roomCheck given (words (m .steps)) ∷ roomCheck taken (words (m .returns)) ∷ []
+roomChecks m own given taken =
+    roomCheck own (words (m .self)) ∷ roomCheck given (words (m .steps)) ∷ roomCheck taken (words (m .returns)) ∷ []
 
 abbrev pub lowerChecks : ast.LifetimeEnv → List ℕ → List ℕ → List ℕ → ℕ → ℕ → ℕ → List Check
-lowerChecks e self steps returns own given taken = measureChecks e self steps returns ++ roomChecks (recordsOf e self steps returns) own given taken
+lowerChecks e self steps returns own given taken =
+    measureChecks e self steps returns ++ roomChecks (recordsOf e self steps returns) own given taken
 
 -- `finish`: all lifetimes, declared and new, and the bounds of the AST environment
 abbrev pub finished : ast.LifetimeEnv → ℕ → hir.LifetimeEnv
 finished e count = record { declared = e .named; count = count; pushed = e .pushed; bounds = e .bounds }
 
--- by hand: the AST environment's refusals, then those of the environment itself (a 65th lifetime 4, more names than lifetimes 8)
+-- by hand: the AST environment's refusals, then those of the environment itself (a 65th lifetime 4, more names than
+-- lifetimes 8)
 unfoldable pub finishEnv : ast.LifetimeEnv → ℕ → Outcome hir.LifetimeEnv
 finishEnv e count = unless (envChecks e ++ hirenv.envChecks (finished e count)) (finished e count)
 
@@ -56,9 +61,11 @@ unfoldable pub measureRecords : ast.LifetimeEnv → List ℕ → List ℕ → Li
 measureRecords e self steps returns = unless (measureChecks e self steps returns) (recordsOf e self steps returns)
 
 unfoldable pub lowerRecords : ast.LifetimeEnv → List ℕ → List ℕ → List ℕ → ℕ → ℕ → ℕ → Outcome Method
-lowerRecords e self steps returns own given taken = unless (lowerChecks e self steps returns own given taken) (recordsOf e self steps returns)
+lowerRecords e self steps returns own given taken =
+    unless (lowerChecks e self steps returns own given taken) (recordsOf e self steps returns)
 
--- What the calls answer, and what `lower` writes: given, the words of each record; refused, nothing, and an environment without lifetimes
+-- What the calls answer, and what `lower` writes: given, the words of each record; refused, nothing, and an environment
+-- without lifetimes
 abbrev pub answered : ast.LifetimeEnv → Outcome Method → Lowering
 answered e (Gives m) = record {
   verdict = verdict.Accepted;
@@ -70,13 +77,17 @@ answered e (Gives m) = record {
 answered e (Refuses r) = record { verdict = verdict.Refused r; selves = 0; steps = 0; returns = 0; env = envOf 0 0 [] }
 
 abbrev pub ownWords : Outcome Method → Outcome (List ℕ)
-ownWords (Gives m) = Gives (words (m .self))
-ownWords (Refuses r) = Refuses r
+ownWords o = over (λ m. words (m .self)) o
 
 abbrev pub stepWords : Outcome Method → Outcome (List ℕ)
-stepWords (Gives m) = Gives (words (m .steps))
-stepWords (Refuses r) = Refuses r
+stepWords o = over (λ m. words (m .steps)) o
 
 abbrev pub returnWords : Outcome Method → Outcome (List ℕ)
-returnWords (Gives m) = Gives (words (m .returns))
-returnWords (Refuses r) = Refuses r
+returnWords o = over (λ m. words (m .returns)) o
+
+-- both, of what `lower` gives
+pub record LowersTo (e : ast.LifetimeEnv) (o : Outcome Method) (r : Lowering) (own given taken : Slice) : Type 0 where
+  pub answer : r ≡ answered e o
+  pub own-filled : Fills (ownWords o) own
+  pub given-filled : Fills (stepWords o) given
+  pub taken-filled : Fills (returnWords o) taken

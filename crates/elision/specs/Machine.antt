@@ -1,5 +1,6 @@
--- The lowerer's steps: how each leaves it for the next. Total on every lowerer: the lifetimes kept are the first n of 16 places, and a new lifetime at a count of 64 or more is 4.
--- specs/Theorems.antt says that they give what specs/Rfc.antt says.
+-- The lowerer's steps: how each leaves it for the next. Total on every lowerer: the lifetimes kept are the first n of
+-- 16 places, and a new lifetime at a count of 64 or more is 4. specs/Theorems.antt says that they give what
+-- specs/Rfc.antt says.
 use Prim.Native.Nat.{ℕ, _+_, _-_}
 use mathlib.Core.Bool.{Bool, true, false, cond, _&&_}
 use mathlib.Core.List.{List, [], _∷_, _++_, map}
@@ -13,7 +14,8 @@ use Rattle.lifetimes.specs.Numbers.{lifetime}
 use Rattle.lifetimes.specs.Refusals.{Outcome, Gives, Refuses, after}
 use Rattle.ast_lifetimes.specs.Env.{place, isDeclared}
 use Rattle.elision.specs.declared.source.ElisionSource.{ElisionSource}
-use Rattle.elision.specs.declared.source.ElisionSource.the-variants.{NoBorrows, SelfParam, OneParam, MultipleBorrows}
+use Rattle.elision.specs.declared.source.ElisionSource.the-variants.{NoBorrows, SelfParam, OneParam}
+use Rattle.elision.specs.declared.source.ElisionSource.the-variants.{MultipleBorrows}
 use Rattle.elision.specs.declared.lowerer.Standing.{Standing}
 use Rattle.elision.specs.declared.lowerer.Standing.the-variants.{Input, Aside, Output}
 use Rattle.elision.specs.declared.lowerer.Lowered.{Lowered}
@@ -44,7 +46,9 @@ answer ls s = record { given = ls; left = s }
 -- one step after another, each from the state that the one before left
 unfoldable pub inTurn : {A S : Type 0} → (A → S → Outcome (Answer S)) → List A → S → Outcome (Answer S)
 inTurn step [] s = Gives (answer [] s)
-inTurn step (a ∷ l) s = after (step a s) (λ first. after (inTurn step l (first .left)) (λ rest. Gives (answer (first .given ++ rest .given) (rest .left))))
+inTurn step (a ∷ l) s =
+    after (step a s)
+    (λ first. after (inTurn step l (first .left)) (λ rest. Gives (answer (first .given ++ rest .given) (rest .left))))
 
 -- One lifetime
 
@@ -60,7 +64,8 @@ lowers st l source count = Gives (answer (l ∷ []) (visited st l source count))
 
 -- a new lifetime, the next number
 abbrev pub newLifetime : Standing → Seen → Outcome (Answer Seen)
-newLifetime st s = cond (leb 64 (s .count)) (Refuses Full) (lowers st (NonStatic (lifetime (s .count))) (s .source) (s .count + 1))
+newLifetime st s =
+    cond (leb 64 (s .count)) (Refuses Full) (lowers st (NonStatic (lifetime (s .count))) (s .source) (s .count + 1))
 
 -- in the output, that of the source
 abbrev pub fromSource : ElisionSource → Seen → Outcome (Answer Seen)
@@ -79,7 +84,8 @@ unfoldable pub lowerWord : List ℕ → Standing → ℕ → Seen → Outcome (A
 lowerWord names st word s =
     cond (eqb word 1) (lowerAnonymous st s)
     (cond (eqb word 0) (lowers st Static (s .source) (s .count))
-    (cond (isDeclared names word) (lowers st (NonStatic (lifetime (place names word))) (s .source) (s .count)) (Refuses Undeclared)))
+    (cond (isDeclared names word) (lowers st (NonStatic (lifetime (place names word))) (s .source) (s .count))
+    (Refuses Undeclared)))
 
 abbrev pub lowerWords : List ℕ → Standing → List ℕ → Seen → Outcome (Answer Seen)
 lowerWords names st words s = inTurn (lowerWord names st) words s
@@ -139,7 +145,13 @@ firstOr (l ∷ ls) = l
 unfoldable pub selfRef : List ℕ → ℕ → Outcome (Answer Lowerer)
 selfRef names word =
     after (lowerWord names Aside word (unused names .seen))
-    (λ a. Gives (answer (a .given) (record { seen = record { source = SelfParam (firstOr (a .given)); count = a .left .count }; kept = false; own = laid [] })))
+    (λ a. Gives
+    (answer (a .given)
+    (record {
+      seen = record { source = SelfParam (firstOr (a .given)); count = a .left .count };
+      kept = false;
+      own = laid [];
+    })))
 
 abbrev pub lowerSelf : List ℕ → Receiver → Outcome (Answer Lowerer)
 lowerSelf names NoSelf = Gives (answer [] (unused names))

@@ -1,7 +1,8 @@
--- RFC 141's rules of elision, by counting input positions. What a lifetime is lowered to is said in view of what stands before it; nothing here has a state.
+-- RFC 141's rules of elision, by counting input positions. What a lifetime is lowered to is said in view of what stands
+-- before it; nothing here has a state.
 --
--- In order: occurrences of lifetimes in a method; the lifetimes that the inputs make; the source of elision; the value of each occurrence and the refusals due at it;
--- steps; the whole method.
+-- In order: occurrences of lifetimes in a method; the lifetimes that the inputs make; the source of elision; the value
+-- of each occurrence and the refusals due at it; steps; the whole method.
 use Prim.Native.Nat.{ℕ, suc, _+_, _-_}
 use mathlib.Core.Bool.{Bool, true, false, cond, _&&_, _||_, not}
 use mathlib.Core.List.{List, [], _∷_, _++_, map}
@@ -53,7 +54,8 @@ countOf names before = length names + anonymous before
 
 -- a word's lifetime, given that of an anonymous one: 0 'static, 1 anonymous, else a name's number
 abbrev pub lifetimeOf : List ℕ → MaybeStatic → ℕ → MaybeStatic
-lifetimeOf names elided word = cond (eqb word 1) elided (cond (eqb word 0) Static (NonStatic (lifetime (place names word))))
+lifetimeOf names elided word =
+    cond (eqb word 1) elided (cond (eqb word 0) Static (NonStatic (lifetime (place names word))))
 
 -- the lifetime of a word that makes a new one if it is anonymous: each elided input its own, the next number
 abbrev pub madeAt : List ℕ → List Occurrence → ℕ → MaybeStatic
@@ -157,7 +159,8 @@ unfoldable pub hasSelfType : List Item → Bool
 hasSelfType [] = false
 hasSelfType (i ∷ l) = isSelfType (i .step) || hasSelfType l
 
--- the occurrences of a step: kind 2 has some at its first use only, and they are no positions; "words of later uses aren't looked up"
+-- the occurrences of a step: kind 2 has some at its first use only, and they are no positions; "words of later uses
+-- aren't looked up"
 abbrev pub stepOccurrences : Bool → Bool → Step → List Occurrence
 stepOccurrences again out (Lifetime word) = map (occurs (standingIn out)) (word ∷ [])
 stepOccurrences again out (Generics g words) = map (occurs (standingIn out)) (padded g words)
@@ -178,7 +181,8 @@ occurrences self l = selfOccurrences self ++ throughout occurrencesAt [] l
 unfoldable pub ownFrom : List ℕ → Receiver → List Item → List Item → List MaybeStatic
 ownFrom names self before [] = []
 ownFrom names self before (i ∷ l) =
-    cond (isSelfType (i .step)) (values names self (occurrences self before) (stepOccurrences false (i .output) (i .step)))
+    cond (isSelfType (i .step))
+    (values names self (occurrences self before) (stepOccurrences false (i .output) (i .step)))
     (ownFrom names self (before ++ (i ∷ [])) l)
 
 -- the lifetimes of a step: "Kind 2 answers with the list made at its first use"

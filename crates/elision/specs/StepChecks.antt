@@ -1,5 +1,6 @@
--- The refusals of one step on any lowerer, in order, from the step's words and the lowerer that it finds: as if nothing before were refused.
--- specs/Theorems.antt says that `oneStep`, `wordedStep` and `selfRef` of specs/Machine.antt refuse by the first of them that is due.
+-- The refusals of one step on any lowerer, in order, from the step's words and the lowerer that it finds: as if nothing
+-- before were refused. specs/Theorems.antt says that `oneStep`, `wordedStep` and `selfRef` of specs/Machine.antt refuse
+-- by the first of them that is due.
 use Prim.Native.Nat.{ℕ, suc, _+_}
 use mathlib.Core.Bool.{Bool, true, false, cond, _&&_, not}
 use mathlib.Core.List.{List, [], _∷_}
@@ -10,7 +11,8 @@ use Rattle.records.specs.Reading.{Reading, Read, Fails}
 use Rattle.ast_lifetimes.specs.Shapes.{isName}
 use Rattle.ast_lifetimes.specs.Env.{isDeclared}
 use Rattle.elision.specs.declared.source.ElisionSource.{ElisionSource}
-use Rattle.elision.specs.declared.source.ElisionSource.the-variants.{NoBorrows, SelfParam, OneParam, MultipleBorrows}
+use Rattle.elision.specs.declared.source.ElisionSource.the-variants.{NoBorrows, SelfParam, OneParam}
+use Rattle.elision.specs.declared.source.ElisionSource.the-variants.{MultipleBorrows}
 use Rattle.elision.specs.declared.lowerer.Standing.{Standing}
 use Rattle.elision.specs.declared.lowerer.Standing.the-variants.{Input, Aside, Output}
 use Rattle.elision.specs.declared.lowerer.Seen.{Seen}
@@ -37,7 +39,8 @@ anonymousCheck Input s made anon = check (anon && leb 64 (s .count + made)) Full
 anonymousCheck Aside s made anon = check (anon && leb 64 (s .count + made)) Full
 anonymousCheck Output s made anon = sourceDue (s .source) anon
 
--- the checks at a word, in view of the words before it: a name that is not declared (3), an anonymous one that cannot be
+-- the checks at a word, in view of the words before it: a name that is not declared (3), an anonymous one that cannot
+-- be
 abbrev pub wordChecks : List ℕ → Standing → Seen → List ℕ → ℕ → List Check
 wordChecks names st s before word =
     check (isName word && not (isDeclared names word)) Undeclared
@@ -58,7 +61,9 @@ standingOf out (SelfType words) = Aside
 
 -- the refusals of one step: 1 where it does not fit, then word by word
 abbrev pub stepChecks : List ℕ → Bool → Step → Lowerer → List Check
-stepChecks names out step s = check (not (fits step)) Malformed ∷ throughout (wordChecks names (standingOf out step) (s .seen)) [] (lookedUp step s)
+stepChecks names out step s =
+    check (not (fits step)) Malformed ∷ throughout (wordChecks names (standingOf out step) (s .seen)) []
+    (lookedUp step s)
 
 -- of a step that is read from some words: 1 also where they are not exactly one step
 abbrev pub readChecks : List ℕ → Bool → Reading Step → Lowerer → List Check

@@ -1,4 +1,5 @@
--- The records `self`, `steps` and `returns`: their shape (refusal 1, 01's "torn"), and what they say. One shape for steps and returns.
+-- The records `self`, `steps` and `returns`: their shape (refusal 1, 01's "torn"), and what they say. One shape for
+-- steps and returns.
 use Prim.Native.Nat.{ℕ}
 use mathlib.Core.Bool.{Bool, cond}
 use mathlib.Core.List.{List, [], _∷_, _++_}
@@ -6,7 +7,8 @@ use lib.Dec.{eqb, leb}
 use lib.ListN.{length}
 use Rattle.records.specs.Reading.{Reading, Read, Fails, onward, readWord, readLifetimes, inShape, itemsOf}
 
--- 01's kinds: 0 one lifetime (`lower_lifetime`); 1 how many generics a type has, and the lifetimes given (`lower_generics`); 2 the lifetimes given of the `Self` type (`is_self`)
+-- 01's kinds: 0 one lifetime (`lower_lifetime`); 1 how many generics a type has, and the lifetimes given
+-- (`lower_generics`); 2 the lifetimes given of the `Self` type (`is_self`)
 pub data Step : Type 0 where
   Lifetime : ℕ → Step
   Generics : ℕ → List ℕ → Step
@@ -22,7 +24,8 @@ unfoldable pub readStep : List ℕ → Reading Step
 readStep [] = Fails
 readStep (kind ∷ words) =
     cond (eqb kind 0) (onward (readWord words) (λ l rest. Read (Lifetime l) rest))
-    (cond (eqb kind 1) (onward (readGenerics words) (λ g rest. onward (readLifetimes rest) (λ ls behind. Read (Generics g ls) behind)))
+    (cond (eqb kind 1)
+    (onward (readGenerics words) (λ g rest. onward (readLifetimes rest) (λ ls behind. Read (Generics g ls) behind)))
     (cond (eqb kind 2) (onward (readLifetimes words) (λ ls rest. Read (SelfType ls) rest))
     Fails))
 

@@ -6,8 +6,10 @@ ghost use lib.ListN.{length, getD};
 ghost use Rattle.ast_lifetimes.specs.Env.{place};
 ghost use Rattle.elision.specs.Steps as steps;
 ghost use Rattle.elision.specs.Rfc.{padded, standingIn};
-ghost use Rattle.elision.specs.Machine.{visited, newLifetime, lowerAnonymous, lowerWord, lowerWords, unused, selfRef, oneStep, laid, valuesIn, stepped};
+ghost use Rattle.elision.specs.Machine.{visited, newLifetime, lowerAnonymous, lowerWord, lowerWords, unused};
+ghost use Rattle.elision.specs.Machine.{selfRef, oneStep, laid, valuesIn, stepped};
 ghost use Rattle.elision.specs.Inner.{worded, ran, atMost16};
+ghost use Rattle.lifetimes.specs.Lent.{held};
 use super::source::ElisionSource;
 use lifetimes::Lifetime;
 use lifetimes::MaybeStatic;
@@ -42,8 +44,8 @@ pub struct Seen {
     pub count: usize,
 }
 
-// What a lowerer knows between two steps. `kept` says whether the `Self` type was there already; `own` are its lifetimes then (in the Rust `self_lifetimes`, and what is seen
-// `elision_source` and `num_lifetimes`).
+// What a lowerer knows between two steps. `kept` says whether the `Self` type was there already; `own` are its
+// lifetimes then (in the Rust `self_lifetimes`, and what is seen `elision_source` and `num_lifetimes`).
 pub struct Lowerer {
     pub seen: Seen,
     pub kept: bool,
@@ -74,7 +76,7 @@ struct Run {
 impl Lowerer {
     // The lowerer of a method without `&self`.
     pub fn no_self_ref(names: &[usize]) -> Lowerer
-        ensures { λ r. ⌜ r ≡ unused (now (names .entry)) ⌝ }
+        ensures answer { λ r. ⌜ r ≡ unused (held names) ⌝ }
     {
         Lowerer {
             seen: Seen {
@@ -86,10 +88,10 @@ impl Lowerer {
         }
     }
 
-    // The lowerer of a method with `&self`, whose lifetime is the source of elision; it is the one answered. Refused by 3 for a name that is not declared, by 4 for a
-    // 65th lifetime.
+    // The lowerer of a method with `&self`, whose lifetime is the source of elision; it is the one answered. Refused by
+    // 3 for a name that is not declared, by 4 for a 65th lifetime.
     pub fn lower_self_ref(names: &[usize], word: usize) -> Stepped
-        ensures { λ r. ⌜ r ≡ stepped (unused (now (names .entry))) (selfRef (now (names .entry)) word) ⌝ }
+        ensures answer { λ r. ⌜ r ≡ stepped (unused (held names)) (selfRef (held names) word) ⌝ }
     {
         let fresh = Lowerer::no_self_ref(names);
         let seen = fresh.seen;
@@ -118,14 +120,15 @@ impl Lowerer {
 
     // One lifetime (kind 0), of a parameter or of the output. Refused by 3, 4, 5, 6.
     pub fn lower_lifetime(self, names: &[usize], word: usize, output: bool) -> Stepped
-        ensures { λ r. ⌜ r ≡ stepped self (oneStep (now (names .entry)) output (steps.Lifetime word) self) ⌝ }
+        ensures answer { λ r. ⌜ r ≡ stepped self (oneStep (held names) output (steps.Lifetime word) self) ⌝ }
     {
         let one = [word];
         self.lower_generics(names, 0, &one, output)
     }
 
-    // The lifetimes of a type with so many generics (kind 1), of a parameter or of the output: those given, then anonymous ones until there are enough. Refused by 1
-    // for more than 16 of either, then by 3, 4, 5, 6 at the first bad place.
+    // The lifetimes of a type with so many generics (kind 1), of a parameter or of the output: those given, then
+    // anonymous ones until there are enough. Refused by 1 for more than 16 of either, then by 3, 4, 5, 6 at the first
+    // bad place.
     pub fn lower_generics(
         self,
         names: &[usize],
@@ -133,7 +136,8 @@ impl Lowerer {
         words: &[usize],
         output: bool,
     ) -> Stepped
-        ensures { λ r. ⌜ r ≡ stepped self (oneStep (now (names .entry)) output (steps.Generics generics (now (words .entry))) self) ⌝ }
+        ensures answer { λ r. ⌜ r
+            ≡ stepped self (oneStep (held names) output (steps.Generics generics (held words)) self) ⌝ }
     {
         if End::MAX_LIST < generics {
             return refused(self, Refusal::Malformed);
@@ -162,10 +166,10 @@ impl Lowerer {
         }
     }
 
-    // The lifetimes of the `Self` type (kind 2), wherever it stands: at its first use those given, later the same again, whatever is given. Refused by 1 for more
-    // than 16, at the first use by 3 and 4 at the first bad place.
+    // The lifetimes of the `Self` type (kind 2), wherever it stands: at its first use those given, later the same
+    // again, whatever is given. Refused by 1 for more than 16, at the first use by 3 and 4 at the first bad place.
     pub fn is_self(self, names: &[usize], words: &[usize], output: bool) -> Stepped
-        ensures { λ r. ⌜ r ≡ stepped self (oneStep (now (names .entry)) output (steps.SelfType (now (words .entry))) self) ⌝ }
+        ensures answer { λ r. ⌜ r ≡ stepped self (oneStep (held names) output (steps.SelfType (held words)) self) ⌝ }
     {
         if End::MAX_LIST < words.len() {
             return refused(self, Refusal::Malformed);
@@ -279,7 +283,7 @@ fn lower_words(
     seen: Seen,
 ) -> Run
     requires { ⌜ (length (now words) ≤ 16) × (generics ≤ 16) ⌝ }
-    ensures { λ r. ⌜ r ≡ ran seen (lowerWords (now (names .entry)) standing (padded generics (now (words .entry))) seen) ⌝ }
+    ensures { λ r. ⌜ r ≡ ran seen (lowerWords (held names) standing (padded generics (held words)) seen) ⌝ }
 {
     let total = larger(words.len(), generics);
     let none = Lowered {
@@ -323,7 +327,7 @@ pub(crate) fn larger(a: usize, b: usize) -> usize
 
 // A word, or an anonymous lifetime past the words.
 pub(crate) fn word_or_anonymous(words: &[usize], i: usize) -> usize
-    ensures { λ r. ⌜ r ≡ getD (now (words .entry)) i 1 ⌝ }
+    ensures { λ r. ⌜ r ≡ getD (held words) i 1 ⌝ }
 {
     if i < words.len() {
         return words[i];
@@ -333,7 +337,7 @@ pub(crate) fn word_or_anonymous(words: &[usize], i: usize) -> usize
 
 // Lower one word. Refused by 3 for a name that is not declared, and as an anonymous lifetime is.
 pub(crate) fn lower_word(names: &[usize], standing: Standing, word: usize, seen: Seen) -> Worded
-    ensures { λ r. ⌜ r ≡ worded seen (lowerWord (now (names .entry)) standing word seen) ⌝ }
+    ensures { λ r. ⌜ r ≡ worded seen (lowerWord (held names) standing word seen) ⌝ }
 {
     if word == 1 {
         return lower_anonymous(standing, seen);
@@ -441,7 +445,7 @@ fn visited(standing: Standing, lifetime: MaybeStatic, source: ElisionSource, cou
 
 // The number of a name: its place, or how many names there are where it is not declared.
 fn position(names: &[usize], name: usize) -> usize
-    ensures { λ r. ⌜ r ≡ place (now (names .entry)) name ⌝ }
+    ensures { λ r. ⌜ r ≡ place (held names) name ⌝ }
 {
     let mut i = 0;
     while i < names.len() {

@@ -1,17 +1,17 @@
 // The whole records `self`, `steps` and `returns`: their lowered words to lent slices, and the method's environment.
 //
-// They do not go by the `Lowerer` of single steps, which has some 300 bytes: between two steps only what is seen and the length of the `Self` type's list are kept, and each word is stored as it
-// comes. Both are proved to be the same machine (specs/Machine.antt).
+// They do not go by the `Lowerer` of single steps, which has some 300 bytes: between two steps only what is seen and
+// the length of the `Self` type's list are kept, and each word is stored as it comes. Both are proved to be the same
+// machine (specs/Machine.antt).
 ghost use mathlib.Core.Path.{_≡_};
-ghost use mathlib.Core.Bool.{true, false};
+ghost use mathlib.Core.Bool.{true};
 ghost use mathlib.Core.List.{[]};
-ghost use lib.ListN.{length};
-ghost use Rattle.lifetimes.specs.Lent.{written};
+ghost use Rattle.lifetimes.specs.Lent.{held, room, left};
 ghost use Rattle.lifetimes.specs.Env.{envOf, made};
 ghost use Rattle.records.specs.Reading.{shapeVerdict};
 ghost use Rattle.elision.specs.Steps.{receiverOf, stepsInShape, stepsOf};
 ghost use Rattle.elision.specs.Machine.{runMethod};
-ghost use Rattle.elision.specs.Lowering.{inShapeAll, finishEnv, measureRecords, lowerRecords, answered, ownWords, stepWords, returnWords};
+ghost use Rattle.elision.specs.Lowering.{inShapeAll, finishEnv, measureRecords, lowerRecords, answered, LowersTo};
 ghost use Rattle.elision.specs.Inner.{totals, RunsAll};
 use super::lowerer::Lowerer;
 use super::put::put_receiver;
@@ -23,7 +23,8 @@ use lifetimes::Refusal;
 use lifetimes::Verdict;
 use records::End;
 
-// What `lower` answers: how many words each slice was written, and the method's environment. Refused, none, and an environment without lifetimes.
+// What `lower` answers: how many words each slice was written, and the method's environment. Refused, none, and an
+// environment without lifetimes.
 pub struct Lowering {
     pub verdict: Verdict,
     pub selves: usize,
@@ -41,15 +42,16 @@ struct Totals {
     count: usize,
 }
 
-// What `lower` answers of these records, before it looks at its slices: how many words each would be written, and the method's environment. Refused by 1 over the three
-// records, by 4 and 8 as the AST environment is, then by 3, 4, 5, 6 at the first bad place.
+// What `lower` answers of these records, before it looks at its slices: how many words each would be written, and the
+// method's environment. Refused by 1 over the three records, by 4 and 8 as the AST environment is, then by 3, 4, 5, 6
+// at the first bad place.
 pub fn measure(
     env: ast_lifetimes::LifetimeEnv,
     receiver: &[usize],
     steps: &[usize],
     returns: &[usize],
 ) -> Lowering
-    ensures { λ r. ⌜ r ≡ answered env (measureRecords env (now (receiver .entry)) (now (steps .entry)) (now (returns .entry))) ⌝ }
+    ensures answer { λ r. ⌜ r ≡ answered env (measureRecords env (held receiver) (held steps) (held returns)) ⌝ }
 {
     let shape = shape_of(receiver, steps, returns);
     if let Verdict::Refused(refusal) = shape {
@@ -82,9 +84,10 @@ pub fn measure(
     }
 }
 
-// Lower the records `self`, `steps` and `returns` over the names of an AST environment, and write their words to three slices: 0 static, k the lifetime numbered k - 1. The
-// environment has the bounds of the AST's, and all lifetimes, declared and new. Refused as `measure` is, then by 9 where a slice is too short. Reads the records twice: the
-// first time only to judge and to count.
+// Lower the records `self`, `steps` and `returns` over the names of an AST environment, and write their words to three
+// slices: 0 static, k the lifetime numbered k - 1. The environment has the bounds of the AST's, and all lifetimes,
+// declared and new. Refused as `measure` is, then by 9 where a slice is too short. Reads the records twice: the first
+// time only to judge and to count.
 pub fn lower(
     env: ast_lifetimes::LifetimeEnv,
     receiver: &[usize],
@@ -94,10 +97,9 @@ pub fn lower(
     given: &mut [usize],
     taken: &mut [usize],
 ) -> Lowering
-    ensures { λ r. ⌜ r ≡ answered env (lowerRecords env (now (receiver .entry)) (now (steps .entry)) (now (returns .entry)) (length (now (own .entry))) (length (now (given .entry))) (length (now (taken .entry)))) ⌝ }
-    ensures { λ _. ⌜ now (own .exit) ≡ written (ownWords (lowerRecords env (now (receiver .entry)) (now (steps .entry)) (now (returns .entry)) (length (now (own .entry))) (length (now (given .entry))) (length (now (taken .entry))))) (now (own .entry)) ⌝ }
-    ensures { λ _. ⌜ now (given .exit) ≡ written (stepWords (lowerRecords env (now (receiver .entry)) (now (steps .entry)) (now (returns .entry)) (length (now (own .entry))) (length (now (given .entry))) (length (now (taken .entry))))) (now (given .entry)) ⌝ }
-    ensures { λ _. ⌜ now (taken .exit) ≡ written (returnWords (lowerRecords env (now (receiver .entry)) (now (steps .entry)) (now (returns .entry)) (length (now (own .entry))) (length (now (given .entry))) (length (now (taken .entry))))) (now (taken .entry)) ⌝ }
+    ensures answer { λ r. ⌜ LowersTo env
+        (lowerRecords env (held receiver) (held steps) (held returns) (room own) (room given) (room taken))
+        r own given taken ⌝ }
 {
     let measured = measure(env, receiver, steps, returns);
     let verdict = measured.verdict;
@@ -127,10 +129,11 @@ pub fn lower(
     measured
 }
 
-// The method's environment once its lifetimes are lowered: all of them, declared and new, and the bounds of the AST environment. Refused by 4 and 8 as the AST environment
-// is, by 4 for a 65th lifetime, by 8 for more names than lifetimes, with an environment without lifetimes beside the refusal.
+// The method's environment once its lifetimes are lowered: all of them, declared and new, and the bounds of the AST
+// environment. Refused by 4 and 8 as the AST environment is, by 4 for a 65th lifetime, by 8 for more names than
+// lifetimes, with an environment without lifetimes beside the refusal.
 pub fn finish(lowerer: Lowerer, env: ast_lifetimes::LifetimeEnv) -> lifetimes::Made
-    ensures { λ r. ⌜ r ≡ made (envOf 0 0 []) (finishEnv env (lowerer .seen .count)) ⌝ }
+    ensures answer { λ r. ⌜ r ≡ made (envOf 0 0 []) (finishEnv env (lowerer .seen .count)) ⌝ }
 {
     let valid = env.check();
     if let Verdict::Refused(refusal) = valid {
@@ -180,7 +183,9 @@ fn refused_env(refusal: Refusal) -> lifetimes::Made
 // Lower the records only to judge and to count.
 fn judge(names: &[usize], receiver: &[usize], steps: &[usize], returns: &[usize]) -> Totals
     requires { ⌜ (stepsInShape (now steps) ≡ true) × (stepsInShape (now returns) ≡ true) ⌝ }
-    ensures { λ r. ⌜ r ≡ totals (runMethod (now (names .entry)) (receiverOf (now (receiver .entry))) (stepsOf (now (steps .entry))) (stepsOf (now (returns .entry)))) ⌝ }
+    ensures { λ r. ⌜ r
+        ≡ totals
+        (runMethod (held names) (receiverOf (held receiver)) (stepsOf (held steps)) (stepsOf (held returns))) ⌝ }
 {
     let mut own = [0usize; 1];
     let mut given = [0usize; 1];
@@ -207,7 +212,9 @@ fn run(
     taken: &mut [usize],
 ) -> Totals
     requires { ⌜ (stepsInShape (now steps) ≡ true) × (stepsInShape (now returns) ≡ true) ⌝ }
-    ensures { λ r. ⌜ RunsAll (runMethod (now (names .entry)) (receiverOf (now (receiver .entry))) (stepsOf (now (steps .entry))) (stepsOf (now (returns .entry)))) (now (own .entry)) (now (given .entry)) (now (taken .entry)) (now (own .exit)) (now (given .exit)) (now (taken .exit)) r ⌝ }
+    ensures { λ r. ⌜ RunsAll
+        (runMethod (held names) (receiverOf (held receiver)) (stepsOf (held steps)) (stepsOf (held returns))) (held own)
+        (held given) (held taken) (left own) (left given) (left taken) r ⌝ }
 {
     let first = put_receiver(names, receiver, own);
     let one = first.verdict;
@@ -271,7 +278,8 @@ fn refused_totals(refusal: Refusal) -> Totals
 
 // A refusal, beside no words and an environment without lifetimes.
 fn refused_lowering(refusal: Refusal) -> Lowering
-    ensures { λ r. ⌜ r ≡ record { verdict = Verdict.Refused refusal; selves = 0; steps = 0; returns = 0; env = envOf 0 0 [] } ⌝ }
+    ensures { λ r. ⌜ r
+        ≡ record { verdict = Verdict.Refused refusal; selves = 0; steps = 0; returns = 0; env = envOf 0 0 [] } ⌝ }
 {
     let none = Bound {
         longer: 0,
@@ -294,7 +302,7 @@ fn refused_lowering(refusal: Refusal) -> Lowering
 
 // The shape of the three records.
 fn shape_of(receiver: &[usize], steps: &[usize], returns: &[usize]) -> Verdict
-    ensures { λ r. ⌜ r ≡ shapeVerdict (inShapeAll (now (receiver .entry)) (now (steps .entry)) (now (returns .entry))) ⌝ }
+    ensures { λ r. ⌜ r ≡ shapeVerdict (inShapeAll (held receiver) (held steps) (held returns)) ⌝ }
 {
     let first = self_shape(receiver);
     let Verdict::Accepted = first else {

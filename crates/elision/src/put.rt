@@ -1,8 +1,9 @@
 // The records `self`, `steps` and `returns` lowered step by step, each word stored as it comes.
 //
-// Between two steps only what is seen, whether the `Self` type was there and how many lifetimes it has are kept; the words of its lifetimes stand in a list that is lent.
+// Between two steps only what is seen, whether the `Self` type was there and how many lifetimes it has are kept; the
+// words of its lifetimes stand in a list that is lent.
 ghost use mathlib.Core.Path.{_≡_};
-ghost use mathlib.Core.Bool.{true, false};
+ghost use mathlib.Core.Bool.{true};
 ghost use mathlib.Core.List.{List};
 ghost use Prim.Native.Nat.{ℕ, _≤_};
 ghost use lib.ListN.{length, take, set};
@@ -11,6 +12,7 @@ ghost use Rattle.elision.specs.Steps.{receiverOf, stepsInShape, stepsOf}
 ghost use Rattle.elision.specs.Rfc.{padded, standingIn};
 ghost use Rattle.elision.specs.Machine.{lowerWords, lowerSelf, wordsStep, selfStep, runSteps};
 ghost use Rattle.elision.specs.Inner.{shown, Shows, Lowers, Puts, PutsOne, PutsStep};
+ghost use Rattle.lifetimes.specs.Lent.{held, left};
 use super::lowerer::Lowerer;
 use super::lowerer::Seen;
 use super::lowerer::Standing;
@@ -27,15 +29,17 @@ use lifetimes::Refusal;
 use lifetimes::Verdict;
 use records::End;
 
-// Some words lowered and stored: what is seen then, and the place behind them; refused, what was seen before and the place before.
+// Some words lowered and stored: what is seen then, and the place behind them; refused, what was seen before and the
+// place before.
 struct Put {
     verdict: Verdict,
     seen: Seen,
     at: usize,
 }
 
-// Steps lowered and stored: what is seen then, whether the `Self` type was there and how many lifetimes it has, the place behind their words in the slice, and the place
-// behind them in their record. Refused, only the verdict says something.
+// Steps lowered and stored: what is seen then, whether the `Self` type was there and how many lifetimes it has, the
+// place behind their words in the slice, and the place behind them in their record. Refused, only the verdict says
+// something.
 pub(crate) struct Took {
     pub(crate) verdict: Verdict,
     pub(crate) seen: Seen,
@@ -48,7 +52,9 @@ pub(crate) struct Took {
 // Lower the record `self`, and store its word. What it leaves is shown with any list, since no `Self` type was there.
 pub(crate) fn put_receiver(names: &[usize], receiver: &[usize], out: &mut [usize]) -> Took
     ensures { λ r. ⌜ r .own ≤ 16 ⌝ }
-    ensures { λ r. ⌜ ((list : List ℕ) → length list ≡ 16 → Lowers (lowerSelf (now (names .entry)) (receiverOf (now (receiver .entry)))) 0 list (now (out .entry)) (now (out .exit)) r) ⌝ }
+    ensures { λ r.
+        ⌜ ((list : List ℕ) → length list ≡ 16 → Lowers (lowerSelf (held names) (receiverOf (held receiver))) 0 list
+        (held out) (left out) r) ⌝ }
 {
     let fresh = Seen {
         source: ElisionSource::NoBorrows,
@@ -106,7 +112,9 @@ pub(crate) fn put_record(
 ) -> Took
     requires { ⌜ (stepsInShape (now words) ≡ true) × (had ≤ 16) ⌝ }
     ensures { λ r. ⌜ r .own ≤ 16 ⌝ }
-    ensures { λ r. ⌜ ((s : Lowerer) → Shows s before was had (now (list .entry)) → Lowers (runSteps (now (names .entry)) output (stepsOf (now (words .entry))) s) 0 (now (list .exit)) (now (out .entry)) (now (out .exit)) r) ⌝ }
+    ensures { λ r.
+        ⌜ ((s : Lowerer) → Shows s before was had (held list)
+        → Lowers (runSteps (held names) output (stepsOf (held words)) s) 0 (left list) (held out) (left out) r) ⌝ }
 {
     if words.len() == 0 {
         return Took {
@@ -121,8 +129,8 @@ pub(crate) fn put_record(
     put_steps(names, words, output, before, was, had, list, out)
 }
 
-// Lower a record `steps` or `returns` in shape, and store its words from the front. The lowerer is passed as what is seen, whether the `Self` type was there, and how many
-// lifetimes it has; their words stand in the list.
+// Lower a record `steps` or `returns` in shape, and store its words from the front. The lowerer is passed as what is
+// seen, whether the `Self` type was there, and how many lifetimes it has; their words stand in the list.
 fn put_steps(
     names: &[usize],
     words: &[usize],
@@ -135,7 +143,9 @@ fn put_steps(
 ) -> Took
     requires { ⌜ (stepsInShape (now words) ≡ true) × (had ≤ 16) ⌝ }
     ensures { λ r. ⌜ r .own ≤ 16 ⌝ }
-    ensures { λ r. ⌜ ((s : Lowerer) → Shows s before was had (now (list .entry)) → Lowers (runSteps (now (names .entry)) output (stepsOf (now (words .entry))) s) 0 (now (list .exit)) (now (out .entry)) (now (out .exit)) r) ⌝ }
+    ensures { λ r.
+        ⌜ ((s : Lowerer) → Shows s before was had (held list)
+        → Lowers (runSteps (held names) output (stepsOf (held words)) s) 0 (left list) (held out) (left out) r) ⌝ }
 {
     let mut seen = before;
     let mut kept = was;
@@ -178,7 +188,8 @@ fn put_step(
     out: &mut [usize],
 ) -> Took
     requires { ⌜ (own ≤ 16) × (n ≤ 65536) ⌝ }
-    ensures { λ r. ⌜ PutsStep (now (names .entry)) (now (words .entry)) output at seen kept own n (now (list .entry)) (now (list .exit)) (now (out .entry)) (now (out .exit)) r ⌝ }
+    ensures { λ r. ⌜ PutsStep (held names) (held words) output at seen kept own n (held list) (left list) (held out)
+        (left out) r ⌝ }
 {
     let step = read_step(words, at);
     match step {
@@ -245,7 +256,9 @@ fn put_given(
     out: &mut [usize],
 ) -> Took
     requires { ⌜ (length (now words) ≤ 16) × (generics ≤ 16) × (own ≤ 16) × (n ≤ 65536) ⌝ }
-    ensures { λ r. ⌜ ((list : List ℕ) → PutsOne (wordsStep (now (names .entry)) (standingIn output) (padded generics (now (words .entry)))) seen kept own n to list list (now (out .entry)) (now (out .exit)) r) ⌝ }
+    ensures { λ r.
+        ⌜ ((list : List ℕ) → PutsOne (wordsStep (held names) (standingIn output) (padded generics (held words))) seen
+        kept own n to list list (held out) (left out) r) ⌝ }
 {
     let put = put_words(names, standing_in(output), words, generics, seen, n, out);
     let verdict = put.verdict;
@@ -260,7 +273,8 @@ fn put_given(
     }
 }
 
-// The `Self` type (kind 2): at its first use its words are lowered into the list, and always those in the list are stored.
+// The `Self` type (kind 2): at its first use its words are lowered into the list, and always those in the list are
+// stored.
 fn put_self(
     names: &[usize],
     words: &[usize],
@@ -273,7 +287,8 @@ fn put_self(
     out: &mut [usize],
 ) -> Took
     requires { ⌜ (length (now words) ≤ 16) × (own ≤ 16) × (n ≤ 65536) ⌝ }
-    ensures { λ r. ⌜ PutsOne (selfStep (now (names .entry)) (now (words .entry))) seen kept own n to (now (list .entry)) (now (list .exit)) (now (out .entry)) (now (out .exit)) r ⌝ }
+    ensures { λ r. ⌜ PutsOne (selfStep (held names) (held words)) seen kept own n to (held list) (left list) (held out)
+        (left out) r ⌝ }
 {
     if kept {
         put_list(list, own, n, out);
@@ -314,7 +329,7 @@ fn put_self(
 // Store the first words of a list from a place on, as far as the slice takes them.
 fn put_list(list: &[usize; End::MAX_LIST], count: usize, at: usize, out: &mut [usize])
     requires { ⌜ (count ≤ 16) × (at ≤ 65536) ⌝ }
-    ensures { λ _. ⌜ (length (now (list .entry)) ≡ 16 → now (out .exit) ≡ sets (now (out .entry)) at (take count (now (list .entry)))) ⌝ }
+    ensures { λ _. ⌜ (length (held list) ≡ 16 → left out ≡ sets (held out) at (take count (held list))) ⌝ }
 {
     let mut i = 0;
     while i < count {
@@ -323,7 +338,8 @@ fn put_list(list: &[usize; End::MAX_LIST], count: usize, at: usize, out: &mut [u
     }
 }
 
-// Lower some words, then anonymous ones until there are as many as generics, and store each from a place on, as far as the slice takes them.
+// Lower some words, then anonymous ones until there are as many as generics, and store each from a place on, as far as
+// the slice takes them.
 fn put_words(
     names: &[usize],
     standing: Standing,
@@ -334,7 +350,8 @@ fn put_words(
     out: &mut [usize],
 ) -> Put
     requires { ⌜ (length (now words) ≤ 16) × (generics ≤ 16) × (at ≤ 65536) ⌝ }
-    ensures { λ r. ⌜ Puts seen (lowerWords (now (names .entry)) standing (padded generics (now (words .entry))) seen) at (now (out .entry)) (now (out .exit)) r ⌝ }
+    ensures { λ r. ⌜ Puts seen (lowerWords (held names) standing (padded generics (held words)) seen) at (held out)
+        (left out) r ⌝ }
 {
     let total = larger(words.len(), generics);
     let mut here = seen;
@@ -364,7 +381,7 @@ fn put_words(
 
 // Store a word, if the slice takes it.
 fn store(out: &mut [usize], at: usize, word: usize)
-    ensures { λ _. ⌜ now (out .exit) ≡ set (now (out .entry)) at word ⌝ }
+    ensures { λ _. ⌜ left out ≡ set (held out) at word ⌝ }
 {
     if at < out.len() {
         out[at] = word;

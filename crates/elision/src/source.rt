@@ -18,7 +18,7 @@ pub enum ElisionSource {
 impl ElisionSource {
     // The source after one more input position.
     pub fn visit_lifetime(self, lifetime: MaybeStatic) -> Self
-        ensures { λ r. ⌜ r ≡ visit self lifetime ⌝ }
+        ensures answer { λ r. ⌜ r ≡ visit self lifetime ⌝ }
     {
         match self {
             ElisionSource::NoBorrows => ElisionSource::OneParam(lifetime),

@@ -1,11 +1,13 @@
 // One step of a record by its words: by value, on a lowerer that is lent, and two in a row.
 //
-// "each later step finds the lowerer as the step before left it" (01): a caller keeps one lowerer and lends it to one step after another.
+// "each later step finds the lowerer as the step before left it" (01): a caller keeps one lowerer and lends it to one
+// step after another.
 ghost use mathlib.Core.Path.{_≡_};
 ghost use lib.ListN.{drop};
 ghost use Rattle.elision.specs.Steps.{readStep};
 ghost use Rattle.elision.specs.Inner.{takes};
 ghost use Rattle.elision.specs.Machine.{stepped, wordedStep, stepAnswer, inputThenOutput};
+ghost use Rattle.lifetimes.specs.Lent.{held, left};
 use super::lowerer::Lifetimes;
 use super::lowerer::Lowerer;
 use super::lowerer::Stepped;
@@ -30,10 +32,10 @@ struct Next {
 }
 
 impl Lowerer {
-    // One step of `steps`, or of `returns` for an output, by its words: `0 l`, `1 g n` and n lifetimes, or `2 n` and n lifetimes. Refused by 1 where the words are not
-    // exactly one step, then as the step is.
+    // One step of `steps`, or of `returns` for an output, by its words: `0 l`, `1 g n` and n lifetimes, or `2 n` and n
+    // lifetimes. Refused by 1 where the words are not exactly one step, then as the step is.
     pub fn lower_step(self, names: &[usize], words: &[usize], output: bool) -> Stepped
-        ensures { λ r. ⌜ r ≡ stepped self (wordedStep (now (names .entry)) output (now (words .entry)) self) ⌝ }
+        ensures answer { λ r. ⌜ r ≡ stepped self (wordedStep (held names) output (held words) self) ⌝ }
     {
         let end = step_end(words, 0);
         let End::At(to) = end else {
@@ -45,10 +47,11 @@ impl Lowerer {
         lower_step_at(self, names, words, 0, output)
     }
 
-    // The same on a lowerer that is lent, which is left as the step leaves it. Refused, it stays as it was, also where the step had made lifetimes before the place that
-    // is refused.
+    // The same on a lowerer that is lent, which is left as the step leaves it. Refused, it stays as it was, also where
+    // the step had made lifetimes before the place that is refused.
     pub fn step(&mut self, names: &[usize], words: &[usize], output: bool) -> StepAnswer
-        ensures { λ r. ⌜ record { verdict = r .verdict; lowerer = now (self .exit); lifetimes = r .lifetimes } ≡ stepped (now (self .entry)) (wordedStep (now (names .entry)) output (now (words .entry)) (now (self .entry))) ⌝ }
+        ensures answer { λ r. ⌜ record { verdict = r .verdict; lowerer = left self; lifetimes = r .lifetimes }
+            ≡ stepped (held self) (wordedStep (held names) output (held words) (held self)) ⌝ }
     {
         let before = *self;
         let done = next_step(before, names, words, output);
@@ -59,7 +62,8 @@ impl Lowerer {
 
 // A step by value, as the step on a lent lowerer takes it up.
 fn next_step(lowerer: Lowerer, names: &[usize], words: &[usize], output: bool) -> Next
-    ensures { λ r. ⌜ record { verdict = r .answer .verdict; lowerer = r .lowerer; lifetimes = r .answer .lifetimes } ≡ stepped lowerer (wordedStep (now (names .entry)) output (now (words .entry)) lowerer) ⌝ }
+    ensures { λ r. ⌜ record { verdict = r .answer .verdict; lowerer = r .lowerer; lifetimes = r .answer .lifetimes }
+        ≡ stepped lowerer (wordedStep (held names) output (held words) lowerer) ⌝ }
 {
     let done = lowerer.lower_step(names, words, output);
     let verdict = done.verdict;
@@ -71,15 +75,16 @@ fn next_step(lowerer: Lowerer, names: &[usize], words: &[usize], output: bool) -
     }
 }
 
-// Two steps in a row on a lowerer of its own: one of a parameter, then one of the output, which finds the source of elision as the parameter left it. A refused first step
-// leaves none. The answer is the second's. It shows how one lowerer is lent to two steps.
+// Two steps in a row on a lowerer of its own: one of a parameter, then one of the output, which finds the source of
+// elision as the parameter left it. A refused first step leaves none. The answer is the second's. It shows how one
+// lowerer is lent to two steps.
 pub fn input_then_output(
     lowerer: Lowerer,
     names: &[usize],
     input: &[usize],
     output: &[usize],
 ) -> StepAnswer
-    ensures { λ r. ⌜ r ≡ stepAnswer (inputThenOutput (now (names .entry)) (now (input .entry)) (now (output .entry)) lowerer) ⌝ }
+    ensures answer { λ r. ⌜ r ≡ stepAnswer (inputThenOutput (held names) (held input) (held output) lowerer) ⌝ }
 {
     let mut own = lowerer;
     own.step(names, input, false);
@@ -94,7 +99,7 @@ fn lower_step_at(
     at: usize,
     output: bool,
 ) -> Stepped
-    ensures { λ r. ⌜ r ≡ takes (now (names .entry)) output lowerer (readStep (drop at (now (words .entry)))) ⌝ }
+    ensures { λ r. ⌜ r ≡ takes (held names) output lowerer (readStep (drop at (held words))) ⌝ }
 {
     let step = read_step(words, at);
     match step {

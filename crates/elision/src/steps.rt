@@ -1,6 +1,7 @@
 // The records `self`, `steps` and `returns`: their shape.
 ghost use mathlib.Core.Path.{_≡_};
 ghost use lib.ListN.{drop};
+ghost use Rattle.lifetimes.specs.Lent.{held};
 ghost use Rattle.records.specs.Reading.{shapeVerdict};
 ghost use Rattle.records.specs.Ends.{EndsAt};
 ghost use Rattle.elision.specs.Steps.{readStep, selfInShape, stepsInShape};
@@ -10,7 +11,8 @@ use lifetimes::Verdict;
 use records::End;
 use records::lifetimes_end;
 
-// A step as it stands in a record: its words are read where they are, from `from` to `to`, and `to` is the place behind it.
+// A step as it stands in a record: its words are read where they are, from `from` to `to`, and `to` is the place behind
+// it.
 pub(crate) enum StepAt {
     Lifetime {
         word: usize,
@@ -30,7 +32,7 @@ pub(crate) enum StepAt {
 
 // Whether the record `self` is in shape: empty, or one lifetime. Refused by 1.
 pub fn self_shape(receiver: &[usize]) -> Verdict
-    ensures { λ r. ⌜ r ≡ shapeVerdict (selfInShape (now (receiver .entry))) ⌝ }
+    ensures answer { λ r. ⌜ r ≡ shapeVerdict (selfInShape (held receiver)) ⌝ }
 {
     if 1 < receiver.len() {
         return Verdict::Refused(Refusal::Malformed);
@@ -38,9 +40,10 @@ pub fn self_shape(receiver: &[usize]) -> Verdict
     Verdict::Accepted
 }
 
-// Whether a record `steps` or `returns` is in shape: steps one after another to its end. Refused by 1. Reads each step's head once.
+// Whether a record `steps` or `returns` is in shape: steps one after another to its end. Refused by 1. Reads each
+// step's head once.
 pub fn steps_shape(steps: &[usize]) -> Verdict
-    ensures { λ r. ⌜ r ≡ shapeVerdict (stepsInShape (now (steps .entry))) ⌝ }
+    ensures answer { λ r. ⌜ r ≡ shapeVerdict (stepsInShape (held steps)) ⌝ }
 {
     if End::MAX_WORDS < steps.len() {
         return Verdict::Refused(Refusal::Malformed);
@@ -58,7 +61,7 @@ pub fn steps_shape(steps: &[usize]) -> Verdict
 
 // Where the step ends that stands at a place.
 pub(crate) fn step_end(words: &[usize], at: usize) -> End
-    ensures { λ r. ⌜ EndsAt (now (words .entry)) at (readStep (drop at (now (words .entry)))) r ⌝ }
+    ensures { λ r. ⌜ EndsAt (held words) at (readStep (drop at (held words))) r ⌝ }
 {
     let step = read_step(words, at);
     match step {
@@ -75,7 +78,7 @@ pub(crate) fn step_end(words: &[usize], at: usize) -> End
 
 // The step that stands at a place.
 pub(crate) fn read_step(words: &[usize], at: usize) -> StepAt
-    ensures { λ r. ⌜ StandsAt (now (words .entry)) at (readStep (drop at (now (words .entry)))) r ⌝ }
+    ensures { λ r. ⌜ StandsAt (held words) at (readStep (drop at (held words))) r ⌝ }
 {
     let n = words.len();
     if n <= at {

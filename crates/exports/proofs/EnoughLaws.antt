@@ -21,7 +21,8 @@ use Rattle.borrowing_param.proofs.Theorems.{listing-in-order, sheets-give-metho
 use Rattle.exports.specs.Calls.{countWords}
 
 -- further checks of which none is due, if none of the first is
-pub further : {A : Type 0} (a : A) (checks more : List Check) → (NoneDue checks → NoneDue more) → unless (checks ++ more) a ≡ unless checks a
+pub further : {A : Type 0} (a : A) (checks more : List Check) → (NoneDue checks → NoneDue more)
+    → unless (checks ++ more) a ≡ unless checks a
 further {A} a checks more f = go (unless checks a) refl
   where
     go : (o : Outcome A) → unless checks a ≡ o → unless (checks ++ more) a ≡ o
@@ -37,7 +38,9 @@ module _ (bytes : List ℕ) where
 
   consistent : NoneDue (sheetRefusals bytes) → Consistent (all .used) (all .answers) (all .edges)
   consistent n =
-      listing-in-order (created (envOfSheet sheet) (sheet .structs) (sheet .params) (sheet .output) (sheet .force) .visitor) (sheet .structs) (sheet .params)
+      listing-in-order
+      (created (envOfSheet sheet) (sheet .structs) (sheet .params) (sheet .output) (sheet .force) .visitor)
+      (sheet .structs) (sheet .params)
       (params-none (envOfSheet sheet) (sheet .structs) (sheet .params) (sheet .output) (sheet .force) (sheets-give-methods bytes n))
 
   pub room : (used answers edges counts : ℕ) → 64 ≤ used → 16 ≤ answers → 81920 ≤ edges → 3 ≤ counts → NoneDue (sheetRefusals bytes)
@@ -47,4 +50,6 @@ module _ (bytes : List ℕ) where
       let u : length (all .used) ≤ used = omega (arith, k .few-used, a) in
       let p : length (all .answers) ≤ answers = omega (arith, k .few-params, b) in
       let e : length (flatMap edgeWords (all .edges)) ≤ edges = omega (arith, k .few-edges, words-many (all .edges), c) in
-      next (le-ltb used (length (all .used)) u) (next (le-ltb answers (length (all .answers)) p) (next (le-ltb edges (length (flatMap edgeWords (all .edges))) e) (next (le-ltb counts 3 d) end)))
+      next (le-ltb used (length (all .used)) u)
+      (next (le-ltb answers (length (all .answers)) p)
+      (next (le-ltb edges (length (flatMap edgeWords (all .edges))) e) (next (le-ltb counts 3 d) end)))

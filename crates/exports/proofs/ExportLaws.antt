@@ -1,4 +1,5 @@
--- The exported calls by the calls below: a slice more that is long enough changes nothing; one that is too short leaves the refusals of the sheet as they are, and 9.
+-- The exported calls by the calls below: a slice more that is long enough changes nothing; one that is too short leaves
+-- the refusals of the sheet as they are, and 9.
 use Prim.Native.Nat.{ℕ, _≤_, _<_}
 use mathlib.Core.Bool.{Bool, true, false, cond}
 use mathlib.Core.Path.{_≡_, refl, sym, ap, _∙_}
@@ -13,14 +14,15 @@ use Rattle.lifetimes.specs.declared.answer.Verdict.the-variants as verdict
 use Rattle.lifetimes.specs.declared.answer.Listed.{Listed}
 use Rattle.lifetimes.specs.declared.answer.Listed.the-variants as listed
 use Rattle.lifetimes.specs.Refusals.{Check, Outcome, Gives, Refuses, unless, numberOf}
-use Rattle.lifetimes.specs.Lent.{counted, written, roomCheck}
+use Rattle.lifetimes.specs.Lent.{Slice, held, left, room, Fills, Stays, counted, roomCheck}
 use Rattle.sheet.specs.Reading.{sheetOf}
 use Rattle.borrowing_param.specs.declared.borrows.Borrows as answer
 use Rattle.borrowing_param.specs.Edges.{edgeWords}
 use Rattle.borrowing_param.specs.SheetMethod.{sheetRefusals}
-use Rattle.borrowing_param.specs.Borrows.{Borrows, sheetBorrows, roomChecks, borrowSheet, borrowsAnswer, usedWords, answerWords, edgesWords}
+use Rattle.borrowing_param.specs.Borrows.{Borrows, sheetBorrows, roomChecks, borrowSheet, borrowsAnswer, usedWords}
+use Rattle.borrowing_param.specs.Borrows.{answerWords, edgesWords}
 use Rattle.listing.specs.Listing.{listingOf, listingChecks, listing}
-use Rattle.exports.specs.Calls.{statusOf, lengthWord, listingTo, lengthOf, countWords, sheetTo, countsOf}
+use Rattle.exports.specs.Calls.{lengthWord, listingTo, ListingAnswers, countWords, sheetTo, SheetAnswers}
 
 module _ {A : Type 0} (a : A) where
   -- one check more, not due
@@ -30,23 +32,28 @@ module _ {A : Type 0} (a : A) where
   idle (d ∷ checks) c e = ap (λ (o : Outcome A). cond (d .due) (Refuses (d .refusal)) o) (idle checks c e)
 
   -- checks for room, in place of other checks for room
-  module _ (rooms others : List Check) (short : unless others a ≡ Refuses NoRoom) (only : (k : Refusal) → unless rooms a ≡ Refuses k → k ≡ NoRoom) where
-    in-place-given : (checks : List Check) (b : A) → unless (checks ++ rooms) a ≡ Gives b → unless (checks ++ others) a ≡ Refuses NoRoom
+  module _ (rooms others : List Check) (short : unless others a ≡ Refuses NoRoom) (only : (k : Refusal)
+      → unless rooms a ≡ Refuses k → k ≡ NoRoom) where
+    in-place-given : (checks : List Check) (b : A) → unless (checks ++ rooms) a ≡ Gives b
+        → unless (checks ++ others) a ≡ Refuses NoRoom
     unfolding unless
     in-place-given [] b e = short
     in-place-given (c ∷ checks) b e = go (c .due) (in-place-given checks b) e
       where
-        go : (t : Bool) → (unless (checks ++ rooms) a ≡ Gives b → unless (checks ++ others) a ≡ Refuses NoRoom) → cond t (Refuses (c .refusal)) (unless (checks ++ rooms) a) ≡ Gives b
+        go : (t : Bool) → (unless (checks ++ rooms) a ≡ Gives b → unless (checks ++ others) a ≡ Refuses NoRoom)
+            → cond t (Refuses (c .refusal)) (unless (checks ++ rooms) a) ≡ Gives b
             → cond t (Refuses (c .refusal)) (unless (checks ++ others) a) ≡ Refuses NoRoom
         go true f e = let z : _≡_ {A = ℕ} 0 1 = cc in absurd (omega arith)
         go false f e = f e
 
-    in-place-refused : (checks : List Check) (k : Refusal) → unless (checks ++ rooms) a ≡ Refuses k → unless (checks ++ others) a ≡ Refuses k
+    in-place-refused : (checks : List Check) (k : Refusal) → unless (checks ++ rooms) a ≡ Refuses k
+        → unless (checks ++ others) a ≡ Refuses k
     unfolding unless
     in-place-refused [] k e = rw (only k e) short
     in-place-refused (c ∷ checks) k e = go (c .due) (in-place-refused checks k) e
       where
-        go : (t : Bool) → (unless (checks ++ rooms) a ≡ Refuses k → unless (checks ++ others) a ≡ Refuses k) → cond t (Refuses (c .refusal)) (unless (checks ++ rooms) a) ≡ Refuses k
+        go : (t : Bool) → (unless (checks ++ rooms) a ≡ Refuses k → unless (checks ++ others) a ≡ Refuses k)
+            → cond t (Refuses (c .refusal)) (unless (checks ++ rooms) a) ≡ Refuses k
             → cond t (Refuses (c .refusal)) (unless (checks ++ others) a) ≡ Refuses k
         go true f e = e
         go false f e = f e
@@ -56,7 +63,8 @@ module _ {A : Type 0} (a : A) where
   short-or true rest e = refl
   short-or false rest e = e
 
-  only-or : (t : Bool) (rest : Outcome A) → ((k : Refusal) → rest ≡ Refuses k → k ≡ NoRoom) → (k : Refusal) → cond t (Refuses NoRoom) rest ≡ Refuses k → k ≡ NoRoom
+  only-or : (t : Bool) (rest : Outcome A) → ((k : Refusal) → rest ≡ Refuses k → k ≡ NoRoom) → (k : Refusal)
+      → cond t (Refuses NoRoom) rest ≡ Refuses k → k ≡ NoRoom
   only-or true rest f k e = cc
   only-or false rest f k e = f k e
 
@@ -77,12 +85,9 @@ three-stored x y z (a ∷ b ∷ c ∷ w) h = refl
 
 -- ---- `borrows_listing`
 
--- as its contract says it
-abbrev pub ThreeEquations : Outcome (List ℕ) → List ℕ → List ℕ → ℕ → List ℕ → List ℕ → Type 0
-ThreeEquations o out w s out₁ w₁ = (s ≡ statusOf o) × ((out₁ ≡ written o out) × (w₁ ≡ written (lengthOf o) w))
-
-refused-three : {o : Outcome (List ℕ)} {k : Refusal} {out w : List ℕ} {s : ℕ} → o ≡ Refuses k → s ≡ numberOf k → ThreeEquations o out w s out w
-refused-three e h = (rw e h, (rw e, rw e))
+refused-listing : {o : Outcome (List ℕ)} {k : Refusal} {s : ℕ} {out w : Slice} → o ≡ Refuses k → s ≡ numberOf k
+    → Stays out → Stays w → ListingAnswers o s out w
+refused-listing e h a b = record { status-is = rw e h; out-filled = rw e a; written-filled = rw e b }
 
 module _ (bytes : List ℕ) where
   abbrev text : List ℕ
@@ -92,7 +97,8 @@ module _ (bytes : List ℕ) where
   to-listing : (room words : ℕ) → 1 ≤ words → listingTo bytes room words ≡ listing bytes room
   unfolding listingTo listing
   to-listing room words h =
-      ap (λ (cs : List Check). unless cs text) (sym (append-assoc (listingChecks bytes) (roomCheck room text ∷ []) (roomCheck words (lengthWord text) ∷ [])))
+      ap (λ (cs : List Check). unless cs text)
+      (sym (append-assoc (listingChecks bytes) (roomCheck room text ∷ []) (roomCheck words (lengthWord text) ∷ [])))
       ∙ idle text (listingChecks bytes ++ (roomCheck room text ∷ [])) (roomCheck words (lengthWord text)) (le-ltb words 1 h)
 
   -- without one, `listing` into no room tells the refusal
@@ -106,147 +112,185 @@ module _ (bytes : List ℕ) where
 
   given-there : (b : List ℕ) → listing bytes 0 ≡ Gives b → (room : ℕ) → listingTo bytes room 0 ≡ Refuses NoRoom
   unfolding listingTo listing
-  given-there b e room = in-place-given text (roomCheck 0 text ∷ []) (roomCheck room text ∷ roomCheck 0 (lengthWord text) ∷ []) (no-word room) only-room (listingChecks bytes) b e
+  given-there b e room =
+      in-place-given text (roomCheck 0 text ∷ []) (roomCheck room text ∷ roomCheck 0 (lengthWord text) ∷ [])
+      (no-word room) only-room (listingChecks bytes) b e
 
   refused-there : (k : Refusal) → listing bytes 0 ≡ Refuses k → (room : ℕ) → listingTo bytes room 0 ≡ Refuses k
   unfolding listingTo listing
-  refused-there k e room = in-place-refused text (roomCheck 0 text ∷ []) (roomCheck room text ∷ roomCheck 0 (lengthWord text) ∷ []) (no-word room) only-room (listingChecks bytes) k e
+  refused-there k e room =
+      in-place-refused text (roomCheck 0 text ∷ []) (roomCheck room text ∷ roomCheck 0 (lengthWord text) ∷ [])
+      (no-word room) only-room (listingChecks bytes) k e
 
-  pub unlisted-given : (l : Listed) (n : ℕ) → l ≡ counted (listing bytes 0) → l ≡ listed.Count n → (room : ℕ) → listingTo bytes room 0 ≡ Refuses NoRoom
+  pub unlisted-given : (l : Listed) (n : ℕ) → l ≡ counted (listing bytes 0) → l ≡ listed.Count n → (room : ℕ)
+      → listingTo bytes room 0 ≡ Refuses NoRoom
   unlisted-given l n is e = go (listing bytes 0) refl (sym is ∙ e)
     where
-      go : (o : Outcome (List ℕ)) → listing bytes 0 ≡ o → counted o ≡ listed.Count n → (room : ℕ) → listingTo bytes room 0 ≡ Refuses NoRoom
+      go : (o : Outcome (List ℕ)) → listing bytes 0 ≡ o → counted o ≡ listed.Count n → (room : ℕ)
+          → listingTo bytes room 0 ≡ Refuses NoRoom
       go (Gives b) u v = given-there b u
       go (Refuses k) u v = let z : _≡_ {A = ℕ} 0 1 = cc in absurd (omega arith)
 
-  pub unlisted-refused : (l : Listed) (k : Refusal) → l ≡ counted (listing bytes 0) → l ≡ listed.Refused k → (room : ℕ) → listingTo bytes room 0 ≡ Refuses k
+  pub unlisted-refused : (l : Listed) (k : Refusal) → l ≡ counted (listing bytes 0) → l ≡ listed.Refused k → (room : ℕ)
+      → listingTo bytes room 0 ≡ Refuses k
   unlisted-refused l k is e = go (listing bytes 0) refl (sym is ∙ e)
     where
-      go : (o : Outcome (List ℕ)) → listing bytes 0 ≡ o → counted o ≡ listed.Refused k → (room : ℕ) → listingTo bytes room 0 ≡ Refuses k
+      go : (o : Outcome (List ℕ)) → listing bytes 0 ≡ o → counted o ≡ listed.Refused k → (room : ℕ)
+          → listingTo bytes room 0 ≡ Refuses k
       go (Gives b) u v = let z : _≡_ {A = ℕ} 0 1 = cc in absurd (omega arith)
       go (Refuses m) u v = let z : m ≡ k = cc in refused-there k (rw z at u)
 
   -- the ways out of the call
-  module _ (out w : List ℕ) where
+  module _ (out w : Slice) where
     abbrev there : Outcome (List ℕ)
-    there = listingTo bytes (length out) (length w)
+    there = listingTo bytes (room out) (room w)
 
-    pub no-place : {k : Refusal} {s : ℕ} → ((room : ℕ) → listingTo bytes room 0 ≡ Refuses k) → length w < 1 → s ≡ numberOf k → ThreeEquations there out w s out w
+    pub no-place : {k : Refusal} {s : ℕ} → ((room : ℕ) → listingTo bytes room 0 ≡ Refuses k) → room w < 1 → s ≡ numberOf k
+        → Stays out → Stays w → ListingAnswers there s out w
     no-place {k} f h e =
-        let z : length w ≡ 0 = omega (arith, h) in
-        let r : there ≡ Refuses k = rw z (f (length out)) in
-        refused-three r e
+        let z : room w ≡ 0 = omega (arith, h) in
+        let r : there ≡ Refuses k = rw z (f (room out)) in
+        refused-listing r e
 
-    module _ (place : 1 ≤ length w) {l : Listed} {out₁ : List ℕ} (is : l ≡ counted (listing bytes (length out))) (stands : out₁ ≡ written (listing bytes (length out)) out) where
-      same : there ≡ listing bytes (length out)
-      same = to-listing (length out) (length w) place
+    module _ (place : 1 ≤ room w) {l : Listed} (is : l ≡ counted (listing bytes (room out)))
+        (stands : Fills (listing bytes (room out)) out) where
+      same : there ≡ listing bytes (room out)
+      same = to-listing (room out) (room w) place
 
-      pub listed-refused : {k : Refusal} {s : ℕ} → l ≡ listed.Refused k → s ≡ numberOf k → ThreeEquations there out w s out₁ w
-      listed-refused {k} {s} e h = go (listing bytes (length out)) refl (sym is ∙ e) stands
+      pub listed-refused : {k : Refusal} {s : ℕ} → l ≡ listed.Refused k → s ≡ numberOf k → Stays w → ListingAnswers there s out w
+      listed-refused {k} {s} e h c = go (listing bytes (room out)) refl (sym is ∙ e) stands
         where
-          go : (o : Outcome (List ℕ)) → listing bytes (length out) ≡ o → counted o ≡ listed.Refused k → out₁ ≡ written o out → ThreeEquations there out w s out₁ w
+          go : (o : Outcome (List ℕ)) → listing bytes (room out) ≡ o → counted o ≡ listed.Refused k → Fills o out
+              → ListingAnswers there s out w
           go (Gives b) u v x = let z : _≡_ {A = ℕ} 0 1 = cc in absurd (omega arith)
-          go (Refuses m) u v x = let z : m ≡ k = cc in rw x (refused-three (same ∙ u) (rw z h))
+          go (Refuses m) u v x = let z : m ≡ k = cc in refused-listing (same ∙ u) (rw z h) x c
 
-      pub listed-given : {n : ℕ} → l ≡ listed.Count n → ThreeEquations there out w 0 out₁ (set w 0 n)
-      listed-given {n} e = go (listing bytes (length out)) refl (sym is ∙ e) stands
+      pub listed-given : {n : ℕ} → l ≡ listed.Count n → left w ≡ set (held w) 0 n → ListingAnswers there 0 out w
+      listed-given {n} e c = go (listing bytes (room out)) refl (sym is ∙ e) stands
         where
-          go : (o : Outcome (List ℕ)) → listing bytes (length out) ≡ o → counted o ≡ listed.Count n → out₁ ≡ written o out → ThreeEquations there out w 0 out₁ (set w 0 n)
+          go : (o : Outcome (List ℕ)) → listing bytes (room out) ≡ o → counted o ≡ listed.Count n → Fills o out
+              → ListingAnswers there 0 out w
           go (Gives b) u v x =
               let z : length b ≡ n = cc in
               let g : there ≡ Gives b = same ∙ u in
-              (rw g, (rw g x, rw (g, z) (one-stored n w place)))
+              record { status-is = rw g; out-filled = rw g x; written-filled = rw (g, z) (c ∙ one-stored n (held w) place) }
           go (Refuses m) u v x = let z : _≡_ {A = ℕ} 0 1 = cc in absurd (omega arith)
 
 -- ---- `borrows_sheet`
 
-abbrev pub FiveEquations : Outcome Borrows → List ℕ → List ℕ → List ℕ → List ℕ → ℕ → List ℕ → List ℕ → List ℕ → List ℕ → Type 0
-FiveEquations o used answers edges w s used₁ answers₁ edges₁ w₁ =
-    (s ≡ statusOf o) × ((used₁ ≡ written (usedWords o) used) × ((answers₁ ≡ written (answerWords o) answers) × ((edges₁ ≡ written (edgesWords o) edges) × (w₁ ≡ written (countsOf o) w))))
-
-refused-five : {o : Outcome Borrows} {k : Refusal} {used answers edges w : List ℕ} {s : ℕ} → o ≡ Refuses k → s ≡ numberOf k → FiveEquations o used answers edges w s used answers edges w
-refused-five e h = (rw e h, (rw e, (rw e, (rw e, rw e))))
+refused-sheet : {o : Outcome Borrows} {k : Refusal} {s : ℕ} {used answers edges w : Slice} → o ≡ Refuses k → s ≡ numberOf k
+    → Stays used → Stays answers → Stays edges → Stays w → SheetAnswers o s used answers edges w
+refused-sheet e h a b c d =
+    record { status-is = rw e h; used-filled = rw e a; answers-filled = rw e b; edges-filled = rw e c; counts-filled = rw e d }
 
 module _ (bytes : List ℕ) where
   abbrev all : Borrows
   all = sheetBorrows (sheetOf bytes)
 
-  to-borrows : (used answers edges counts : ℕ) → 3 ≤ counts → sheetTo bytes used answers edges counts ≡ borrowSheet bytes used answers edges
+  to-borrows : (used answers edges counts : ℕ) → 3 ≤ counts
+      → sheetTo bytes used answers edges counts ≡ borrowSheet bytes used answers edges
   unfolding sheetTo borrowSheet
   to-borrows used answers edges counts h =
-      ap (λ (cs : List Check). unless cs all) (sym (append-assoc (sheetRefusals bytes) (roomChecks all used answers edges) (roomCheck counts (countWords all) ∷ [])))
+      ap (λ (cs : List Check). unless cs all)
+      (sym
+      (append-assoc (sheetRefusals bytes) (roomChecks all used answers edges)
+      (roomCheck counts (countWords all) ∷ [])))
       ∙ idle all (sheetRefusals bytes ++ roomChecks all used answers edges) (roomCheck counts (countWords all)) (le-ltb counts 3 h)
 
-  no-words : (used answers edges counts : ℕ) → counts < 3 → unless (roomChecks all used answers edges ++ (roomCheck counts (countWords all) ∷ [])) all ≡ Refuses NoRoom
+  no-words : (used answers edges counts : ℕ) → counts < 3
+      → unless (roomChecks all used answers edges ++ (roomCheck counts (countWords all) ∷ [])) all ≡ Refuses NoRoom
   unfolding unless
   no-words used answers edges counts h =
       let last : cond (ltb counts 3) (Refuses NoRoom) (Gives all) ≡ Refuses NoRoom = rw (lt-ltb counts 3 h) in
-      short-or all (ltb used (length (all .used))) _ (short-or all (ltb answers (length (all .answers))) _ (short-or all (ltb edges (length (flatMap edgeWords (all .edges)))) _ last))
+      short-or all (ltb used (length (all .used)))
+      _ (short-or all (ltb answers (length (all .answers)))
+      _ (short-or all (ltb edges (length (flatMap edgeWords (all .edges)))) _ last))
 
   only-rooms : (k : Refusal) → unless (roomChecks all 0 0 0) all ≡ Refuses k → k ≡ NoRoom
   unfolding unless
-  only-rooms = only-or all (ltb 0 (length (all .used))) _ (only-or all (ltb 0 (length (all .answers))) _ (only-or all (ltb 0 (length (flatMap edgeWords (all .edges)))) _ (only-none all)))
+  only-rooms =
+      only-or all (ltb 0 (length (all .used)))
+      _ (only-or all (ltb 0 (length (all .answers)))
+      _ (only-or all (ltb 0 (length (flatMap edgeWords (all .edges)))) _ (only-none all)))
 
-  borrowed-there : (b : Borrows) → borrowSheet bytes 0 0 0 ≡ Gives b → (used answers edges counts : ℕ) → counts < 3 → sheetTo bytes used answers edges counts ≡ Refuses NoRoom
+  borrowed-there : (b : Borrows) → borrowSheet bytes 0 0 0 ≡ Gives b → (used answers edges counts : ℕ) → counts < 3
+      → sheetTo bytes used answers edges counts ≡ Refuses NoRoom
   unfolding sheetTo borrowSheet
   borrowed-there b e used answers edges counts h =
-      in-place-given all (roomChecks all 0 0 0) (roomChecks all used answers edges ++ (roomCheck counts (countWords all) ∷ [])) (no-words used answers edges counts h) only-rooms (sheetRefusals bytes) b e
+      in-place-given all (roomChecks all 0 0 0)
+      (roomChecks all used answers edges ++ (roomCheck counts (countWords all) ∷ []))
+      (no-words used answers edges counts h) only-rooms (sheetRefusals bytes) b e
 
-  unborrowed-there : (k : Refusal) → borrowSheet bytes 0 0 0 ≡ Refuses k → (used answers edges counts : ℕ) → counts < 3 → sheetTo bytes used answers edges counts ≡ Refuses k
+  unborrowed-there : (k : Refusal) → borrowSheet bytes 0 0 0 ≡ Refuses k → (used answers edges counts : ℕ) → counts < 3
+      → sheetTo bytes used answers edges counts ≡ Refuses k
   unfolding sheetTo borrowSheet
   unborrowed-there k e used answers edges counts h =
-      in-place-refused all (roomChecks all 0 0 0) (roomChecks all used answers edges ++ (roomCheck counts (countWords all) ∷ [])) (no-words used answers edges counts h) only-rooms (sheetRefusals bytes) k e
+      in-place-refused all (roomChecks all 0 0 0)
+      (roomChecks all used answers edges ++ (roomCheck counts (countWords all) ∷ []))
+      (no-words used answers edges counts h) only-rooms (sheetRefusals bytes) k e
 
   pub unborrowed-given : (r : answer.Borrows) → r ≡ borrowsAnswer (borrowSheet bytes 0 0 0) → r .verdict ≡ verdict.Accepted
       → (used answers edges counts : ℕ) → counts < 3 → sheetTo bytes used answers edges counts ≡ Refuses NoRoom
   unborrowed-given r is e = go (borrowSheet bytes 0 0 0) refl (ap (λ (x : answer.Borrows). x .verdict) (sym is) ∙ e)
     where
-      go : (o : Outcome Borrows) → borrowSheet bytes 0 0 0 ≡ o → borrowsAnswer o .verdict ≡ verdict.Accepted → (used answers edges counts : ℕ) → counts < 3 → sheetTo bytes used answers edges counts ≡ Refuses NoRoom
+      go : (o : Outcome Borrows) → borrowSheet bytes 0 0 0 ≡ o → borrowsAnswer o .verdict ≡ verdict.Accepted
+          → (used answers edges counts : ℕ) → counts < 3 → sheetTo bytes used answers edges counts ≡ Refuses NoRoom
       go (Gives b) u v = borrowed-there b u
       go (Refuses k) u v = let z : _≡_ {A = ℕ} 0 1 = cc in absurd (omega arith)
 
-  pub unborrowed-refused : (r : answer.Borrows) (k : Refusal) → r ≡ borrowsAnswer (borrowSheet bytes 0 0 0) → r .verdict ≡ verdict.Refused k
+  pub unborrowed-refused : (r : answer.Borrows) (k : Refusal) → r ≡ borrowsAnswer (borrowSheet bytes 0 0 0)
+      → r .verdict ≡ verdict.Refused k
       → (used answers edges counts : ℕ) → counts < 3 → sheetTo bytes used answers edges counts ≡ Refuses k
   unborrowed-refused r k is e = go (borrowSheet bytes 0 0 0) refl (ap (λ (x : answer.Borrows). x .verdict) (sym is) ∙ e)
     where
-      go : (o : Outcome Borrows) → borrowSheet bytes 0 0 0 ≡ o → borrowsAnswer o .verdict ≡ verdict.Refused k → (used answers edges counts : ℕ) → counts < 3 → sheetTo bytes used answers edges counts ≡ Refuses k
+      go : (o : Outcome Borrows) → borrowSheet bytes 0 0 0 ≡ o → borrowsAnswer o .verdict ≡ verdict.Refused k
+          → (used answers edges counts : ℕ) → counts < 3 → sheetTo bytes used answers edges counts ≡ Refuses k
       go (Gives b) u v = let z : _≡_ {A = ℕ} 0 1 = cc in absurd (omega arith)
       go (Refuses m) u v = let z : m ≡ k = cc in unborrowed-there k (rw z at u)
 
-  module _ (used answers edges w : List ℕ) where
+  module _ (used answers edges w : Slice) where
     abbrev here : Outcome Borrows
-    here = sheetTo bytes (length used) (length answers) (length edges) (length w)
+    here = sheetTo bytes (room used) (room answers) (room edges) (room w)
 
     abbrev below : Outcome Borrows
-    below = borrowSheet bytes (length used) (length answers) (length edges)
+    below = borrowSheet bytes (room used) (room answers) (room edges)
 
-    pub no-places : {k : Refusal} {s : ℕ} → ((u a e c : ℕ) → c < 3 → sheetTo bytes u a e c ≡ Refuses k) → length w < 3 → s ≡ numberOf k
-        → FiveEquations here used answers edges w s used answers edges w
-    no-places f h e = refused-five (f (length used) (length answers) (length edges) (length w) h) e
+    pub no-places : {k : Refusal} {s : ℕ} → ((u a e c : ℕ) → c < 3 → sheetTo bytes u a e c ≡ Refuses k) → room w < 3 → s ≡ numberOf k
+        → Stays used → Stays answers → Stays edges → Stays w → SheetAnswers here s used answers edges w
+    no-places f h e = refused-sheet (f (room used) (room answers) (room edges) (room w) h) e
 
-    module _ (places : 3 ≤ length w) {r : answer.Borrows} {used₁ answers₁ edges₁ : List ℕ} (is : r ≡ borrowsAnswer below) (a : used₁ ≡ written (usedWords below) used)
-        (b : answers₁ ≡ written (answerWords below) answers) (c : edges₁ ≡ written (edgesWords below) edges) where
+    module _ (places : 3 ≤ room w) {r : answer.Borrows} (is : r ≡ borrowsAnswer below) (a : Fills (usedWords below) used)
+        (b : Fills (answerWords below) answers) (c : Fills (edgesWords below) edges) where
       same-borrows : here ≡ below
-      same-borrows = to-borrows (length used) (length answers) (length edges) (length w) places
+      same-borrows = to-borrows (room used) (room answers) (room edges) (room w) places
 
-      pub borrowed-refused : {k : Refusal} {s : ℕ} → r .verdict ≡ verdict.Refused k → s ≡ numberOf k → FiveEquations here used answers edges w s used₁ answers₁ edges₁ w
-      borrowed-refused {k} {s} e h = go below refl (ap (λ (x : answer.Borrows). x .verdict) (sym is) ∙ e) a b c
+      pub borrowed-refused : {k : Refusal} {s : ℕ} → r .verdict ≡ verdict.Refused k → s ≡ numberOf k → Stays w
+          → SheetAnswers here s used answers edges w
+      borrowed-refused {k} {s} e h d = go below refl (ap (λ (x : answer.Borrows). x .verdict) (sym is) ∙ e) a b c
         where
-          go : (o : Outcome Borrows) → below ≡ o → borrowsAnswer o .verdict ≡ verdict.Refused k → used₁ ≡ written (usedWords o) used → answers₁ ≡ written (answerWords o) answers
-              → edges₁ ≡ written (edgesWords o) edges → FiveEquations here used answers edges w s used₁ answers₁ edges₁ w
+          go : (o : Outcome Borrows) → below ≡ o → borrowsAnswer o .verdict ≡ verdict.Refused k → Fills (usedWords o) used
+              → Fills (answerWords o) answers → Fills (edgesWords o) edges → SheetAnswers here s used answers edges w
           go (Gives x) u v p q t = let z : _≡_ {A = ℕ} 0 1 = cc in absurd (omega arith)
-          go (Refuses m) u v p q t = let z : m ≡ k = cc in rw (p, q, t) (refused-five (same-borrows ∙ u) (rw z h))
+          go (Refuses m) u v p q t = let z : m ≡ k = cc in refused-sheet (same-borrows ∙ u) (rw z h) p q t d
 
-      pub borrowed-given : {w₁ : List ℕ} → r .verdict ≡ verdict.Accepted → w₁ ≡ (r .used ∷ r .params ∷ r .edges ∷ []) ++ drop 3 w → FiveEquations here used answers edges w 0 used₁ answers₁ edges₁ w₁
-      borrowed-given {w₁} e d = go below refl is (ap (λ (x : answer.Borrows). x .verdict) (sym is) ∙ e) a b c
+      pub borrowed-given : r .verdict ≡ verdict.Accepted → left w ≡ (r .used ∷ r .params ∷ r .edges ∷ []) ++ drop 3 (held w)
+          → SheetAnswers here 0 used answers edges w
+      borrowed-given e d = go below refl is (ap (λ (x : answer.Borrows). x .verdict) (sym is) ∙ e) a b c
         where
-          go : (o : Outcome Borrows) → below ≡ o → r ≡ borrowsAnswer o → borrowsAnswer o .verdict ≡ verdict.Accepted → used₁ ≡ written (usedWords o) used → answers₁ ≡ written (answerWords o) answers
-              → edges₁ ≡ written (edgesWords o) edges → FiveEquations here used answers edges w 0 used₁ answers₁ edges₁ w₁
+          go : (o : Outcome Borrows) → below ≡ o → r ≡ borrowsAnswer o → borrowsAnswer o .verdict ≡ verdict.Accepted
+              → Fills (usedWords o) used → Fills (answerWords o) answers → Fills (edgesWords o) edges
+              → SheetAnswers here 0 used answers edges w
           go (Gives x) u i v p q t =
               let g : here ≡ Gives x = same-borrows ∙ u in
               let n : r .used ≡ length (x .used) = ap (λ (y : answer.Borrows). y .used) i in
               let m : r .params ≡ length (x .answers) = ap (λ (y : answer.Borrows). y .params) i in
               let l : r .edges ≡ length (x .edges) = ap (λ (y : answer.Borrows). y .edges) i in
-              let z : (r .used ∷ r .params ∷ r .edges ∷ []) ++ drop 3 w ≡ countWords x ++ drop 3 w = rw (n, m, l) in
-              (rw g, (rw g p, (rw g q, (rw g t, rw g (d ∙ z)))))
+              let z : (r .used ∷ r .params ∷ r .edges ∷ []) ++ drop 3 (held w) ≡ countWords x ++ drop 3 (held w) = rw (n, m, l) in
+              record {
+                status-is = rw g;
+                used-filled = rw g p;
+                answers-filled = rw g q;
+                edges-filled = rw g t;
+                counts-filled = rw g (d ∙ z);
+              }
           go (Refuses k) u i v p q t = let z : _≡_ {A = ℕ} 0 1 = cc in absurd (omega arith)

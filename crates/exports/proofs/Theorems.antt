@@ -5,7 +5,8 @@ use mathlib.Core.List.{List, [], _∷_, _++_}
 use native.Mathlib.Omega.{arith}
 use borrow.Author.Tests.{le-ltb}
 use lib.ListN.{length}
-use Rattle.lifetimes.specs.declared.answer.Refusal.the-variants.{Malformed, Duplicate, Undeclared, Full, NoSource, Ambiguous, Mismatch, OutOfRange, NoRoom, Unreadable}
+use Rattle.lifetimes.specs.declared.answer.Refusal.the-variants.{Malformed, Duplicate, Undeclared, Full, NoSource}
+use Rattle.lifetimes.specs.declared.answer.Refusal.the-variants.{Ambiguous, Mismatch, OutOfRange, NoRoom, Unreadable}
 use Rattle.lifetimes.specs.Refusals.{next, end}
 use Rattle.lifetimes.specs.Lent.{roomCheck}
 use Rattle.sheet.specs.Reading.{sheetOf}
@@ -23,13 +24,16 @@ bytes-enough bytes room words h g =
     let text = listingOf (sheetOf bytes) in
     further text (listingChecks bytes) (roomCheck room text ∷ roomCheck words (lengthWord text) ∷ [])
     (λ n.
-    let fits : length text ≤ 131072 = subst (λ (t : List ℕ). length t ≤ 131072) (program-answers bytes .complete n) (program-answers bytes .fits) in
+    let fits : length text ≤ 131072 =
+    subst (λ (t : List ℕ). length t ≤ 131072) (program-answers bytes .complete n) (program-answers bytes .fits) in
     next (le-ltb room (length text) (omega (arith, fits, h))) (next (le-ltb words 1 g) end))
 
 pub words-enough : WordsEnough
 unfolding sheetTo
 words-enough bytes used answers edges counts a b c d =
-    further (sheetBorrows (sheetOf bytes)) (sheetRefusals bytes) (roomChecks (sheetBorrows (sheetOf bytes)) used answers edges ++ (roomCheck counts (countWords (sheetBorrows (sheetOf bytes))) ∷ []))
+    further (sheetBorrows (sheetOf bytes)) (sheetRefusals bytes)
+    (roomChecks (sheetBorrows (sheetOf bytes)) used answers edges
+    ++ (roomCheck counts (countWords (sheetBorrows (sheetOf bytes))) ∷ []))
     (room bytes used answers edges counts a b c d)
 
 pub status-tells : StatusTells

@@ -1,13 +1,15 @@
--- The exported calls: what each gives, its status, and the words beside the answer. What a sheet gives is said by the crates below; here there is one slice more, which may be too short (9), and a
--- status in place of an answer of many cases.
+-- The exported calls: what each gives, its status, and the words beside the answer. What a sheet gives is said by the
+-- crates below; here there is one slice more, which may be too short (9), and a status in place of an answer of many
+-- cases.
 use Prim.Native.Nat.{ℕ}
+use mathlib.Core.Path.{_≡_}
 use mathlib.Core.List.{List, [], _∷_, _++_}
 use lib.ListN.{length}
-use Rattle.lifetimes.specs.Refusals.{Outcome, Gives, Refuses, unless, numberOf}
-use Rattle.lifetimes.specs.Lent.{roomCheck}
+use Rattle.lifetimes.specs.Refusals.{Outcome, Gives, Refuses, unless, numberOf, over}
+use Rattle.lifetimes.specs.Lent.{Slice, Fills, roomCheck}
 use Rattle.sheet.specs.Reading.{sheetOf}
 use Rattle.borrowing_param.specs.SheetMethod.{sheetRefusals}
-use Rattle.borrowing_param.specs.Borrows.{Borrows, sheetBorrows, roomChecks}
+use Rattle.borrowing_param.specs.Borrows.{Borrows, sheetBorrows, roomChecks, usedWords, answerWords, edgesWords}
 use Rattle.listing.specs.Listing.{listingOf, listingChecks}
 
 -- 0, or 01's number of the refusal
@@ -24,11 +26,18 @@ lengthWord text = length text ∷ []
 -- refused as the sheet is, then by too many edges (9), then where one of the two slices is too short (9)
 unfoldable pub listingTo : List ℕ → ℕ → ℕ → Outcome (List ℕ)
 listingTo bytes room words =
-    unless (listingChecks bytes ++ (roomCheck room (listingOf (sheetOf bytes)) ∷ roomCheck words (lengthWord (listingOf (sheetOf bytes))) ∷ [])) (listingOf (sheetOf bytes))
+    unless (listingChecks bytes
+    ++ (roomCheck room (listingOf (sheetOf bytes)) ∷ roomCheck words (lengthWord (listingOf (sheetOf bytes))) ∷ []))
+    (listingOf (sheetOf bytes))
 
 abbrev pub lengthOf : Outcome (List ℕ) → Outcome (List ℕ)
-lengthOf (Gives text) = Gives (lengthWord text)
-lengthOf (Refuses r) = Refuses r
+lengthOf o = over lengthWord o
+
+-- what the call answers and writes
+pub record ListingAnswers (o : Outcome (List ℕ)) (status : ℕ) (out written : Slice) : Type 0 where
+  pub status-is : status ≡ statusOf o
+  pub out-filled : Fills o out
+  pub written-filled : Fills (lengthOf o) written
 
 -- ---- `borrows_sheet`
 
@@ -40,9 +49,18 @@ countWords b = length (b .used) ∷ length (b .answers) ∷ length (b .edges) �
 unfoldable pub sheetTo : List ℕ → ℕ → ℕ → ℕ → ℕ → Outcome Borrows
 sheetTo bytes used answers edges counts =
     unless
-    (sheetRefusals bytes ++ (roomChecks (sheetBorrows (sheetOf bytes)) used answers edges ++ (roomCheck counts (countWords (sheetBorrows (sheetOf bytes))) ∷ [])))
+    (sheetRefusals bytes
+    ++ (roomChecks (sheetBorrows (sheetOf bytes)) used answers edges
+    ++ (roomCheck counts (countWords (sheetBorrows (sheetOf bytes))) ∷ [])))
     (sheetBorrows (sheetOf bytes))
 
 abbrev pub countsOf : Outcome Borrows → Outcome (List ℕ)
-countsOf (Gives b) = Gives (countWords b)
-countsOf (Refuses r) = Refuses r
+countsOf o = over countWords o
+
+-- what the call answers and writes
+pub record SheetAnswers (o : Outcome Borrows) (status : ℕ) (used answers edges counts : Slice) : Type 0 where
+  pub status-is : status ≡ statusOf o
+  pub used-filled : Fills (usedWords o) used
+  pub answers-filled : Fills (answerWords o) answers
+  pub edges-filled : Fills (edgesWords o) edges
+  pub counts-filled : Fills (countsOf o) counts

@@ -10,9 +10,11 @@ use Rattle.borrowing_param.specs.Borrows.{sheetBorrows}
 use Rattle.listing.specs.Listing.{listingOf, listingChecks}
 use Rattle.exports.specs.Calls.{listingTo, sheetTo}
 
--- The sizes that include/borrows.h names are always enough. With them, or more, no refusal comes from what is lent: a listing's 9 is that of too many edges,
+-- The sizes that include/borrows.h names are always enough. With them, or more, no refusal comes from what is lent: a
+-- listing's 9 is that of too many edges,
 abbrev pub BytesEnough : Type 0
-BytesEnough = (bytes : List ℕ) (room words : ℕ) → 131072 ≤ room → 1 ≤ words → listingTo bytes room words ≡ unless (listingChecks bytes) (listingOf (sheetOf bytes))
+BytesEnough = (bytes : List ℕ) (room words : ℕ) → 131072 ≤ room → 1 ≤ words
+    → listingTo bytes room words ≡ unless (listingChecks bytes) (listingOf (sheetOf bytes))
 
 -- and the other call has no 9
 abbrev pub WordsEnough : Type 0

@@ -1,7 +1,8 @@
 // The library for C and Rust: two calls over bytes and words, with C's calling convention.
 //
-// For whoever generates wrappers from another language. A slice is a pointer, then a length; include/borrows.h declares the calls and says what a caller owes (pointers valid for their lengths,
-// nothing overlapping). Each call answers a status: 0, or the scope paper's ("01") number of the refusal. Refused, it leaves every lent slice as it was.
+// For whoever generates wrappers from another language. A slice is a pointer, then a length; include/borrows.h declares
+// the calls and says what a caller owes (pointers valid for their lengths, nothing overlapping). Each call answers a
+// status: 0, or the scope paper's ("01") number of the refusal. Refused, it leaves every lent slice as it was.
 //
 // The scratch is local: no call allocates, keeps anything for the next one, or looks at anything but its arguments.
 mod listed;

@@ -1,21 +1,19 @@
 // A sheet's listing, with its length in a word beside it.
 ghost use Prim.Native.Nat.{ℕ};
 ghost use mathlib.Core.Path.{_≡_};
-ghost use lib.ListN.{length};
+ghost use Rattle.lifetimes.specs.Lent.{held, room, Fills};
 ghost use Rattle.lifetimes.specs.Refusals.{Refuses};
-ghost use Rattle.lifetimes.specs.Lent as lent;
-ghost use Rattle.exports.specs.Calls.{statusOf, listingTo, lengthOf};
+ghost use Rattle.exports.specs.Calls.{listingTo, ListingAnswers};
 use lifetimes::Listed;
 use lifetimes::Refusal;
 use listing::listing;
 
-// Write the listing of a sheet to the first slice and its length in bytes to the first word of the second. Refused as the sheet is (10; 1 over all records; 2 to 7 at the first bad place; 8), then
-// by 9 for more than 4,096 edges, where the first slice is too short, or where the second has no word. 131,072 bytes and one word are always enough.
+// Write the listing of a sheet to the first slice and its length in bytes to the first word of the second. Refused as
+// the sheet is (10; 1 over all records; 2 to 7 at the first bad place; 8), then by 9 for more than 4,096 edges, where
+// the first slice is too short, or where the second has no word. 131,072 bytes and one word are always enough.
 #[no_mangle]
 pub extern "C" fn borrows_listing(sheet: &[u8], out: &mut [u8], written: &mut [usize]) -> usize
-    ensures { λ r. ⌜ r ≡ statusOf (listingTo (now (sheet .entry)) (length (now (out .entry))) (length (now (written .entry)))) ⌝ }
-    ensures { λ _. ⌜ now (out .exit) ≡ lent.written (listingTo (now (sheet .entry)) (length (now (out .entry))) (length (now (written .entry)))) (now (out .entry)) ⌝ }
-    ensures { λ _. ⌜ now (written .exit) ≡ lent.written (lengthOf (listingTo (now (sheet .entry)) (length (now (out .entry))) (length (now (written .entry))))) (now (written .entry)) ⌝ }
+    ensures answer { λ r. ⌜ ListingAnswers (listingTo (held sheet) (room out) (room written)) r out written ⌝ }
 {
     if written.len() < 1 {
         let refusal = unlisted(sheet);
@@ -33,7 +31,7 @@ pub extern "C" fn borrows_listing(sheet: &[u8], out: &mut [u8], written: &mut [u
 
 // Why a sheet is refused whose listing's length has no place.
 fn unlisted(sheet: &[u8]) -> Refusal
-    ensures { λ r. ⌜ ((room : ℕ) → listingTo (now (sheet .entry)) room 0 ≡ Refuses r) ⌝ }
+    ensures { λ r. ⌜ ((room : ℕ) → listingTo (held sheet) room 0 ≡ Refuses r) ⌝ }
 {
     let mut none = [0u8; 0];
     let answer = listing(sheet, &mut none);

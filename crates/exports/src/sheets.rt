@@ -4,16 +4,17 @@ ghost use mathlib.Core.Path.{_≡_};
 ghost use mathlib.Core.List.{[], _∷_, _++_};
 ghost use lib.ListN.{length, drop};
 ghost use Rattle.lifetimes.specs.Refusals.{Refuses};
-ghost use Rattle.lifetimes.specs.Lent.{written};
+ghost use Rattle.lifetimes.specs.Lent.{held, room, left, Fills};
 ghost use Rattle.borrowing_param.specs.Borrows.{usedWords, answerWords, edgesWords};
-ghost use Rattle.exports.specs.Calls.{statusOf, sheetTo, countsOf};
+ghost use Rattle.exports.specs.Calls.{sheetTo, SheetAnswers};
 use borrowing_param::borrow_sheet;
 use lifetimes::Refusal;
 use lifetimes::Verdict;
 
-// Write a sheet's used lifetimes, ascending, to the first slice; the number of each parameter's answer to the second; the edges, five words each in listing order, to the third; and to the fourth
-// how many lifetimes, parameters and edges these are. Refused as the sheet is (10; 1 over all records; 2 to 7 at the first bad place; 8), then by 9 where a slice is too short.
-// 64, 16, 81,920 and 3 words are always enough.
+// Write a sheet's used lifetimes, ascending, to the first slice; the number of each parameter's answer to the second;
+// the edges, five words each in listing order, to the third; and to the fourth how many lifetimes, parameters and edges
+// these are. Refused as the sheet is (10; 1 over all records; 2 to 7 at the first bad place; 8), then by 9 where a
+// slice is too short. 64, 16, 81,920 and 3 words are always enough.
 #[no_mangle]
 pub extern "C" fn borrows_sheet(
     sheet: &[u8],
@@ -22,11 +23,8 @@ pub extern "C" fn borrows_sheet(
     edges: &mut [usize],
     counts: &mut [usize],
 ) -> usize
-    ensures { λ r. ⌜ r ≡ statusOf (sheetTo (now (sheet .entry)) (length (now (used .entry))) (length (now (answers .entry))) (length (now (edges .entry))) (length (now (counts .entry)))) ⌝ }
-    ensures { λ _. ⌜ now (used .exit) ≡ written (usedWords (sheetTo (now (sheet .entry)) (length (now (used .entry))) (length (now (answers .entry))) (length (now (edges .entry))) (length (now (counts .entry))))) (now (used .entry)) ⌝ }
-    ensures { λ _. ⌜ now (answers .exit) ≡ written (answerWords (sheetTo (now (sheet .entry)) (length (now (used .entry))) (length (now (answers .entry))) (length (now (edges .entry))) (length (now (counts .entry))))) (now (answers .entry)) ⌝ }
-    ensures { λ _. ⌜ now (edges .exit) ≡ written (edgesWords (sheetTo (now (sheet .entry)) (length (now (used .entry))) (length (now (answers .entry))) (length (now (edges .entry))) (length (now (counts .entry))))) (now (edges .entry)) ⌝ }
-    ensures { λ _. ⌜ now (counts .exit) ≡ written (countsOf (sheetTo (now (sheet .entry)) (length (now (used .entry))) (length (now (answers .entry))) (length (now (edges .entry))) (length (now (counts .entry))))) (now (counts .entry)) ⌝ }
+    ensures answer { λ r. ⌜ SheetAnswers (sheetTo (held sheet) (room used) (room answers) (room edges) (room counts)) r
+        used answers edges counts ⌝ }
 {
     if counts.len() < 3 {
         let refusal = unborrowed(sheet);
@@ -44,7 +42,7 @@ pub extern "C" fn borrows_sheet(
 // Three words to the front of a slice.
 fn store_counts(counts: &mut [usize], used: usize, params: usize, edges: usize)
     requires { ⌜ 3 ≤ length (now counts) ⌝ }
-    ensures { λ _. ⌜ now (counts .exit) ≡ (used ∷ params ∷ edges ∷ []) ++ drop 3 (now (counts .entry)) ⌝ }
+    ensures { λ _. ⌜ left counts ≡ (used ∷ params ∷ edges ∷ []) ++ drop 3 (held counts) ⌝ }
 {
     counts[0] = used;
     counts[1] = params;
@@ -53,7 +51,8 @@ fn store_counts(counts: &mut [usize], used: usize, params: usize, edges: usize)
 
 // Why a sheet is refused where `counts` has fewer than three words.
 fn unborrowed(sheet: &[u8]) -> Refusal
-    ensures { λ r. ⌜ ((used answers edges counts : ℕ) → counts < 3 → sheetTo (now (sheet .entry)) used answers edges counts ≡ Refuses r) ⌝ }
+    ensures { λ r. ⌜ ((used answers edges counts : ℕ) → counts < 3 → sheetTo (held sheet) used answers edges counts
+        ≡ Refuses r) ⌝ }
 {
     let mut no_used = [0usize; 0];
     let mut no_answers = [0usize; 0];

@@ -10,7 +10,6 @@ use lib.ListN.{length, getD, take, drop, length-take, length-drop, drop-of-lengt
 use lib.Seq.{drop-cons, getD-take, getD-drop}
 use borrow.Author.Tests.{le-leb, lt-leb, lt-ltb}
 use Rattle.lifetimes.specs.declared.lifetime.Lifetime.{Lifetime}
-use Rattle.lifetimes.specs.declared.answer.Refusal.{Refusal}
 use Rattle.lifetimes.specs.declared.maybe_static.MaybeStatic.{MaybeStatic}
 use Rattle.lifetimes.specs.declared.maybe_static.MaybeStatic.the-variants.{Static, NonStatic}
 use Rattle.lifetimes.specs.LoweredWords.{fromWord}
@@ -18,11 +17,11 @@ use Rattle.lifetimes.specs.Sets.{insert, insertAll}
 use Rattle.lifetimes.proofs.SetLaws.{insertAll-append}
 use Rattle.records.specs.Reading.{Read, Fails}
 use Rattle.lowered_types.specs.declared.types.Own.{Own}
-use Rattle.lowered_types.specs.declared.types.Own.the-variants as own
 use Rattle.lowered_types.specs.declared.types.Parts.{Parts}
-use Rattle.lowered_types.specs.declared.types.LifetimeAt.{LifetimeAt}
-use Rattle.lowered_types.specs.declared.types.LifetimeAt.the-variants as entry
-use Rattle.lowered_types.specs.LoweredTypes.{LoweredType, readLowered, ownLifetimes, lifetimesOf, entryAt}
+use Rattle.lowered_types.specs.declared.types.OwnLifetime.{OwnLifetime}
+use Rattle.lowered_types.specs.declared.types.OwnLifetime.the-variants as behind
+use Rattle.lowered_types.specs.LoweredTypes.{LoweredType, readLowered, ownLifetimes, lifetimesOf, ownLifetime}
+use Rattle.lowered_types.proofs.LifetimeLaws.{own-one, own-none}
 use Rattle.lowered_types.specs.Rows.{readKnown, readTypes}
 use Rattle.lowered_types.proofs.FoundLaws.{Found, path-inside}
 use Rattle.hir_types.specs.declared.output.Collected.{Collected}
@@ -30,7 +29,8 @@ use Rattle.hir_types.specs.declared.output.Collected.the-variants.{Set, 
 use Rattle.hir_types.specs.Method.{anyPast}
 use Rattle.hir_types.specs.Used.{numbersOf}
 use Rattle.hir_types.specs.Inner.{CollectIs, within, past, PathThere, TypesCollect}
-use Rattle.hir_types.proofs.PassLaws.{known-read, same-found, fails-read, Next, types-next, types-none}
+use Rattle.records.proofs.ReadingLaws.{fails-read}
+use Rattle.hir_types.proofs.PassLaws.{known-read, same-found, Next, types-next, types-none}
 
 -- ---- one list after another
 
@@ -46,16 +46,19 @@ past-append count [] m = refl
 past-append count (Static ∷ l) m = past-append count l m
 past-append count (NonStatic k ∷ l) m = go (leb count (k .0)) (past-append count l m)
   where
-    go : (b : Bool) → anyPast count (l ++ m) ≡ anyPast count l || anyPast count m → b || anyPast count (l ++ m) ≡ (b || anyPast count l) || anyPast count m
+    go : (b : Bool) → anyPast count (l ++ m) ≡ anyPast count l || anyPast count m
+        → b || anyPast count (l ++ m) ≡ (b || anyPast count l) || anyPast count m
     go true e = refl
     go false e = e
 
-pub collect-then : {count s t : ℕ} {l m : List MaybeStatic} {r : Collected} → CollectIs count s l (Set t) → CollectIs count t m r → CollectIs count s (l ++ m) r
+pub collect-then : {count s t : ℕ} {l m : List MaybeStatic} {r : Collected} → CollectIs count s l (Set t)
+    → CollectIs count t m r → CollectIs count s (l ++ m) r
 collect-then {count} {s} {t} {l} {m} (within h e) (within {more = all} k f) =
     within {more = all} (rw (past-append count l m, h) k) (rw (numbers-append l m, insertAll-append, ← e) f)
 collect-then {count} {s} {t} {l} {m} (within h e) (past k) = past (rw (past-append count l m, h) k)
 
-pub collect-stops : {count s : ℕ} {l : List MaybeStatic} (m : List MaybeStatic) → CollectIs count s l Past → CollectIs count s (l ++ m) Past
+pub collect-stops : {count s : ℕ} {l : List MaybeStatic} (m : List MaybeStatic) → CollectIs count s l Past
+    → CollectIs count s (l ++ m) Past
 collect-stops {count} {s} {l} m (past h) = past (rw (past-append count l m, h))
 
 pub collect-told : {count s : ℕ} {l : List MaybeStatic} {r q : Collected} → CollectIs count s l r → r ≡ q → CollectIs count s l q
@@ -77,39 +80,20 @@ module _ (count s : ℕ) where
     unfolding anyPast
     collect-past h = rw e (past (rw (le-leb count (l .0) h)))
 
-    pub collect-one : count ≤ 64 → l .0 < count → {t : ℕ} → t ≡ cond (ltb (l .0) 64) (insert s (l .0)) s → CollectIs count s (m ∷ []) (Set t)
+    pub collect-one : count ≤ 64 → l .0 < count → {t : ℕ} → t ≡ cond (ltb (l .0) 64) (insert s (l .0)) s
+        → CollectIs count s (m ∷ []) (Set t)
     unfolding numbersOf insertAll anyPast
     collect-one few h q = rw e (within (rw (lt-leb count (l .0) h)) (q ∙ rw (lt-ltb (l .0) 64 (omega arith))))
 
 -- ---- a type's own lifetime
 
-own-one : {m : MaybeStatic} (o : Own) → entryAt (ownLifetimes o) 0 ≡ entry.Lifetime m → ownLifetimes o ≡ m ∷ []
-unfolding entryAt
-own-one own.Absent e = let z : _≡_ {A = ℕ} 0 1 = cc in absurd (omega arith)
-own-one (own.Word w) e = cc
-own-one own.Strs e = cc
+module _ (count s : ℕ) (o : Own) {e : OwnLifetime} (q : e ≡ ownLifetime o) where
+  pub own-collected : {m : MaybeStatic} → e ≡ behind.Lifetime m → {r : Collected} → CollectIs count s (m ∷ []) r
+      → CollectIs count s (ownLifetimes o) r
+  own-collected k h = rw (own-one o q k) h
 
-own-none : (o : Own) → entryAt (ownLifetimes o) 0 ≡ entry.Absent → ownLifetimes o ≡ []
-unfolding entryAt
-own-none own.Absent e = refl
-own-none (own.Word w) e = let z : _≡_ {A = ℕ} 0 1 = cc in absurd (omega arith)
-own-none own.Strs e = let z : _≡_ {A = ℕ} 0 1 = cc in absurd (omega arith)
-
-own-never : {A : Type 0} {r : Refusal} (o : Own) → entryAt (ownLifetimes o) 0 ≡ entry.Refused r → A
-unfolding entryAt
-own-never own.Absent e = let z : _≡_ {A = ℕ} 0 1 = cc in absurd (omega arith)
-own-never (own.Word w) e = let z : _≡_ {A = ℕ} 0 1 = cc in absurd (omega arith)
-own-never own.Strs e = let z : _≡_ {A = ℕ} 0 1 = cc in absurd (omega arith)
-
-module _ (count s : ℕ) (o : Own) {e : LifetimeAt} (q : e ≡ entryAt (ownLifetimes o) 0) where
-  pub own-collected : {m : MaybeStatic} → e ≡ entry.Lifetime m → {r : Collected} → CollectIs count s (m ∷ []) r → CollectIs count s (ownLifetimes o) r
-  own-collected k h = rw (own-one o (sym q ∙ k)) h
-
-  pub own-absent : e ≡ entry.Absent → CollectIs count s (ownLifetimes o) (Set s)
-  own-absent k = rw (own-none o (sym q ∙ k)) (collect-none count s)
-
-  pub own-refused : {r : Refusal} → e ≡ entry.Refused r → CollectIs count s (ownLifetimes o) (Set s)
-  own-refused k = own-never o (sym q ∙ k)
+  pub own-absent : e ≡ behind.Absent → CollectIs count s (ownLifetimes o) (Set s)
+  own-absent k = rw (own-none o q k) (collect-none count s)
 
 -- ---- path words: what is left to put in, put in from here, gives what all gives
 
@@ -118,7 +102,8 @@ pathOf words from n = take n (drop from words)
 
 pub record Pathing (words : List ℕ) (from n count before used i : ℕ) : Type 0 where
   pub counted : i ≤ n
-  pub onto : (r : Collected) → CollectIs count used (map fromWord (drop i (pathOf words from n))) r → CollectIs count before (map fromWord (pathOf words from n)) r
+  pub onto : (r : Collected) → CollectIs count used (map fromWord (drop i (pathOf words from n))) r
+      → CollectIs count before (map fromWord (pathOf words from n)) r
 
 pub pathing-start : (words : List ℕ) (from n count before : ℕ) → Pathing words from n count before before 0
 pathing-start words from n count before = record { counted = omega arith; onto = λ r h. h }
@@ -131,12 +116,15 @@ module _ {words : List ℕ} {from n count before used i : ℕ} (inv : Pathing wo
         drop-cons (pathOf words from n) i 0 (simp (length-take, length-drop) (omega arith))
         ∙ rw (add-one, getD-take n (drop from words) i 0 h, getD-drop from words i 0)
 
-    module _ {m : MaybeStatic} (e : m ≡ fromWord (getD words (from + i) 0)) {r : Collected} (k : CollectIs count used (m ∷ []) r) where
+    module _ {m : MaybeStatic} (e : m ≡ fromWord (getD words (from + i) 0)) {r : Collected}
+        (k : CollectIs count used (m ∷ []) r) where
       one : CollectIs count used (fromWord (getD words (from + i) 0) ∷ []) r
       one = rw (← e) k
 
       pub pathing-stops : r ≡ Past → CollectIs count before (map fromWord (pathOf words from n)) Past
-      pathing-stops q = inv .onto Past (rw path-next (collect-stops (map fromWord (drop (i + 1) (pathOf words from n))) (collect-told one q)))
+      pathing-stops q =
+          inv .onto Past
+          (rw path-next (collect-stops (map fromWord (drop (i + 1) (pathOf words from n))) (collect-told one q)))
 
       pub pathing-more : {next : ℕ} → r ≡ Set next → Pathing words from n count before next (i + 1)
       pathing-more q = record {
@@ -145,7 +133,10 @@ module _ {words : List ℕ} {from n count before used i : ℕ} (inv : Pathing wo
       }
 
   pub pathing-end : n ≤ i → CollectIs count before (map fromWord (pathOf words from n)) (Set used)
-  pathing-end h = inv .onto (Set used) (rw (drop-of-length-le (pathOf words from n) {i = i} (simp (length-take, length-drop) (omega arith))) (collect-none count used))
+  pathing-end h =
+      inv .onto (Set used)
+      (rw (drop-of-length-le (pathOf words from n) {i = i} (simp (length-take, length-drop) (omega arith)))
+      (collect-none count used))
 
 -- ---- types
 
@@ -156,7 +147,8 @@ pub record Rest (words : List ℕ) (types count at used i n : ℕ) (ts : List Lo
   pub onto : (r : Collected) → CollectIs count used (flatMap lifetimesOf left) r → CollectIs count 0 (flatMap lifetimesOf ts) r
 
 pub record Collecting (words : List ℕ) (types count at used i : ℕ) : Type 0 where
-  pub each : (n : ℕ) (ts : List LoweredType) (rest : List ℕ) → readTypes n types (drop 0 words) ≡ Read ts rest → Rest words types count at used i n ts rest
+  pub each : (n : ℕ) (ts : List LoweredType) (rest : List ℕ) → readTypes n types (drop 0 words) ≡ Read ts rest
+      → Rest words types count at used i n ts rest
 
 pub collecting-start : (words : List ℕ) (types count : ℕ) → Collecting words types count 0 0 0
 collecting-start words types count = record {
@@ -165,8 +157,10 @@ collecting-start words types count = record {
 
 module _ {words : List ℕ} {types count at used i : ℕ} (inv : Collecting words types count at used i) where
   module _ (h : i < types) where
-    next-type : {n : ℕ} {ts : List LoweredType} {rest : List ℕ} (l : Rest words types count at used i n ts rest) → Next n (types - (i + 1)) (drop at words) (l .left) rest
-    next-type {n} l = let z : types - i ≡ suc (types - (i + 1)) = omega arith in types-next n (types - (i + 1)) (drop at words) (rw z at (l .reads))
+    next-type : {n : ℕ} {ts : List LoweredType} {rest : List ℕ} (l : Rest words types count at used i n ts rest)
+        → Next n (types - (i + 1)) (drop at words) (l .left) rest
+    next-type {n} l = let z : types - i ≡ suc (types - (i + 1)) = omega arith in
+        types-next n (types - (i + 1)) (drop at words) (rw z at (l .reads))
 
     pub collecting-lost : readLowered (drop at words) ≡ Fails → TypesCollect words 0 types count 0 Past
     collecting-lost f n ts rest e =
@@ -204,7 +198,8 @@ module _ {words : List ℕ} {types count at used i : ℕ} {p : Parts} (t : Readi
         l .onto Past (rw (x .all) (collect-stops (flatMap lifetimesOf (x .more)) type))
 
     module _ {more : ℕ} (q : r ≡ Set more) {r₂ : Collected} (own : CollectIs count more (ownLifetimes (p .own)) r₂) where
-      whole : (n : ℕ) {t₁ : LoweredType} {behind : List ℕ} {r₃ : Collected} → readKnown n (drop at words) ≡ Read t₁ behind → r₂ ≡ r₃ → CollectIs count used (lifetimesOf t₁) r₃
+      whole : (n : ℕ) {t₁ : LoweredType} {behind : List ℕ} {r₃ : Collected}
+          → readKnown n (drop at words) ≡ Read t₁ behind → r₂ ≡ r₃ → CollectIs count used (lifetimesOf t₁) r₃
       whole n {t₁} {behind} {r₃} e k =
           let s = (same-found (t .found) n e) .stands in
           let here : CollectIs count used (map fromWord (t₁ .path)) (Set more) = rw (s .path) at (collect-told path q) in

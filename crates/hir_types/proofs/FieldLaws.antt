@@ -3,14 +3,15 @@ use Prim.Native.Nat.{ℕ, zero, suc, _+_, _-_, _≤_, _<_}
 use mathlib.Core.Bool.{Bool, true, false, cond, not, _&&_}
 use mathlib.Core.Path.{_≡_, refl, sym, ap, subst, _∙_}
 use mathlib.Core.List.{List, [], _∷_, _++_}
-use native.Mathlib.Nat.{zero-add, sub-zero, zero-sub, suc-sub-suc}
+use native.Mathlib.Nat.{zero-add}
 use native.Mathlib.Numerals.{add-one}
 use native.Mathlib.Omega.{arith}
 use lib.Dec.{eqb, ltb}
-use lib.ListN.{length, getD, take, drop, set, replicate, length-append, length-set, length-replicate, drop-of-length-le, List·getD-eq-default}
+use lib.ListN.{length, getD, take, drop, set, replicate, length-append, length-set, length-replicate, drop-of-length-le}
+use lib.ListN.{List·getD-eq-default}
 use lib.Seq.{sets, sets-eq, drop-cons}
 use borrow.Author.Tests.{lt-ltb, le-ltb, ltb-true, ltb-false, eqb-true, not-false}
-use Rattle.records.proofs.ReadingLaws.{passed}
+use Rattle.records.proofs.ReadingLaws.{passed, fails-read}
 use Rattle.lifetimes.specs.declared.answer.Refusal.{Refusal}
 use Rattle.lifetimes.specs.declared.answer.Refusal.the-variants.{Malformed}
 use Rattle.lifetimes.specs.declared.answer.Listed.{Listed}
@@ -26,7 +27,8 @@ use Rattle.lifetimes.specs.Numbers.{defLifetime}
 use Rattle.lifetimes.specs.LoweredWords.{defFromWord}
 use Rattle.lifetimes.specs.Refusals.{unless, FirstDue, NoneDue, later, end, next}
 use Rattle.lifetimes.specs.Linked.{linkedPair, pairAnswer}
-use Rattle.lifetimes.proofs.RefusalLaws.{due-given, due-refused, refused-first, accepted-none, none-first, none-rest, none-split}
+use Rattle.lifetimes.proofs.RefusalLaws.{due-given, due-refused, refused-first, accepted-none, none-first, none-rest}
+use Rattle.lifetimes.proofs.RefusalLaws.{none-split}
 use Rattle.lifetimes.proofs.LinkedLaws.{pair-told}
 use Rattle.records.specs.Reading.{Read, Fails}
 use Rattle.lowered_types.specs.declared.types.Parts.{Parts}
@@ -41,9 +43,12 @@ use Rattle.hir_types.specs.declared.fields.FieldPair.{FieldPair}
 use Rattle.hir_types.specs.declared.fields.FieldLifetimes.{FieldLifetimes}
 use Rattle.hir_types.specs.declared.fields.FieldAnswer.the-variants as answer
 use Rattle.hir_types.specs.Method.{rowAt, misfits, typeChecks, rowChecks}
-use Rattle.hir_types.specs.Fields.{fieldIn, fieldAt, isStruct, fieldPair, filledBy, pairsFrom, fieldChecks, fieldPairs, placed, givenPairs, fieldAnswer}
+use Rattle.hir_types.specs.Fields.{fieldIn, fieldAt, isStruct, fieldPair, filledBy, pairsFrom, fieldChecks}
+use Rattle.hir_types.specs.Fields.{fieldPairs, placed, givenPairs, fieldAnswer}
 use Rattle.hir_types.specs.Inner.{RowStands, Indexes, TypesSkip, FieldIs, struct, other}
-use Rattle.hir_types.proofs.PassLaws.{known-read, same-found, fails-read, types-next, types-none, types-length, Items, items-start, NextItem, items-next, RowParts, row-parts}
+use Rattle.hir_types.proofs.PassLaws.{known-read, same-found, types-next, types-none, types-length}
+use Rattle.hir_types.proofs.PassLaws.{Items, items-start, NextItem, items-next, RowParts, row-parts}
+use Rattle.lifetimes.proofs.Copying.{drop-replicate}
 
 -- ---- `skip_types`
 
@@ -90,9 +95,11 @@ pub placing-start : (structs : List ℕ) (row : ℕ) → structsInShape structs 
 placing-start structs row e = record { steps = length structs; items = items-start readRow structs e; below = omega arith }
 
 module _ {structs : List ℕ} {row at number : ℕ} (inv : Placing structs row at number) (h : row < length (rowsOf structs)) where
-  pub row-next : NextItem readRow number (inv .steps) (drop at structs) (rowAt (rowsOf structs) number) (drop (number + 1) (rowsOf structs))
+  pub row-next : NextItem readRow number (inv .steps) (drop at structs) (rowAt (rowsOf structs) number)
+      (drop (number + 1) (rowsOf structs))
   row-next =
-      let here : drop number (rowsOf structs) ≡ rowAt (rowsOf structs) number ∷ drop (number + 1) (rowsOf structs) = rw add-one (drop-cons (rowsOf structs) number (rowWith 0 []) (omega (arith, inv .below))) in
+      let here : drop number (rowsOf structs) ≡ rowAt (rowsOf structs) number ∷ drop (number + 1) (rowsOf structs) =
+      rw add-one (drop-cons (rowsOf structs) number (rowWith 0 []) (omega (arith, inv .below))) in
       items-next readRow number (inv .steps) (drop at structs) (rw here at (inv .items))
 
   pub placing-parts : RowParts number structs at (rowAt (rowsOf structs) number) (row-next .behind)
@@ -101,10 +108,15 @@ module _ {structs : List ℕ} {row at number : ℕ} (inv : Placing structs row a
   pub placing-here : at + 1 < length structs
   placing-here = placing-parts .here
 
-  pub placing-more : number < row → {place : ℕ} → TypesSkip structs (at + 2) (getD structs (at + 1) 0) place → Placing structs row place (number + 1)
+  pub placing-more : number < row → {place : ℕ} → TypesSkip structs (at + 2) (getD structs (at + 1) 0) place
+      → Placing structs row place (number + 1)
   placing-more l {place} f =
       let left = f number (rowAt (rowsOf structs) number .fields) (row-next .behind) (placing-parts .fields) in
-      record { steps = inv .steps - 1; items = rw (add-one number, left) (rw (add-one number) at (row-next .others)); below = omega arith }
+      record {
+        steps = inv .steps - 1;
+        items = rw (add-one number, left) (rw (add-one number) at (row-next .others));
+        below = omega arith;
+      }
 
   pub placing-end : row ≤ number → RowStands structs row at
   placing-end l =
@@ -115,7 +127,8 @@ module _ {structs : List ℕ} {row at number : ℕ} (inv : Placing structs row a
 
 -- one of so many types
 types-pick : (n i m : ℕ) (words : List ℕ) (types : List LoweredType) {rest : List ℕ} → readTypes n (i + suc m) words ≡ Read types rest
-    → (behind : List ℕ) × (after : List ℕ) × (readTypes n i words ≡ Read (take i types) behind) × (readKnown n behind ≡ Read (fieldIn types i) after)
+    → (behind : List ℕ) × (after : List ℕ) × (readTypes n i words ≡ Read (take i types) behind)
+    × (readKnown n behind ≡ Read (fieldIn types i) after)
 unfolding readTypes
 types-pick n zero m words types e =
     let z : 0 + suc m ≡ suc m = omega arith in
@@ -130,7 +143,8 @@ types-pick n (suc i) m words types e =
     let p : fieldIn types (suc i) ≡ fieldIn (x .more) i = ap (λ (l : List LoweredType). fieldIn l (suc i)) (x .all) in
     (r .0, r .1, rw (x .first, r .2, q), rw p (r .3))
 
-field-parts : {structs : List ℕ} {row place : ℕ} (s : RowStands structs row place) → RowParts row structs place (rowAt (rowsOf structs) row) (s .rest)
+field-parts : {structs : List ℕ} {row place : ℕ} (s : RowStands structs row place)
+    → RowParts row structs place (rowAt (rowsOf structs) row) (s .rest)
 field-parts {structs} {row} {place} s = row-parts row structs place (s .reads)
 
 -- the field asked for is read at a place
@@ -148,14 +162,18 @@ module _ {structs : List ℕ} {row field : ℕ} where
     pub field-past : getD structs (place + 1) 0 ≤ field → FieldIs structs row field Missing
     field-past h =
         let n = types-length row (getD structs (place + 1) 0) (drop (place + 2) structs) (field-parts s .fields) in
-        let d : fieldAt (rowsOf structs) row field ≡ fieldIn [] 0 = List·getD-eq-default (rowAt (rowsOf structs) row .fields) (fieldIn [] 0) (omega arith) in
+        let d : fieldAt (rowsOf structs) row field ≡ fieldIn [] 0 =
+        List·getD-eq-default (rowAt (rowsOf structs) row .fields) (fieldIn [] 0) (omega arith) in
         other (rw d)
 
-    pub field-stands : field < getD structs (place + 1) 0 → {at : ℕ} → TypesSkip structs (place + 2) field at → FieldStands structs row field at
+    pub field-stands : field < getD structs (place + 1) 0 → {at : ℕ}
+        → TypesSkip structs (place + 2) field at → FieldStands structs row field at
     field-stands h f =
         let z : getD structs (place + 1) 0 ≡ field + suc (getD structs (place + 1) 0 - suc field) = omega arith in
-        let e : readTypes row (field + suc (getD structs (place + 1) 0 - suc field)) (drop (place + 2) structs) ≡ Read (rowAt (rowsOf structs) row .fields) (s .rest) = rw (← z) (field-parts s .fields) in
-        let p = types-pick row field (getD structs (place + 1) 0 - suc field) (drop (place + 2) structs) (rowAt (rowsOf structs) row .fields) e in
+        let e : readTypes row (field + suc (getD structs (place + 1) 0 - suc field)) (drop (place + 2) structs)
+        ≡ Read (rowAt (rowsOf structs) row .fields) (s .rest) = rw (← z) (field-parts s .fields) in
+        let p = types-pick row field (getD structs (place + 1) 0 - suc field) (drop (place + 2) structs)
+        (rowAt (rowsOf structs) row .fields) e in
         let left = f row (take field (rowAt (rowsOf structs) row .fields)) (p .0) (p .2) in
         record { after = p .1; reads = rw left (p .3) }
 
@@ -178,9 +196,11 @@ module _ {structs : List ℕ} {row field : ℕ} where
 pairs-few : (declared j : ℕ) (path : List ℕ) → length (pairsFrom declared j path) ≤ length path
 unfolding pairsFrom
 pairs-few declared j [] = omega arith
-pairs-few declared j (word ∷ path) = go (filledBy declared j (defFromWord word)) (one (defFromWord word)) (pairs-few declared (suc j) path)
+pairs-few declared j (word ∷ path) =
+    go (filledBy declared j (defFromWord word)) (one (defFromWord word)) (pairs-few declared (suc j) path)
   where
-    go : (l : List FieldPair) → length l ≤ 1 → length (pairsFrom declared (suc j) path) ≤ length path → length (l ++ pairsFrom declared (suc j) path) ≤ suc (length path)
+    go : (l : List FieldPair) → length l ≤ 1 → length (pairsFrom declared (suc j) path) ≤ length path
+        → length (l ++ pairsFrom declared (suc j) path) ≤ suc (length path)
     go l h k = simp length-append (omega arith)
 
     two : (b : Bool) (p : FieldPair) → length (cond b (p ∷ []) []) ≤ 1
@@ -191,11 +211,6 @@ pairs-few declared j (word ∷ path) = go (filledBy declared j (defFromWord word
     one Static = omega arith
     one (NonStatic l) = two (ltb (l .0) declared) (fieldPair j (l .0))
 
-drop-replicate : {A : Type 0} (n m : ℕ) (x : A) → drop n (replicate m x) ≡ replicate (m - n) x
-drop-replicate zero m x = rw sub-zero
-drop-replicate (suc n) zero x = rw zero-sub
-drop-replicate (suc n) (suc m) x = rw suc-sub-suc (drop-replicate n m x)
-
 abbrev blank : List FieldPair
 blank = replicate 16 (fieldPair 0 0)
 
@@ -205,24 +220,29 @@ pub record Pairing (path : List ℕ) (declared : ℕ) (pairs : List FieldPair) (
   pub counts : n + length (pairsFrom declared i (drop i path)) ≡ length (pairsFrom declared 0 path)
   pub stored : sets pairs n (pairsFrom declared i (drop i path)) ≡ sets (replicate 16 (fieldPair 0 0)) 0 (pairsFrom declared 0 path)
 
-pub pairing-start : (path : List ℕ) (declared : ℕ) {a b : DefLifetime} → a ≡ defLifetime 0 → b ≡ defLifetime 0 → Pairing path declared (replicate 16 (record { def = a; outer = b })) 0 0
+pub pairing-start : (path : List ℕ) (declared : ℕ) {a b : DefLifetime} → a ≡ defLifetime 0 → b ≡ defLifetime 0
+    → Pairing path declared (replicate 16 (record { def = a; outer = b })) 0 0
 pairing-start path declared e f = record { before = omega arith; size = rw length-replicate; counts = zero-add _; stored = rw (e, f) }
 
 -- the next word is linked with a lifetime of the field's definition
-pub record Linking (path : List ℕ) (declared : ℕ) (pairs : List FieldPair) (n i : ℕ) (def : DefLifetime) (m : MaybeStaticDef) : Type 0 where
+pub record Linking (path : List ℕ) (declared : ℕ) (pairs : List FieldPair) (n i : ℕ) (def : DefLifetime)
+    (m : MaybeStaticDef) : Type 0 where
   pub pairing : Pairing path declared pairs n i
   pub inside : i < length path
   pub defines : def ≡ defLifetime i
   pub word : m ≡ defFromWord (getD path i 0)
 
-pub linking : (path : List ℕ) (count : ℕ) → length path ≡ count → {declared : ℕ} {pairs : List FieldPair} {n i : ℕ} → Pairing path declared pairs n i → i < count
-    → {linked : LinkedPair} → linked ≡ pairAnswer (linkedPair path count i) → {word : ℕ} {def : DefLifetime} → linked ≡ Pair word def → {m : MaybeStaticDef} → m ≡ defFromWord word
+pub linking : (path : List ℕ) (count : ℕ) → length path ≡ count → {declared : ℕ} {pairs : List FieldPair} {n i : ℕ}
+    → Pairing path declared pairs n i → i < count
+    → {linked : LinkedPair} → linked ≡ pairAnswer (linkedPair path count i) → {word : ℕ} {def : DefLifetime}
+    → linked ≡ Pair word def → {m : MaybeStaticDef} → m ≡ defFromWord word
     → Linking path declared pairs n i def m
 linking path count same {i = i} inv h e t q =
     let told = pair-told path count same i h e t in
     record { pairing = inv; inside = omega arith; defines = told .1; word = q ∙ rw (told .0) }
 
-module _ {path : List ℕ} {declared : ℕ} {pairs : List FieldPair} {n i : ℕ} {def : DefLifetime} {m : MaybeStaticDef} (l : Linking path declared pairs n i def m) where
+module _ {path : List ℕ} {declared : ℕ} {pairs : List FieldPair} {n i : ℕ} {def : DefLifetime} {m : MaybeStaticDef}
+    (l : Linking path declared pairs n i def m) where
   abbrev inv : Pairing path declared pairs n i
   inv = l .pairing
 
@@ -233,7 +253,12 @@ module _ {path : List ℕ} {declared : ℕ} {pairs : List FieldPair} {n i : ℕ}
   skipped : filledBy declared i m ≡ [] → Pairing path declared pairs n (i + 1)
   skipped e =
       let s : pairsFrom declared i (drop i path) ≡ pairsFrom declared (i + 1) (drop (i + 1) path) = here ∙ rw e in
-      record { before = omega (arith, inv .before); size = inv .size; counts = rw (← s) (inv .counts); stored = rw (← s) (inv .stored) }
+      record {
+        before = omega (arith, inv .before);
+        size = inv .size;
+        counts = rw (← s) (inv .counts);
+        stored = rw (← s) (inv .stored);
+      }
 
   pub pairing-static : m ≡ Static → Pairing path declared pairs n (i + 1)
   pairing-static e = skipped (rw e)
@@ -244,8 +269,10 @@ module _ {path : List ℕ} {declared : ℕ} {pairs : List FieldPair} {n i : ℕ}
 
     pub pairing-more : outer .0 < declared → Pairing path declared (set pairs n (record { def = def; outer = outer })) (n + 1) (i + 1)
     pairing-more h =
-        let s : pairsFrom declared i (drop i path) ≡ fieldPair i (outer .0) ∷ pairsFrom declared (i + 1) (drop (i + 1) path) = here ∙ rw (e, lt-ltb (outer .0) declared h) in
-        let c : n + suc (length (pairsFrom declared (i + 1) (drop (i + 1) path))) ≡ length (pairsFrom declared 0 path) = rw s at (inv .counts) in
+        let s : pairsFrom declared i (drop i path) ≡ fieldPair i (outer .0) ∷ pairsFrom declared (i + 1)
+        (drop (i + 1) path) = here ∙ rw (e, lt-ltb (outer .0) declared h) in
+        let c : n + suc (length (pairsFrom declared (i + 1) (drop (i + 1) path))) ≡ length (pairsFrom declared 0 path) =
+        rw s at (inv .counts) in
         record {
           before = omega (arith, inv .before);
           size = length-set pairs n (record { def = def; outer = outer }) ∙ inv .size;
@@ -254,14 +281,18 @@ module _ {path : List ℕ} {declared : ℕ} {pairs : List FieldPair} {n i : ℕ}
         }
 
 module _ {path : List ℕ} {declared : ℕ} {pairs : List FieldPair} {n i : ℕ} (inv : Pairing path declared pairs n i) where
-  all-stored : length path ≤ 16 → length path ≤ i → (n ≡ length (pairsFrom declared 0 path)) × (pairs ≡ placed (pairsFrom declared 0 path))
+  all-stored : length path ≤ 16 → length path ≤ i → (n ≡ length (pairsFrom declared 0 path))
+      × (pairs ≡ placed (pairsFrom declared 0 path))
   unfolding pairsFrom
   all-stored few h =
       let z : drop i path ≡ [] = drop-of-length-le path {i = i} h in
       let c : n + 0 ≡ length (pairsFrom declared 0 path) = rw z at (inv .counts) in
       let s : pairs ≡ sets (replicate 16 (fieldPair 0 0)) 0 (pairsFrom declared 0 path) = rw z at (inv .stored) in
-      let l : length (pairsFrom declared 0 path) ≤ 16 = omega (arith, pairs-few declared 0 path) in
-      (omega arith, s ∙ sets-eq (pairsFrom declared 0 path) (replicate 16 (fieldPair 0 0)) 0 (rw (length-replicate, zero-add) l) ∙ rw (zero-add, drop-replicate (length (pairsFrom declared 0 path)) 16 (fieldPair 0 0)))
+      let l : length (pairsFrom declared 0 path) ≤ 16 = omega (arith, pairs-few declared 0 path) in (
+        omega arith,
+        s ∙ sets-eq (pairsFrom declared 0 path) (replicate 16 (fieldPair 0 0)) 0 (rw (length-replicate, zero-add) l)
+            ∙ rw (zero-add, drop-replicate (length (pairsFrom declared 0 path)) 16 (fieldPair 0 0)),
+      )
 
   module _ (few : length path ≤ 16) (h : length path ≤ i) where
     pub pairing-none : n ≡ 0 → record { answer = answer.Absent; pairs = pairs } ≡ givenPairs (pairsFrom declared 0 path)
@@ -280,26 +311,33 @@ module _ {path : List ℕ} {declared : ℕ} {pairs : List FieldPair} {n i : ℕ}
 
 -- ---- a field of rows that were accepted: its words are as many as the lifetimes of its definition
 
-type-linked : (rows : List Row) (types : List LoweredType) (j : ℕ) → NoneDue (typeChecks rows types) → misfits rows (fieldIn types j) ≡ false
+type-linked : (rows : List Row) (types : List LoweredType) (j : ℕ) → NoneDue (typeChecks rows types)
+    → misfits rows (fieldIn types j) ≡ false
 unfolding typeChecks
 type-linked rows [] j n = refl
 type-linked rows (t ∷ types) zero n = none-first n
 type-linked rows (t ∷ types) (suc j) n = type-linked rows types j (none-rest n)
 
-row-linked : (rows : List Row) (number : ℕ) (more : List Row) (k : ℕ) → NoneDue (rowChecks rows number more) → NoneDue (typeChecks rows (rowAt more k .fields))
+row-linked : (rows : List Row) (number : ℕ) (more : List Row) (k : ℕ) → NoneDue (rowChecks rows number more)
+    → NoneDue (typeChecks rows (rowAt more k .fields))
 unfolding rowChecks typeChecks
 row-linked rows number [] k n = end
-row-linked rows number (row ∷ more) zero n = none-split (typeChecks rows (row .fields)) (rowChecks rows (suc number) more) (none-rest n) .0
-row-linked rows number (row ∷ more) (suc k) n = row-linked rows (suc number) more k (none-split (typeChecks rows (row .fields)) (rowChecks rows (suc number) more) (none-rest n) .1)
+row-linked rows number (row ∷ more) zero n =
+    none-split (typeChecks rows (row .fields)) (rowChecks rows (suc number) more) (none-rest n) .0
+row-linked rows number (row ∷ more) (suc k) n =
+    row-linked rows (suc number) more k
+    (none-split (typeChecks rows (row .fields)) (rowChecks rows (suc number) more) (none-rest n) .1)
 
-fits-linked : (rows : List Row) (t : LoweredType) {inner : ℕ} → t .kind ≡ Struct inner → misfits rows t ≡ false → length (t .path) ≡ rowAt rows inner .lifetimes
+fits-linked : (rows : List Row) (t : LoweredType) {inner : ℕ} → t .kind ≡ Struct inner → misfits rows t ≡ false
+    → length (t .path) ≡ rowAt rows inner .lifetimes
 fits-linked rows t {inner} e h =
     let m : not (eqb (length (t .path)) (rowAt rows inner .lifetimes)) ≡ false = rw e at h in
     eqb-true (length (t .path)) (rowAt rows inner .lifetimes) (not-false (eqb (length (t .path)) (rowAt rows inner .lifetimes)) m)
 
 -- ---- the ways out
 
-pub compute-torn : (structs : List ℕ) (row field : ℕ) {sh : Listed} → sh ≡ howMany (structsInShape structs) (rowsOf structs) → {r : Refusal} → sh ≡ listed.Refused r
+pub compute-torn : (structs : List ℕ) (row field : ℕ) {sh : Listed}
+    → sh ≡ howMany (structsInShape structs) (rowsOf structs) → {r : Refusal} → sh ≡ listed.Refused r
     → record { answer = answer.Refused Malformed; pairs = placed [] } ≡ fieldAnswer (fieldPairs structs row field)
 unfolding fieldPairs unless
 compute-torn structs row field q e = rw (refused-shape (structsInShape structs) (rowsOf structs) q e)
@@ -315,13 +353,16 @@ pub record Indexed (structs : List ℕ) (row field inner from count : ℕ) (life
   pub asked : FieldIs structs row field (aField.Struct inner from count)
   pub index : Indexes structs lifetimes places v
 
-module _ {structs : List ℕ} {row field inner from count : ℕ} {lifetimes places : List ℕ} {v : Verdict} (x : Indexed structs row field inner from count lifetimes places v) where
-  asked : (fieldAt (rowsOf structs) row field .kind ≡ Struct inner) × (inner < row) × (length (fieldAt (rowsOf structs) row field .path) ≤ 16)
+module _ {structs : List ℕ} {row field inner from count : ℕ} {lifetimes places : List ℕ} {v : Verdict}
+    (x : Indexed structs row field inner from count lifetimes places v) where
+  asked : (fieldAt (rowsOf structs) row field .kind ≡ Struct inner) × (inner < row)
+      × (length (fieldAt (rowsOf structs) row field .path) ≤ 16)
       × (take count (drop from structs) ≡ fieldAt (rowsOf structs) row field .path)
   asked = go (x .asked)
     where
       go : FieldIs structs row field (aField.Struct inner from count)
-          → (fieldAt (rowsOf structs) row field .kind ≡ Struct inner) × (inner < row) × (length (fieldAt (rowsOf structs) row field .path) ≤ 16)
+          → (fieldAt (rowsOf structs) row field .kind ≡ Struct inner) × (inner < row)
+          × (length (fieldAt (rowsOf structs) row field .path) ≤ 16)
           × (take count (drop from structs) ≡ fieldAt (rowsOf structs) row field .path)
       go (struct a b c d) = (a, b, c, d)
 
@@ -332,7 +373,8 @@ module _ {structs : List ℕ} {row field inner from count : ℕ} {lifetimes plac
       go : (b : Bool) → ltb row (length (rowsOf structs)) ≡ b → row < length (rowsOf structs)
       go true b = ltb-true row (length (rowsOf structs)) b
       go false b =
-          let d : rowAt (rowsOf structs) row ≡ rowWith 0 [] = List·getD-eq-default (rowsOf structs) (rowWith 0 []) (ltb-false row (length (rowsOf structs)) b) in
+          let d : rowAt (rowsOf structs) row ≡ rowWith 0 [] =
+          List·getD-eq-default (rowsOf structs) (rowWith 0 []) (ltb-false row (length (rowsOf structs)) b) in
           let plain : isStruct (fieldAt (rowsOf structs) row field .kind) ≡ false = rw d in
           let is : isStruct (fieldAt (rowsOf structs) row field .kind) ≡ true = rw (asked .0) in
           passed (sym plain ∙ is)
@@ -340,10 +382,13 @@ module _ {structs : List ℕ} {row field inner from count : ℕ} {lifetimes plac
   fine : not (structsInShape structs && isStruct (fieldAt (rowsOf structs) row field .kind)) ≡ false
   fine = rw (x .shape, asked .0)
 
-  pub compute-refused : {s : Refusal} → v ≡ Refused s → record { answer = answer.Refused s; pairs = placed [] } ≡ fieldAnswer (fieldPairs structs row field)
+  pub compute-refused : {s : Refusal} → v ≡ Refused s
+      → record { answer = answer.Refused s; pairs = placed [] } ≡ fieldAnswer (fieldPairs structs row field)
   unfolding fieldPairs
   compute-refused {s} z =
-      let due : FirstDue s (fieldChecks structs row field) = later fine (refused-first (tt {0}) s (rowChecks (rowsOf structs) 0 (rowsOf structs)) (sym (x .index .verdict) ∙ z)) in
+      let due : FirstDue s (fieldChecks structs row field) =
+      later fine
+      (refused-first (tt {0}) s (rowChecks (rowsOf structs) 0 (rowsOf structs)) (sym (x .index .verdict) ∙ z)) in
       rw (due-refused (pairsFrom (rowAt (rowsOf structs) row .lifetimes) 0 (fieldAt (rowsOf structs) row field .path)) due)
 
   module _ (z : v ≡ Accepted) where
@@ -358,12 +403,21 @@ module _ {structs : List ℕ} {row field inner from count : ℕ} {lifetimes plac
       path-linked =
           let l : length (fieldAt (rowsOf structs) row field .path) ≡ rowAt (rowsOf structs) inner .lifetimes =
           fits-linked (rowsOf structs) (fieldAt (rowsOf structs) row field) (asked .0)
-          (type-linked (rowsOf structs) (rowAt (rowsOf structs) row .fields) field (row-linked (rowsOf structs) 0 (rowsOf structs) row rows-none)) in
-          let d : getD lifetimes inner 0 ≡ rowAt (rowsOf structs) inner .lifetimes = x .index .holding z inner (omega (arith, asked-row, asked .1)) in
+          (type-linked (rowsOf structs) (rowAt (rowsOf structs) row .fields) field
+          (row-linked (rowsOf structs) 0 (rowsOf structs) row rows-none)) in
+          let d : getD lifetimes inner 0 ≡ rowAt (rowsOf structs) inner .lifetimes =
+          x .index .holding z inner (omega (arith, asked-row, asked .1)) in
           (ap length (p ∙ asked .3) ∙ l ∙ sym d, omega (arith, asked .2))
 
-      pub compute-given : {l : FieldLifetimes} → l ≡ givenPairs (pairsFrom (getD lifetimes row 0) 0 path) → l ≡ fieldAnswer (fieldPairs structs row field)
+      pub compute-given : {l : FieldLifetimes} → l ≡ givenPairs (pairsFrom (getD lifetimes row 0) 0 path)
+          → l ≡ fieldAnswer (fieldPairs structs row field)
       unfolding fieldPairs
       compute-given g =
           let none : NoneDue (fieldChecks structs row field) = next fine rows-none in
-          g ∙ rw (due-given (pairsFrom (rowAt (rowsOf structs) row .lifetimes) 0 (fieldAt (rowsOf structs) row field .path)) none, ← x .index .holding z row asked-row, p, asked .3)
+          g ∙ rw (
+            due-given (pairsFrom (rowAt (rowsOf structs) row .lifetimes) 0
+                (fieldAt (rowsOf structs) row field .path)) none,
+            ← x .index .holding z row asked-row,
+            p,
+            asked .3,
+          )

@@ -23,19 +23,23 @@ use Rattle.hir_types.specs.declared.fits.Fit.{Fit}
 use Rattle.hir_types.specs.declared.fits.Fit.the-variants.{To, Misfit}
 use Rattle.hir_types.specs.Method.{misfit, misfits, typeChecks, paramChecks}
 use Rattle.hir_types.specs.Inner.{Holding, misfitIn, FitIs, fits, unfit, TypeFits, TypesFit, ParamsFit}
-use Rattle.hir_types.proofs.PassLaws.{known-read, same-found, fails-read, Next, types-next, types-none, types-first, types-length}
+use Rattle.records.proofs.ReadingLaws.{fails-read}
+use Rattle.hir_types.proofs.PassLaws.{known-read, same-found, Next, types-next, types-none}
+use Rattle.hir_types.proofs.PassLaws.{types-first, types-length}
 
 -- ---- one type
 
 -- a misfit by the index is one by the rows
-same-misfit : (rows : List Row) (n : ℕ) (lifetimes : List ℕ) → Holding rows n lifetimes → (kind : Kind) (count : ℕ) → knows n kind ≡ true → misfitIn lifetimes kind count ≡ misfit rows kind count
+same-misfit : (rows : List Row) (n : ℕ) (lifetimes : List ℕ) → Holding rows n lifetimes → (kind : Kind) (count : ℕ)
+    → knows n kind ≡ true → misfitIn lifetimes kind count ≡ misfit rows kind count
 same-misfit rows n lifetimes h Plain count k = refl
 same-misfit rows n lifetimes h Opaque count k = refl
 same-misfit rows n lifetimes h (Struct row) count k = rw (h row (ltb-true row n k))
 same-misfit rows n lifetimes h Slice count k = refl
 
 -- what a check of one type says
-one-judged : (rows : List Row) (t : LoweredType) (b : Bool) → misfits rows t ≡ b → judged (typeChecks rows (t ∷ [])) ≡ cond b (Refused Mismatch) Accepted
+one-judged : (rows : List Row) (t : LoweredType) (b : Bool) → misfits rows t ≡ b
+    → judged (typeChecks rows (t ∷ [])) ≡ cond b (Refused Mismatch) Accepted
 unfolding typeChecks unless
 one-judged rows t true e = rw e
 one-judged rows t false e = rw e
@@ -45,7 +49,8 @@ module _ (words : List ℕ) (at : ℕ) (lifetimes : List ℕ) where
   type-missing f rows n t rest few h e = fails-read (sym f ∙ (known-read n (drop at words) e) .reads)
 
   module _ {p : Parts} (f : Found words at (readLowered (drop at words)) p) where
-    right : (b : Bool) → misfitIn lifetimes (p .kind) (p .count) ≡ b → (rows : List Row) (n : ℕ) (t : LoweredType) (rest : List ℕ) → Holding rows n lifetimes
+    right : (b : Bool) → misfitIn lifetimes (p .kind) (p .count) ≡ b
+        → (rows : List Row) (n : ℕ) (t : LoweredType) (rest : List ℕ) → Holding rows n lifetimes
         → readKnown n (drop at words) ≡ Read t rest → misfits rows t ≡ b
     right b m rows n t rest h e =
         let s = same-found f n e in
@@ -57,7 +62,8 @@ module _ (words : List ℕ) (at : ℕ) (lifetimes : List ℕ) where
     pub type-fit : misfitIn lifetimes (p .kind) (p .count) ≡ false → TypeFits words at lifetimes (To (p .next))
     type-fit m rows n t rest few h e =
         let s = (same-found f n e) .stands in
-        rw (one-judged rows t false (right false m rows n t rest h e)) (fits {next = p .next} (s .left) (omega (arith, s .past)) (s .within))
+        rw (one-judged rows t false (right false m rows n t rest h e))
+        (fits {next = p .next} (s .left) (omega (arith, s .past)) (s .within))
 
 -- ---- so many types
 
@@ -82,7 +88,8 @@ module _ {words rest : List ℕ} {from : ℕ} {v : Verdict} {r : Fit} (f : FitIs
       go unfit = refl
 
 -- the types that are left to check, for types that were read
-pub record Left (words : List ℕ) (from count at i : ℕ) (rows : List Row) (n : ℕ) (types : List LoweredType) (rest : List ℕ) : Type 0 where
+pub record Left (words : List ℕ) (from count at i : ℕ) (rows : List Row) (n : ℕ) (types : List LoweredType)
+    (rest : List ℕ) : Type 0 where
   pub left : List LoweredType
   pub reads : readTypes n (count - i) (drop at words) ≡ Read left rest
   pub same : judged (typeChecks rows types) ≡ judged (typeChecks rows left)
@@ -90,22 +97,28 @@ pub record Left (words : List ℕ) (from count at i : ℕ) (rows : List Row) (n 
   pub within : at ≤ length words
 
 pub record Fitting (words : List ℕ) (from count : ℕ) (lifetimes : List ℕ) (at i : ℕ) : Type 0 where
-  pub onto : (rows : List Row) (n : ℕ) (types : List LoweredType) (rest : List ℕ) → n ≤ 32 → Holding rows n lifetimes → readTypes n count (drop from words) ≡ Read types rest
+  pub onto : (rows : List Row) (n : ℕ) (types : List LoweredType) (rest : List ℕ) → n ≤ 32 → Holding rows n lifetimes
+      → readTypes n count (drop from words) ≡ Read types rest
       → Left words from count at i rows n types rest
 
-pub fitting-start : (words : List ℕ) (from count : ℕ) (lifetimes : List ℕ) → from ≤ length words → Fitting words from count lifetimes from 0
+pub fitting-start : (words : List ℕ) (from count : ℕ) (lifetimes : List ℕ) → from ≤ length words
+    → Fitting words from count lifetimes from 0
 fitting-start words from count lifetimes l = record {
-  onto = λ rows n types rest few h e. let z : count - 0 ≡ count = omega arith in record { left = types; reads = rw z e; same = refl; past = omega arith; within = l };
+  onto = λ rows n types rest few h e. let z : count - 0 ≡ count = omega arith in
+      record { left = types; reads = rw z e; same = refl; past = omega arith; within = l };
 }
 
 module _ {words : List ℕ} {from count : ℕ} {lifetimes : List ℕ} {at i : ℕ} (inv : Fitting words from count lifetimes at i) where
   module _ (h : i < count) where
     -- the next of the types that were read
-    next-left : {rows : List Row} {n : ℕ} {types : List LoweredType} {rest : List ℕ} (l : Left words from count at i rows n types rest)
+    next-left : {rows : List Row} {n : ℕ} {types : List LoweredType} {rest : List ℕ}
+        (l : Left words from count at i rows n types rest)
         → Next n (count - (i + 1)) (drop at words) (l .left) rest
-    next-left {n = n} l = let z : count - i ≡ suc (count - (i + 1)) = omega arith in types-next n (count - (i + 1)) (drop at words) (rw z at (l .reads))
+    next-left {n = n} l = let z : count - i ≡ suc (count - (i + 1)) = omega arith in
+        types-next n (count - (i + 1)) (drop at words) (rw z at (l .reads))
 
-    both-judged : (rows : List Row) (t : LoweredType) (more types : List LoweredType) → types ≡ t ∷ more → judged (typeChecks rows types) ≡ judged (typeChecks rows (t ∷ []) ++ typeChecks rows more)
+    both-judged : (rows : List Row) (t : LoweredType) (more types : List LoweredType) → types ≡ t ∷ more
+        → judged (typeChecks rows types) ≡ judged (typeChecks rows (t ∷ []) ++ typeChecks rows more)
     unfolding typeChecks
     both-judged rows t more types e = rw e
 
@@ -115,10 +128,12 @@ module _ {words : List ℕ} {from count : ℕ} {lifetimes : List ℕ} {at i : �
         let x = next-left l in
         let s = fit-stops (f rows n (x .type) (x .behind) few k (x .first)) e in
         let v : judged (typeChecks rows types) ≡ Refused Mismatch =
-        l .same ∙ both-judged rows (x .type) (x .more) (l .left) (x .all) ∙ judged-stays (typeChecks rows (x .type ∷ [])) (typeChecks rows (x .more)) s in
+        l .same ∙ both-judged rows (x .type) (x .more) (l .left) (x .all)
+        ∙ judged-stays (typeChecks rows (x .type ∷ [])) (typeChecks rows (x .more)) s in
         rw v unfit
 
-    pub fitting-more : {r : Fit} → TypeFits words at lifetimes r → {next : ℕ} → r ≡ To next → Fitting words from count lifetimes next (i + 1)
+    pub fitting-more : {r : Fit} → TypeFits words at lifetimes r → {next : ℕ} → r ≡ To next
+        → Fitting words from count lifetimes next (i + 1)
     fitting-more f {next} e = record {
       onto = λ rows n types rest few k reads.
           let l = inv .onto rows n types rest few k reads in
@@ -127,7 +142,8 @@ module _ {words : List ℕ} {from count : ℕ} {lifetimes : List ℕ} {at i : �
           record {
             left = x .more;
             reads = rw (g .left) (x .others);
-            same = l .same ∙ both-judged rows (x .type) (x .more) (l .left) (x .all) ∙ judged-after (typeChecks rows (x .type ∷ [])) (typeChecks rows (x .more)) (g .accepted);
+            same = l .same ∙ both-judged rows (x .type) (x .more) (l .left) (x .all)
+                ∙ judged-after (typeChecks rows (x .type ∷ [])) (typeChecks rows (x .more)) (g .accepted);
             past = omega (arith, l .past, g .past);
             within = g .within;
           };
@@ -145,10 +161,12 @@ module _ {words : List ℕ} {from count : ℕ} {lifetimes : List ℕ} {at i : �
 -- ---- the parameters
 
 -- those before the 17th decide, then a 17th is too many
-params-few : (rows : List Row) (number : ℕ) (types : List LoweredType) → number + length types ≤ 16 → judged (paramChecks rows number types) ≡ judged (typeChecks rows types)
+params-few : (rows : List Row) (number : ℕ) (types : List LoweredType) → number + length types ≤ 16
+    → judged (paramChecks rows number types) ≡ judged (typeChecks rows types)
 unfolding typeChecks paramChecks unless
 params-few rows number [] h = refl
-params-few rows number (t ∷ types) h = rw (lt-leb 16 number (omega arith)) (go (misfits rows t) (params-few rows (suc number) types (omega arith)))
+params-few rows number (t ∷ types) h =
+    rw (lt-leb 16 number (omega arith)) (go (misfits rows t) (params-few rows (suc number) types (omega arith)))
   where
     go : (b : Bool) → judged (paramChecks rows (suc number) types) ≡ judged (typeChecks rows types)
         → judged (check b Mismatch ∷ paramChecks rows (suc number) types) ≡ judged (check b Mismatch ∷ typeChecks rows types)
@@ -160,17 +178,22 @@ params-many : (rows : List Row) (number k : ℕ) (types : List LoweredType) → 
 unfolding typeChecks paramChecks unless
 params-many rows number k [] e h = absurd (omega arith)
 params-many rows number zero (t ∷ types) e h = rw (le-leb 16 number (omega arith))
-params-many rows number (suc k) (t ∷ types) e h = rw (lt-leb 16 number (omega arith)) (go (misfits rows t) (params-many rows (suc number) k types (omega arith) (omega arith)))
+params-many rows number (suc k) (t ∷ types) e h =
+    rw (lt-leb 16 number (omega arith))
+    (go (misfits rows t) (params-many rows (suc number) k types (omega arith) (omega arith)))
   where
     go : (b : Bool) → judged (paramChecks rows (suc number) types) ≡ judged (typeChecks rows (take k types) ++ (check true Full ∷ []))
-        → judged (check b Mismatch ∷ paramChecks rows (suc number) types) ≡ judged (check b Mismatch ∷ (typeChecks rows (take k types) ++ (check true Full ∷ [])))
+        → judged (check b Mismatch ∷ paramChecks rows (suc number) types)
+        ≡ judged (check b Mismatch ∷ (typeChecks rows (take k types) ++ (check true Full ∷ [])))
     go true e = refl
     go false e = e
 
 module _ (params : List ℕ) (count : ℕ) (lifetimes : List ℕ) where
   module _ (h : 16 < count) {r : Fit} (f : TypesFit params 0 16 lifetimes r) where
-    first-read : (n : ℕ) (types : List LoweredType) (rest : List ℕ) → readTypes n count params ≡ Read types rest → (behind : List ℕ) × (readTypes n 16 params ≡ Read (take 16 types) behind)
-    first-read n types rest e = let z : count ≡ 16 + (count - 16) = omega arith in types-first n 16 (count - 16) params types (rw z at e)
+    first-read : (n : ℕ) (types : List LoweredType) (rest : List ℕ) → readTypes n count params ≡ Read types rest
+        → (behind : List ℕ) × (readTypes n 16 params ≡ Read (take 16 types) behind)
+    first-read n types rest e = let z : count ≡ 16 + (count - 16) = omega arith in
+        types-first n 16 (count - 16) params types (rw z at e)
 
     many : (n : ℕ) (types : List LoweredType) (rest : List ℕ) → readTypes n count params ≡ Read types rest → 16 < length types
     many n types rest e = rw (types-length n count params e) h
@@ -179,20 +202,24 @@ module _ (params : List ℕ) (count : ℕ) (lifetimes : List ℕ) where
     params-unfit e rows n types rest few k reads =
         let x = first-read n types rest reads in
         let s = fit-stops (f rows n (take 16 types) (x .0) few k (x .1)) e in
-        sym (params-many rows 0 16 types refl (many n types rest reads) ∙ judged-stays (typeChecks rows (take 16 types)) (check true Full ∷ []) s)
+        sym (params-many rows 0 16 types refl (many n types rest reads)
+        ∙ judged-stays (typeChecks rows (take 16 types)) (check true Full ∷ []) s)
 
     pub params-full : {next : ℕ} → r ≡ To next → ParamsFit params count lifetimes (Refused Full)
     unfolding unless
     params-full e rows n types rest few k reads =
         let x = first-read n types rest reads in
         let g = fit-goes (f rows n (take 16 types) (x .0) few k (x .1)) e in
-        sym (params-many rows 0 16 types refl (many n types rest reads) ∙ judged-after (typeChecks rows (take 16 types)) (check true Full ∷ []) (g .accepted))
+        sym (params-many rows 0 16 types refl (many n types rest reads)
+        ∙ judged-after (typeChecks rows (take 16 types)) (check true Full ∷ []) (g .accepted))
 
   module _ (h : count ≤ 16) {r : Fit} (f : TypesFit params 0 count lifetimes r) where
     pub params-misfit : r ≡ Misfit → ParamsFit params count lifetimes (Refused Mismatch)
     params-misfit e rows n types rest few k reads =
-        sym (params-few rows 0 types (omega (arith, types-length n count params reads)) ∙ fit-stops (f rows n types rest few k reads) e)
+        sym (params-few rows 0 types (omega (arith, types-length n count params reads))
+        ∙ fit-stops (f rows n types rest few k reads) e)
 
     pub params-fit : {next : ℕ} → r ≡ To next → ParamsFit params count lifetimes Accepted
     params-fit e rows n types rest few k reads =
-        sym (params-few rows 0 types (omega (arith, types-length n count params reads)) ∙ (fit-goes (f rows n types rest few k reads) e) .accepted)
+        sym (params-few rows 0 types (omega (arith, types-length n count params reads))
+        ∙ (fit-goes (f rows n types rest few k reads) e) .accepted)

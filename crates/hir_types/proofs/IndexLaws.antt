@@ -28,14 +28,16 @@ use Rattle.hir_types.proofs.FitLaws.{fit-goes, fit-stops}
 pub record Indexing (structs lifetimes places : List ℕ) (at number : ℕ) : Type 0 where
   pub steps : ℕ
   pub items : Items readRow number steps (drop at structs) (drop number (rowsOf structs))
-  pub same : judged (rowChecks (rowsOf structs) 0 (rowsOf structs)) ≡ judged (rowChecks (rowsOf structs) number (drop number (rowsOf structs)))
+  pub same : judged (rowChecks (rowsOf structs) 0 (rowsOf structs))
+      ≡ judged (rowChecks (rowsOf structs) number (drop number (rowsOf structs)))
   pub sizes : (length lifetimes ≡ 32) × (length places ≡ 32)
   pub few : number ≤ 32
   pub before : number ≤ length (rowsOf structs)
   pub holding : Holding (rowsOf structs) number lifetimes
   pub placed : Placed structs number places
 
-pub indexing-start : (structs lifetimes places : List ℕ) → structsInShape structs ≡ true → (length lifetimes ≡ 32) × (length places ≡ 32) → Indexing structs lifetimes places 0 0
+pub indexing-start : (structs lifetimes places : List ℕ) → structsInShape structs ≡ true
+    → (length lifetimes ≡ 32) × (length places ≡ 32) → Indexing structs lifetimes places 0 0
 indexing-start structs lifetimes places e s = record {
   steps = length structs;
   items = items-start readRow structs e;
@@ -48,14 +50,16 @@ indexing-start structs lifetimes places e s = record {
 }
 
 -- one more entry
-holding-set : (rows : List Row) (number value : ℕ) (lifetimes : List ℕ) → length lifetimes ≡ 32 → number < 32 → value ≡ rowAt rows number .lifetimes → Holding rows number lifetimes
+holding-set : (rows : List Row) (number value : ℕ) (lifetimes : List ℕ) → length lifetimes ≡ 32 → number < 32
+    → value ≡ rowAt rows number .lifetimes → Holding rows number lifetimes
     → Holding rows (number + 1) (set lifetimes number value)
 holding-set rows number value lifetimes size h e k row l =
     ⊎-elim (λ q. rw (q, getD-set-same lifetimes number value 0 (omega arith)) e)
     (λ m. getD-set-other lifetimes number row value 0 (λ q. omega arith) ∙ k row m)
     (eq-or-lt-of-le {n = row} {m = number} (omega arith))
 
-placed-set : (structs : List ℕ) (number value : ℕ) (places : List ℕ) → length places ≡ 32 → number < 32 → RowStands structs number value → Placed structs number places
+placed-set : (structs : List ℕ) (number value : ℕ) (places : List ℕ) → length places ≡ 32 → number < 32
+    → RowStands structs number value → Placed structs number places
     → Placed structs (number + 1) (set places number value)
 placed-set structs number value places size h e k row l =
     ⊎-elim (λ q. rw (q, getD-set-same places number value 0 (omega arith)) e)
@@ -63,16 +67,19 @@ placed-set structs number value places size h e k row l =
     (eq-or-lt-of-le {n = row} {m = number} (omega arith))
 
 -- a refusal beside any arrays
-refused-index : (structs lifetimes places : List ℕ) {r : Verdict} → (length lifetimes ≡ 32) × (length places ≡ 32) → r ≡ judged (rowChecks (rowsOf structs) 0 (rowsOf structs))
+refused-index : (structs lifetimes places : List ℕ) {r : Verdict} → (length lifetimes ≡ 32) × (length places ≡ 32)
+    → r ≡ judged (rowChecks (rowsOf structs) 0 (rowsOf structs))
     → (r ≡ Accepted → ⊥) → Indexes structs lifetimes places r
-refused-index structs lifetimes places s e n = record { verdict = e; sizes = s; few = λ k. absurd (n k); holding = λ k. absurd (n k); placed = λ k. absurd (n k) }
+refused-index structs lifetimes places s e n =
+    record { verdict = e; sizes = s; few = λ k. absurd (n k); holding = λ k. absurd (n k); placed = λ k. absurd (n k) }
 
 module _ {structs lifetimes places : List ℕ} {at number : ℕ} (inv : Indexing structs lifetimes places at number) where
   module _ (h : number < length (rowsOf structs)) where
     rows-next : drop number (rowsOf structs) ≡ rowAt (rowsOf structs) number ∷ drop (number + 1) (rowsOf structs)
     rows-next = rw add-one (drop-cons (rowsOf structs) number (rowWith 0 []) h)
 
-    pub next : NextItem readRow number (inv .steps) (drop at structs) (rowAt (rowsOf structs) number) (drop (number + 1) (rowsOf structs))
+    pub next : NextItem readRow number (inv .steps) (drop at structs) (rowAt (rowsOf structs) number)
+        (drop (number + 1) (rowsOf structs))
     next = items-next readRow number (inv .steps) (drop at structs) (rw rows-next at (inv .items))
 
     pub parts : RowParts number structs at (rowAt (rowsOf structs) number) (next .behind)
@@ -93,36 +100,48 @@ module _ {structs lifetimes places : List ℕ} {at number : ℕ} (inv : Indexing
       sizes₁ = (length-set lifetimes number (getD structs at 0) ∙ inv .sizes .0, length-set places number at ∙ inv .sizes .1)
 
       holding₁ : Holding (rowsOf structs) (number + 1) (set lifetimes number (getD structs at 0))
-      holding₁ = holding-set (rowsOf structs) number (getD structs at 0) lifetimes (inv .sizes .0) k (sym (parts .lifetimes)) (inv .holding)
+      holding₁ =
+          holding-set (rowsOf structs) number (getD structs at 0) lifetimes (inv .sizes .0) k (sym (parts .lifetimes))
+          (inv .holding)
 
       judged-row : judged (rowChecks (rowsOf structs) 0 (rowsOf structs))
-          ≡ judged (typeChecks (rowsOf structs) (rowAt (rowsOf structs) number .fields) ++ rowChecks (rowsOf structs) (suc number) (drop (number + 1) (rowsOf structs)))
+          ≡ judged (typeChecks (rowsOf structs) (rowAt (rowsOf structs) number .fields) ++ rowChecks (rowsOf structs)
+          (suc number) (drop (number + 1) (rowsOf structs)))
       unfolding rowChecks unless
       judged-row = inv .same ∙ rw (rows-next, lt-leb 32 number k)
 
       module _ {r : Fit} (f : TypesFit structs (at + 2) (getD structs (at + 1) 0) (set lifetimes number (getD structs at 0)) r) where
-        pub indexing-stops : r ≡ Misfit → Indexes structs (set lifetimes number (getD structs at 0)) (set places number at) (Refused Mismatch)
+        pub indexing-stops : r ≡ Misfit
+            → Indexes structs (set lifetimes number (getD structs at 0)) (set places number at) (Refused Mismatch)
         indexing-stops e =
             refused-index structs (set lifetimes number (getD structs at 0)) (set places number at) sizes₁
             (sym (judged-row
-            ∙ judged-stays (typeChecks (rowsOf structs) (rowAt (rowsOf structs) number .fields)) (rowChecks (rowsOf structs) (suc number) (drop (number + 1) (rowsOf structs)))
-            (fit-stops (f (rowsOf structs) number (rowAt (rowsOf structs) number .fields) (next .behind) (omega arith) (λ row l. holding₁ row (omega arith)) (parts .fields)) e)))
+            ∙ judged-stays (typeChecks (rowsOf structs) (rowAt (rowsOf structs) number .fields))
+            (rowChecks (rowsOf structs) (suc number) (drop (number + 1) (rowsOf structs)))
+            (fit-stops
+            (f (rowsOf structs) number (rowAt (rowsOf structs) number .fields) (next .behind) (omega arith)
+            (λ row l. holding₁ row (omega arith)) (parts .fields)) e)))
             (λ e. refused-accepted e)
 
-        pub indexing-more : {place : ℕ} → r ≡ To place → Indexing structs (set lifetimes number (getD structs at 0)) (set places number at) place (number + 1)
+        pub indexing-more : {place : ℕ} → r ≡ To place
+            → Indexing structs (set lifetimes number (getD structs at 0)) (set places number at) place (number + 1)
         indexing-more {place} e =
-            let g = fit-goes (f (rowsOf structs) number (rowAt (rowsOf structs) number .fields) (next .behind) (omega arith) (λ row l. holding₁ row (omega arith)) (parts .fields)) e in
+            let g = fit-goes
+            (f (rowsOf structs) number (rowAt (rowsOf structs) number .fields) (next .behind) (omega arith)
+            (λ row l. holding₁ row (omega arith)) (parts .fields)) e in
             record {
               steps = inv .steps - 1;
               items = rw (add-one number, g .left) (rw (add-one number) at (next .others));
               same = judged-row
-                  ∙ judged-after (typeChecks (rowsOf structs) (rowAt (rowsOf structs) number .fields)) (rowChecks (rowsOf structs) (suc number) (drop (number + 1) (rowsOf structs))) (g .accepted)
+                  ∙ judged-after (typeChecks (rowsOf structs) (rowAt (rowsOf structs) number .fields))
+                  (rowChecks (rowsOf structs) (suc number) (drop (number + 1) (rowsOf structs))) (g .accepted)
                   ∙ rw (add-one number);
               sizes = sizes₁;
               few = omega arith;
               before = omega arith;
               holding = holding₁;
-              placed = placed-set structs number at places (inv .sizes .1) k (record { rest = next .behind; reads = next .first; here = parts .here }) (inv .placed);
+              placed = placed-set structs number at places (inv .sizes .1) k
+                  (record { rest = next .behind; reads = next .first; here = parts .here }) (inv .placed);
             }
 
   pub indexing-end : length (rowsOf structs) ≤ number → Indexes structs lifetimes places Accepted

@@ -1,9 +1,12 @@
 -- The pairs of a field: which they are, and that they ascend.
-use Prim.Native.Nat.{ℕ, zero, suc, _+_, _≤_, _<_}
+use Prim.Native.Nat.{ℕ, zero, suc, _+_, _<_}
 use mathlib.Core.Bool.{Bool, true, false, cond}
 use mathlib.Core.Path.{_≡_, refl, ap}
-use mathlib.Core.Logic.{⊎-elim}
-use mathlib.Core.List.{List, [], _∷_, _++_, List·Memᴰ, List·Memᴰ·head, List·Memᴰ·cases-cons, List·Memᴰ·not-nil, List·Memᴰ·append-cases, Memᴰ·append-left, Memᴰ·append-right}
+use mathlib.Core.Logic.{⊎-elim, ∥∥₁-elim}
+use mathlib.Core.List.{List, [], _∷_, _++_, List·Memᴰ, List·Memᴰ·head, List·Memᴰ·cases-cons, List·Memᴰ·not-nil}
+use mathlib.Core.List.{List·Memᴰ·append-cases, Memᴰ·append-left, Memᴰ·append-right, Pairwise, Pairwise·nil}
+use mathlib.Core.List.{Pairwise·cons}
+use native.Mathlib.Bridge.{le-prop}
 use native.Mathlib.Nat.{zero-add}
 use native.Mathlib.Omega.{arith}
 use lib.Dec.{ltb}
@@ -18,16 +21,18 @@ use Rattle.lowered_types.specs.Rows.{rowsOf}
 use Rattle.hir_types.specs.declared.fields.FieldPair.{FieldPair}
 use Rattle.hir_types.specs.Method.{rowAt}
 use Rattle.hir_types.specs.Fields.{fieldAt, fieldPair, filledBy, pairsFrom, fieldChecks, fieldPairs}
-use Rattle.hir_types.specs.Theorems.{AscendingFrom, none, after, FilledBy, FieldPairsAre}
+use Rattle.hir_types.specs.Theorems.{ByDef, FilledBy, FieldPairsAre}
 
 module _ (declared : ℕ) where
   -- one word
 
-  filled-from : (at j k : ℕ) (m : MaybeStaticDef) → List·Memᴰ (fieldPair j k) (filledBy declared at m) → (j ≡ at) × (m ≡ NonStatic (defLifetime k)) × (k < declared)
+  filled-from : (at j k : ℕ) (m : MaybeStaticDef) → List·Memᴰ (fieldPair j k) (filledBy declared at m)
+      → (j ≡ at) × (m ≡ NonStatic (defLifetime k)) × (k < declared)
   filled-from at j k Static m = absurd (List·Memᴰ·not-nil m)
   filled-from at j k (NonStatic l) m = go (ltb (l .0) declared) refl m
     where
-      go : (b : Bool) → ltb (l .0) declared ≡ b → List·Memᴰ (fieldPair j k) (cond b (fieldPair at (l .0) ∷ []) []) → (j ≡ at) × (NonStatic l ≡ NonStatic (defLifetime k)) × (k < declared)
+      go : (b : Bool) → ltb (l .0) declared ≡ b → List·Memᴰ (fieldPair j k) (cond b (fieldPair at (l .0) ∷ []) [])
+          → (j ≡ at) × (NonStatic l ≡ NonStatic (defLifetime k)) × (k < declared)
       go false e m = absurd (List·Memᴰ·not-nil m)
       go true e m =
           ⊎-elim
@@ -38,7 +43,8 @@ module _ (declared : ℕ) where
           (λ r. absurd (List·Memᴰ·not-nil r))
           (List·Memᴰ·cases-cons m)
 
-  filled-to : (at k : ℕ) (m : MaybeStaticDef) → m ≡ NonStatic (defLifetime k) → k < declared → List·Memᴰ (fieldPair at k) (filledBy declared at m)
+  filled-to : (at k : ℕ) (m : MaybeStaticDef) → m ≡ NonStatic (defLifetime k) → k < declared
+      → List·Memᴰ (fieldPair at k) (filledBy declared at m)
   filled-to at k m e h = rw (e, lt-ltb k declared h) (List·Memᴰ·head refl)
 
   -- path words, the first for the lifetime numbered `at`
@@ -53,7 +59,8 @@ module _ (declared : ℕ) where
       (λ b. let r = pairs-from (suc at) j k path b in (suc (r .0), omega (arith, r .1), omega (arith, r .2), r .3, r .4))
       (List·Memᴰ·append-cases (filledBy declared at (defFromWord word)) m)
 
-  pairs-to : (at i k : ℕ) (path : List ℕ) → i < length path → defFromWord (getD path i 0) ≡ NonStatic (defLifetime k) → k < declared → List·Memᴰ (fieldPair (at + i) k) (pairsFrom declared at path)
+  pairs-to : (at i k : ℕ) (path : List ℕ) → i < length path → defFromWord (getD path i 0) ≡ NonStatic (defLifetime k)
+      → k < declared → List·Memᴰ (fieldPair (at + i) k) (pairsFrom declared at path)
   unfolding pairsFrom
   pairs-to at i k [] h e l = absurd (omega arith)
   pairs-to at zero k (word ∷ path) h e l =
@@ -65,21 +72,25 @@ module _ (declared : ℕ) where
 
   -- they ascend
 
-  from-lower : (j m : ℕ) {pairs : List FieldPair} → j ≤ m → AscendingFrom m pairs → AscendingFrom j pairs
-  from-lower j m l none = none
-  from-lower j m l (after {p = p} h r) = after {j = j} {p = p} (omega arith) r
-
-  pairs-ascend : (at : ℕ) (path : List ℕ) → AscendingFrom at (pairsFrom declared at path)
+  pairs-ascend : (at : ℕ) (path : List ℕ) → Pairwise ByDef (pairsFrom declared at path)
   unfolding pairsFrom
-  pairs-ascend at [] = none
+  pairs-ascend at [] = Pairwise·nil
   pairs-ascend at (word ∷ path) = go (defFromWord word) (pairs-ascend (suc at) path)
     where
-      two : (b : Bool) (k : ℕ) → AscendingFrom (suc at) (pairsFrom declared (suc at) path) → AscendingFrom at (cond b (fieldPair at k ∷ []) [] ++ pairsFrom declared (suc at) path)
-      two true k r = after {j = at} {p = fieldPair at k} (omega arith) r
-      two false k r = from-lower at (suc at) (omega arith) r
+      more : List FieldPair
+      more = pairsFrom declared (suc at) path
 
-      go : (m : MaybeStaticDef) → AscendingFrom (suc at) (pairsFrom declared (suc at) path) → AscendingFrom at (filledBy declared at m ++ pairsFrom declared (suc at) path)
-      go Static r = from-lower at (suc at) (omega arith) r
+      two : (b : Bool) (k : ℕ) → Pairwise ByDef more → Pairwise ByDef (cond b (fieldPair at k ∷ []) [] ++ more)
+      two true k r =
+          Pairwise·cons {a = fieldPair at k}
+          (λ p m. ∥∥₁-elim m le-prop (λ d.
+          let found = pairs-from (suc at) (p .def .0) (p .outer .0) path d in
+          omega (arith, found .1)))
+          r
+      two false k r = r
+
+      go : (m : MaybeStaticDef) → Pairwise ByDef more → Pairwise ByDef (filledBy declared at m ++ more)
+      go Static r = r
       go (NonStatic l) r = two (ltb (l .0) declared) (l .0) r
 
   all-filled : (path : List ℕ) → FilledBy declared path (pairsFrom declared 0 path)
@@ -96,5 +107,6 @@ module _ (declared : ℕ) where
 pub pairs-are : FieldPairsAre
 unfolding fieldPairs
 pairs-are structs row field pairs e =
-    let g = given-due (pairsFrom (rowAt (rowsOf structs) row .lifetimes) 0 (fieldAt (rowsOf structs) row field .path)) pairs (fieldChecks structs row field) e in
+    let g = given-due (pairsFrom (rowAt (rowsOf structs) row .lifetimes) 0 (fieldAt (rowsOf structs) row field .path))
+    pairs (fieldChecks structs row field) e in
     rw (← g .1) (all-filled (rowAt (rowsOf structs) row .lifetimes) (fieldAt (rowsOf structs) row field .path))

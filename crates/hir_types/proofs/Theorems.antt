@@ -22,5 +22,8 @@ pub field-pairs-are : FieldPairsAre
 field-pairs-are = pairs-are
 
 pub examples-hold : ExamplesHold
-unfolding used.usedSet used.numbersOf used.inTypes used.inRows fields.fieldPairs fields.pairsFrom method.typeChecks method.rowChecks method.paramChecks method.anyPast rows.readKnown rows.readTypes rows.readRow rows.methodInShape types.readOpaque types.readStruct types.readSlice types.readBare types.readLowered reading.readAll reading.inShape reading.itemsOf refusals.unless ranges.select sets.insert sets.insertAll env.allBelow env.envOf list.flatMap
+unfolding used.usedSet used.numbersOf used.inTypes used.inRows fields.fieldPairs fields.pairsFrom method.typeChecks
+    method.rowChecks method.paramChecks method.anyPast rows.readKnown rows.readTypes rows.readRow rows.methodInShape
+    types.readOpaque types.readStruct types.readSlice types.readBare types.readLowered reading.readAll reading.inShape
+    reading.itemsOf refusals.unless ranges.select sets.insert sets.insertAll env.allBelow env.envOf list.flatMap
 examples-hold = (refl, (refl, (refl, (refl, (refl, (refl, (refl, (refl, (refl, tt)))))))))

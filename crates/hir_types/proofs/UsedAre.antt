@@ -3,7 +3,8 @@ use Prim.Native.Nat.{ℕ}
 use mathlib.Core.Bool.{Bool, true, false, cond}
 use mathlib.Core.Path.{_≡_, refl}
 use mathlib.Core.Logic.{⊎-elim, inl, inr}
-use mathlib.Core.List.{List, [], List·Memᴰ, List·Memᴰ·not-nil, List·Memᴰ·append-cases, Memᴰ·append-left, Memᴰ·append-right}
+use mathlib.Core.List.{List, [], List·Memᴰ, List·Memᴰ·not-nil, List·Memᴰ·append-cases, Memᴰ·append-left}
+use mathlib.Core.List.{Memᴰ·append-right}
 use lib.ListN.{length}
 use borrow.Author.Tests.{not-false}
 use Rattle.lifetimes.specs.declared.env.LifetimeEnv.{LifetimeEnv}
@@ -16,27 +17,37 @@ use Rattle.hir_types.specs.Used.{outputNumbers, forcedNumbers, usedNumbe
 use Rattle.hir_types.specs.Theorems.{FoundByForce, UsedLifetimesAre}
 use Rattle.hir_types.proofs.MethodLaws.{types-read}
 use Rattle.hir_types.proofs.UsedLaws.{shape-parts}
-use Rattle.hir_types.proofs.FoundByForceLaws.{numbers-from, numbers-to, types-known, rows-known, types-from, types-to, held-found, found-held}
+use Rattle.hir_types.proofs.FoundByForceLaws.{numbers-from, numbers-to, types-known, rows-known, types-from}
+use Rattle.hir_types.proofs.FoundByForceLaws.{types-to, held-found, found-held}
 
-module _ (env : LifetimeEnv) (structs params output force : List ℕ) (shape : methodInShape structs params output force ≡ true) (k : ℕ) where
-  from-force : List·Memᴰ k (cond (forced force) (forcedNumbers (env .declared) structs params) []) → FoundByForce env structs params force k
+module _ (env : LifetimeEnv) (structs params output force : List ℕ)
+    (shape : methodInShape structs params output force ≡ true) (k : ℕ) where
+  from-force : List·Memᴰ k (cond (forced force) (forcedNumbers (env .declared) structs params) [])
+      → FoundByForce env structs params force k
   from-force m = go (forced force) refl m
     where
-      go : (b : Bool) → forced force ≡ b → List·Memᴰ k (cond b (forcedNumbers (env .declared) structs params) []) → FoundByForce env structs params force k
+      go : (b : Bool) → forced force ≡ b → List·Memᴰ k (cond b (forcedNumbers (env .declared) structs params) [])
+          → FoundByForce env structs params force k
       go true e m =
-          let t = types-from (env .declared) (inRows (env .declared) (rowsOf structs) (length (rowsOf structs))) (typesIn structs params) k m in
+          let t = types-from (env .declared) (inRows (env .declared) (rowsOf structs) (length (rowsOf structs)))
+          (typesIn structs params) k m in
           let f = held-found (env .declared) (rowsOf structs) (length (rowsOf structs)) k (t .0) (t .2) in
           record { on = e; declared = f .0; type = t .0; given = t .1; found = f .1 }
       go false e m = absurd (List·Memᴰ·not-nil m)
 
-  to-force : FoundByForce env structs params force k → List·Memᴰ k (cond (forced force) (forcedNumbers (env .declared) structs params) [])
+  to-force : FoundByForce env structs params force k
+      → List·Memᴰ k (cond (forced force) (forcedNumbers (env .declared) structs params) [])
   to-force f =
       let p = shape-parts structs params output force shape in
       let r = types-read (length (rowsOf structs)) params (p .1) refl in
-      let known = types-known (length (rowsOf structs)) (length (typesIn structs params)) params (typesIn structs params) (r .1) (f .type) (f .given) in
+      let known =
+      types-known (length (rowsOf structs)) (length (typesIn structs params)) params (typesIn structs params) (r .1)
+      (f .type) (f .given) in
       rw (f .on)
-      (types-to (env .declared) (inRows (env .declared) (rowsOf structs) (length (rowsOf structs))) (typesIn structs params) k (f .type) (f .given)
-      (found-held (env .declared) (rowsOf structs) (rows-known structs (p .0)) (f .found) (f .declared) (length (rowsOf structs)) known))
+      (types-to (env .declared) (inRows (env .declared) (rowsOf structs) (length (rowsOf structs)))
+      (typesIn structs params) k (f .type) (f .given)
+      (found-held (env .declared) (rowsOf structs) (rows-known structs (p .0)) (f .found) (f .declared)
+      (length (rowsOf structs)) known))
 
 pub used-are : UsedLifetimesAre
 unfolding usedSet
@@ -49,7 +60,8 @@ used-are env structs params output force set e k =
           (λ b. inr (from-force env structs params output force shape k b))
           (List·Memᴰ·append-cases (outputNumbers structs output) (has .0 (rw (← g .1) at m))),
       λ s. rw (← g .1) (has .1 (⊎-elim
-          (λ a. Memᴰ·append-left (cond (forced force) (forcedNumbers (env .declared) structs params) []) (numbers-to (outputLifetimes structs output) k a))
+          (λ a. Memᴰ·append-left (cond (forced force) (forcedNumbers (env .declared) structs params) [])
+          (numbers-to (outputLifetimes structs output) k a))
           (λ b. Memᴰ·append-right (outputNumbers structs output) (to-force env structs params output force shape k b))
           s)),
     )

@@ -1,4 +1,5 @@
--- Methods as questions and answers, 01's starred example among them. Theorems.ExamplesHold: each question has its answer.
+-- Methods as questions and answers, 01's starred example among them. Theorems.ExamplesHold: each question has its
+-- answer.
 use Prim.Native.Nat.{ℕ}
 use mathlib.Core.Path.{_≡_}
 use mathlib.Core.List.{List, [], _∷_}
@@ -20,7 +21,8 @@ pub data Answer : Type 0 where
   Pairs : Outcome (List FieldPair) → Answer
 
 abbrev pub answer : Question → Answer
-answer (Used declared count structs params output force) = Set (usedSet (envOf declared count []) structs params output force)
+answer (Used declared count structs params output force) =
+    Set (usedSet (envOf declared count []) structs params output force)
 answer (Field structs row field) = Pairs (fieldPairs structs row field)
 
 pub record Example : Type 0 where

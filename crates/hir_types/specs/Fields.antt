@@ -1,4 +1,5 @@
--- `compute_for_struct_field`: for one struct-typed field of a row, each lifetime of the field's definition with the outer row's lifetime that fills it.
+-- `compute_for_struct_field`: for one struct-typed field of a row, each lifetime of the field's definition with the
+-- outer row's lifetime that fills it.
 use Prim.Native.Nat.{ℕ, suc, _-_}
 use mathlib.Core.Bool.{Bool, true, false, cond, not, _&&_}
 use mathlib.Core.List.{List, [], _∷_, _++_}
@@ -54,9 +55,12 @@ fieldChecks structs row field =
     ∷ rowChecks (rowsOf structs) 0 (rowsOf structs)
 
 unfoldable pub fieldPairs : List ℕ → ℕ → ℕ → Outcome (List FieldPair)
-fieldPairs structs row field = unless (fieldChecks structs row field) (pairsFrom (rowAt (rowsOf structs) row .lifetimes) 0 (fieldAt (rowsOf structs) row field .path))
+fieldPairs structs row field =
+    unless (fieldChecks structs row field)
+    (pairsFrom (rowAt (rowsOf structs) row .lifetimes) 0 (fieldAt (rowsOf structs) row field .path))
 
--- What the call answers: how many pairs stand in the first places, none if there is no pair, or a refusal. Other places hold pairs of 0
+-- What the call answers: how many pairs stand in the first places, none if there is no pair, or a refusal. Other places
+-- hold pairs of 0
 abbrev pub placed : List FieldPair → List FieldPair
 placed pairs = pairs ++ replicate (16 - length pairs) (fieldPair 0 0)
 

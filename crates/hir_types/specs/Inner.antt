@@ -1,4 +1,5 @@
--- For private functions only: what a pass over types says, and what the index of the rows holds. No public contract cites this file.
+-- For private functions only: what a pass over types says, and what the index of the rows holds. No public contract
+-- cites this file.
 use Prim.Native.Nat.{ℕ, _+_, _≤_, _<_}
 use mathlib.Core.Bool.{Bool, true, false, not}
 use mathlib.Core.Path.{_≡_}
@@ -13,7 +14,8 @@ use Rattle.records.specs.Ends.{judged}
 use Rattle.lowered_types.specs.declared.types.Kind.{Kind}
 use Rattle.lowered_types.specs.declared.types.Kind.the-variants.{Plain, Opaque, Struct, Slice}
 use Rattle.lowered_types.specs.LoweredTypes.{LoweredType, lifetimesOf}
-use Rattle.lowered_types.specs.Rows.{Row, readKnown, readTypes, readRow, rowsOf, structsInShape, paramsInShape, methodInShape}
+use Rattle.lowered_types.specs.Rows.{Row, readKnown, readTypes, readRow, rowsOf, structsInShape, paramsInShape}
+use Rattle.lowered_types.specs.Rows.{methodInShape}
 use Rattle.hir_types.specs.declared.fits.Fit.{Fit}
 use Rattle.hir_types.specs.declared.fits.Fit.the-variants.{To, Misfit}
 use Rattle.lifetimes.specs.declared.maybe_static.MaybeStatic.{MaybeStatic}
@@ -22,7 +24,8 @@ use Rattle.lifetimes.specs.Sets.{member, insertAll, setOf}
 use Rattle.hir_types.specs.declared.output.Collected.{Collected}
 use Rattle.hir_types.specs.declared.output.Collected.the-variants.{Set, Past}
 use Rattle.hir_types.specs.declared.method.Judged.{Judged}
-use Rattle.hir_types.specs.Method.{rowAt, typeChecks, rowChecks, paramChecks, placeChecks, typesIn, anyPast, methodChecks}
+use Rattle.hir_types.specs.Method.{rowAt, typeChecks, rowChecks, paramChecks, placeChecks, typesIn, anyPast}
+use Rattle.hir_types.specs.Method.{methodChecks}
 use Rattle.hir_types.specs.Fields.{fieldAt, isStruct}
 use Rattle.hir_types.specs.Used.{numbersOf, outputNumbers, inType, inTypes, inRows}
 use Rattle.hir_types.specs.declared.force.Step.{Step}
@@ -45,19 +48,22 @@ misfitIn lifetimes Slice n = false
 
 -- where types end whose checks have a verdict
 pub data FitIs (words : List ℕ) (from : ℕ) (rest : List ℕ) : Verdict → Fit → Type 0 where
-  fits : {next : ℕ} → drop next words ≡ rest → from ≤ next → next ≤ length words → FitIs words from rest Accepted (To next)
+  fits : {next : ℕ} → drop next words ≡ rest → from ≤ next → next ≤ length words
+      → FitIs words from rest Accepted (To next)
   unfit : FitIs words from rest (Refused Mismatch) Misfit
 
 -- the type at a place, that names a row below n, fits or does not
 abbrev pub TypeFits : List ℕ → ℕ → List ℕ → Fit → Type 0
 TypeFits words at lifetimes r =
-    (rows : List Row) (n : ℕ) (t : LoweredType) (rest : List ℕ) → n ≤ 32 → Holding rows n lifetimes → readKnown n (drop at words) ≡ Read t rest
+    (rows : List Row) (n : ℕ) (t : LoweredType) (rest : List ℕ) → n ≤ 32 → Holding rows n lifetimes
+    → readKnown n (drop at words) ≡ Read t rest
     → FitIs words at rest (judged (typeChecks rows (t ∷ []))) r
 
 -- so many types from a place on, that name rows below n, fit or do not
 abbrev pub TypesFit : List ℕ → ℕ → ℕ → List ℕ → Fit → Type 0
 TypesFit words from count lifetimes r =
-    (rows : List Row) (n : ℕ) (types : List LoweredType) (rest : List ℕ) → n ≤ 32 → Holding rows n lifetimes → readTypes n count (drop from words) ≡ Read types rest
+    (rows : List Row) (n : ℕ) (types : List LoweredType) (rest : List ℕ) → n ≤ 32 → Holding rows n lifetimes
+    → readTypes n count (drop from words) ≡ Read types rest
     → FitIs words from rest (judged (typeChecks rows types)) r
 
 -- where the first rows stand, by number
@@ -89,12 +95,14 @@ PathThere size from n = (i : ℕ) → i < n → from + i < size
 -- the lifetimes of so many types from a place on
 abbrev pub TypesCollect : List ℕ → ℕ → ℕ → ℕ → ℕ → Collected → Type 0
 TypesCollect words from types count set r =
-    (n : ℕ) (ts : List LoweredType) (rest : List ℕ) → readTypes n types (drop from words) ≡ Read ts rest → CollectIs count set (flatMap lifetimesOf ts) r
+    (n : ℕ) (ts : List LoweredType) (rest : List ℕ) → readTypes n types (drop from words) ≡ Read ts rest
+    → CollectIs count set (flatMap lifetimesOf ts) r
 
 -- the parameters' verdict
 abbrev pub ParamsFit : List ℕ → ℕ → List ℕ → Verdict → Type 0
 ParamsFit params count lifetimes r =
-    (rows : List Row) (n : ℕ) (types : List LoweredType) (rest : List ℕ) → n ≤ 32 → Holding rows n lifetimes → readTypes n count params ≡ Read types rest
+    (rows : List Row) (n : ℕ) (types : List LoweredType) (rest : List ℕ) → n ≤ 32 → Holding rows n lifetimes
+    → readTypes n count params ≡ Read types rest
     → r ≡ judged (paramChecks rows 0 types)
 
 -- records in shape, and how much stands in them
@@ -113,14 +121,16 @@ pub record Places (structs params output places : List ℕ) (r : Verdict) : Type
   pub few : r ≡ Accepted → length (rowsOf structs) ≤ 32
   pub placed : r ≡ Accepted → Placed structs (length (rowsOf structs)) places
 
--- a method that was judged: the verdict; accepted, how much stands in its records, where the rows stand, and the lifetimes of its output
+-- a method that was judged: the verdict; accepted, how much stands in its records, where the rows stand, and the
+-- lifetimes of its output
 pub record Judges (env : LifetimeEnv) (structs params output force places : List ℕ) (r : Judged) : Type 0 where
   pub verdict : r .verdict ≡ judged (methodChecks env structs params output force)
   pub size : length places ≡ 32
   pub few : r .verdict ≡ Accepted → length (rowsOf structs) ≤ 32
   pub placed : r .verdict ≡ Accepted → Placed structs (length (rowsOf structs)) places
   pub shape : r .verdict ≡ Accepted → methodInShape structs params output force ≡ true
-  pub counts : r .verdict ≡ Accepted → (r .rows ≡ length (rowsOf structs)) × (r .params ≡ length (typesIn structs params))
+  pub counts : r .verdict ≡ Accepted → (r .rows ≡ length (rowsOf structs))
+      × (r .params ≡ length (typesIn structs params))
   pub used : r .verdict ≡ Accepted → r .used ≡ setOf (outputNumbers structs output)
   pub small : r .verdict ≡ Accepted → env .declared ≤ 64
 
@@ -128,11 +138,13 @@ pub record Judges (env : LifetimeEnv) (structs params output force places : List
 
 -- what a row holds
 abbrev pub rowNumbers : List ℕ → ℕ → ℕ → List ℕ
-rowNumbers structs declared row = inTypes declared (inRows declared (rowsOf structs) row) (rowAt (rowsOf structs) row .fields)
+rowNumbers structs declared row =
+    inTypes declared (inRows declared (rowsOf structs) row) (rowAt (rowsOf structs) row .fields)
 
 -- what the rows hold that were searched is in the set
 abbrev pub Closed : List ℕ → ℕ → ℕ → ℕ → Type 0
-Closed structs declared set done = (row : ℕ) → member done row ≡ true → (x : ℕ) → List·Memᴰ x (rowNumbers structs declared row) → member set x ≡ true
+Closed structs declared set done =
+    (row : ℕ) → member done row ≡ true → (x : ℕ) → List·Memᴰ x (rowNumbers structs declared row) → member set x ≡ true
 
 -- a search can go on from here
 pub record Ready (structs places : List ℕ) (declared set done : ℕ) : Type 0 where
@@ -148,13 +160,15 @@ pub record Adds (structs : List ℕ) (declared set : ℕ) (numbers : List ℕ) (
   pub closed : Closed structs declared after done
 
 -- the type at a place was searched, where one is that names rows below a limit
-pub record TypeIs (structs words : List ℕ) (declared limit at set : ℕ) (t : LoweredType) (rest : List ℕ) (r : Step) : Type 0 where
+pub record TypeIs (structs words : List ℕ) (declared limit at set : ℕ) (t : LoweredType) (rest : List ℕ)
+    (r : Step) : Type 0 where
   pub adds : Adds structs declared set (inType declared (inRows declared (rowsOf structs) limit) t) (r .set) (r .done)
   pub left : drop (r .next) words ≡ rest
 
 abbrev pub TypeSearched : List ℕ → List ℕ → ℕ → ℕ → ℕ → ℕ → Step → Type 0
 TypeSearched structs words declared limit at set r =
-    (t : LoweredType) (rest : List ℕ) → readKnown limit (drop at words) ≡ Read t rest → TypeIs structs words declared limit at set t rest r
+    (t : LoweredType) (rest : List ℕ) → readKnown limit (drop at words) ≡ Read t rest
+    → TypeIs structs words declared limit at set t rest r
 
 -- the parameters stand there
 pub record ParamsThere (structs params : List ℕ) (rows count : ℕ) : Type 0 where
@@ -166,10 +180,14 @@ pub record ParamsThere (structs params : List ℕ) (rows count : ℕ) : Type 0 w
 
 -- the place behind so many types that stand from a place on
 abbrev pub TypesSkip : List ℕ → ℕ → ℕ → ℕ → Type 0
-TypesSkip words from count r = (n : ℕ) (types : List LoweredType) (rest : List ℕ) → readTypes n count (drop from words) ≡ Read types rest → drop r words ≡ rest
+TypesSkip words from count r = (n : ℕ) (types : List LoweredType) (rest : List ℕ)
+    → readTypes n count (drop from words) ≡ Read types rest → drop r words ≡ rest
 
--- the field asked for: it is a struct, its row stands before the row asked for, and its words stand there; or it is none
+-- the field asked for: it is a struct, its row stands before the row asked for, and its words stand there; or it is
+-- none
 pub data FieldIs (structs : List ℕ) (row field : ℕ) : Field → Type 0 where
-  struct : {inner from count : ℕ} → fieldAt (rowsOf structs) row field .kind ≡ Struct inner → inner < row → length (fieldAt (rowsOf structs) row field .path) ≤ 16
-      → take count (drop from structs) ≡ fieldAt (rowsOf structs) row field .path → FieldIs structs row field (aField.Struct inner from count)
+  struct : {inner from count : ℕ} → fieldAt (rowsOf structs) row field .kind ≡ Struct inner → inner < row
+      → length (fieldAt (rowsOf structs) row field .path) ≤ 16
+      → take count (drop from structs) ≡ fieldAt (rowsOf structs) row field .path
+      → FieldIs structs row field (aField.Struct inner from count)
   other : isStruct (fieldAt (rowsOf structs) row field .kind) ≡ false → FieldIs structs row field aField.Missing

@@ -1,6 +1,7 @@
--- The refusal of a *method* (01's word for an environment with the records `structs`, `params`, `output` and `force`): the first due in one ordered list of checks.
+-- The refusal of a *method* (01's word for an environment with the records `structs`, `params`, `output` and `force`):
+-- the first due in one ordered list of checks.
 use Prim.Native.Nat.{ℕ, suc}
-use mathlib.Core.Bool.{Bool, false, not, _||_}
+use mathlib.Core.Bool.{Bool, false, not, _&&_, _||_}
 use mathlib.Core.List.{List, [], _∷_, _++_, flatMap}
 use lib.Dec.{eqb, leb}
 use lib.ListN.{length, getD, take, drop}
@@ -15,7 +16,7 @@ use Rattle.lifetimes.specs.Env.{envChecks}
 use Rattle.lowered_types.specs.declared.types.Kind.{Kind}
 use Rattle.lowered_types.specs.declared.types.Kind.the-variants.{Plain, Opaque, Struct, Slice}
 use Rattle.lowered_types.specs.LoweredTypes.{LoweredType, lifetimesOf}
-use Rattle.lowered_types.specs.Rows.{Row, rowWith, rowsOf, typesOf, methodInShape}
+use Rattle.lowered_types.specs.Rows.{Row, rowWith, rowsOf, typesOf, structsInShape, paramsInShape, methodInShape}
 
 -- By place: 4 and 7
 
@@ -41,12 +42,14 @@ typeChecks rows (t ∷ ts) = check (misfits rows t) Mismatch ∷ typeChecks rows
 -- at each row, so many before it: a 33rd (4), then its fields
 unfoldable pub rowChecks : List Row → ℕ → List Row → List Check
 rowChecks rows number [] = []
-rowChecks rows number (row ∷ more) = check (leb 32 number) Full ∷ (typeChecks rows (row .fields) ++ rowChecks rows (suc number) more)
+rowChecks rows number (row ∷ more) =
+    check (leb 32 number) Full ∷ (typeChecks rows (row .fields) ++ rowChecks rows (suc number) more)
 
 -- at each parameter: a 17th (4), then 7
 unfoldable pub paramChecks : List Row → ℕ → List LoweredType → List Check
 paramChecks rows number [] = []
-paramChecks rows number (t ∷ ts) = check (leb 16 number) Full ∷ check (misfits rows t) Mismatch ∷ paramChecks rows (suc number) ts
+paramChecks rows number (t ∷ ts) =
+    check (leb 16 number) Full ∷ check (misfits rows t) Mismatch ∷ paramChecks rows (suc number) ts
 
 -- the types of a method's parameters and of its output
 abbrev pub typesIn : List ℕ → List ℕ → List LoweredType
@@ -57,6 +60,17 @@ placeChecks structs params output =
     rowChecks (rowsOf structs) 0 (rowsOf structs)
     ++ (paramChecks (rowsOf structs) 0 (typesIn structs params)
     ++ typeChecks (rowsOf structs) (typesIn structs output))
+
+-- Two records alone, as those of a method whatever else it has: 1 over both, then 4 and 7 by place
+
+abbrev pub structsAndParamsChecks : List ℕ → List ℕ → List Check
+structsAndParamsChecks structs params =
+    check (not (structsInShape structs && paramsInShape (length (rowsOf structs)) params)) Malformed
+    ∷ (rowChecks (rowsOf structs) 0 (rowsOf structs)
+    ++ paramChecks (rowsOf structs) 0 (typesIn structs params))
+
+abbrev pub structsAndParamsVerdict : List ℕ → List ℕ → Verdict
+structsAndParamsVerdict structs params = verdictOf (unless (structsAndParamsChecks structs params) (tt {0}))
 
 -- The output's lifetimes: none is past the count (8)
 
@@ -71,8 +85,8 @@ unfoldable pub anyPast : ℕ → List MaybeStatic → Bool
 anyPast count [] = false
 anyPast count (m ∷ ms) = isPast count m || anyPast count ms
 
--- Of the environment's checks the first two are limits (4: a 65th lifetime, a 257th bound); they stand where its records would. The others (8: more declared than there
--- are, a bound past the declared) stand with the 8 of the output
+-- Of the environment's checks the first two are limits (4: a 65th lifetime, a 257th bound); they stand where its
+-- records would. The others (8: more declared than there are, a bound past the declared) stand with the 8 of the output
 
 abbrev pub methodChecks : LifetimeEnv → List ℕ → List ℕ → List ℕ → List ℕ → List Check
 methodChecks env structs params output force =
@@ -83,4 +97,5 @@ methodChecks env structs params output force =
     ++ (check (anyPast (env .count) (outputLifetimes structs output)) OutOfRange ∷ []))))
 
 abbrev pub methodVerdict : LifetimeEnv → List ℕ → List ℕ → List ℕ → List ℕ → Verdict
-methodVerdict env structs params output force = verdictOf (unless (methodChecks env structs params output force) (tt {0}))
+methodVerdict env structs params output force =
+    verdictOf (unless (methodChecks env structs params output force) (tt {0}))

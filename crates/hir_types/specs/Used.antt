@@ -27,7 +27,8 @@ numbersOf (NonStatic l ∷ ms) = l .0 ∷ numbersOf ms
 abbrev pub outputNumbers : List ℕ → List ℕ → List ℕ
 outputNumbers structs output = numbersOf (outputLifetimes structs output)
 
--- Under `force`: the own lifetime of a slice, where it is declared; of a struct, what its row holds. The words of a struct itself, and the path words of a slice, do not count
+-- Under `force`: the own lifetime of a slice, where it is declared; of a struct, what its row holds. The words of a
+-- struct itself, and the path words of a slice, do not count
 abbrev pub ofSlice : ℕ → List MaybeStatic → List ℕ
 ofSlice declared own = select (λ number. ltb number declared) (numbersOf own)
 
@@ -44,20 +45,25 @@ unfoldable pub inTypes : ℕ → (ℕ → List ℕ) → List LoweredType → Lis
 inTypes declared held [] = []
 inTypes declared held (t ∷ ts) = inType declared held t ++ inTypes declared held ts
 
--- what the rows below a number hold: each row what its fields do, which name rows before it. The numbers are the definition's, taken as the method's
+-- what the rows below a number hold: each row what its fields do, which name rows before it. The numbers are the
+-- definition's, taken as the method's
 unfoldable pub inRows : ℕ → List Row → ℕ → ℕ → List ℕ
 inRows declared rows zero row = []
-inRows declared rows (suc n) row = cond (eqb row n) (inTypes declared (inRows declared rows n) (rowAt rows n .fields)) (inRows declared rows n row)
+inRows declared rows (suc n) row =
+    cond (eqb row n) (inTypes declared (inRows declared rows n) (rowAt rows n .fields)) (inRows declared rows n row)
 
 abbrev pub forcedNumbers : ℕ → List ℕ → List ℕ → List ℕ
-forcedNumbers declared structs params = inTypes declared (inRows declared (rowsOf structs) (length (rowsOf structs))) (typesIn structs params)
+forcedNumbers declared structs params =
+    inTypes declared (inRows declared (rowsOf structs) (length (rowsOf structs))) (typesIn structs params)
 
 -- all of them, and the set
 abbrev pub usedNumbers : LifetimeEnv → List ℕ → List ℕ → List ℕ → List ℕ → List ℕ
-usedNumbers env structs params output force = outputNumbers structs output ++ cond (forced force) (forcedNumbers (env .declared) structs params) []
+usedNumbers env structs params output force =
+    outputNumbers structs output ++ cond (forced force) (forcedNumbers (env .declared) structs params) []
 
 unfoldable pub usedSet : LifetimeEnv → List ℕ → List ℕ → List ℕ → List ℕ → Outcome ℕ
-usedSet env structs params output force = unless (methodChecks env structs params output force) (setOf (usedNumbers env structs params output force))
+usedSet env structs params output force =
+    unless (methodChecks env structs params output force) (setOf (usedNumbers env structs params output force))
 
 -- what the call answers
 abbrev pub usedAnswer : Outcome ℕ → UsedLifetimes

@@ -4,6 +4,7 @@ ghost use mathlib.Core.Bool.{true};
 ghost use mathlib.Core.List.{[]};
 ghost use Prim.Native.Nat.{_≤_, _<_};
 ghost use lib.ListN.{length};
+ghost use Rattle.lifetimes.specs.Lent.{held};
 ghost use Rattle.lowered_types.specs.Rows.{rowsOf, structsInShape};
 ghost use Rattle.hir_types.specs.Fields.{pairsFrom, placed, givenPairs, fieldPairs, fieldAnswer};
 ghost use Rattle.hir_types.specs.Inner.{RowStands, TypesSkip, FieldIs};
@@ -40,7 +41,8 @@ pub struct FieldLifetimes {
     pub pairs: [FieldPair; 16],
 }
 
-// A struct-typed field: the row that it names, and where its path words start and how many they are. Missing where there is no such field.
+// A struct-typed field: the row that it names, and where its path words start and how many they are. Missing where
+// there is no such field.
 enum Field {
     Struct {
         row: usize,
@@ -50,10 +52,11 @@ enum Field {
     Missing,
 }
 
-// The pairs of one struct-typed field of a row, under an option or not. Refused by 1 over the record, for a row or field that is not there and for a field of another type; then by 4 and 7
-// as the rows are. Reads the record three times. In the Rust it is of `StructBorrowInfo`, in methods/borrowing_param.rs.
+// The pairs of one struct-typed field of a row, under an option or not. Refused by 1 over the record, for a row or
+// field that is not there and for a field of another type; then by 4 and 7 as the rows are. Reads the record three
+// times. In the Rust it is of `StructBorrowInfo`, in methods/borrowing_param.rs.
 pub fn compute_for_struct_field(structs: &[usize], row: usize, field: usize) -> FieldLifetimes
-    ensures { λ r. ⌜ r ≡ fieldAnswer (fieldPairs (now (structs .entry)) row field) ⌝ }
+    ensures answer { λ r. ⌜ r ≡ fieldAnswer (fieldPairs (held structs) row field) ⌝ }
 {
     let shape = structs_shape(structs);
     let Listed::Count(rows) = shape else {
@@ -85,7 +88,7 @@ pub fn compute_for_struct_field(structs: &[usize], row: usize, field: usize) -> 
 // The pairs of a field's path words, which are as many as the lifetimes of the field's own definition: so they link.
 fn pairs_of(path: &[usize], count: usize, declared: usize) -> FieldLifetimes
     requires { ⌜ (length (now path) ≡ count) × (count ≤ 16) ⌝ }
-    ensures { λ r. ⌜ r ≡ givenPairs (pairsFrom declared 0 (now (path .entry))) ⌝ }
+    ensures { λ r. ⌜ r ≡ givenPairs (pairsFrom declared 0 (held path)) ⌝ }
 {
     let none = FieldPair {
         def: DefLifetime::new(0),
@@ -141,7 +144,7 @@ fn refused(refusal: Refusal) -> FieldLifetimes
 // The field with a number of the row with a number, if it is there and is a struct.
 fn field_at(structs: &[usize], rows: usize, row: usize, field: usize) -> Field
     requires { ⌜ (structsInShape (now structs) ≡ true) × (length (rowsOf (now structs)) ≡ rows) ⌝ }
-    ensures { λ r. ⌜ FieldIs (now (structs .entry)) row field r ⌝ }
+    ensures { λ r. ⌜ FieldIs (held structs) row field r ⌝ }
 {
     if rows <= row {
         return Field::Missing;
@@ -172,7 +175,7 @@ fn field_at(structs: &[usize], rows: usize, row: usize, field: usize) -> Field
 // Where the row with a number stands.
 fn row_place(structs: &[usize], row: usize) -> usize
     requires { ⌜ (structsInShape (now structs) ≡ true) × (row < length (rowsOf (now structs))) ⌝ }
-    ensures { λ r. ⌜ RowStands (now (structs .entry)) row r ⌝ }
+    ensures { λ r. ⌜ RowStands (held structs) row r ⌝ }
 {
     let mut at = 0;
     let mut number = 0;
@@ -186,7 +189,7 @@ fn row_place(structs: &[usize], row: usize) -> usize
 
 // The place behind so many types.
 fn skip_types(words: &[usize], from: usize, count: usize) -> usize
-    ensures { λ r. ⌜ TypesSkip (now (words .entry)) from count r ⌝ }
+    ensures { λ r. ⌜ TypesSkip (held words) from count r ⌝ }
 {
     let mut at = from;
     let mut i = 0;

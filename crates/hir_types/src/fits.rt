@@ -3,6 +3,7 @@ ghost use mathlib.Core.Path.{_≡_};
 ghost use mathlib.Core.Bool.{true};
 ghost use Prim.Native.Nat.{_≤_};
 ghost use lib.ListN.{length};
+ghost use Rattle.lifetimes.specs.Lent.{held, left};
 ghost use Rattle.lowered_types.specs.Rows.{rowsOf, structsInShape};
 ghost use Rattle.hir_types.specs.Inner.{ParamsFit, TypesFit, Indexes, TypeFits, rowLifetimes, misfitIn};
 use lifetimes::Refusal;
@@ -23,7 +24,8 @@ pub(crate) enum Fit {
     Misfit,
 }
 
-// Whether the rows of `structs`, so many, are not too many and their fields fit. Accepted, the arrays hold each row's lifetimes and place.
+// Whether the rows of `structs`, so many, are not too many and their fields fit. Accepted, the arrays hold each row's
+// lifetimes and place.
 pub(crate) fn index_rows(
     structs: &[usize],
     rows: usize,
@@ -32,7 +34,7 @@ pub(crate) fn index_rows(
 ) -> Verdict
     requires { ⌜ (structsInShape (now structs) ≡ true) × (length (rowsOf (now structs)) ≡ rows) ⌝ }
     requires { ⌜ (length (now lifetimes) ≡ 32) × (length (now places) ≡ 32) ⌝ }
-    ensures { λ r. ⌜ Indexes (now (structs .entry)) (now (lifetimes .exit)) (now (places .exit)) r ⌝ }
+    ensures { λ r. ⌜ Indexes (held structs) (left lifetimes) (left places) r ⌝ }
 {
     let mut at = 0;
     let mut number = 0;
@@ -57,7 +59,7 @@ pub(crate) fn index_rows(
 // Whether parameters, so many, are not too many and fit: a misfit before the 17th comes first.
 pub(crate) fn params_fit(params: &[usize], count: usize, lifetimes: &[usize; 32]) -> Verdict
     requires { ⌜ length (now lifetimes) ≡ 32 ⌝ }
-    ensures { λ r. ⌜ ParamsFit (now (params .entry)) count (now (lifetimes .entry)) r ⌝ }
+    ensures { λ r. ⌜ ParamsFit (held params) count (held lifetimes) r ⌝ }
 {
     if MAX_PARAMS < count {
         let first = types_fit(params, 0, MAX_PARAMS, lifetimes);
@@ -73,10 +75,11 @@ pub(crate) fn params_fit(params: &[usize], count: usize, lifetimes: &[usize; 32]
     Verdict::Accepted
 }
 
-// Whether so many types fit that stand one after another from a place on, by the lifetimes of the rows that they may name.
+// Whether so many types fit that stand one after another from a place on, by the lifetimes of the rows that they may
+// name.
 pub(crate) fn types_fit(words: &[usize], from: usize, count: usize, lifetimes: &[usize; 32]) -> Fit
     requires { ⌜ (from ≤ length (now words)) × (length (now lifetimes) ≡ 32) ⌝ }
-    ensures { λ r. ⌜ TypesFit (now (words .entry)) from count (now (lifetimes .entry)) r ⌝ }
+    ensures { λ r. ⌜ TypesFit (held words) from count (held lifetimes) r ⌝ }
 {
     let mut at = from;
     let mut i = 0;
@@ -94,7 +97,7 @@ pub(crate) fn types_fit(words: &[usize], from: usize, count: usize, lifetimes: &
 // Whether the type at a place fits.
 fn type_fits(words: &[usize], at: usize, lifetimes: &[usize; 32]) -> Fit
     requires { ⌜ length (now lifetimes) ≡ 32 ⌝ }
-    ensures { λ r. ⌜ TypeFits (now (words .entry)) at (now (lifetimes .entry)) r ⌝ }
+    ensures { λ r. ⌜ TypeFits (held words) at (held lifetimes) r ⌝ }
 {
     let found = type_at(words, at);
     let Located::At(parts) = found else {
@@ -112,7 +115,7 @@ fn type_fits(words: &[usize], at: usize, lifetimes: &[usize; 32]) -> Fit
 // Whether a type with so many path words is a struct whose row has not as many lifetimes.
 fn is_misfit(kind: Kind, count: usize, lifetimes: &[usize; 32]) -> bool
     requires { ⌜ length (now lifetimes) ≡ 32 ⌝ }
-    ensures { λ r. ⌜ r ≡ misfitIn (now (lifetimes .entry)) kind count ⌝ }
+    ensures { λ r. ⌜ r ≡ misfitIn (held lifetimes) kind count ⌝ }
 {
     match kind {
         Kind::Plain => false,
@@ -125,7 +128,7 @@ fn is_misfit(kind: Kind, count: usize, lifetimes: &[usize; 32]) -> bool
 // The lifetimes of a row.
 fn lifetimes_of(lifetimes: &[usize; 32], row: usize) -> usize
     requires { ⌜ length (now lifetimes) ≡ 32 ⌝ }
-    ensures { λ r. ⌜ r ≡ rowLifetimes (now (lifetimes .entry)) row ⌝ }
+    ensures { λ r. ⌜ r ≡ rowLifetimes (held lifetimes) row ⌝ }
 {
     if row < MAX_ROWS {
         return lifetimes[row];

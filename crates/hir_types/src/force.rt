@@ -1,11 +1,14 @@
-// The search under force: the lifetimes of the slices in a method's parameters, through the fields of their structs. The Rust's `add_slices_to_used_lifetimes`.
+// The search under force: the lifetimes of the slices in a method's parameters, through the fields of their structs.
+// The Rust's `add_slices_to_used_lifetimes`.
 //
-// A type that is a struct is searched through its row's fields, and these name earlier rows only: type search and field search call each other, the row falling. A row
-// that was searched is not searched again: a sheet can name the same rows some 10^31 times.
+// A type that is a struct is searched through its row's fields, and these name earlier rows only: type search and field
+// search call each other, the row falling. A row that was searched is not searched again: a sheet can name the same
+// rows some 10^31 times.
 ghost use mathlib.Core.Path.{_≡_};
 ghost use Prim.Native.Nat.{_≤_, _<_};
 ghost use mathlib.Core.List.{[], _∷_};
 ghost use lib.ListN.{length};
+ghost use Rattle.lifetimes.specs.Lent.{held};
 ghost use Rattle.lifetimes.specs.LoweredWords.{fromWord};
 ghost use Rattle.lifetimes.specs.Numbers.{lifetime};
 ghost use Rattle.lifetimes.specs.Sets.{insertAll};
@@ -47,7 +50,7 @@ pub(crate) fn search_params(
 ) -> u64
     requires { ⌜ ParamsThere (now structs) (now params) rows count ⌝ }
     requires { ⌜ Ready (now structs) (now places) declared before 0 ⌝ }
-    ensures { λ r. ⌜ r ≡ insertAll before (forcedNumbers declared (now (structs .entry)) (now (params .entry))) ⌝ }
+    ensures { λ r. ⌜ r ≡ insertAll before (forcedNumbers declared (held structs) (held params)) ⌝ }
 {
     let mut at = 0;
     let mut found = before;
@@ -76,7 +79,7 @@ fn search_type(
 ) -> Step
     requires { ⌜ limit ≤ length (rowsOf (now structs)) ⌝ }
     requires { ⌜ Ready (now structs) (now places) declared found done ⌝ }
-    ensures { λ r. ⌜ TypeSearched (now (structs .entry)) (now (words .entry)) declared limit at found r ⌝ }
+    ensures { λ r. ⌜ TypeSearched (held structs) (held words) declared limit at found r ⌝ }
 {
     let located = type_at(words, at);
     let Located::At(parts) = located else {
@@ -128,7 +131,8 @@ fn search_type(
     }
 }
 
-// Search the fields of a row, unless that was done. The rows that were searched are a set of 64 bits too, so a row's number goes into it as a lifetime's would.
+// Search the fields of a row, unless that was done. The rows that were searched are a set of 64 bits too, so a row's
+// number goes into it as a lifetime's would.
 fn search_fields(
     structs: &[usize],
     places: &[usize; 32],
@@ -139,7 +143,7 @@ fn search_fields(
 ) -> Search
     requires { ⌜ row < length (rowsOf (now structs)) ⌝ }
     requires { ⌜ Ready (now structs) (now places) declared found done ⌝ }
-    ensures { λ r. ⌜ Adds (now (structs .entry)) declared found (rowNumbers (now (structs .entry)) declared row) (r .set) (r .done) ⌝ }
+    ensures { λ r. ⌜ Adds (held structs) declared found (rowNumbers (held structs) declared row) (r .set) (r .done) ⌝ }
 {
     let number = Lifetime::new(row);
     if set::contains(done, number) {
@@ -193,8 +197,9 @@ fn with_word(word: usize, declared: usize, found: u64) -> u64
     found
 }
 
-// The method's lifetime with the number that stands here. In a field of a definition that is not linked with the words at the use, as the Rust takes it; in a parameter it is the
-// lifetime itself. Nowhere else is a definition's lifetime made one of the method.
+// The method's lifetime with the number that stands here. In a field of a definition that is not linked with the words
+// at the use, as the Rust takes it; in a parameter it is the lifetime itself. Nowhere else is a definition's lifetime
+// made one of the method.
 fn unlinked(def: DefLifetime) -> Lifetime
     ensures { λ r. ⌜ r ≡ lifetime (def .0) ⌝ }
 {

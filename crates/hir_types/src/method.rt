@@ -1,10 +1,9 @@
 // The refusal of a method, and the lifetimes of its output.
 ghost use mathlib.Core.Path.{_≡_};
-ghost use mathlib.Core.List.{[], _∷_};
 ghost use lib.ListN.{length};
-ghost use Rattle.lifetimes.specs.Env.{envOf};
-ghost use Rattle.hir_types.specs.Method.{methodVerdict};
+ghost use Rattle.hir_types.specs.Method.{methodVerdict, structsAndParamsVerdict};
 ghost use Rattle.hir_types.specs.Inner.{InShape, Places, Judges};
+ghost use Rattle.lifetimes.specs.Lent.{held, left};
 use super::fits::Fit;
 use super::fits::index_rows;
 use super::fits::params_fit;
@@ -12,11 +11,15 @@ use super::fits::types_fit;
 use super::output::Collected;
 use super::output::collect_types;
 use lifetimes::LifetimeEnv;
+use lifetimes::Listed;
 use lifetimes::Refusal;
 use lifetimes::Verdict;
 use lowered_types::method_shape;
+use lowered_types::params_shape;
+use lowered_types::structs_shape;
 
-// A method that was judged. Accepted: how many rows and parameters there are, and the lifetimes of its output. Refused: 0 for each.
+// A method that was judged. Accepted: how many rows and parameters there are, and the lifetimes of its output. Refused:
+// 0 for each.
 pub(crate) struct Judged {
     pub(crate) verdict: Verdict,
     pub(crate) rows: usize,
@@ -24,8 +27,9 @@ pub(crate) struct Judged {
     pub(crate) used: u64,
 }
 
-// Whether an environment and four records make a method. Refused by 1 over the records; by 4 as the environment is; by 4 and 7 at the first bad place of `structs`, `params`,
-// `output`; by 8 as the environment is, and for a lifetime of the output past the count.
+// Whether an environment and four records make a method. Refused by 1 over the records; by 4 as the environment is; by
+// 4 and 7 at the first bad place of `structs`, `params`, `output`; by 8 as the environment is, and for a lifetime of
+// the output past the count.
 pub fn check_method(
     env: LifetimeEnv,
     structs: &[usize],
@@ -33,29 +37,33 @@ pub fn check_method(
     output: &[usize],
     force: &[usize],
 ) -> Verdict
-    ensures { λ r. ⌜ r ≡ methodVerdict env (now (structs .entry)) (now (params .entry)) (now (output .entry)) (now (force .entry)) ⌝ }
+    ensures answer { λ r. ⌜ r ≡ methodVerdict env (held structs) (held params) (held output) (held force) ⌝ }
 {
     let mut places = [0usize; 32];
     let judged = judge(env, structs, params, output, force, &mut places);
     judged.verdict
 }
 
-// Whether two records can be those of a method, whatever else it has. Refused by 1, then by 4 and 7 at the first bad place. No environment is looked at, so none is passed.
+// Whether two records can be those of a method, whatever else it has. Refused by 1, then by 4 and 7 at the first bad
+// place. No environment is looked at, so none is passed.
 pub fn check_structs_and_params(structs: &[usize], params: &[usize]) -> Verdict
-    ensures { λ r. ⌜ r ≡ methodVerdict (envOf 0 0 []) (now (structs .entry)) (now (params .entry)) [] (0 ∷ []) ⌝ }
+    ensures answer { λ r. ⌜ r ≡ structsAndParamsVerdict (held structs) (held params) ⌝ }
 {
-    let none = [0usize; 0];
-    let force = [0usize; 1];
-    let shape = method_shape(structs, params, &none, &force);
-    let first = shape.verdict;
-    let Verdict::Accepted = first else {
-        return first;
+    let counted = structs_shape(structs);
+    let Listed::Count(rows) = counted else {
+        return Verdict::Refused(Refusal::Malformed);
     };
-    let rows = shape.rows;
-    let inputs = shape.params;
-    let outputs = shape.outputs;
+    let listed = params_shape(params, rows);
+    let Listed::Count(inputs) = listed else {
+        return Verdict::Refused(Refusal::Malformed);
+    };
+    let mut lifetimes = [0usize; 32];
     let mut places = [0usize; 32];
-    judge_places(structs, params, &none, rows, inputs, outputs, &mut places)
+    let verdict = index_rows(structs, rows, &mut lifetimes, &mut places);
+    let Verdict::Accepted = verdict else {
+        return verdict;
+    };
+    params_fit(params, inputs, &lifetimes)
 }
 
 // As `check_method`, with what is known of an accepted method: the array holds where its rows stand.
@@ -68,7 +76,7 @@ pub(crate) fn judge(
     places: &mut [usize; 32],
 ) -> Judged
     requires { ⌜ length (now places) ≡ 32 ⌝ }
-    ensures { λ r. ⌜ Judges env (now (structs .entry)) (now (params .entry)) (now (output .entry)) (now (force .entry)) (now (places .exit)) r ⌝ }
+    ensures { λ r. ⌜ Judges env (held structs) (held params) (held output) (held force) (left places) r ⌝ }
 {
     let shape = method_shape(structs, params, output, force);
     let first = shape.verdict;
@@ -130,7 +138,7 @@ fn judge_places(
 ) -> Verdict
     requires { ⌜ InShape (now structs) (now params) (now output) rows inputs outputs ⌝ }
     requires { ⌜ length (now places) ≡ 32 ⌝ }
-    ensures { λ r. ⌜ Places (now (structs .entry)) (now (params .entry)) (now (output .entry)) (now (places .exit)) r ⌝ }
+    ensures { λ r. ⌜ Places (held structs) (held params) (held output) (left places) r ⌝ }
 {
     let mut lifetimes = [0usize; 32];
     let first = index_rows(structs, rows, &mut lifetimes, places);

@@ -1,15 +1,16 @@
 // The lifetimes of a method's output, as a set.
 ghost use mathlib.Core.List.{[], _∷_, map};
-ghost use Prim.Native.Nat.{_+_, _≤_};
+ghost use Prim.Native.Nat.{_≤_};
 ghost use lib.ListN.{length, take, drop};
+ghost use Rattle.lifetimes.specs.Lent.{held};
 ghost use Rattle.lifetimes.specs.LoweredWords.{fromWord};
 ghost use Rattle.lowered_types.specs.LoweredTypes.{ownLifetimes};
 ghost use Rattle.hir_types.specs.Inner.{CollectIs, PathThere, TypesCollect};
 use lifetimes::MaybeStatic;
 use lifetimes::set;
-use lowered_types::LifetimeAt;
 use lowered_types::Located;
 use lowered_types::Own;
+use lowered_types::OwnLifetime;
 use lowered_types::type_at;
 
 // The set so far, or that a lifetime is past the count.
@@ -21,7 +22,7 @@ pub(crate) enum Collected {
 // The lifetimes of so many types, which stand at the front of some words, as a set; or that one is past the count.
 pub(crate) fn collect_types(words: &[usize], types: usize, count: usize) -> Collected
     requires { ⌜ count ≤ 64 ⌝ }
-    ensures { λ r. ⌜ TypesCollect (now (words .entry)) 0 types count 0 r ⌝ }
+    ensures { λ r. ⌜ TypesCollect (held words) 0 types count 0 r ⌝ }
 {
     let mut at = 0;
     let mut used = set::EMPTY;
@@ -53,7 +54,7 @@ pub(crate) fn collect_types(words: &[usize], types: usize, count: usize) -> Coll
 // Put the lifetimes of so many words, from a place on, into a set.
 fn collect_path(words: &[usize], from: usize, n: usize, count: usize, before: u64) -> Collected
     requires { ⌜ (count ≤ 64) × (PathThere (length (now words)) from n) ⌝ }
-    ensures { λ r. ⌜ CollectIs count before (map fromWord (take n (drop from (now (words .entry))))) r ⌝ }
+    ensures { λ r. ⌜ CollectIs count before (map fromWord (take n (drop from (held words)))) r ⌝ }
 {
     let mut used = before;
     let mut i = 0;
@@ -76,9 +77,8 @@ fn collect_own(own: Own, count: usize, before: u64) -> Collected
 {
     let lifetime = own.lifetime();
     match lifetime {
-        LifetimeAt::Lifetime(one) => collect(one, count, before),
-        LifetimeAt::Absent => Collected::Set(before),
-        LifetimeAt::Refused(_) => Collected::Set(before),
+        OwnLifetime::Lifetime(one) => collect(one, count, before),
+        OwnLifetime::Absent => Collected::Set(before),
     }
 }
 

@@ -1,6 +1,7 @@
 // The lifetimes that a method uses.
 ghost use mathlib.Core.Path.{_≡_};
 ghost use Rattle.hir_types.specs.Used.{usedSet, usedAnswer};
+ghost use Rattle.lifetimes.specs.Lent.{held};
 use super::force::search_params;
 use super::method::judge;
 use lifetimes::LifetimeEnv;
@@ -13,8 +14,9 @@ pub enum UsedLifetimes {
     Refused(Refusal),
 }
 
-// The lifetimes that a method uses: those of its output that are not static; with `force` also the own lifetimes of the slices in its parameters that are declared, through
-// options and through the fields of structs. Refused as the method is. Reads each row once. The Rust's call of this name gives those of the output; its visitor adds the others.
+// The lifetimes that a method uses: those of its output that are not static; with `force` also the own lifetimes of the
+// slices in its parameters that are declared, through options and through the fields of structs. Refused as the method
+// is. Reads each row once. The Rust's call of this name gives those of the output; its visitor adds the others.
 pub fn used_method_lifetimes(
     env: LifetimeEnv,
     structs: &[usize],
@@ -22,7 +24,7 @@ pub fn used_method_lifetimes(
     output: &[usize],
     force: &[usize],
 ) -> UsedLifetimes
-    ensures { λ r. ⌜ r ≡ usedAnswer (usedSet env (now (structs .entry)) (now (params .entry)) (now (output .entry)) (now (force .entry))) ⌝ }
+    ensures answer { λ r. ⌜ r ≡ usedAnswer (usedSet env (held structs) (held params) (held output) (held force)) ⌝ }
 {
     let mut places = [0usize; 32];
     let judged = judge(env, structs, params, output, force, &mut places);

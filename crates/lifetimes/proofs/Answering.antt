@@ -13,10 +13,12 @@ use Rattle.lifetimes.proofs.RefusalLaws.{due-given, due-refused}
 
 -- the answer, and the slice
 module _ (l slice : List ℕ) {checks : List Check} where
-  pub answers-refusal : {r : Refusal} → FirstDue r checks → (listed.Refused r ≡ counted (unless checks l)) × (slice ≡ written (unless checks l) slice)
+  pub answers-refusal : {r : Refusal} → FirstDue r checks → (listed.Refused r ≡ counted (unless checks l))
+      × (slice ≡ written (unless checks l) slice)
   answers-refusal f = (rw (due-refused l f), rw (due-refused l f))
 
-  pub answers-list : NoneDue checks → (listed.Count (length l) ≡ counted (unless checks l)) × (l ++ drop (length l) slice ≡ written (unless checks l) slice)
+  pub answers-list : NoneDue checks → (listed.Count (length l) ≡ counted (unless checks l))
+      × (l ++ drop (length l) slice ≡ written (unless checks l) slice)
   answers-list n = (rw (due-given l n), rw (due-given l n))
 
 -- the check for room

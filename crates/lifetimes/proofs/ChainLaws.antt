@@ -1,4 +1,5 @@
--- Laws of the index's chains: a chain is its first far side and the chain of the bound before; the chain of a lifetime's last bound is what a traversal pushes of it.
+-- Laws of the index's chains: a chain is its first far side and the chain of the bound before; the chain of a
+-- lifetime's last bound is what a traversal pushes of it.
 use Prim.Native.Nat.{ℕ, zero, suc, _≤_, _<_}
 use mathlib.Core.Bool.{Bool, true, false, cond}
 use mathlib.Core.Path.{_≡_, refl}
@@ -43,18 +44,26 @@ chain-more g j = rw (eq-eqb (nearAt g j) (nearAt g j) refl, back-chain g j (near
 
 -- the bounds that are left, pushed on what the first i give, are all bounds pushed
 back-pushed : (g : Graph) (x : ℕ) (q : List ℕ) (i : ℕ) → i ≤ length (g .bounds)
-    → reverseAux (neighbours (g .longer) (drop i (g .bounds)) x) (back g i x ++ q) ≡ reverseAux (neighbours (g .longer) (g .bounds) x) q
+    → reverseAux (neighbours (g .longer) (drop i (g .bounds)) x) (back g i x ++ q)
+    ≡ reverseAux (neighbours (g .longer) (g .bounds) x) q
 unfolding back neighbours
 back-pushed g x q zero h = refl
-back-pushed g x q (suc i) h = go (eqb (nearAt g i) x) refl (rw (drop-cons (g .bounds) i (above 0 0) (omega arith)) at (back-pushed g x q i (omega arith)))
+back-pushed g x q (suc i) h =
+    go (eqb (nearAt g i) x) refl
+    (rw (drop-cons (g .bounds) i (above 0 0) (omega arith)) at (back-pushed g x q i (omega arith)))
   where
     go : (t : Bool) → eqb (nearAt g i) x ≡ t
-        → reverseAux (cond (eqb (nearAt g i) x) (farAt g i ∷ neighbours (g .longer) (drop (suc i) (g .bounds)) x) (neighbours (g .longer) (drop (suc i) (g .bounds)) x)) (back g i x ++ q) ≡ reverseAux (neighbours (g .longer) (g .bounds) x) q
-        → reverseAux (neighbours (g .longer) (drop (suc i) (g .bounds)) x) (cond t (farAt g i ∷ back g i x) (back g i x) ++ q) ≡ reverseAux (neighbours (g .longer) (g .bounds) x) q
+        → reverseAux
+        (cond (eqb (nearAt g i) x) (farAt g i ∷ neighbours (g .longer) (drop (suc i) (g .bounds)) x)
+        (neighbours (g .longer) (drop (suc i) (g .bounds)) x)) (back g i x ++ q)
+        ≡ reverseAux (neighbours (g .longer) (g .bounds) x) q
+        → reverseAux (neighbours (g .longer) (drop (suc i) (g .bounds)) x)
+        (cond t (farAt g i ∷ back g i x) (back g i x) ++ q) ≡ reverseAux (neighbours (g .longer) (g .bounds) x) q
     go true e r = rw e at r
     go false e r = rw e at r
 
-pub last-pushed : (g : Graph) (x : ℕ) (q : List ℕ) → chain g (lastOf g (length (g .bounds)) x) ++ q ≡ reverseAux (neighbours (g .longer) (g .bounds) x) q
+pub last-pushed : (g : Graph) (x : ℕ) (q : List ℕ)
+    → chain g (lastOf g (length (g .bounds)) x) ++ q ≡ reverseAux (neighbours (g .longer) (g .bounds) x) q
 unfolding neighbours
 last-pushed g x q =
     let none : drop (length (g .bounds)) (g .bounds) ≡ [] = drop-of-length-le (g .bounds) {i = length (g .bounds)} (le-refl _) in

@@ -11,7 +11,8 @@ use lib.Seq.{drop-cons, getD-take, length-take-le, set-out, sets, sets-eq}
 -- one run after another
 pub sets-append : (l : List ℕ) (i : ℕ) (vs ws : List ℕ) → sets l i (vs ++ ws) ≡ sets (sets l i vs) (i + length vs) ws
 sets-append l i [] ws = rw add-zero
-sets-append l i (v ∷ vs) ws = let e : suc i + length vs ≡ i + suc (length vs) = omega arith in sets-append (set l i v) (suc i) vs ws ∙ ap (λ (k : ℕ). sets (sets (set l i v) (suc i) vs) k ws) e
+sets-append l i (v ∷ vs) ws = let e : suc i + length vs ≡ i + suc (length vs) = omega arith in
+    sets-append (set l i v) (suc i) vs ws ∙ ap (λ (k : ℕ). sets (sets (set l i v) (suc i) vs) k ws) e
 
 -- a run from the front
 pub sets-front : (l vs : List ℕ) → length vs ≤ length l → sets l 0 vs ≡ vs ++ drop (length vs) l
@@ -27,7 +28,7 @@ sets-cut zero l i vs h = sym (sets-out l i vs (omega arith))
 sets-cut (suc n) l i [] h = refl
 sets-cut (suc n) l i (v ∷ vs) h = sets-cut n (set l i v) (suc i) vs (rw (length-set l i v) (omega arith))
 
-pub drop-replicate : (n m x : ℕ) → drop n (replicate m x) ≡ replicate (m - n) x
+pub drop-replicate : {A : Type 0} (n m : ℕ) (x : A) → drop n (replicate m x) ≡ replicate (m - n) x
 drop-replicate zero m x = rw sub-zero
 drop-replicate (suc n) zero x = rw zero-sub
 drop-replicate (suc n) (suc m) x = rw suc-sub-suc (drop-replicate n m x)

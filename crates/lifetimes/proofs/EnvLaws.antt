@@ -1,4 +1,5 @@
--- Laws of the environment's checks: what it says that none is due, and which is the first that is. Then its bounds, made and with one more.
+-- Laws of the environment's checks: what it says that none is due, and which is the first that is. Then its bounds,
+-- made and with one more.
 use Prim.Native.Nat.{ℕ, _-_, _≤_, _<_}
 use mathlib.Core.Bool.{Bool, true, false, not, and-eq-true-iff}
 use mathlib.Core.Path.{_≡_, refl, ap}
@@ -24,7 +25,8 @@ all-below n [] h b k = absurd (List·Memᴰ·not-nil k)
 all-below n (a ∷ bs) h b k =
     let both = (and-eq-true-iff (bothBelow n a) (allBelow n bs)) .0 h in
     let here = (and-eq-true-iff (ltb (a .longer) n) (ltb (a .shorter) n)) .0 (both .0) in
-    ⊎-elim (λ e. rw e (ltb-true (a .longer) n (here .0), ltb-true (a .shorter) n (here .1))) (all-below n bs (both .1) b) (List·Memᴰ·cases-cons k)
+    ⊎-elim (λ e. rw e (ltb-true (a .longer) n (here .0), ltb-true (a .shorter) n (here .1)))
+    (all-below n bs (both .1) b) (List·Memᴰ·cases-cons k)
 
 -- what holds of an environment on which no refusal is due
 pub record Valid (e : LifetimeEnv) : Type 0 where
@@ -64,10 +66,14 @@ module _ (declared count pushed : ℕ) (bounds : List Bound) where
 
       module _ (declares : declared ≤ count) where
         pub side-due : allBelow declared bounds ≡ false → FirstDue OutOfRange (limitChecks declared count pushed bounds)
-        side-due f = later (le-ltb 64 count lifetimes) (later (le-ltb 256 pushed few) (later (le-ltb count declared declares) (here (ap not f) refl)))
+        side-due f =
+            later (le-ltb 64 count lifetimes)
+            (later (le-ltb 256 pushed few) (later (le-ltb count declared declares) (here (ap not f) refl)))
 
         pub none-due : allBelow declared bounds ≡ true → NoneDue (limitChecks declared count pushed bounds)
-        none-due t = next (le-ltb 64 count lifetimes) (next (le-ltb 256 pushed few) (next (le-ltb count declared declares) (next (ap not t) end)))
+        none-due t =
+            next (le-ltb 64 count lifetimes)
+            (next (le-ltb 256 pushed few) (next (le-ltb count declared declares) (next (ap not t) end)))
 
 pub accepted-valid : (e : LifetimeEnv) → unless (envChecks e) e ≡ Gives e → NoneDue (envChecks e)
 accepted-valid e h = (given-due e e (envChecks e) h) .0
@@ -77,5 +83,6 @@ pub bounds-new : (declared count : ℕ) (bs : List Bound) → boundsOf (envOf de
 unfolding envOf
 bounds-new declared count bs = take-append-seam bs (replicate (256 - length bs) (above 0 0))
 
-pub bounds-pushed : (e : LifetimeEnv) (b : Bound) → length (e .bounds) ≡ 256 → e .pushed < 256 → boundsOf (withBound e b) ≡ boundsOf e ++ (b ∷ [])
+pub bounds-pushed : (e : LifetimeEnv) (b : Bound) → length (e .bounds) ≡ 256 → e .pushed < 256
+    → boundsOf (withBound e b) ≡ boundsOf e ++ (b ∷ [])
 bounds-pushed e b full h = rw add-one (take-suc-set (e .bounds) (e .pushed) b (omega arith))

@@ -1,5 +1,5 @@
--- The loop of `LifetimeEnv::check`: the bounds that were read are within the limit, so the check of what is left gives what all checks give.
--- Then the answers of `push_bound`.
+-- The loop of `LifetimeEnv::check`: the bounds that were read are within the limit, so the check of what is left gives
+-- what all checks give. Then the answers of `push_bound`.
 use Prim.Native.Nat.{ℕ, _+_, _≤_, _<_}
 use mathlib.Core.Bool.{true, false, not, and-eq-true-iff}
 use mathlib.Core.Path.{_≡_, refl, sym, ap, _∙_}
@@ -19,9 +19,11 @@ use Rattle.lifetimes.specs.declared.env.Bound.{Bound}
 use Rattle.lifetimes.specs.declared.env.LifetimeEnv.{LifetimeEnv}
 use Rattle.lifetimes.specs.Refusals.{Check, check, unless, FirstDue, here, later, NoneDue, end, next}
 use Rattle.lifetimes.specs.Lent.{verdictOf}
-use Rattle.lifetimes.specs.Env.{above, boundsOf, bothBelow, allBelow, envChecks, pushChecks, withBound, pushBound, made}
+use Rattle.lifetimes.specs.Env.{above, boundsOf, bothBelow, allBelow, envChecks, pushChecks, withBound, pushBound}
+use Rattle.lifetimes.specs.Env.{made}
 use Rattle.lifetimes.proofs.EnvLaws.{valid}
-use Rattle.lifetimes.proofs.RefusalLaws.{due-given, due-refused, refused-first, accepted-none, first-more, first-after, none-more}
+use Rattle.lifetimes.proofs.RefusalLaws.{due-given, due-refused, refused-first, accepted-none, first-more}
+use Rattle.lifetimes.proofs.RefusalLaws.{first-after, none-more}
 
 -- ---- reading the bounds, from the first to the last
 
@@ -45,7 +47,8 @@ pub record Checking (e : LifetimeEnv) (i : ℕ) : Type 0 where
 
 pub checking-start : (e : LifetimeEnv) → e .count ≤ 64 → e .pushed ≤ 256 → e .declared ≤ e .count → Checking e 0
 unfolding unless
-checking-start e a b c = record { few = b; left = rw (le-ltb 64 (e .count) a, le-ltb 256 (e .pushed) b, le-ltb (e .count) (e .declared) c) }
+checking-start e a b c =
+    record { few = b; left = rw (le-ltb 64 (e .count) a, le-ltb 256 (e .pushed) b, le-ltb (e .count) (e .declared) c) }
 
 module _ {e : LifetimeEnv} {i : ℕ} (inv : Checking e i) where
   pub checking-end : e .pushed ≤ i → Accepted ≡ verdictOf (unless (envChecks e) e)
@@ -53,7 +56,8 @@ module _ {e : LifetimeEnv} {i : ℕ} (inv : Checking e i) where
   checking-end h = rw (inv .left, bounds-read e i h)
 
   module _ (full : length (e .bounds) ≡ 256) (h : i < e .pushed) where
-    pub checking-refused : bothBelow (e .declared) (getD (e .bounds) i (above 0 0)) ≡ false → Refused OutOfRange ≡ verdictOf (unless (envChecks e) e)
+    pub checking-refused : bothBelow (e .declared) (getD (e .bounds) i (above 0 0)) ≡ false
+        → Refused OutOfRange ≡ verdictOf (unless (envChecks e) e)
     unfolding unless allBelow
     checking-refused f = rw (inv .left, bound-read e i full (inv .few) h, f)
 
@@ -87,21 +91,27 @@ module _ (e : LifetimeEnv) (b : Bound) where
         let due : FirstDue r (envChecks e ++ last) = first-more last (refused-first e r (envChecks e) (sym checked ∙ k)) in
         rw (checks, due-refused (withBound e b) due, k)
 
-    pub push-outside : v ≡ Accepted → bothBelow (e .declared) b ≡ false → record { verdict = Refused OutOfRange; env = e } ≡ made e (pushBound e b)
+    pub push-outside : v ≡ Accepted → bothBelow (e .declared) b ≡ false
+        → record { verdict = Refused OutOfRange; env = e } ≡ made e (pushBound e b)
     unfolding pushBound
     push-outside k f =
-        let due : FirstDue OutOfRange (envChecks e ++ last) = first-after (accepted-none e (envChecks e) (sym checked ∙ k)) (here (ap not f) refl) in
+        let due : FirstDue OutOfRange (envChecks e ++ last) =
+        first-after (accepted-none e (envChecks e) (sym checked ∙ k)) (here (ap not f) refl) in
         rw (checks, due-refused (withBound e b) due)
 
     -- a bound that is taken has numbers that fit a byte
     pub push-small : v ≡ Accepted → bothBelow (e .declared) b ≡ true → (b .longer < 256) × (b .shorter < 256)
     push-small k t =
         let fine = valid e (accepted-none e (envChecks e) (sym checked ∙ k)) in
-        let sides = (and-eq-true-iff (ltb (b .longer) (e .declared)) (ltb (b .shorter) (e .declared))) .0 t in
-        (omega (arith, ltb-true (b .longer) (e .declared) (sides .0), fine .counted, fine .declares), omega (arith, ltb-true (b .shorter) (e .declared) (sides .1), fine .counted, fine .declares))
+        let sides = (and-eq-true-iff (ltb (b .longer) (e .declared)) (ltb (b .shorter) (e .declared))) .0 t in (
+          omega (arith, ltb-true (b .longer) (e .declared) (sides .0), fine .counted, fine .declares),
+          omega (arith, ltb-true (b .shorter) (e .declared) (sides .1), fine .counted, fine .declares),
+        )
 
-    pub push-given : v ≡ Accepted → bothBelow (e .declared) b ≡ true → record { verdict = Accepted; env = withBound e b } ≡ made e (pushBound e b)
+    pub push-given : v ≡ Accepted → bothBelow (e .declared) b ≡ true
+        → record { verdict = Accepted; env = withBound e b } ≡ made e (pushBound e b)
     unfolding pushBound
     push-given k t =
-        let none : NoneDue (envChecks e ++ last) = none-more (accepted-none e (envChecks e) (sym checked ∙ k)) (next (ap not t) end) in
+        let none : NoneDue (envChecks e ++ last) =
+        none-more (accepted-none e (envChecks e) (sym checked ∙ k)) (next (ap not t) end) in
         rw (checks, due-given (withBound e b) none)

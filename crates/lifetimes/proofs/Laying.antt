@@ -58,7 +58,8 @@ pub measuring-start : (g : Graph) (count : ℕ) (reach : List ℕ) → Measuring
 measuring-start g count reach = record { here = omega arith; total-left = rw (zero-add, sub-zero); reach-left = rw sub-zero }
 
 module _ {g : Graph} {count : ℕ} {reach₀ reach : List ℕ} {x total : ℕ} (inv : Measuring g count reach₀ reach x total) where
-  pub measuring-more : x < count → (n s : ℕ) → n ≡ length (listOf g x) → s ≡ setAt g x → Measuring g count reach₀ (set reach x s) (x + 1) (total + n)
+  pub measuring-more : x < count → (n s : ℕ) → n ≡ length (listOf g x) → s ≡ setAt g x
+      → Measuring g count reach₀ (set reach x s) (x + 1) (total + n)
   measuring-more h n s p q = record {
     here = omega arith;
     total-left = omega (arith, p, rw (words-next g count x h, length-append) at (inv .total-left));
@@ -78,9 +79,11 @@ pub record Laying (g : Graph) (count : ℕ) (words₀ ends₀ reach₀ words end
   pub ends-left : sets ends x (endsFrom at (listsLeft g count x)) ≡ sets ends₀ 0 (endsFrom 0 (listsFrom g 0 count))
 
 pub laying-start : (g : Graph) (count : ℕ) (words ends reach : List ℕ) → Laying g count words ends reach words ends reach 0 0
-laying-start g count words ends reach = record { measuring = measuring-start g count reach; words-left = rw sub-zero; ends-left = rw sub-zero }
+laying-start g count words ends reach =
+    record { measuring = measuring-start g count reach; words-left = rw sub-zero; ends-left = rw sub-zero }
 
-module _ {g : Graph} {count : ℕ} {words₀ ends₀ reach₀ words ends reach : List ℕ} {x at : ℕ} (inv : Laying g count words₀ ends₀ reach₀ words ends reach x at) where
+module _ {g : Graph} {count : ℕ} {words₀ ends₀ reach₀ words ends reach : List ℕ} {x at : ℕ}
+    (inv : Laying g count words₀ ends₀ reach₀ words ends reach x at) where
   -- there is room for the next list
   pub laying-room : x < count → length (flatten (listsFrom g 0 count)) ≤ length words → at + length (listOf g x) ≤ length words
   laying-room h room = omega (arith, rw (words-next g count x h, length-append) at (inv .measuring .total-left))
@@ -92,7 +95,9 @@ module _ {g : Graph} {count : ℕ} {words₀ ends₀ reach₀ words ends reach :
       let e : n ≡ length (listOf g x) = p ∙ ap length i in
       record {
         measuring = measuring-more (inv .measuring) h n s e q;
-        words-left = rw (i, e) (sym (sets-append words at (listOf g x) (flatten (listsLeft g count (x + 1)))) ∙ (rw (words-next g count x h) at (inv .words-left)));
+        words-left =
+            rw (i, e) (sym (sets-append words at (listOf g x) (flatten (listsLeft g count (x + 1))))
+            ∙ (rw (words-next g count x h) at (inv .words-left)));
         ends-left = rw (e, add-one x) (rw (lists-next g count x h, add-one x) at (inv .ends-left));
       }
 
@@ -100,7 +105,11 @@ module _ {g : Graph} {count : ℕ} {words₀ ends₀ reach₀ words ends reach :
   unfolding flatten endsFrom
   laying-end h =
       let none = ascending-none x count h in
-      record { measures = measuring-end (inv .measuring) h; words = (rw none at (inv .words-left)); ends = (rw none at (inv .ends-left)) }
+      record {
+        measures = measuring-end (inv .measuring) h;
+        words = (rw none at (inv .words-left));
+        ends = (rw none at (inv .ends-left));
+      }
 
 -- no list is longer than there are lifetimes, so as many words for each of them are enough
 pub lists-few : (g : Graph) (limit : ℕ) → Within g limit → (x n : ℕ) → x + n ≤ limit → length (flatten (listsFrom g x n)) ≤ limit * n
@@ -108,7 +117,11 @@ unfolding flatten ascending
 lists-few g limit w x zero h = omega arith
 lists-few g limit w x (suc n) h =
     rw (length-append, mul-suc)
-    (omega (arith, traversal-few LastFirst (g .longer) (g .bounds) x limit w (omega arith), lists-few g limit w (suc x) n (omega arith)))
+    (omega (
+      arith,
+      traversal-few LastFirst (g .longer) (g .bounds) x limit w (omega arith),
+      lists-few g limit w (suc x) n (omega arith),
+    ))
 
 pub length-ends : (at : ℕ) (ls : List (List ℕ)) → length (endsFrom at ls) ≡ length ls
 unfolding endsFrom

@@ -1,4 +1,5 @@
--- Laws of the lifetimes of a definition paired with the words at its use: at each place, past the end, and where they are not as many.
+-- Laws of the lifetimes of a definition paired with the words at its use: at each place, past the end, and where they
+-- are not as many.
 use Prim.Native.Nat.{ℕ, zero, suc, _+_, _≤_, _<_}
 use mathlib.Core.Path.{_≡_, sym, ap, _∙_}
 use mathlib.Core.Logic.{_⊎_, ⊎-elim}
@@ -47,7 +48,8 @@ module _ (words : List ℕ) (count : ℕ) where
 
         -- it is of no later variant, however the variants are numbered from 0
         pub word-only : {B : Type 0} (tag : LinkedWord → ℕ) → tag (Word (getD words j 0)) ≡ 0 → (tag r ≡ 1) ⊎ (tag r ≡ 2) → B
-        word-only tag z later = let n : tag r ≡ 0 = ap tag word-is ∙ z in ⊎-elim (λ a. absurd (omega arith)) (λ b. absurd (omega arith)) later
+        word-only tag z later = let n : tag r ≡ 0 = ap tag word-is ∙ z in
+            ⊎-elim (λ a. absurd (omega arith)) (λ b. absurd (omega arith)) later
 
       module _ {r : LinkedPair} (e : r ≡ pairAnswer (linkedPair words count j)) where
         pair-is : r ≡ pair.Pair (getD words j 0) (defLifetime j)
@@ -56,8 +58,10 @@ module _ (words : List ℕ) (count : ℕ) where
         pub pair-told : {word : ℕ} {def : DefLifetime} → r ≡ pair.Pair word def → (word ≡ getD words j 0) × (def ≡ defLifetime j)
         pair-told q = let z = sym q ∙ pair-is in (cc z, cc z)
 
-        pub pair-only : {B : Type 0} (tag : LinkedPair → ℕ) → tag (pair.Pair (getD words j 0) (defLifetime j)) ≡ 0 → (tag r ≡ 1) ⊎ (tag r ≡ 2) → B
-        pair-only tag z later = let n : tag r ≡ 0 = ap tag pair-is ∙ z in ⊎-elim (λ a. absurd (omega arith)) (λ b. absurd (omega arith)) later
+        pub pair-only : {B : Type 0} (tag : LinkedPair → ℕ) → tag (pair.Pair (getD words j 0) (defLifetime j)) ≡ 0
+            → (tag r ≡ 1) ⊎ (tag r ≡ 2) → B
+        pair-only tag z later = let n : tag r ≡ 0 = ap tag pair-is ∙ z in
+            ⊎-elim (λ a. absurd (omega arith)) (λ b. absurd (omega arith)) later
 
     -- the pairs at n places from j on, to the last
     pairs-from : (j n : ℕ) → j + n ≡ count → map (linkedPair words count) (ascending j n) ≡ pairsWithPlaces j (drop j words)

@@ -16,7 +16,8 @@ use Rattle.lifetimes.specs.Index.{Fine, Graph, nearAt, farAt, lastOf, Ze
 use Rattle.lifetimes.proofs.ChainLaws.{at-mem}
 
 -- what each place below i holds, each below i + 1 holds after a store at i
-more : (f : ℕ → ℕ) (l : List ℕ) (i v : ℕ) → i < length l → v ≡ f i → ((j : ℕ) → j < i → getD l j 0 ≡ f j) → (j : ℕ) → j < i + 1 → getD (set l i v) j 0 ≡ f j
+more : (f : ℕ → ℕ) (l : List ℕ) (i v : ℕ) → i < length l → v ≡ f i → ((j : ℕ) → j < i → getD l j 0 ≡ f j) → (j : ℕ)
+    → j < i + 1 → getD (set l i v) j 0 ≡ f j
 more f l i v h e r j k = go (ℕ-discrete j i)
   where
     go : Dec (j ≡ i) → getD (set l i v) j 0 ≡ f j
@@ -32,7 +33,8 @@ pub record Linking (g : Graph) (i : ℕ) (fars befores lasts : List ℕ) : Type 
   pub full-befores : length befores ≡ 256
   pub full-lasts : length lasts ≡ 64
 
-pub linking-start : (g : Graph) (fars befores lasts : List ℕ) → Zeros lasts → length fars ≡ 256 → length befores ≡ 256 → length lasts ≡ 64 → Linking g 0 fars befores lasts
+pub linking-start : (g : Graph) (fars befores lasts : List ℕ) → Zeros lasts → length fars ≡ 256 → length befores ≡ 256
+    → length lasts ≡ 64 → Linking g 0 fars befores lasts
 unfolding lastOf
 linking-start g fars befores lasts z a b c = record {
   here = omega arith;
@@ -52,7 +54,8 @@ near-small : (d : Bool) {bs : List Bound} → Fine bs → (b : Bound) → List·
 near-small true fine b k = (fine .small b k) .1
 near-small false fine b k = (fine .small b k) .0
 
-module _ {g : Graph} {i n : ℕ} {fars befores lasts : List ℕ} (inv : Linking g i fars befores lasts) (fine : Fine (g .bounds)) (all : length (g .bounds) ≡ n) where
+module _ {g : Graph} {i n : ℕ} {fars befores lasts : List ℕ} (inv : Linking g i fars befores lasts)
+    (fine : Fine (g .bounds)) (all : length (g .bounds) ≡ n) where
   pub linking-few : n ≤ 256
   linking-few = omega (arith, fine .few)
 
@@ -60,17 +63,27 @@ module _ {g : Graph} {i n : ℕ} {fars befores lasts : List ℕ} (inv : Linking 
   linking-end h =
       let done : length (g .bounds) ≡ i = omega (arith, inv .here) in
       record {
-        chained = record { few = fine .few; small = far-small (g .longer) fine; far = rw done (inv .far); before = rw done (inv .before) };
+        chained =
+            record {
+              few = fine .few;
+              small = far-small (g .longer) fine;
+              far = rw done (inv .far);
+              before = rw done (inv .before);
+            };
         last = rw done (inv .last);
       }
 
   -- one turn, that reads the bound b
   module _ {b : Bound} (h : i < n) (reads : getD (g .bounds) i (above 0 0) ≡ b) where
     pub linking-near : near (g .longer) b < 64
-    linking-near = rw (← reads) (near-small (g .longer) fine (getD (g .bounds) i (above 0 0)) (at-mem (g .bounds) i (above 0 0) (omega arith)))
+    linking-near =
+        rw (← reads)
+        (near-small (g .longer) fine (getD (g .bounds) i (above 0 0)) (at-mem (g .bounds) i (above 0 0) (omega arith)))
 
     pub linking-far : far (g .longer) b < 64
-    linking-far = rw (← reads) (far-small (g .longer) fine (getD (g .bounds) i (above 0 0)) (at-mem (g .bounds) i (above 0 0) (omega arith)))
+    linking-far =
+        rw (← reads)
+        (far-small (g .longer) fine (getD (g .bounds) i (above 0 0)) (at-mem (g .bounds) i (above 0 0) (omega arith)))
 
     pub linking-more : (x y older : ℕ) → x ≡ near (g .longer) b → y ≡ far (g .longer) b → older ≡ getD lasts x 0
         → Linking g (i + 1) (set fars i y) (set befores i older) (set lasts x (i + 1))
@@ -81,10 +94,21 @@ module _ {g : Graph} {i n : ℕ} {fars befores lasts : List ℕ} (inv : Linking 
         record {
           here = omega arith;
           far = more (farAt g) fars i y (omega (arith, inv .full-fars, linking-few)) (rw reads q) (inv .far);
-          before = more (λ j. lastOf g j (nearAt g j)) befores i older (omega (arith, inv .full-befores, linking-few)) (r ∙ inv .last x small ∙ ap (lastOf g i) is) (inv .before);
+          before = more (λ j. lastOf g j (nearAt g j)) befores i older (omega (arith, inv .full-befores, linking-few))
+              (r ∙ inv .last x small ∙ ap (lastOf g i) is) (inv .before);
           last = λ z k. elim (ℕ-discrete z x) [
-            | yes t ↦ rw (t, getD-set-same lasts x (i + 1) 0 (omega (arith, small, inv .full-lasts)), add-one i, eq-eqb (nearAt g i) x (sym is))
-            | no t ↦ rw (getD-set-other lasts x z (i + 1) 0 t, add-one i, ne-eqb (nearAt g i) z (λ u. t (sym u ∙ sym is))) (inv .last z k)
+            | yes t ↦
+                rw (
+                  t,
+                  getD-set-same lasts x (i + 1) 0 (omega (arith, small, inv .full-lasts)),
+                  add-one i,
+                  eq-eqb (nearAt g i) x (sym is),
+                )
+            | no t ↦ rw (
+              getD-set-other lasts x z (i + 1) 0 t,
+              add-one i,
+              ne-eqb (nearAt g i) z (λ u. t (sym u ∙ sym is)),
+            ) (inv .last z k)
           ];
           full-fars = length-set fars i y ∙ inv .full-fars;
           full-befores = length-set befores i older ∙ inv .full-befores;

@@ -1,5 +1,5 @@
--- The loop of `set::members`: it looks at the lifetimes below 64 in turn and stores those that are members. What is left to store, stored
--- from here, gives what all members give from the start of the slice. Assumes nothing.
+-- The loop of `set::members`: it looks at the lifetimes below 64 in turn and stores those that are members. What is
+-- left to store, stored from here, gives what all members give from the start of the slice. Assumes nothing.
 use Prim.Native.Nat.{ℕ, suc, _+_, _-_, _≤_, _<_}
 use mathlib.Core.Bool.{true, false}
 use mathlib.Core.Path.{_≡_, refl, ap, _∙_}
@@ -61,7 +61,8 @@ pub record Listing (s : ℕ) (entry out : List ℕ) (at x : ℕ) : Type 0 where
 
 pub listing-start : (s : ℕ) (entry : List ℕ) {n : ℕ} → n ≡ count s → n ≤ length entry → Listing s entry entry 0 0
 unfolding left count members
-listing-start s entry e h = record { within = omega arith; places = zero-add (count s); words = refl; size = refl; room = omega arith }
+listing-start s entry e h =
+    record { within = omega arith; places = zero-add (count s); words = refl; size = refl; room = omega arith }
 
 module _ {s : ℕ} {entry out : List ℕ} {at x : ℕ} (inv : Listing s entry out at x) where
   -- a member has its place in the slice
@@ -100,5 +101,6 @@ module _ {s : ℕ} {entry out : List ℕ} {at x : ℕ} (inv : Listing s entry ou
   unfolding count
   listing-end {n} e h =
       let r : listMembers s (length entry) ≡ Gives (members s) = enough-room s (length entry) (inv .room) in
-      let all : sets entry 0 (members s) ≡ written (Gives (members s)) entry = rw (sets-eq (members s) entry 0 (omega (arith, inv .room)), zero-add) in
+      let all : sets entry 0 (members s) ≡ written (Gives (members s)) entry =
+      rw (sets-eq (members s) entry 0 (omega (arith, inv .room)), zero-add) in
       (rw (r, e), rw r (done h ∙ all))

@@ -1,11 +1,12 @@
--- Laws of the lists that bounds make, for both directions and both orders.
--- In order: `neighbours` (its members, and which it lacks), `push` (members and length), `unpushed` (what is left to push).
--- Not here: the walk (WalkLaws), what outlives what (OutlivesLaws).
+-- Laws of the lists that bounds make, for both directions and both orders. In order: `neighbours` (its members, and
+-- which it lacks), `push` (members and length), `unpushed` (what is left to push). Not here: the walk (WalkLaws), what
+-- outlives what (OutlivesLaws).
 use Prim.Native.Nat.{ℕ, suc, _+_, _≤_}
 use mathlib.Core.Bool.{Bool, true, false, cond}
 use mathlib.Core.Path.{_≡_, refl, sym, ap}
 use mathlib.Core.Logic.{_⊎_, inl, inr, ⊎-elim}
-use mathlib.Core.List.{List, [], _∷_, _++_, reverseAux, List·Memᴰ, List·Memᴰ·head, List·Memᴰ·tail, List·Memᴰ·cases-cons, List·Memᴰ·not-nil}
+use mathlib.Core.List.{List, [], _∷_, _++_, reverseAux, List·Memᴰ, List·Memᴰ·head, List·Memᴰ·tail, List·Memᴰ·cases-cons}
+use mathlib.Core.List.{List·Memᴰ·not-nil}
 use native.Mathlib.Omega.{arith}
 use borrow.Author.Tests.{eq-eqb, ne-eqb, eqb-true, eqb-false}
 use lib.Dec.{eqb}
@@ -19,12 +20,14 @@ use Rattle.lifetimes.proofs.SetLaws.{member-insert-same, member-insert-
 pub neighbours-has : (d : Bool) (bs : List Bound) (b : Bound) → List·Memᴰ b bs → List·Memᴰ (far d b) (neighbours d bs (near d b))
 unfolding neighbours
 neighbours-has d [] b m = absurd (List·Memᴰ·not-nil m)
-neighbours-has d (a ∷ bs) b m = ⊎-elim here (λ k. there (eqb (near d a) (near d b)) (neighbours-has d bs b k)) (List·Memᴰ·cases-cons m)
+neighbours-has d (a ∷ bs) b m =
+    ⊎-elim here (λ k. there (eqb (near d a) (near d b)) (neighbours-has d bs b k)) (List·Memᴰ·cases-cons m)
   where
     here : b ≡ a → List·Memᴰ (far d b) (neighbours d (a ∷ bs) (near d b))
     here e = rw (eq-eqb (near d a) (near d b) (ap (near d) (sym e))) (List·Memᴰ·head (ap (far d) e))
 
-    there : (t : Bool) → List·Memᴰ (far d b) (neighbours d bs (near d b)) → List·Memᴰ (far d b) (cond t (far d a ∷ neighbours d bs (near d b)) (neighbours d bs (near d b)))
+    there : (t : Bool) → List·Memᴰ (far d b) (neighbours d bs (near d b))
+        → List·Memᴰ (far d b) (cond t (far d a ∷ neighbours d bs (near d b)) (neighbours d bs (near d b)))
     there true k = List·Memᴰ·tail k
     there false k = k
 
@@ -51,7 +54,8 @@ neighbours-only d (a ∷ bs) x y m = go (eqb (near d a) x) refl (neighbours-only
     go false h r m = more (r m)
 
 -- a lifetime that is no bound's near side has no neighbours
-pub neighbours-none : (d : Bool) (bs : List Bound) (x : ℕ) → ((b : Bound) → List·Memᴰ b bs → near d b ≡ x → ⊥) → neighbours d bs x ≡ []
+pub neighbours-none : (d : Bool) (bs : List Bound) (x : ℕ) → ((b : Bound) → List·Memᴰ b bs → near d b ≡ x → ⊥)
+    → neighbours d bs x ≡ []
 unfolding neighbours
 neighbours-none d [] x h = refl
 neighbours-none d (b ∷ bs) x h =
@@ -60,7 +64,9 @@ neighbours-none d (b ∷ bs) x h =
 -- members of what is pending after a push
 pub reversed-in : {A : Type 0} {y : A} (l p : List A) → List·Memᴰ y (reverseAux l p) → List·Memᴰ y l ⊎ List·Memᴰ y p
 reversed-in [] p m = inr m
-reversed-in (x ∷ l) p m = ⊎-elim (λ h. inl (List·Memᴰ·tail h)) (λ h. ⊎-elim (λ e. inl (List·Memᴰ·head e)) (λ k. inr k) (List·Memᴰ·cases-cons h)) (reversed-in l (x ∷ p) m)
+reversed-in (x ∷ l) p m =
+    ⊎-elim (λ h. inl (List·Memᴰ·tail h))
+    (λ h. ⊎-elim (λ e. inl (List·Memᴰ·head e)) (λ k. inr k) (List·Memᴰ·cases-cons h)) (reversed-in l (x ∷ p) m)
 
 reversed-old : {y : ℕ} (l p : List ℕ) → List·Memᴰ y p → List·Memᴰ y (reverseAux l p)
 reversed-old [] p m = m
@@ -72,7 +78,9 @@ reversed-new (x ∷ l) p m = ⊎-elim (λ e. reversed-old l (x ∷ p) (List·Mem
 
 joined-in : {y : ℕ} (l p : List ℕ) → List·Memᴰ y (l ++ p) → List·Memᴰ y l ⊎ List·Memᴰ y p
 joined-in [] p m = inr m
-joined-in (x ∷ l) p m = ⊎-elim (λ e. inl (List·Memᴰ·head e)) (λ k. ⊎-elim (λ h. inl (List·Memᴰ·tail h)) (λ h. inr h) (joined-in l p k)) (List·Memᴰ·cases-cons m)
+joined-in (x ∷ l) p m =
+    ⊎-elim (λ e. inl (List·Memᴰ·head e)) (λ k. ⊎-elim (λ h. inl (List·Memᴰ·tail h)) (λ h. inr h) (joined-in l p k))
+    (List·Memᴰ·cases-cons m)
 
 joined-old : {y : ℕ} (l p : List ℕ) → List·Memᴰ y p → List·Memᴰ y (l ++ p)
 joined-old [] p m = m
@@ -112,7 +120,8 @@ unpushed-all d (b ∷ bs) s = go (member s (near d b)) (unpushed-all d bs s)
     go true h = omega arith
     go false h = omega arith
 
-pub unpushed-insert : (d : Bool) (bs : List Bound) (s x : ℕ) → member s x ≡ false → unpushed d bs (insert s x) + length (neighbours d bs x) ≡ unpushed d bs s
+pub unpushed-insert : (d : Bool) (bs : List Bound) (s x : ℕ) → member s x ≡ false
+    → unpushed d bs (insert s x) + length (neighbours d bs x) ≡ unpushed d bs s
 unfolding unpushed neighbours
 unpushed-insert d [] s x h = refl
 unpushed-insert d (b ∷ bs) s x h = go (eqb (near d b) x) refl (unpushed-insert d bs s x h)
@@ -124,7 +133,9 @@ unpushed-insert d (b ∷ bs) s x h = go (eqb (near d b) x) refl (unpushed-insert
     go true e r = rw (eqb-true (near d b) x e, member-insert-same s x, h) (omega arith)
     go false e r = rw (member-insert-other s x (near d b) (λ q. eqb-false (near d b) x e (sym q))) (same (member s (near d b)))
       where
-        same : (t : Bool) → cond t (unpushed d bs (insert s x)) (suc (unpushed d bs (insert s x))) + length (neighbours d bs x) ≡ cond t (unpushed d bs s) (suc (unpushed d bs s))
+        same : (t : Bool)
+            → cond t (unpushed d bs (insert s x)) (suc (unpushed d bs (insert s x))) + length (neighbours d bs x)
+            ≡ cond t (unpushed d bs s) (suc (unpushed d bs s))
         same true = r
         same false = omega arith
 

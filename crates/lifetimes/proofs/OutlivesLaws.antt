@@ -1,10 +1,11 @@
--- Laws of outlives.
--- In order: it is the least such relation; monotone in the bounds; turned round; with one bound added. Toward: along a bound, transitive, and by what bounds hand on.
+-- Laws of outlives. In order: it is the least such relation; monotone in the bounds; turned round; with one bound
+-- added. Toward: along a bound, transitive, and by what bounds hand on.
 use Prim.Native.Nat.{ℕ}
 use mathlib.Core.Bool.{Bool, true, false}
 use mathlib.Core.Path.{_≡_, refl, ap, subst}
 use mathlib.Core.Logic.{_⊎_, inl, inr, ⊎-elim, _↔_}
-use mathlib.Core.List.{List, [], _∷_, _++_, map, List·Memᴰ, List·Memᴰ·head, List·Memᴰ·tail, List·Memᴰ·cases-cons, List·Memᴰ·not-nil, List·Memᴰ·append-cases, List·Memᴰ·eq-of-singleton}
+use mathlib.Core.List.{List, [], _∷_, _++_, map, List·Memᴰ, List·Memᴰ·head, List·Memᴰ·tail, List·Memᴰ·cases-cons}
+use mathlib.Core.List.{List·Memᴰ·not-nil, List·Memᴰ·append-cases, List·Memᴰ·eq-of-singleton}
 use Rattle.lifetimes.specs.declared.env.Bound.{Bound}
 use Rattle.lifetimes.specs.Walk.{near, far}
 use Rattle.lifetimes.specs.Outlives.{Outlives, itself, by-bound, through, Toward}
@@ -17,7 +18,8 @@ least bs R r t h (by-bound {b} k) = h b k
 least bs R r t h (through {x} {y} {z} p q) = t x y z (least bs R r t h p) (least bs R r t h q)
 
 -- more bounds, more reach
-pub outlives-more : (bs cs : List Bound) → ((b : Bound) → List·Memᴰ b bs → List·Memᴰ b cs) → {x y : ℕ} → Outlives bs x y → Outlives cs x y
+pub outlives-more : (bs cs : List Bound) → ((b : Bound) → List·Memᴰ b bs → List·Memᴰ b cs) → {x y : ℕ} → Outlives bs x y
+    → Outlives cs x y
 outlives-more bs cs sub = least bs (Outlives cs) (λ x. itself) (λ x y z p q. through p q) (λ b k. by-bound (sub b k))
 
 -- bounds turned round
@@ -29,14 +31,19 @@ map-has f [] a m = absurd (List·Memᴰ·not-nil m)
 map-has f (x ∷ l) a m = ⊎-elim (λ e. List·Memᴰ·head (ap f e)) (λ k. List·Memᴰ·tail (map-has f l a k)) (List·Memᴰ·cases-cons m)
 
 turned-there : (bs : List Bound) {x y : ℕ} → Outlives bs x y → Outlives (map turned bs) y x
-turned-there bs = least bs (λ x y. Outlives (map turned bs) y x) (λ x. itself) (λ x y z p q. through q p) (λ b k. by-bound (map-has turned bs b k))
+turned-there bs =
+    least bs (λ x y. Outlives (map turned bs) y x) (λ x. itself) (λ x y z p q. through q p)
+    (λ b k. by-bound (map-has turned bs b k))
 
 turned-twice : (bs : List Bound) → map turned (map turned bs) ≡ bs
 turned-twice [] = refl
 turned-twice (b ∷ bs) = ap (λ (l : List Bound). b ∷ l) (turned-twice bs)
 
 pub outlives-turned : (bs : List Bound) (x y : ℕ) → Outlives (map turned bs) x y ↔ Outlives bs y x
-outlives-turned bs x y = (λ h. subst (λ (cs : List Bound). Outlives cs y x) (turned-twice bs) (turned-there (map turned bs) h), turned-there bs)
+outlives-turned bs x y = (
+  λ h. subst (λ (cs : List Bound). Outlives cs y x) (turned-twice bs) (turned-there (map turned bs) h),
+  turned-there bs,
+)
 
 -- one bound added: what outlived still does; else it goes once over the new bound
 module _ (bs : List Bound) (b : Bound) where
@@ -52,7 +59,9 @@ module _ (bs : List Bound) (b : Bound) where
 
   added-bound : (a : Bound) → List·Memᴰ a (bs ++ (b ∷ [])) → Added (a .longer) (a .shorter)
   unfolding Added
-  added-bound a m = ⊎-elim (λ k. inl (by-bound k)) (λ k. let e = List·Memᴰ·eq-of-singleton k in inr (rw e itself, rw e itself)) (List·Memᴰ·append-cases bs m)
+  added-bound a m =
+      ⊎-elim (λ k. inl (by-bound k)) (λ k. let e = List·Memᴰ·eq-of-singleton k in inr (rw e itself, rw e itself))
+      (List·Memᴰ·append-cases bs m)
 
   append-left : (cs ds : List Bound) (a : Bound) → List·Memᴰ a cs → List·Memᴰ a (cs ++ ds)
   append-left [] ds a m = absurd (List·Memᴰ·not-nil m)
@@ -62,7 +71,8 @@ module _ (bs : List Bound) (b : Bound) where
   append-last [] = List·Memᴰ·head refl
   append-last (c ∷ cs) = List·Memᴰ·tail (append-last cs)
 
-  pub outlives-added : (x y : ℕ) → Outlives (bs ++ (b ∷ [])) x y ↔ (Outlives bs x y ⊎ (Outlives bs (b .shorter) y × Outlives bs x (b .longer)))
+  pub outlives-added : (x y : ℕ) → Outlives (bs ++ (b ∷ [])) x y
+      ↔ (Outlives bs x y ⊎ (Outlives bs (b .shorter) y × Outlives bs x (b .longer)))
   unfolding Added
   outlives-added x y = (least (bs ++ (b ∷ [])) Added (λ z. inl itself) added-trans added-bound, back)
     where
@@ -87,6 +97,7 @@ toward-bound true bs b k = by-bound k
 toward-bound false bs b k = by-bound k
 
 -- what each bound hands on from its near side to its far side is handed on all the way
-pub toward-hands-on : (d : Bool) (bs : List Bound) (P : ℕ → Type 0) → ((b : Bound) → List·Memᴰ b bs → P (near d b) → P (far d b)) → (x y : ℕ) → Toward d bs x y → P x → P y
+pub toward-hands-on : (d : Bool) (bs : List Bound) (P : ℕ → Type 0)
+    → ((b : Bound) → List·Memᴰ b bs → P (near d b) → P (far d b)) → (x y : ℕ) → Toward d bs x y → P x → P y
 toward-hands-on true bs P on x y h = least bs (λ u v. P v → P u) (λ u k. k) (λ u v w p q k. p (q k)) on h
 toward-hands-on false bs P on x y h = least bs (λ u v. P u → P v) (λ u k. k) (λ u v w p q k. q (p k)) on h

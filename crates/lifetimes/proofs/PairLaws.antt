@@ -1,9 +1,10 @@
--- Pairs longer, shorter as words: how a loop reads them, and the loops of `pairs_below` and `filled`. Then the answers of `LifetimeEnv::new`.
-use Prim.Native.Nat.{ℕ, zero, suc, _+_, _-_, _/_, _%_, _≤_, _<_}
+-- Pairs longer, shorter as words: how a loop reads them, and the loops of `pairs_below` and `filled`. Then the answers
+-- of `LifetimeEnv::new`.
+use Prim.Native.Nat.{ℕ, suc, _+_, _-_, _/_, _%_, _≤_, _<_}
 use mathlib.Core.Bool.{true, false, and-eq-true-iff}
 use mathlib.Core.Path.{_≡_, refl, ap, _∙_}
 use mathlib.Core.List.{List, [], _∷_, _++_}
-use native.Mathlib.Nat.{zero-add, sub-zero, zero-sub, suc-sub-suc}
+use native.Mathlib.Nat.{zero-add}
 use native.Mathlib.Numerals.{add-one}
 use native.Mathlib.Omega.{arith}
 use borrow.Author.Tests.{eq-eqb, ne-eqb, lt-ltb, ltb-true}
@@ -19,6 +20,7 @@ use Rattle.lifetimes.specs.declared.env.Made.{Made}
 use Rattle.lifetimes.specs.Refusals.{FirstDue, here, later, NoneDue, next}
 use Rattle.lifetimes.specs.Env.{above, bothBelow, allBelow, limitChecks, pairsOf, newChecks, envOf, newEnv, made}
 use Rattle.lifetimes.proofs.RefusalLaws.{due-given, due-refused}
+use Rattle.lifetimes.proofs.Copying.{drop-replicate}
 
 -- ---- reading the pairs, from the first to the last
 
@@ -69,7 +71,8 @@ module _ {limit : ℕ} {words : List ℕ} {i : ℕ} (inv : Below limit words i) 
   below-end h = rw (inv .left, pairs-end words i h)
 
   module _ (h : i < length words) where
-    pub below-refused : bothBelow limit (above (getD words i 0) (getD words (i + 1) 0)) ≡ false → false ≡ allBelow limit (pairsOf words)
+    pub below-refused : bothBelow limit (above (getD words i 0) (getD words (i + 1) 0)) ≡ false
+        → false ≡ allBelow limit (pairsOf words)
     unfolding allBelow
     below-refused f = rw (inv .left, pair-read (inv .at) h, f)
 
@@ -86,17 +89,15 @@ pub record Filling (words : List ℕ) (bounds : List Bound) (pushed i : ℕ) : T
   pub stored : sets bounds pushed (pairsOf (drop i words)) ≡ sets (replicate 256 (above 0 0)) 0 (pairsOf words)
   pub small : allBelow 256 (pairsOf (drop i words)) ≡ true
 
-pub filling-start : (words : List ℕ) → length words % 2 ≡ 0 → allBelow 256 (pairsOf words) ≡ true → {b : Bound} → b ≡ above 0 0 → Filling words (replicate 256 b) 0 0
-filling-start words e small {b} q = record { at = at-start words e; places = zero-add (length (pairsOf words)); stored = rw q; small = small }
-
-drop-replicate : {A : Type 0} (n m : ℕ) (x : A) → drop n (replicate m x) ≡ replicate (m - n) x
-drop-replicate zero m x = rw sub-zero
-drop-replicate (suc n) zero x = rw zero-sub
-drop-replicate (suc n) (suc m) x = rw suc-sub-suc (drop-replicate n m x)
+pub filling-start : (words : List ℕ) → length words % 2 ≡ 0 → allBelow 256 (pairsOf words) ≡ true → {b : Bound}
+    → b ≡ above 0 0 → Filling words (replicate 256 b) 0 0
+filling-start words e small {b} q =
+    record { at = at-start words e; places = zero-add (length (pairsOf words)); stored = rw q; small = small }
 
 module _ {words : List ℕ} {bounds : List Bound} {pushed i : ℕ} (inv : Filling words bounds pushed i) where
   module _ (h : i < length words) where
-    sides-here : (bothBelow 256 (above (getD words i 0) (getD words (i + 1) 0)) ≡ true) × (allBelow 256 (pairsOf (drop (i + 2) words)) ≡ true)
+    sides-here : (bothBelow 256 (above (getD words i 0) (getD words (i + 1) 0)) ≡ true)
+        × (allBelow 256 (pairsOf (drop (i + 2) words)) ≡ true)
     unfolding allBelow
     sides-here = (and-eq-true-iff _ _) .0 (rw (pair-read (inv .at) h) at (inv .small))
 
@@ -105,7 +106,8 @@ module _ {words : List ℕ} {bounds : List Bound} {pushed i : ℕ} (inv : Fillin
         let sides = (and-eq-true-iff (ltb (getD words i 0) 256) (ltb (getD words (i + 1) 0) 256)) .0 (sides-here .0) in
         (ltb-true (getD words i 0) 256 (sides .0), ltb-true (getD words (i + 1) 0) 256 (sides .1))
 
-    pub filling-more : {b : Bound} → b ≡ above (getD words i 0) (getD words (i + 1) 0) → Filling words (set bounds pushed b) (pushed + 1) (i + 2)
+    pub filling-more : {b : Bound} → b ≡ above (getD words i 0) (getD words (i + 1) 0)
+        → Filling words (set bounds pushed b) (pushed + 1) (i + 2)
     filling-more {b} q =
         let e = pair-read (inv .at) h in
         record {
@@ -150,7 +152,8 @@ module _ (declared count : ℕ) (words : List ℕ) where
     new-refused f e = refused-by (later (ne-eqb (length words % 2) 1 even) f) e
 
     pub new-given : {e : LifetimeEnv} → NoneDue (limitChecks declared count (length words / 2) (pairsOf words))
-        → e ≡ envOf declared count (pairsOf words) → record { verdict = Accepted; env = e } ≡ made (envOf 0 0 []) (newEnv declared count words)
+        → e ≡ envOf declared count (pairsOf words)
+        → record { verdict = Accepted; env = e } ≡ made (envOf 0 0 []) (newEnv declared count words)
     unfolding newEnv
     new-given n e =
         let none : NoneDue (newChecks declared count words) = next (ne-eqb (length words % 2) 1 even) n in

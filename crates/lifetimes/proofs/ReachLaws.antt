@@ -1,9 +1,11 @@
--- What a traversal lists, for both directions and both orders: what is toward its start, that is, what outlives it or what it outlives; and what the numberings say.
+-- What a traversal lists, for both directions and both orders: what is toward its start, that is, what outlives it or
+-- what it outlives; and what the numberings say.
 use Prim.Native.Nat.{ℕ, _≤_, _<_}
 use mathlib.Core.Bool.{Bool, true, true≢false}
 use mathlib.Core.Path.{_≡_, refl, sym, subst, _∙_}
 use mathlib.Core.Logic.{inl, inr, ⊎-elim, _↔_}
-use mathlib.Core.List.{List, [], _∷_, List·Memᴰ, List·Memᴰ·head, List·Memᴰ·tail, List·Memᴰ·cases-cons, List·Memᴰ·not-nil, List·Memᴰ·eq-of-singleton, List·Nodup}
+use mathlib.Core.List.{List, [], _∷_, List·Memᴰ, List·Memᴰ·head, List·Memᴰ·tail, List·Memᴰ·cases-cons}
+use mathlib.Core.List.{List·Memᴰ·not-nil, List·Memᴰ·eq-of-singleton, List·Nodup}
 use native.Mathlib.Decide.{ℕ-discrete}
 use lib.ListN.{length}
 use Rattle.lifetimes.specs.declared.env.Bound.{Bound}
@@ -13,7 +15,8 @@ use Rattle.lifetimes.specs.Index.{linkedIn}
 use Rattle.lifetimes.specs.Outlives.{Outlives, Toward, ForcedIn}
 use Rattle.lifetimes.proofs.SetLaws.{member-empty}
 use Rattle.lifetimes.proofs.NeighbourLaws.{neighbours-none, push-nil}
-use Rattle.lifetimes.proofs.WalkLaws.{Walks, walks, walks-same, walk-nil, walk-new, Met, walks-only, walks-all, walks-closed, walks-once, walks-linked, unseen-empty, walks-few}
+use Rattle.lifetimes.proofs.WalkLaws.{Walks, walks, walks-same, walk-nil, walk-new, Met, walks-only, walks-all}
+use Rattle.lifetimes.proofs.WalkLaws.{walks-closed, walks-once, walks-linked, unseen-empty, walks-few}
 use Rattle.lifetimes.proofs.OutlivesLaws.{least, toward-itself, toward-through, toward-bound, toward-hands-on}
 
 module _ (o : Order) (d : Bool) (bs : List Bound) (k : ℕ) where
@@ -32,12 +35,14 @@ module _ (o : Order) (d : Bool) (bs : List Bound) (k : ℕ) where
   closed b i j = met (far d b) (walks-closed o d bs traverses b i j)
 
   -- what the start has and bounds hand on, all that is listed has
-  pub traversal-only : (P : ℕ → Type 0) → ((b : Bound) → List·Memᴰ b bs → P (near d b) → P (far d b)) → P k → (y : ℕ) → List·Memᴰ y (traversal o d bs k) → P y
+  pub traversal-only : (P : ℕ → Type 0) → ((b : Bound) → List·Memᴰ b bs → P (near d b) → P (far d b)) → P k → (y : ℕ)
+      → List·Memᴰ y (traversal o d bs k) → P y
   traversal-only P on h = walks-only o d bs P on traverses (λ y i. subst P (sym (List·Memᴰ·eq-of-singleton i)) h)
 
   pub listed-toward : (y : ℕ) → List·Memᴰ y (traversal o d bs k) ↔ Toward d bs k y
   listed-toward y = (
-    traversal-only (Toward d bs k) (λ b i h. toward-through d bs k (near d b) (far d b) h (toward-bound d bs b i)) (toward-itself d bs k) y,
+    traversal-only (Toward d bs k) (λ b i h. toward-through d bs k (near d b) (far d b) h (toward-bound d bs b i))
+        (toward-itself d bs k) y,
     λ h. toward-hands-on d bs (λ z. List·Memᴰ z (traversal o d bs k)) closed k y h has-start,
   )
 
@@ -58,7 +63,9 @@ module _ (o : Order) (d : Bool) (bs : List Bound) (k : ℕ) where
 
 -- the AST's order over the bounds is the HIR's over the bounds reversed
 pub traversal-linked : (o : Order) (d : Bool) (bs : List Bound) (k : ℕ) → traversal LastFirst d (linkedIn o bs) k ≡ traversal o d bs k
-traversal-linked o d bs k = walks-same LastFirst d (linkedIn o bs) (traverses LastFirst d (linkedIn o bs) k) (walks-linked o d bs (traverses o d bs k))
+traversal-linked o d bs k =
+    walks-same LastFirst d (linkedIn o bs) (traverses LastFirst d (linkedIn o bs) k)
+    (walks-linked o d bs (traverses o d bs k))
 
 listed? : (y : ℕ) (l : List ℕ) → Dec (List·Memᴰ y l)
 listed? y [] = no List·Memᴰ·not-nil
@@ -69,10 +76,11 @@ listed? y (x ∷ l) = go (ℕ-discrete y x) (listed? y l)
     go (no n) (yes k) = yes (List·Memᴰ·tail k)
     go (no n) (no k) = no (λ m. ⊎-elim n k (List·Memᴰ·cases-cons m))
 
--- Forced above, in any ordered numbers with two that differ: outlives forces it, and the numbering that is high on what outlives a and low elsewhere tells the rest apart
+-- Forced above, in any ordered numbers with two that differ: outlives forces it, and the numbering that is high on what
+-- outlives a and low elsewhere tells the rest apart
 module _ (N : Type 0) (below : N → N → Type 0) (same : (x : N) → below x x) (on : (x y z : N) → below x y → below y z → below x z)
     (low high : N) (low-high : below low high) (apart : below high low → ⊥) where
-  pub outlives-forces : (bs : List Bound) {b a : ℕ} → Outlives bs b a → ForcedIn N below bs a b
+  pub outlives-forces : (bs : List Bound) {b a : ℕ} → Outlives bs b a → ForcedIn N below bs b a
   outlives-forces bs h v r = least bs (λ y x. below (v x) (v y)) (λ x. same (v x)) (λ x y z p q. on (v z) (v y) (v x) q p) r h
 
   weight : {P : Type 0} → Dec P → N
@@ -92,9 +100,11 @@ module _ (N : Type 0) (below : N → N → Type 0) (same : (x : N) → below x x
   weight-told h (yes i) (no k) l = absurd (apart l)
   weight-told h (no n) (no k) l = absurd (n h)
 
-  pub forced-outlives : (bs : List Bound) (a b : ℕ) → ForcedIn N below bs a b → Outlives bs b a
+  pub forced-outlives : (bs : List Bound) (a b : ℕ) → ForcedIn N below bs b a → Outlives bs b a
   forced-outlives bs a b h =
-      (listed-toward LastFirst true bs a b) .0 (weight-told (has-start LastFirst true bs a) (listed? _ _) (listed? _ _) (h v (λ c i. weight-more (closed LastFirst true bs a c i) (listed? _ _) (listed? _ _))))
+      (listed-toward LastFirst true bs a b) .0
+      (weight-told (has-start LastFirst true bs a) (listed? _ _) (listed? _ _)
+      (h v (λ c i. weight-more (closed LastFirst true bs a c i) (listed? _ _) (listed? _ _))))
     where
       v : ℕ → N
       v z = weight (listed? z (traversal LastFirst true bs a))

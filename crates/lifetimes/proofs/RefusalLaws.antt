@@ -1,4 +1,5 @@
--- Laws of the checks: the refusal that `unless` gives is the first due, and both ways; what none being due says; what a verdict says; more checks at the end.
+-- Laws of the checks: the refusal that `unless` gives is the first due, and both ways; what none being due says; what a
+-- verdict says; more checks at the end.
 use mathlib.Core.Bool.{Bool, true, false, cond}
 use mathlib.Core.Path.{_≡_, refl}
 use mathlib.Core.List.{List, [], _∷_, _++_}
@@ -6,7 +7,8 @@ use Prim.Native.Nat.{ℕ}
 use native.Mathlib.Omega.{arith}
 use Rattle.lifetimes.specs.declared.answer.Refusal.{Refusal}
 use Rattle.lifetimes.specs.declared.answer.Verdict.the-variants as verdict
-use Rattle.lifetimes.specs.Refusals.{Check, Outcome, Gives, Refuses, unless, FirstDue, here, later, NoneDue, end, next}
+use Rattle.lifetimes.specs.Refusals.{Check, Outcome, Gives, Refuses, unless, FirstDue, here, later, NoneDue, end}
+use Rattle.lifetimes.specs.Refusals.{next}
 use Rattle.lifetimes.specs.Lent.{verdictOf}
 
 module _ {A : Type 0} (a : A) where
@@ -25,7 +27,8 @@ module _ {A : Type 0} (a : A) where
   refused-due r [] e = let z : _≡_ {A = ℕ} 0 1 = cc in absurd (omega arith)
   refused-due r (c ∷ cs) e = go (c .due) refl (refused-due r cs) e
     where
-      go : (t : Bool) → c .due ≡ t → (unless cs a ≡ Refuses r → FirstDue r cs) → cond t (Refuses (c .refusal)) (unless cs a) ≡ Refuses r → FirstDue r (c ∷ cs)
+      go : (t : Bool) → c .due ≡ t → (unless cs a ≡ Refuses r → FirstDue r cs)
+          → cond t (Refuses (c .refusal)) (unless cs a) ≡ Refuses r → FirstDue r (c ∷ cs)
       go true h f e = here {c = c} {cs = cs} h (cc)
       go false h f e = later h (f e)
 
@@ -34,7 +37,8 @@ module _ {A : Type 0} (a : A) where
   given-due b [] e = (end, cc)
   given-due b (c ∷ cs) e = go (c .due) refl (given-due b cs) e
     where
-      go : (t : Bool) → c .due ≡ t → (unless cs a ≡ Gives b → NoneDue cs × (a ≡ b)) → cond t (Refuses (c .refusal)) (unless cs a) ≡ Gives b → NoneDue (c ∷ cs) × (a ≡ b)
+      go : (t : Bool) → c .due ≡ t → (unless cs a ≡ Gives b → NoneDue cs × (a ≡ b))
+          → cond t (Refuses (c .refusal)) (unless cs a) ≡ Gives b → NoneDue (c ∷ cs) × (a ≡ b)
       go true h f e = let z : _≡_ {A = ℕ} 0 1 = cc in absurd (omega arith)
       go false h f e = (next h ((f e) .0), (f e) .1)
 

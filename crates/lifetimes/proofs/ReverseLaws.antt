@@ -50,23 +50,28 @@ pub place-below : (ast : Bool) (n i at : ℕ) → i < n → at ≡ cond ast (n -
 place-below true n i at h is = omega arith
 place-below false n i at h is = omega arith
 
-pub linked-at : (ast : Bool) (e : LifetimeEnv) (i at : ℕ) → length (boundsOf e) ≡ e .pushed → i < e .pushed → at ≡ cond ast (e .pushed - 1 - i) i
+pub linked-at : (ast : Bool) (e : LifetimeEnv) (i at : ℕ) → length (boundsOf e) ≡ e .pushed → i < e .pushed
+    → at ≡ cond ast (e .pushed - 1 - i) i
     → getD (linkedIn (orderOf ast) (boundsOf e)) i (above 0 0) ≡ getD (e .bounds) at (above 0 0)
 linked-at false e i at all h is = rw is (getD-take (e .pushed) (e .bounds) i (above 0 0) h)
 linked-at true e i at all h is =
-    rw (is, getD-reverse (boundsOf e) i (above 0 0) (omega arith), all) (getD-take (e .pushed) (e .bounds) (e .pushed - 1 - i) (above 0 0) (omega arith))
+    rw (is, getD-reverse (boundsOf e) i (above 0 0) (omega arith), all)
+    (getD-take (e .pushed) (e .bounds) (e .pushed - 1 - i) (above 0 0) (omega arith))
 
 -- a lifetime's list is reversed with the bounds, and a list that is reversed twice is pushed in its own order
-neighbours-reversed : (d : Bool) (bs cs : List Bound) (x : ℕ) → neighbours d (reverseAux bs cs) x ≡ reverseAux (neighbours d bs x) (neighbours d cs x)
+neighbours-reversed : (d : Bool) (bs cs : List Bound) (x : ℕ)
+    → neighbours d (reverseAux bs cs) x ≡ reverseAux (neighbours d bs x) (neighbours d cs x)
 unfolding neighbours
 neighbours-reversed d [] cs x = refl
 neighbours-reversed d (b ∷ bs) cs x = neighbours-reversed d bs (b ∷ cs) x ∙ go (eqb (near d b) x)
   where
-    go : (t : Bool) → reverseAux (neighbours d bs x) (cond t (far d b ∷ neighbours d cs x) (neighbours d cs x)) ≡ reverseAux (cond t (far d b ∷ neighbours d bs x) (neighbours d bs x)) (neighbours d cs x)
+    go : (t : Bool) → reverseAux (neighbours d bs x) (cond t (far d b ∷ neighbours d cs x) (neighbours d cs x))
+        ≡ reverseAux (cond t (far d b ∷ neighbours d bs x) (neighbours d bs x)) (neighbours d cs x)
     go true = refl
     go false = refl
 
-pub push-linked : (o : Order) (d : Bool) (bs : List Bound) (x : ℕ) (p : List ℕ) → push LastFirst (neighbours d (linkedIn o bs) x) p ≡ push o (neighbours d bs x) p
+pub push-linked : (o : Order) (d : Bool) (bs : List Bound) (x : ℕ) (p : List ℕ)
+    → push LastFirst (neighbours d (linkedIn o bs) x) p ≡ push o (neighbours d bs x) p
 unfolding neighbours
 push-linked LastFirst d bs x p = refl
 push-linked FirstFirst d bs x p =

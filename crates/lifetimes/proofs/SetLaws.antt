@@ -5,8 +5,10 @@ use Prim.Native.Nat.{ℕ, zero, suc, _+_, _-_, _/_, _%_, _^_, _≤_, _<_}
 use mathlib.Core.Bool.{Bool, true, false, cond, _||_, true≢false, false≢true}
 use mathlib.Core.Logic.{_⊎_, inl, inr, ⊎-elim, _↔_, ∥∥₁-elim, ∥∥₁-map}
 use mathlib.Core.Path.{_≡_, refl, sym, ap, _∙_}
-use mathlib.Core.List.{List, [], _∷_, _++_, List·Memᴰ, List·Memᴰ·head, List·Memᴰ·tail, List·Memᴰ·not-nil, List·Memᴰ·cases-cons, List·Nodup, Pairwise, Pairwise·nil, Pairwise·cons, Pairwise·imp}
-use native.Mathlib.Nat.{zero-div, div-one, div-self, div-eq-of-lt, div-div-eq-div-mul, mul-mod-left, pow-suc, pow-succ', lt-of-lt-of-le}
+use mathlib.Core.List.{List, [], _∷_, _++_, List·Memᴰ, List·Memᴰ·head, List·Memᴰ·tail, List·Memᴰ·not-nil}
+use mathlib.Core.List.{List·Memᴰ·cases-cons, List·Nodup, Pairwise, Pairwise·nil, Pairwise·cons, Pairwise·imp}
+use native.Mathlib.Nat.{zero-div, div-one, div-self, div-eq-of-lt, div-div-eq-div-mul, mul-mod-left, pow-suc, pow-succ'}
+use native.Mathlib.Nat.{lt-of-lt-of-le}
 use native.Mathlib.Decide.{decLt, ℕ-discrete}
 use native.Mathlib.Bridge.{le-prop}
 use native.Mathlib.Numerals.{add-one}
@@ -38,7 +40,8 @@ unfolding ascending
 ascending-has x zero y = (λ m. absurd (List·Memᴰ·not-nil m), λ h. absurd (omega arith))
 ascending-has x (suc n) y =
     let rest = ascending-has (suc x) n y in (
-      λ m. ⊎-elim (λ (e : y ≡ x). (omega arith, omega arith)) (λ k. let r = rest .0 k in (omega arith, omega arith)) (List·Memᴰ·cases-cons m),
+      λ m. ⊎-elim (λ (e : y ≡ x). (omega arith, omega arith)) (λ k. let r = rest .0 k in (omega arith, omega arith))
+          (List·Memᴰ·cases-cons m),
       λ h. elim (ℕ-discrete y x) [ yes e ↦ List·Memᴰ·head e | no a ↦ List·Memᴰ·tail (rest .1 (omega arith, omega arith)) ],
     )
 
@@ -60,7 +63,8 @@ select-has f (x ∷ l) y = go (f x) refl (select-has f l y)
     go : (t : Bool) → f x ≡ t → List·Memᴰ y (select f l) ↔ (List·Memᴰ y l × (f y ≡ true))
         → List·Memᴰ y (cond t (x ∷ select f l) (select f l)) ↔ (List·Memᴰ y (x ∷ l) × (f y ≡ true))
     go true e rest = (
-      λ m. ⊎-elim (λ q. (List·Memᴰ·head q, ap f q ∙ e)) (λ k. let r = rest .0 k in (List·Memᴰ·tail (r .0), r .1)) (List·Memᴰ·cases-cons m),
+      λ m. ⊎-elim (λ q. (List·Memᴰ·head q, ap f q ∙ e)) (λ k. let r = rest .0 k in (List·Memᴰ·tail (r .0), r .1))
+          (List·Memᴰ·cases-cons m),
       λ h. ⊎-elim (λ q. List·Memᴰ·head q) (λ k. List·Memᴰ·tail (rest .1 (k, h .1))) (List·Memᴰ·cases-cons (h .0)),
     )
     go false e rest = (
@@ -149,7 +153,8 @@ member-insert-false s x y h = (apart, sym (member-insert-other s x y apart) ∙ 
 -- a member stays one
 pub member-insert-keeps : (s x y : ℕ) → member s y ≡ true → member (insert s x) y ≡ true
 member-insert-keeps s x y h =
-    elim (ℕ-discrete x y) [ yes e ↦ ap (member (insert s x)) (sym e) ∙ member-insert-same s x | no n ↦ member-insert-other s x y n ∙ h ]
+    elim (ℕ-discrete x y)
+    [ yes e ↦ ap (member (insert s x)) (sym e) ∙ member-insert-same s x | no n ↦ member-insert-other s x y n ∙ h ]
 
 pub insert-lt : (w s x : ℕ) → s < 2 ^ w → x < w → insert s x < 2 ^ w
 unfolding insert
@@ -196,7 +201,9 @@ union-lt w s t hs ht = or-lt w s t hs ht
 pub same-members : (w s t : ℕ) → s < 2 ^ w → t < 2 ^ w → ((x : ℕ) → x < w → member s x ≡ member t x) → s ≡ t
 same-members zero s t hs ht h = omega arith
 same-members (suc w) s t hs ht h =
-    let high = same-members w (s / 2) (t / 2) (half-lt w s hs) (half-lt w t ht) (λ x k. sym (member-suc s x) ∙ h (suc x) (omega arith) ∙ member-suc t x) in
+    let high =
+    same-members w (s / 2) (t / 2) (half-lt w s hs) (half-lt w t ht)
+    (λ x k. sym (member-suc s x) ∙ h (suc x) (omega arith) ∙ member-suc t x) in
     let low = digit (s % 2) (t % 2) (omega arith) (omega arith) (sym (member-zero s) ∙ h 0 (omega arith) ∙ member-zero t) in
     omega arith
   where
@@ -221,7 +228,8 @@ members-has s x =
 ascending-pairwise : (x n : ℕ) → Pairwise _<_ (ascending x n)
 unfolding ascending
 ascending-pairwise x zero = Pairwise·nil
-ascending-pairwise x (suc n) = Pairwise·cons (λ y m. ∥∥₁-elim m le-prop (λ d. ascending-has (suc x) n y .0 d .0)) (ascending-pairwise (suc x) n)
+ascending-pairwise x (suc n) =
+    Pairwise·cons (λ y m. ∥∥₁-elim m le-prop (λ d. ascending-has (suc x) n y .0 d .0)) (ascending-pairwise (suc x) n)
 
 -- each is less than those after it
 pub members-ascending : (s : ℕ) → Pairwise _<_ (members s)
@@ -254,13 +262,16 @@ insert-within s x y (suc n) m h k = go (ℕ-discrete x y) (insert-within s x (su
     both false l l′ r = r
 
     go : Dec (x ≡ y)
-        → (suc y ≤ x → x < suc y + n → length (select (member (insert s x)) (ascending (suc y) n)) ≡ length (select (member s) (ascending (suc y) n)) + 1)
-        → length (cond (member (insert s x) y) (y ∷ select (member (insert s x)) (ascending (suc y) n)) (select (member (insert s x)) (ascending (suc y) n)))
+        → (suc y ≤ x → x < suc y + n → length (select (member (insert s x)) (ascending (suc y) n))
+        ≡ length (select (member s) (ascending (suc y) n)) + 1)
+        → length (cond (member (insert s x) y) (y ∷ select (member (insert s x)) (ascending (suc y) n))
+        (select (member (insert s x)) (ascending (suc y) n)))
         ≡ length (cond (member s y) (y ∷ select (member s) (ascending (suc y) n)) (select (member s) (ascending (suc y) n))) + 1
     go (yes e) r = rw (← e, member-insert-same s x, m, insert-before s x (suc x) n (omega arith)) (omega arith)
     go (no a) r =
         rw (member-insert-other s x y a)
-        (both (member s y) (select (member (insert s x)) (ascending (suc y) n)) (select (member s) (ascending (suc y) n)) (r (omega arith) (omega arith)))
+        (both (member s y) (select (member (insert s x)) (ascending (suc y) n))
+        (select (member s) (ascending (suc y) n)) (r (omega arith) (omega arith)))
 
 pub count-empty : count 0 ≡ 0
 unfolding count members select ascending member
@@ -271,7 +282,8 @@ unfolding count members
 count-insert s x h m = insert-within s x 0 64 m (omega arith) (omega arith)
 
 -- a row's numbers one higher, with a test that looks one lower
-select-shift : (f g : ℕ → Bool) (x n : ℕ) → ((y : ℕ) → f (suc y) ≡ g y) → length (select f (ascending (suc x) n)) ≡ length (select g (ascending x n))
+select-shift : (f g : ℕ → Bool) (x n : ℕ) → ((y : ℕ) → f (suc y) ≡ g y)
+    → length (select f (ascending (suc x) n)) ≡ length (select g (ascending x n))
 unfolding ascending select
 select-shift f g x zero h = refl
 select-shift f g x (suc n) h = rw (h x) (go (g x) (select-shift f g (suc x) n h))
@@ -305,10 +317,12 @@ unfolding insertAll
 insertAll-has s [] x = (λ h. inl h, ⊎-elim (λ h. h) (λ m. absurd (List·Memᴰ·not-nil m)))
 insertAll-has s (y ∷ l) x =
     let rest = insertAll-has (insert s y) l x in (
-      λ h. ⊎-elim (λ k. ⊎-elim (λ e. inr (List·Memᴰ·head (sym e))) (λ i. inl i) (member-insert-true s y x k)) (λ m. inr (List·Memᴰ·tail m)) (rest .0 h),
+      λ h. ⊎-elim (λ k. ⊎-elim (λ e. inr (List·Memᴰ·head (sym e))) (λ i. inl i) (member-insert-true s y x k))
+          (λ m. inr (List·Memᴰ·tail m)) (rest .0 h),
       ⊎-elim
           (λ h. rest .1 (inl (member-insert-keeps s y x h)))
-          (λ m. ⊎-elim (λ e. rest .1 (inl (ap (member (insert s y)) e ∙ member-insert-same s y))) (λ k. rest .1 (inr k)) (List·Memᴰ·cases-cons m)),
+          (λ m. ⊎-elim (λ e. rest .1 (inl (ap (member (insert s y)) e ∙ member-insert-same s y))) (λ k. rest .1 (inr k))
+          (List·Memᴰ·cases-cons m)),
     )
 
 pub setOf-has : (l : List ℕ) (x : ℕ) → (member (setOf l) x ≡ true) ↔ List·Memᴰ x l
@@ -324,4 +338,5 @@ insertAll-append s (x ∷ l) m = insertAll-append (insert s x) l m
 pub insertAll-lt : (w s : ℕ) (l : List ℕ) → s < 2 ^ w → ((x : ℕ) → List·Memᴰ x l → x < w) → insertAll s l < 2 ^ w
 unfolding insertAll
 insertAll-lt w s [] h k = h
-insertAll-lt w s (x ∷ l) h k = insertAll-lt w (insert s x) l (insert-lt w s x h (k x (List·Memᴰ·head refl))) (λ y m. k y (List·Memᴰ·tail m))
+insertAll-lt w s (x ∷ l) h k =
+    insertAll-lt w (insert s x) l (insert-lt w s x h (k x (List·Memᴰ·head refl))) (λ y m. k y (List·Memᴰ·tail m))

@@ -19,10 +19,12 @@ pub record Skipping (g : Graph) (stack : List ℕ) (seen at₀ depth₀ at depth
   pub here : at ≤ length (g .bounds)
   pub deep : depth ≤ depth₀
 
-pub skipping-start : {g : Graph} {stack : List ℕ} {at depth : ℕ} (seen : ℕ) → Ready g stack at depth → Skipping g stack seen at depth at depth
+pub skipping-start : {g : Graph} {stack : List ℕ} {at depth : ℕ} (seen : ℕ) → Ready g stack at depth
+    → Skipping g stack seen at depth at depth
 skipping-start seen r = record { skips = refl; here = r .here; deep = le-refl _ }
 
-module _ {g : Graph} {fars befores stack : List ℕ} (ch : Chained g fars befores) {seen at₀ depth₀ : ℕ} (ready : Ready g stack at₀ depth₀) {at depth : ℕ} (inv : Skipping g stack seen at₀ depth₀ at depth) where
+module _ {g : Graph} {fars befores stack : List ℕ} (ch : Chained g fars befores) {seen at₀ depth₀ : ℕ}
+    (ready : Ready g stack at₀ depth₀) {at depth : ℕ} (inv : Skipping g stack seen at₀ depth₀ at depth) where
   pub skipping-at : at ≤ 256
   skipping-at = omega (arith, inv .here, ch .few)
 
@@ -64,7 +66,8 @@ module _ {g : Graph} {fars befores stack : List ℕ} (ch : Chained g fars before
       deep = inv .deep;
     }
 
-    pub skipping-found : member seen (getD fars i 0) ≡ false → (l : Lifetime) → l .0 ≡ getD fars i 0 → Steps g stack seen at₀ depth₀ (record { next = Yield l; at = getD befores i 0; depth = depth })
+    pub skipping-found : member seen (getD fars i 0) ≡ false → (l : Lifetime) → l .0 ≡ getD fars i 0
+        → Steps g stack seen at₀ depth₀ (record { next = Yield l; at = getD befores i 0; depth = depth })
     unfolding skip
     skipping-found m l f = record {
       skips = sym (rw (one, m) at (inv .skips)) ∙ rw f;

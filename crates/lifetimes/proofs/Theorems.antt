@@ -11,14 +11,16 @@ use Rattle.lifetimes.specs.Sets.{member, insert}
 use Rattle.lifetimes.specs.Env.{boundsOf, allBelow, envOf}
 use Rattle.lifetimes.specs.Walk.{Order, LastFirst, neighbours, unpushed, walkFor, walk, traversal, reachSet}
 use Rattle.lifetimes.specs.Reach.{listReach}
-use Rattle.lifetimes.specs.Theorems.{RefusedIfFirstDue, TraversalOrder, ReachIsOutlives, OutlivesIsForced, LinkedByPlace, ExamplesHold}
+use Rattle.lifetimes.specs.Theorems.{RefusedIfFirstDue, TraversalOrder, ReachIsOutlives, OutlivesIsForced}
+use Rattle.lifetimes.specs.Theorems.{LinkedByPlace, ExamplesHold}
 use Rattle.lifetimes.proofs.SetLaws.{setOf-has}
 use Rattle.lifetimes.proofs.RefusalLaws.{due-given, due-refused, refused-due, given-due}
 use Rattle.lifetimes.proofs.EnvLaws.{valid, near-declared, far-declared}
 use Rattle.lifetimes.proofs.LinkedLaws.{word-there, word-past, pairs-there, pair-past, word-unlike, pair-unlike}
 use Rattle.lifetimes.proofs.IntegerLaws.{≤ℤ-trans, zero-one, not-one-zero}
 use Rattle.lifetimes.proofs.WalkLaws.{walk-nil, walk-seen, walk-new, pending-few}
-use Rattle.lifetimes.proofs.ReachLaws.{listed-toward, traversal-only, traversal-first, traversal-once, traversal-alone, outlives-forces, forced-outlives}
+use Rattle.lifetimes.proofs.ReachLaws.{listed-toward, traversal-only, traversal-first, traversal-once}
+use Rattle.lifetimes.proofs.ReachLaws.{traversal-alone, outlives-forces, forced-outlives}
 
 pub refused-if-first-due : RefusedIfFirstDue
 refused-if-first-due A checks a = record {
@@ -43,12 +45,17 @@ reach-is-outlives o d e none k h =
     let inside : (p : Order) (b : ℕ) → List·Memᴰ b (traversal p d (boundsOf e) k) → b < e .count =
     λ p. traversal-only p d (boundsOf e) k (λ b. b < e .count) (λ b i _. omega (arith, far-declared d v b i, v .declares)) h in
     record {
-      members = λ b. (λ i. (inside o b i, (listed-toward o d (boundsOf e) k b) .0 i), λ t. (listed-toward o d (boundsOf e) k b) .1 (t .1));
+      members =
+          λ b. (
+            λ i. (inside o b i, (listed-toward o d (boundsOf e) k b) .0 i),
+            λ t. (listed-toward o d (boundsOf e) k b) .1 (t .1),
+          );
       first = (_, traversal-first o d (boundsOf e) k);
       once = traversal-once o d (boundsOf e) k;
       elided = λ past. traversal-alone o d (boundsOf e) k (λ b i q. omega (arith, near-declared d v b i));
       set = λ b. (
-        λ m. let i = (setOf-has (traversal LastFirst d (boundsOf e) k) b) .0 m in (inside LastFirst b i, (listed-toward LastFirst d (boundsOf e) k b) .0 i),
+        λ m. let i = (setOf-has (traversal LastFirst d (boundsOf e) k) b) .0 m in
+            (inside LastFirst b i, (listed-toward LastFirst d (boundsOf e) k b) .0 i),
         λ t. (setOf-has (traversal LastFirst d (boundsOf e) k) b) .1 ((listed-toward LastFirst d (boundsOf e) k b) .1 (t .1)),
       );
     }

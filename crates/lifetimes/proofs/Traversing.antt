@@ -19,7 +19,8 @@ use Rattle.lifetimes.specs.Lent.{counted, written}
 use Rattle.lifetimes.specs.Env.{boundsOf, envChecks}
 use Rattle.lifetimes.specs.Walk.{Order, traversal, reachSet}
 use Rattle.lifetimes.specs.Index.{graphOf, listsFrom, Measures, Lays}
-use Rattle.lifetimes.specs.Reach.{listReach, allSets, noSets, reachSets, allLists, endsFrom, listsChecks, listWords, listEnds, listsAnswer}
+use Rattle.lifetimes.specs.Reach.{listReach, allSets, noSets, reachSets, allLists, endsFrom, listsChecks}
+use Rattle.lifetimes.specs.Reach.{listWords, listEnds, listsAnswer}
 use Rattle.lifetimes.proofs.SetLaws.{length-ascending}
 use Rattle.lifetimes.proofs.RefusalLaws.{due-given, due-refused, first-more, first-after, none-more}
 use Rattle.lifetimes.proofs.Answering.{answers-refusal, answers-list, no-room, has-room}
@@ -29,46 +30,62 @@ use Rattle.lifetimes.proofs.Laying.{length-ends}
 
 -- one list
 module _ (o : Order) (d : Bool) (e : LifetimeEnv) (x : ℕ) (slice : List ℕ) where
-  pub list-refused : {r : Refusal} → FirstDue r (envChecks e) → (listed.Refused r ≡ counted (listReach o d e x (length slice))) × (slice ≡ written (listReach o d e x (length slice)) slice)
+  pub list-refused : {r : Refusal} → FirstDue r (envChecks e)
+      → (listed.Refused r ≡ counted (listReach o d e x (length slice)))
+      × (slice ≡ written (listReach o d e x (length slice)) slice)
   unfolding listReach
   list-refused f = answers-refusal _ slice (first-more _ f)
 
   module _ (none : NoneDue (envChecks e)) where
-    pub list-past : e .count ≤ x → (listed.Refused OutOfRange ≡ counted (listReach o d e x (length slice))) × (slice ≡ written (listReach o d e x (length slice)) slice)
+    pub list-past : e .count ≤ x → (listed.Refused OutOfRange ≡ counted (listReach o d e x (length slice)))
+        × (slice ≡ written (listReach o d e x (length slice)) slice)
     unfolding listReach
     list-past h = answers-refusal _ slice (first-after none (here (le-leb (e .count) x h) refl))
 
-    module _ (inside : x < e .count) (items : List ℕ) (n : ℕ) (few : n ≤ length items) (is : take n items ≡ traversal o d (boundsOf e) x) where
+    module _ (inside : x < e .count) (items : List ℕ) (n : ℕ) (few : n ≤ length items)
+        (is : take n items ≡ traversal o d (boundsOf e) x) where
       long : n ≡ length (traversal o d (boundsOf e) x)
       long = sym (length-take-le n items few) ∙ ap length is
 
-      pub list-short : length slice < n → (listed.Refused NoRoom ≡ counted (listReach o d e x (length slice))) × (slice ≡ written (listReach o d e x (length slice)) slice)
+      pub list-short : length slice < n → (listed.Refused NoRoom ≡ counted (listReach o d e x (length slice)))
+          × (slice ≡ written (listReach o d e x (length slice)) slice)
       unfolding listReach
-      list-short h = answers-refusal _ slice (first-after none (later (lt-leb (e .count) x inside) (no-room (length slice) (traversal o d (boundsOf e) x) (omega (arith, long)))))
+      list-short h =
+          answers-refusal _ slice
+          (first-after none
+          (later (lt-leb (e .count) x inside)
+          (no-room (length slice) (traversal o d (boundsOf e) x) (omega (arith, long)))))
 
-      pub list-given : n ≤ length slice → (listed.Count n ≡ counted (listReach o d e x (length slice))) × (sets slice 0 (take n items) ≡ written (listReach o d e x (length slice)) slice)
+      pub list-given : n ≤ length slice → (listed.Count n ≡ counted (listReach o d e x (length slice)))
+          × (sets slice 0 (take n items) ≡ written (listReach o d e x (length slice)) slice)
       unfolding listReach
       list-given h =
           let room : length (traversal o d (boundsOf e) x) ≤ length slice = omega (arith, long) in
-          let a = answers-list (traversal o d (boundsOf e) x) slice (none-more none (next (lt-leb (e .count) x inside) (has-room (length slice) (traversal o d (boundsOf e) x) room end))) in
+          let a = answers-list (traversal o d (boundsOf e) x) slice
+          (none-more none
+          (next (lt-leb (e .count) x inside) (has-room (length slice) (traversal o d (boundsOf e) x) room end))) in
           (rw long (a .0), rw is (sets-front slice (traversal o d (boundsOf e) x) room ∙ a .1))
 
 -- the sets of all lifetimes, in an array of zeros
-sets-all : (d : Bool) (e : LifetimeEnv) → e .count ≤ 64 → (reach : List ℕ) → reach ≡ sets noSets 0 (map (reachSet d (boundsOf e)) (ascending 0 (e .count))) → reach ≡ allSets d e
+sets-all : (d : Bool) (e : LifetimeEnv) → e .count ≤ 64 → (reach : List ℕ)
+    → reach ≡ sets noSets 0 (map (reachSet d (boundsOf e)) (ascending 0 (e .count))) → reach ≡ allSets d e
 unfolding allSets
 sets-all d e h reach is =
     let all = map (reachSet d (boundsOf e)) (ascending 0 (e .count)) in
     let long : length all ≡ e .count = simp length-map (length-ascending 0 (e .count)) in
-    is ∙ sets-front noSets all (omega (arith, long)) ∙ rw (long, drop-replicate (e .count) 64 0)
+    is ∙ sets-front noSets all (omega (arith, long)) ∙ rw (long, drop-replicate {A = ℕ} (e .count) 64 0)
 
 module _ (d : Bool) (e : LifetimeEnv) where
   pub sets-refused : {r : Refusal} → FirstDue r (envChecks e) → record { verdict = verdict.Refused r; sets = noSets } ≡ reachSets d e
   unfolding reachSets
   sets-refused f = rw (due-refused e f, due-refused (allSets d e) f)
 
-  pub sets-given : {reach : List ℕ} {total : ℕ} → NoneDue (envChecks e) → Measures (graphOf d e) (e .count) noSets reach total → record { verdict = verdict.Accepted; sets = reach } ≡ reachSets d e
+  pub sets-given : {reach : List ℕ} {total : ℕ} → NoneDue (envChecks e)
+      → Measures (graphOf d e) (e .count) noSets reach total
+      → record { verdict = verdict.Accepted; sets = reach } ≡ reachSets d e
   unfolding reachSets
-  sets-given {reach} none m = rw (due-given e none, due-given (allSets d e) none, sets-all d e ((valid e none) .counted) reach (m .reach))
+  sets-given {reach} none m =
+      rw (due-given e none, due-given (allSets d e) none, sets-all d e ((valid e none) .counted) reach (m .reach))
 
 -- all lists: the answer, the words, the ends
 module _ (d : Bool) (e : LifetimeEnv) (words ends : List ℕ) where
@@ -78,11 +95,17 @@ module _ (d : Bool) (e : LifetimeEnv) (words ends : List ℕ) where
       × (words₁ ≡ written (listWords d e (length words) (length ends)) words)
       × (ends₁ ≡ written (listEnds d e (length words) (length ends)) ends)
 
-  lists-by : {r : Refusal} → FirstDue r (listsChecks d e (length words) (length ends)) → ListsAre (record { listed = listed.Refused r; sets = noSets }) words ends
+  lists-by : {r : Refusal} → FirstDue r (listsChecks d e (length words) (length ends))
+      → ListsAre (record { listed = listed.Refused r; sets = noSets }) words ends
   unfolding listsAnswer listWords listEnds
-  lists-by f = (rw (due-refused (flatten (allLists d e)) f, due-refused (allSets d e) f), rw (due-refused (flatten (allLists d e)) f), rw (due-refused (endsFrom 0 (allLists d e)) f))
+  lists-by f = (
+    rw (due-refused (flatten (allLists d e)) f, due-refused (allSets d e) f),
+    rw (due-refused (flatten (allLists d e)) f),
+    rw (due-refused (endsFrom 0 (allLists d e)) f),
+  )
 
-  pub lists-refused : {r : Refusal} → FirstDue r (envChecks e) → ListsAre (record { listed = listed.Refused r; sets = noSets }) words ends
+  pub lists-refused : {r : Refusal} → FirstDue r (envChecks e)
+      → ListsAre (record { listed = listed.Refused r; sets = noSets }) words ends
   lists-refused f = lists-by (first-more _ f)
 
   module _ (none : NoneDue (envChecks e)) where
@@ -94,19 +117,32 @@ module _ (d : Bool) (e : LifetimeEnv) (words ends : List ℕ) where
     lists-no-ends h = lists-by (first-after none (no-room (length ends) (endsFrom 0 (allLists d e)) (omega (arith, ends-long))))
 
     module _ (places : e .count ≤ length ends) where
-      pub lists-no-words : length words < length (flatten (listsFrom (graphOf d e) 0 (e .count))) → ListsAre (record { listed = listed.Refused NoRoom; sets = noSets }) words ends
+      pub lists-no-words : length words < length (flatten (listsFrom (graphOf d e) 0 (e .count)))
+          → ListsAre (record { listed = listed.Refused NoRoom; sets = noSets }) words ends
       unfolding allLists
       lists-no-words h =
           let room : length (endsFrom 0 (allLists d e)) ≤ length ends = omega (arith, ends-long) in
-          lists-by (first-after none (later (le-ltb (length ends) (length (endsFrom 0 (allLists d e))) room) (no-room (length words) (flatten (allLists d e)) h)))
+          lists-by (first-after none
+          (later (le-ltb (length ends) (length (endsFrom 0 (allLists d e))) room)
+          (no-room (length words) (flatten (allLists d e)) h)))
 
-      pub lists-given : length (flatten (listsFrom (graphOf d e) 0 (e .count))) ≤ length words → {words₁ ends₁ reach : List ℕ} {total : ℕ} → Lays (graphOf d e) (e .count) words ends noSets words₁ ends₁ reach total
+      pub lists-given : length (flatten (listsFrom (graphOf d e) 0 (e .count))) ≤ length words
+          → {words₁ ends₁ reach : List ℕ} {total : ℕ}
+          → Lays (graphOf d e) (e .count) words ends noSets words₁ ends₁ reach total
           → ListsAre (record { listed = listed.Count total; sets = reach }) words₁ ends₁
       unfolding listsAnswer listWords listEnds allLists
       lists-given fits {words₁} {ends₁} {reach} {total} lays =
           let room : length (endsFrom 0 (allLists d e)) ≤ length ends = omega (arith, ends-long) in
-          let n : NoneDue (listsChecks d e (length words) (length ends)) = none-more none (has-room (length ends) (endsFrom 0 (allLists d e)) room (has-room (length words) (flatten (allLists d e)) fits end)) in (
-            rw (due-given (flatten (allLists d e)) n, due-given (allSets d e) n, lays .measures .total, sets-all d e ((valid e none) .counted) reach (lays .measures .reach)),
+          let n : NoneDue (listsChecks d e (length words) (length ends)) =
+          none-more none
+          (has-room (length ends) (endsFrom 0 (allLists d e)) room
+          (has-room (length words) (flatten (allLists d e)) fits end)) in (
+            rw (
+              due-given (flatten (allLists d e)) n,
+              due-given (allSets d e) n,
+              lays .measures .total,
+              sets-all d e ((valid e none) .counted) reach (lays .measures .reach),
+            ),
             rw (due-given (flatten (allLists d e)) n) (lays .words ∙ sets-front words (flatten (allLists d e)) fits),
             rw (due-given (endsFrom 0 (allLists d e)) n) (lays .ends ∙ sets-front ends (endsFrom 0 (allLists d e)) room),
           )

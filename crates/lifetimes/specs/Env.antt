@@ -1,5 +1,5 @@
--- The environment (01: "Declared lifetimes, total count (at most 64), bounds in push order (at most 256)") and its refusals.
--- A caller can make any value of it, so every call that takes one checks it.
+-- The environment (01: "Declared lifetimes, total count (at most 64), bounds in push order (at most 256)") and its
+-- refusals. A caller can make any value of it, so every call that takes one checks it.
 use Prim.Native.Nat.{ℕ, _+_, _-_, _/_, _%_}
 use mathlib.Core.Bool.{Bool, true, cond, _&&_, not}
 use mathlib.Core.List.{List, [], _∷_, _++_}

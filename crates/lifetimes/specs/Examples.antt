@@ -1,4 +1,5 @@
--- 01's starred examples about environments ("Checked by hand (* is to be proved)"), as one list of questions and answers. Theorems.ExamplesHold: each question has its answer.
+-- 01's starred examples about environments ("Checked by hand (* is to be proved)"), as one list of questions and
+-- answers. Theorems.ExamplesHold: each question has its answer.
 use Prim.Native.Nat.{ℕ}
 use mathlib.Core.Bool.{Bool, true}
 use mathlib.Core.Path.{_≡_}
@@ -27,8 +28,8 @@ pub record Example : Type 0 where
 abbrev pub asked : Question → Outcome (List ℕ) → Example
 asked q o = record { question = q; expected = o }
 
-abbrev pub examples : List Example
-examples =
+abbrev pub starred : List Example
+starred =
     -- bounds 1 above 0, 2 above 0: HIR longer of 0 is 0 2 1; AST 0 1 2
     asked (Hir 3 3 (above 1 0 ∷ above 2 0 ∷ []) true 0) (Gives (0 ∷ 2 ∷ 1 ∷ []))
     ∷ asked (Ast 3 3 (above 1 0 ∷ above 2 0 ∷ []) true 0) (Gives (0 ∷ 1 ∷ 2 ∷ []))

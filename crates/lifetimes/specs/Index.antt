@@ -1,6 +1,7 @@
--- For private functions only: what the index of an environment holds, and what a traversal over it has pending. No public contract cites this file.
--- The index: for each bound its far side and the bound before it with the same near side, for each lifetime the last bound whose near side it is: chains.
--- A bound's number is its place counted from 1, and 0 stands for none. A list is pushed in order and its last entry is taken first, so what a traversal pushes of a
+-- For private functions only: what the index of an environment holds, and what a traversal over it has pending. No
+-- public contract cites this file. The index: for each bound its far side and the bound before it with the same near
+-- side, for each lifetime the last bound whose near side it is: chains. A bound's number is its place counted from 1,
+-- and 0 stands for none. A list is pushed in order and its last entry is taken first, so what a traversal pushes of a
 -- lifetime is the chain of its last bound.
 use Prim.Native.Nat.{ℕ, zero, suc, _≤_, _<_}
 use mathlib.Core.Bool.{Bool, cond}
@@ -29,7 +30,8 @@ pub record Graph : Type 0 where
 abbrev pub graphOf : Bool → LifetimeEnv → Graph
 graphOf d e = record { longer = d; bounds = boundsOf e }
 
--- The bounds in the order in which they are linked: a chain tries them backwards, so for the AST's order they are linked from the last to the first
+-- The bounds in the order in which they are linked: a chain tries them backwards, so for the AST's order they are
+-- linked from the last to the first
 abbrev pub linkedIn : Order → List Bound → List Bound
 linkedIn LastFirst bs = bs
 linkedIn FirstFirst bs = reverse bs
@@ -114,7 +116,8 @@ abbrev pub Within : Graph → ℕ → Type 0
 Within g limit = (b : Bound) → List·Memᴰ b (g .bounds) → far (g .longer) b < limit
 
 abbrev pub Walkable : List ℕ → List ℕ → List ℕ → ℕ → ℕ → Type 0
-Walkable fars befores lasts limit start = ((g : Graph) × Indexed g fars befores lasts × Within g limit) × (limit ≤ 64) × (start < limit)
+Walkable fars befores lasts limit start = ((g : Graph) × Indexed g fars befores lasts × Within g limit) × (limit ≤ 64)
+    × (start < limit)
 
 -- a traversal that is complete: its items stand in the first places, and their set is the seen one
 pub record Complete (g : Graph) (start : ℕ) (held : List ℕ) (r : Walked) : Type 0 where
@@ -129,7 +132,8 @@ abbrev pub setsFrom : Graph → ℕ → ℕ → List ℕ
 setsFrom g x n = map (reachSet (g .longer) (g .bounds)) (ascending x n)
 
 abbrev pub Measurable : List ℕ → List ℕ → List ℕ → ℕ → ℕ → Type 0
-Measurable fars befores lasts declared count = ((g : Graph) × Indexed g fars befores lasts × Within g declared) × (declared ≤ count) × (count ≤ 64)
+Measurable fars befores lasts declared count = ((g : Graph) × Indexed g fars befores lasts × Within g declared)
+    × (declared ≤ count) × (count ≤ 64)
 
 pub record Measures (g : Graph) (count : ℕ) (reach₀ reach₁ : List ℕ) (total₁ : ℕ) : Type 0 where
   pub total : total₁ ≡ length (flatten (listsFrom g 0 count))
@@ -141,7 +145,8 @@ pub record Fits (g : Graph) (count room : ℕ) (r : Bool) : Type 0 where
 
 abbrev pub Layable : List ℕ → List ℕ → List ℕ → ℕ → ℕ → ℕ → Type 0
 Layable fars befores lasts declared count room =
-    ((g : Graph) × Indexed g fars befores lasts × Within g declared × (length (flatten (listsFrom g 0 count)) ≤ room)) × (declared ≤ count) × (count ≤ 64)
+    ((g : Graph) × Indexed g fars befores lasts × Within g declared × (length (flatten (listsFrom g 0 count)) ≤ room))
+    × (declared ≤ count) × (count ≤ 64)
 
 pub record Lays (g : Graph) (count : ℕ) (words₀ ends₀ reach₀ words₁ ends₁ reach₁ : List ℕ) (total₁ : ℕ) : Type 0 where
   pub measures : Measures g count reach₀ reach₁ total₁

@@ -1,5 +1,5 @@
--- Lowered words (01: "A *lowered* word: 0 static, k the lifetime numbered k − 1"), both ways, for a method's lifetimes and for a definition's.
--- A word is a 64-bit number. The lifetime numbered 2^64 - 1, which stands for `Strs`, has none.
+-- Lowered words (01: "A *lowered* word: 0 static, k the lifetime numbered k − 1"), both ways, for a method's lifetimes
+-- and for a definition's. A word is a 64-bit number. The lifetime numbered 2^64 - 1, which stands for `Strs`, has none.
 use Prim.Native.Nat.{ℕ, zero, suc, _^_}
 use mathlib.Core.Bool.{cond}
 use lib.Dec.{ltb}

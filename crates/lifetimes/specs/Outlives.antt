@@ -1,5 +1,6 @@
--- What bounds mean. *Outlives* is the Reference's relation ("'a: 'b means that 'a lasts at least as long as 'b"); *forced above* (condition 3) says it by numbers:
--- whatever numbers the lifetimes are given, as long as they respect the bounds. Theorems.OutlivesIsForced: the two are the same.
+-- What bounds mean. *Outlives* is the Reference's relation ("'a: 'b means that 'a lasts at least as long as 'b");
+-- *forced above* (condition 3) says it by numbers: whatever numbers the lifetimes are given, as long as they respect
+-- the bounds. Theorems.OutlivesIsForced: the two are the same.
 use Prim.Native.Nat.{ℕ, _≤_}
 use mathlib.Core.Bool.{Bool, true, false}
 use mathlib.Core.List.{List, List·Memᴰ}
@@ -22,13 +23,13 @@ Toward false bs x y = Outlives bs x y
 abbrev pub Respects : (N : Type 0) → (N → N → Type 0) → (ℕ → N) → List Bound → Type 0
 Respects N below v bs = (b : Bound) → List·Memᴰ b bs → below (v (b .shorter)) (v (b .longer))
 
--- every numbering that respects the bounds puts y at x's number or higher
+-- b is forced above l: every numbering that respects the bounds puts b at l's number or higher
 abbrev pub ForcedIn : (N : Type 0) → (N → N → Type 0) → List Bound → ℕ → ℕ → Type 0
-ForcedIn N below bs x y = (v : ℕ → N) → Respects N below v bs → below (v x) (v y)
+ForcedIn N below bs b l = (v : ℕ → N) → Respects N below v bs → below (v l) (v b)
 
 -- by natural numbers, and by integers
-abbrev pub Forced : List Bound → ℕ → ℕ → Type 0
-Forced bs x y = ForcedIn ℕ _≤_ bs x y
+abbrev pub ForcedAbove : List Bound → ℕ → ℕ → Type 0
+ForcedAbove bs b l = ForcedIn ℕ _≤_ bs b l
 
-abbrev pub Forcedℤ : List Bound → ℕ → ℕ → Type 0
-Forcedℤ bs x y = ForcedIn ℤ _≤ℤ_ bs x y
+abbrev pub ForcedAboveℤ : List Bound → ℕ → ℕ → Type 0
+ForcedAboveℤ bs b l = ForcedIn ℤ _≤ℤ_ bs b l

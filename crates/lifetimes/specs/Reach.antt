@@ -14,7 +14,8 @@ use Rattle.lifetimes.specs.Lent.{counted, verdictOf, resultOr, roomCheck
 use Rattle.lifetimes.specs.Env.{boundsOf, envChecks}
 use Rattle.lifetimes.specs.Walk.{Order, LastFirst, traversal, reachSet}
 
--- `all_longer_lifetimes`, `all_shorter_lifetimes` (and the same in the AST's order): those of the environment (4, 8), a start past the count (8), a slice too short (9)
+-- `all_longer_lifetimes`, `all_shorter_lifetimes` (and the same in the AST's order): those of the environment (4, 8), a
+-- start past the count (8), a slice too short (9)
 abbrev pub listChecks : Order → Bool → LifetimeEnv → ℕ → ℕ → List Check
 listChecks o d e start room =
     envChecks e

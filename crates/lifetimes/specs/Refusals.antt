@@ -4,7 +4,9 @@ use mathlib.Core.Bool.{Bool, true, false, cond}
 use mathlib.Core.Path.{_≡_}
 use mathlib.Core.List.{List, [], _∷_}
 use Rattle.lifetimes.specs.declared.answer.Refusal.{Refusal}
-use Rattle.lifetimes.specs.declared.answer.Refusal.the-variants.{Malformed, Duplicate, Undeclared, Full, NoSource, Ambiguous, Mismatch, OutOfRange, NoRoom, Unreadable}
+use Rattle.lifetimes.specs.declared.answer.Refusal.the-variants.{Malformed, Duplicate, Undeclared, Full, NoSource}
+use Rattle.lifetimes.specs.declared.answer.Refusal.the-variants.{Ambiguous, Mismatch, OutOfRange, NoRoom}
+use Rattle.lifetimes.specs.declared.answer.Refusal.the-variants.{Unreadable}
 
 abbrev pub numberOf : Refusal → ℕ
 numberOf Malformed = 1
@@ -35,6 +37,11 @@ pub data Outcome (A : Type 0) : Type 0 where
 unfoldable pub unless : {A : Type 0} → List Check → A → Outcome A
 unless [] a = Gives a
 unless (c ∷ cs) a = cond (c .due) (Refuses (c .refusal)) (unless cs a)
+
+-- what is given, made into something else; a refusal stays
+abbrev pub over : {A B : Type 0} → (A → B) → Outcome A → Outcome B
+over f (Gives a) = Gives (f a)
+over f (Refuses r) = Refuses r
 
 -- one thing after another, to the first refusal
 abbrev pub after : {A B : Type 0} → Outcome A → (A → Outcome B) → Outcome B

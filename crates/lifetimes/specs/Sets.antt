@@ -1,6 +1,6 @@
--- Sets of lifetimes as 64 bits (01: "sets as 64 bits"): a set is a number, and x is in it where bit x is 1.
--- In order: the empty set, membership, one member more, union, the members in ascending order, how many, the set of a list.
--- Laws: proofs/SetLaws.antt.
+-- Sets of lifetimes as 64 bits (01: "sets as 64 bits"): a set is a number, and x is in it where bit x is 1. In order:
+-- the empty set, membership, one member more, union, the members in ascending order, how many, the set of a list. Laws:
+-- proofs/SetLaws.antt.
 use Prim.Native.Nat.{ℕ, _/_, _%_, _^_}
 use mathlib.Core.Bool.{Bool}
 use mathlib.Core.List.{List, [], _∷_}

@@ -1,4 +1,5 @@
--- The main theorems of this crate, stated. Each has its proof, a term of exactly this type and of the same name in small letters, in proofs/Theorems.antt.
+-- The main theorems of this crate, stated. Each has its proof, a term of exactly this type and of the same name in
+-- small letters, in proofs/Theorems.antt.
 use Prim.Native.Nat.{ℕ, _+_, _≤_, _<_}
 use mathlib.Core.Bool.{Bool, true, false}
 use mathlib.Core.Path.{_≡_}
@@ -17,11 +18,12 @@ use Rattle.lifetimes.specs.Refusals.{Check, Gives, Refuses, unless, Firs
 use Rattle.lifetimes.specs.Sets.{empty, member, insert}
 use Rattle.lifetimes.specs.Env.{boundsOf, envChecks}
 use Rattle.lifetimes.specs.Walk.{neighbours, Order, push, walk, traversal, reachSet, Pending}
-use Rattle.lifetimes.specs.Outlives.{Outlives, Toward, Forced, Forcedℤ}
+use Rattle.lifetimes.specs.Outlives.{Outlives, Toward, ForcedAbove, ForcedAboveℤ}
 use Rattle.lifetimes.specs.Linked.{linkedWord, linkedPair, pairsWithPlaces}
-use Rattle.lifetimes.specs.Examples.{examples, Right}
+use Rattle.lifetimes.specs.Examples.{starred, Right}
 
--- Refusals ("Each is given in its condition only"): a call answers a refusal exactly if it is the first due in the call's order, and gives its result exactly if none is due.
+-- Refusals ("Each is given in its condition only"): a call answers a refusal exactly if it is the first due in the
+-- call's order, and gives its result exactly if none is due.
 pub record InOrderDue (A : Type 0) (checks : List Check) (a : A) : Type 0 where
   pub refused : (r : Refusal) → (unless checks a ≡ Refuses r) ↔ FirstDue r checks
   pub given : (b : A) → (unless checks a ≡ Gives b) ↔ (NoneDue checks × (a ≡ b))
@@ -29,21 +31,25 @@ pub record InOrderDue (A : Type 0) (checks : List Check) (a : A) : Type 0 where
 abbrev pub RefusedIfFirstDue : Type 1
 RefusedIfFirstDue = (A : Type 0) (checks : List Check) (a : A) → InOrderDue A checks a
 
--- The traversals' order (01: "start with the lifetime itself, push a list in order and take the last pushed first; the walk passes over lifetimes already seen
--- until one is yielded. Never more than 1 plus the bounds' number are pending"), for both directions, and for the AST's order too.
+-- The traversals' order (01: "start with the lifetime itself, push a list in order and take the last pushed first; the
+-- walk passes over lifetimes already seen until one is yielded. Never more than 1 plus the bounds' number are
+-- pending"), for both directions, and for the AST's order too.
 pub record TraversesInOrder (o : Order) (d : Bool) (bs : List Bound) : Type 0 where
   pub starts : (k : ℕ) → traversal o d bs k ≡ walk o d bs (k ∷ []) empty
   pub ends : (seen : ℕ) → walk o d bs [] seen ≡ []
-  pub passes-over : (x : ℕ) (pending : List ℕ) (seen : ℕ) → member seen x ≡ true → walk o d bs (x ∷ pending) seen ≡ walk o d bs pending seen
+  pub passes-over : (x : ℕ) (pending : List ℕ) (seen : ℕ) → member seen x ≡ true
+      → walk o d bs (x ∷ pending) seen ≡ walk o d bs pending seen
   pub lists : (x : ℕ) (pending : List ℕ) (seen : ℕ) → member seen x ≡ false
       → walk o d bs (x ∷ pending) seen ≡ x ∷ walk o d bs (push o (neighbours d bs x) pending) (insert seen x)
-  pub few-pending : (k : ℕ) (pending : List ℕ) (seen : ℕ) → Pending o d bs k pending seen → length pending ≤ length bs + 1
+  pub few-pending : (k : ℕ) (pending : List ℕ) (seen : ℕ) → Pending o d bs k pending seen
+      → length pending ≤ length bs + 1
 
 abbrev pub TraversalOrder : Type 0
 TraversalOrder = (o : Order) (d : Bool) (bs : List Bound) → TraversesInOrder o d bs
 
--- Reach against the Reference: a traversal lists exactly the lifetimes that outlive its start (that its start outlives), first the start, none twice; an elided lifetime lists
--- itself only; the set of a traversal has its members. For every environment on which no refusal is due and every lifetime of it.
+-- Reach against the Reference: a traversal lists exactly the lifetimes that outlive its start (that its start
+-- outlives), first the start, none twice; an elided lifetime lists itself only; the set of a traversal has its members.
+-- For every environment on which no refusal is due and every lifetime of it.
 pub record ListsTheReach (o : Order) (d : Bool) (e : LifetimeEnv) (k : ℕ) : Type 0 where
   pub members : (b : ℕ) → List·Memᴰ b (traversal o d (boundsOf e) k) ↔ ((b < e .count) × Toward d (boundsOf e) k b)
   pub first : (rest : List ℕ) × (traversal o d (boundsOf e) k ≡ k ∷ rest)
@@ -52,14 +58,21 @@ pub record ListsTheReach (o : Order) (d : Bool) (e : LifetimeEnv) (k : ℕ) : Ty
   pub set : (b : ℕ) → (member (reachSet d (boundsOf e) k) b ≡ true) ↔ ((b < e .count) × Toward d (boundsOf e) k b)
 
 abbrev pub ReachIsOutlives : Type 0
-ReachIsOutlives = (o : Order) (d : Bool) (e : LifetimeEnv) → NoneDue (envChecks e) → (k : ℕ) → k < e .count → ListsTheReach o d e k
+ReachIsOutlives = (o : Order) (d : Bool) (e : LifetimeEnv) → NoneDue (envChecks e) → (k : ℕ) → k < e .count
+    → ListsTheReach o d e k
 
--- Outlives is *forced above*: b outlives a exactly if every numbering that respects the bounds puts b at a's number or higher; by natural numbers and by integers. For all bounds.
+-- Outlives is *forced above*: b outlives l exactly if every numbering that respects the bounds puts b at l's number or
+-- higher; by natural numbers and by integers. For all bounds.
 abbrev pub OutlivesIsForced : Type 0
-OutlivesIsForced = (bs : List Bound) (a b : ℕ) → (Outlives bs b a ↔ Forced bs a b) × (Outlives bs b a ↔ Forcedℤ bs a b)
+OutlivesIsForced =
+    (bs : List Bound) (l b : ℕ)
+    → (Outlives bs b l ↔ ForcedAbove bs b l)
+    × (Outlives bs b l ↔ ForcedAboveℤ bs b l)
 
--- Links (01: "`LinkedLifetimes` pairs the caller's list .. with the definition's lifetimes by place"): of as many words as the definition has lifetimes each lifetime has the word at its place, the pairs in
--- order are the words with their places, and from the count on there is nothing; where they are not as many, both readers are refused by 7. For all words.
+-- Links (01: "`LinkedLifetimes` pairs the caller's list .. with the definition's lifetimes by place"): of as many words
+-- as the definition has lifetimes each lifetime has the word at its place, the pairs in order are the words with their
+-- places, and from the count on there is nothing; where they are not as many, both readers are refused by 7. For all
+-- words.
 pub record LinksByPlace (words : List ℕ) (count : ℕ) : Type 0 where
   pub word : (j : ℕ) → j < count → linkedWord words count (defLifetime j) ≡ Gives (Word (getD words j 0))
   pub no-word : (j : ℕ) → count ≤ j → linkedWord words count (defLifetime j) ≡ Gives Absent
@@ -69,8 +82,9 @@ pub record LinksByPlace (words : List ℕ) (count : ℕ) : Type 0 where
 abbrev pub LinkedByPlace : Type 0
 LinkedByPlace =
     (words : List ℕ) (count : ℕ) → (length words ≡ count → LinksByPlace words count)
-    × ((length words ≡ count → ⊥) → (j : ℕ) → (linkedWord words count (defLifetime j) ≡ Refuses Mismatch) × (linkedPair words count j ≡ Refuses Mismatch))
+    × ((length words ≡ count → ⊥) → (j : ℕ) → (linkedWord words count (defLifetime j) ≡ Refuses Mismatch)
+    × (linkedPair words count j ≡ Refuses Mismatch))
 
 -- The starred examples
 abbrev pub ExamplesHold : Type 0
-ExamplesHold = Right examples
+ExamplesHold = Right starred

@@ -1,6 +1,7 @@
--- The traversals along bounds, `all_longer_lifetimes` and `all_shorter_lifetimes`, as one definition over the direction and over the order.
--- The direction is true for longer, false for shorter, as the Rust's field `longer`. Lifetimes are their numbers.
--- Not here: that the fuel never runs out, so that the plain equations hold (Theorems.TraversalOrder), and what is listed (Theorems.ReachIsOutlives).
+-- The traversals along bounds, `all_longer_lifetimes` and `all_shorter_lifetimes`, as one definition over the direction
+-- and over the order. The direction is true for longer, false for shorter, as the Rust's field `longer`. Lifetimes are
+-- their numbers. Not here: that the fuel never runs out, so that the plain equations hold (Theorems.TraversalOrder),
+-- and what is listed (Theorems.ReachIsOutlives).
 use Prim.Native.Nat.{ℕ, zero, suc, _+_}
 use mathlib.Core.Bool.{Bool, true, false, cond}
 use mathlib.Core.Path.{_≡_}
@@ -19,12 +20,14 @@ abbrev pub far : Bool → Bound → ℕ
 far true b = b .longer
 far false b = b .shorter
 
--- 01: "A lifetime's `longer` list is the longer sides of the bounds where it is the shorter, in push order; `shorter` likewise."
+-- 01: "A lifetime's `longer` list is the longer sides of the bounds where it is the shorter, in push order; `shorter`
+-- likewise."
 unfoldable pub neighbours : Bool → List Bound → ℕ → List ℕ
 neighbours d [] x = []
 neighbours d (b ∷ bs) x = cond (eqb (near d b) x) (far d b ∷ neighbours d bs x) (neighbours d bs x)
 
--- Which of a list that is pushed is taken first. HIR: the last pushed. AST: the first of the list, so that it goes depth first in list order.
+-- Which of a list that is pushed is taken first. HIR: the last pushed. AST: the first of the list, so that it goes
+-- depth first in list order.
 pub data Order : Type 0 where
   LastFirst FirstFirst : Order
 
@@ -42,7 +45,8 @@ unfoldable pub unpushed : Bool → List Bound → ℕ → ℕ
 unpushed d [] seen = 0
 unpushed d (b ∷ bs) seen = cond (member seen (near d b)) (unpushed d bs seen) (suc (unpushed d bs seen))
 
--- The next pending entry is passed over if it was seen; else it is listed, marked as seen, and its list is pushed. At most `fuel` entries are taken.
+-- The next pending entry is passed over if it was seen; else it is listed, marked as seen, and its list is pushed. At
+-- most `fuel` entries are taken.
 unfoldable pub walkFor : ℕ → Order → Bool → List Bound → List ℕ → ℕ → List ℕ
 walkFor zero o d bs pending seen = []
 walkFor (suc fuel) o d bs [] seen = []
@@ -66,6 +70,7 @@ reachSet d bs start = setOf (traversal LastFirst d bs start)
 -- what can be pending, and seen, in the course of a traversal
 pub data Pending (o : Order) (d : Bool) (bs : List Bound) (start : ℕ) : List ℕ → ℕ → Type 0 where
   at-start : Pending o d bs start (start ∷ []) empty
-  passed-over : {x : ℕ} {pending : List ℕ} {seen : ℕ} → member seen x ≡ true → Pending o d bs start (x ∷ pending) seen → Pending o d bs start pending seen
+  passed-over : {x : ℕ} {pending : List ℕ} {seen : ℕ} → member seen x ≡ true → Pending o d bs start (x ∷ pending) seen
+      → Pending o d bs start pending seen
   listed : {x : ℕ} {pending : List ℕ} {seen : ℕ} → member seen x ≡ false → Pending o d bs start (x ∷ pending) seen
       → Pending o d bs start (push o (neighbours d bs x) pending) (insert seen x)

@@ -29,7 +29,7 @@ pub enum Refusal {
 impl Refusal {
     // 01's number of the refusal.
     pub fn number(self) -> usize
-        ensures { λ r. ⌜ r ≡ numberOf self ⌝ }
+        ensures answer { λ r. ⌜ r ≡ numberOf self ⌝ }
     {
         match self {
             Refusal::Malformed => 1,

@@ -8,14 +8,14 @@ pub struct DefLifetime(usize);
 impl DefLifetime {
     // The lifetime with this number.
     pub fn new(index: usize) -> Self
-        ensures { λ r. ⌜ r ≡ defLifetime index ⌝ }
+        ensures answer { λ r. ⌜ r ≡ defLifetime index ⌝ }
     {
         DefLifetime(index)
     }
 
     // Its number.
     pub fn index(self) -> usize
-        ensures { λ r. ⌜ r ≡ self .0 ⌝ }
+        ensures answer { λ r. ⌜ r ≡ self .0 ⌝ }
     {
         self.0
     }

@@ -1,28 +1,30 @@
 // The environment of a method: its lifetimes and the bounds between them.
 ghost use mathlib.Core.Path.{_≡_};
-ghost use mathlib.Core.Bool.{true, not};
+ghost use mathlib.Core.Bool.{true};
 ghost use mathlib.Core.List.{[]};
-ghost use Prim.Native.Nat.{_+_, _*_, _/_, _%_, _≤_, _<_};
+ghost use Prim.Native.Nat.{_%_, _≤_, _<_};
 ghost use lib.ListN.{length};
 ghost use Rattle.lifetimes.specs.Refusals.{unless};
-ghost use Rattle.lifetimes.specs.Lent.{verdictOf};
-ghost use Rattle.lifetimes.specs.Env.{above, byteOf, bothBelow, allBelow, envChecks, isDeclared, pairsOf, envOf, newEnv, pushBound, made};
+ghost use Rattle.lifetimes.specs.Lent.{verdictOf, held};
+ghost use Rattle.lifetimes.specs.Env.{above, byteOf, bothBelow, allBelow, envChecks, isDeclared, pairsOf, envOf};
+ghost use Rattle.lifetimes.specs.Env.{newEnv, pushBound, made};
 ghost use Rattle.lifetimes.specs.Walk.{near, far};
 use super::answer::Refusal;
 use super::answer::Verdict;
 use super::lifetime::Lifetime;
 
-// One bound: the first lifetime lasts at least as long as the second. They are here by their numbers, a byte each: 256 bounds are then few enough bytes for an
-// environment to be handed from call to call by value.
+// One bound: the first lifetime lasts at least as long as the second. They are here by their numbers, a byte each: 256
+// bounds are then few enough bytes for an environment to be handed from call to call by value.
 pub struct Bound {
     pub longer: u8,
     pub shorter: u8,
 }
 
 impl Bound {
-    // The bound of two lifetimes. Every number above 254 is kept as 255, which is past all lifetimes of any environment.
+    // The bound of two lifetimes. Every number above 254 is kept as 255, which is past all lifetimes of any
+    // environment.
     pub fn new(longer: Lifetime, shorter: Lifetime) -> Bound
-        ensures { λ r. ⌜ r ≡ above (byteOf (longer .0)) (byteOf (shorter .0)) ⌝ }
+        ensures answer { λ r. ⌜ r ≡ above (byteOf (longer .0)) (byteOf (shorter .0)) ⌝ }
     {
         bound_of(byte_of(longer.index()), byte_of(shorter.index()))
     }
@@ -55,8 +57,9 @@ impl Bound {
     }
 }
 
-// How many lifetimes are declared, how many there are in all, and the bounds in push order: the first `pushed` of the array.
-// The declared ones come first; the others are elided. The Rust has two lists at each lifetime instead of the one.
+// How many lifetimes are declared, how many there are in all, and the bounds in push order: the first `pushed` of the
+// array. The declared ones come first; the others are elided. The Rust has two lists at each lifetime instead of the
+// one.
 pub struct LifetimeEnv {
     pub declared: usize,
     pub count: usize,
@@ -77,10 +80,11 @@ impl LifetimeEnv {
     // How many bounds it may have.
     pub const MAX_BOUNDS: usize = 256;
 
-    // An environment made by hand, from a list of pairs longer, shorter. Refused by 1 (half a pair), 4 (65th lifetime, 257th bound), 8 (more declared
-    // than there are, a side past the declared), with an environment without lifetimes beside the refusal. Reads the list twice.
+    // An environment made by hand, from a list of pairs longer, shorter. Refused by 1 (half a pair), 4 (65th lifetime,
+    // 257th bound), 8 (more declared than there are, a side past the declared), with an environment without lifetimes
+    // beside the refusal. Reads the list twice.
     pub fn new(declared: usize, count: usize, pairs: &[usize]) -> Made
-        ensures { λ r. ⌜ r ≡ made (envOf 0 0 []) (newEnv declared count (now (pairs .entry))) ⌝ }
+        ensures answer { λ r. ⌜ r ≡ made (envOf 0 0 []) (newEnv declared count (held pairs)) ⌝ }
     {
         if pairs.len() % 2 == 1 {
             return refused(Refusal::Malformed);
@@ -103,10 +107,10 @@ impl LifetimeEnv {
         }
     }
 
-    // The environment with one bound more, at the end. Refused by 4 and 8 as every environment is, by 4 for a 257th bound, by 8 for a side past the
-    // declared, with the environment as it was beside the refusal.
+    // The environment with one bound more, at the end. Refused by 4 and 8 as every environment is, by 4 for a 257th
+    // bound, by 8 for a side past the declared, with the environment as it was beside the refusal.
     pub fn push_bound(self, longer: Lifetime, shorter: Lifetime) -> Made
-        ensures { λ r. ⌜ r ≡ made self (pushBound self (above (longer .0) (shorter .0))) ⌝ }
+        ensures answer { λ r. ⌜ r ≡ made self (pushBound self (above (longer .0) (shorter .0))) ⌝ }
     {
         let mut env = self;
         let at = env.pushed;
@@ -139,15 +143,16 @@ impl LifetimeEnv {
 
     // Whether a lifetime is declared. The Rust's answer is its bounds; here they are in the one list.
     pub fn get_bounds(self, lifetime: Lifetime) -> bool
-        ensures { λ r. ⌜ r ≡ isDeclared self lifetime ⌝ }
+        ensures answer { λ r. ⌜ r ≡ isDeclared self lifetime ⌝ }
     {
         lifetime.index() < self.declared
     }
 
-    // Whether this can be an environment: refused by 4 (65th lifetime, 257th bound) or 8 (more declared than there are, a bound past the declared).
-    // A caller can build any value, so whoever is handed an environment asks this first. Reads each bound once.
+    // Whether this can be an environment: refused by 4 (65th lifetime, 257th bound) or 8 (more declared than there are,
+    // a bound past the declared). A caller can build any value, so whoever is handed an environment asks this first.
+    // Reads each bound once.
     pub fn check(self) -> Verdict
-        ensures { λ r. ⌜ r ≡ verdictOf (unless (envChecks self) self) ⌝ }
+        ensures answer { λ r. ⌜ r ≡ verdictOf (unless (envChecks self) self) ⌝ }
     {
         let declared = self.declared;
         let count = self.count;
@@ -230,7 +235,7 @@ fn refused(refusal: Refusal) -> Made
 // Whether all sides of some pairs are numbered below a limit.
 fn pairs_below(pairs: &[usize], limit: usize) -> bool
     requires { ⌜ length (now pairs) % 2 ≡ 0 ⌝ }
-    ensures { λ r. ⌜ r ≡ allBelow limit (pairsOf (now (pairs .entry))) ⌝ }
+    ensures { λ r. ⌜ r ≡ allBelow limit (pairsOf (held pairs)) ⌝ }
 {
     let mut i = 0;
     while i < pairs.len() {
@@ -244,8 +249,9 @@ fn pairs_below(pairs: &[usize], limit: usize) -> bool
 
 // The environment with these pairs for bounds.
 fn filled(declared: usize, count: usize, pairs: &[usize]) -> LifetimeEnv
-    requires { ⌜ (length (now pairs) % 2 ≡ 0) × (length (now pairs) ≤ 512) × (allBelow 256 (pairsOf (now pairs)) ≡ true) ⌝ }
-    ensures { λ r. ⌜ r ≡ envOf declared count (pairsOf (now (pairs .entry))) ⌝ }
+    requires { ⌜ (length (now pairs) % 2 ≡ 0) × (length (now pairs) ≤ 512)
+        × (allBelow 256 (pairsOf (now pairs)) ≡ true) ⌝ }
+    ensures { λ r. ⌜ r ≡ envOf declared count (pairsOf (held pairs)) ⌝ }
 {
     let mut bounds = [no_bound(); LifetimeEnv::MAX_BOUNDS];
     let mut pushed = 0;

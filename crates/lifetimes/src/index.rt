@@ -1,19 +1,20 @@
 // The index of an environment: for each lifetime its neighbours, in the order in which a traversal takes them.
 //
-// A list is pushed in order and its last entry is taken first, so each list is needed backwards: a chain that is linked at its head.
-// Made once for all traversals in a direction, in one pass over the bounds.
+// A list is pushed in order and its last entry is taken first, so each list is needed backwards: a chain that is linked
+// at its head. Made once for all traversals in a direction, in one pass over the bounds.
 ghost use mathlib.Core.Path.{_≡_};
 ghost use mathlib.Core.Bool.{cond};
 ghost use Prim.Native.Nat.{_-_, _<_};
 ghost use lib.ListN.{length};
 ghost use Rattle.lifetimes.specs.Env.{boundsOf};
+ghost use Rattle.lifetimes.specs.Lent.{left};
 ghost use Rattle.lifetimes.specs.Walk.{orderOf};
 ghost use Rattle.lifetimes.specs.Index.{graphIn, Fine, Zeros, Indexed};
 use super::env::LifetimeEnv;
 
-// For each bound its far side, and the bound before it with the same near side; for each lifetime the last bound whose near side it is.
-// A bound's number is its place counted from 1, and 0 stands for none.
-// The bounds are linked in push order, or, for the AST's order, from the last to the first.
+// For each bound its far side, and the bound before it with the same near side; for each lifetime the last bound whose
+// near side it is. A bound's number is its place counted from 1, and 0 stands for none. The bounds are linked in push
+// order, or, for the AST's order, from the last to the first.
 pub(crate) fn link(
     env: LifetimeEnv,
     ast: bool,
@@ -25,7 +26,7 @@ pub(crate) fn link(
     requires { ⌜ Fine (boundsOf env) × (length (boundsOf env) ≡ env .pushed) ⌝ }
     requires { ⌜ Zeros (now last) ⌝ }
     requires { ⌜ (length (now far) ≡ 256) × (length (now before) ≡ 256) × (length (now last) ≡ 64) ⌝ }
-    ensures { λ _. ⌜ Indexed (graphIn (orderOf ast) longer env) (now (far .exit)) (now (before .exit)) (now (last .exit)) ⌝ }
+    ensures { λ _. ⌜ Indexed (graphIn (orderOf ast) longer env) (left far) (left before) (left last) ⌝ }
 {
     let n = env.pushed;
     let mut i = 0;

@@ -1,13 +1,13 @@
 // Lifetimes, the bounds between them, and their reach: what has to last as long as what.
 //
-// Of `hir/lifetimes.rs` of diplomat_core 0.17.0, whose names are kept. A wrapper must hold on to every buffer whose lifetime
-// reaches that of a view, so whoever asks for edges asks here first. The scope paper ("01") decides what is right; a
-// refused call answers one of its numbers (`Refusal`) and leaves every lent slice as it was.
+// Of `hir/lifetimes.rs` of diplomat_core 0.17.0, whose names are kept. A wrapper must hold on to every buffer whose
+// lifetime reaches that of a view, so whoever asks for edges asks here first. The scope paper ("01") decides what is
+// right; a refused call answers one of its numbers (`Refusal`) and leaves every lent slice as it was.
 //
-// What is here, bottom up: the two kinds of lifetime (`lifetime`, `def_lifetime`), each also as static or not with its lowered
-// word (`maybe_static`); refusals and what a call answers (`answer`); sets of lifetimes (`set`); the environment and its
-// bounds (`env`); the index and the traversals over it (`index`, `walk`, `reach`); the lifetimes of a definition paired with those
-// of its use (`linked`).
+// What is here, bottom up: the two kinds of lifetime (`lifetime`, `def_lifetime`), each also as static or not with its
+// lowered word (`maybe_static`); refusals and what a call answers (`answer`); sets of lifetimes (`set`); the
+// environment and its bounds (`env`); the index and the traversals over it (`index`, `walk`, `reach`); the lifetimes of
+// a definition paired with those of its use (`linked`).
 mod answer;
 mod def_lifetime;
 mod env;

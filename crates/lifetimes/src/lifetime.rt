@@ -9,14 +9,14 @@ pub struct Lifetime(usize);
 impl Lifetime {
     // The lifetime with this number.
     pub fn new(index: usize) -> Self
-        ensures { λ r. ⌜ r ≡ lifetime index ⌝ }
+        ensures answer { λ r. ⌜ r ≡ lifetime index ⌝ }
     {
         Lifetime(index)
     }
 
     // Its number.
     pub fn index(self) -> usize
-        ensures { λ r. ⌜ r ≡ self .0 ⌝ }
+        ensures answer { λ r. ⌜ r ≡ self .0 ⌝ }
     {
         self.0
     }

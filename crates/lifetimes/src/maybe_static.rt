@@ -20,7 +20,7 @@ pub enum MaybeStatic {
 impl MaybeStatic {
     // What a lowered word stands for: 0 'static, k the lifetime numbered k - 1.
     pub fn from_word(word: usize) -> Self
-        ensures { λ r. ⌜ r ≡ fromWord word ⌝ }
+        ensures answer { λ r. ⌜ r ≡ fromWord word ⌝ }
     {
         if word == 0 {
             return MaybeStatic::Static;
@@ -30,7 +30,7 @@ impl MaybeStatic {
 
     // Its lowered word, where there is one.
     pub fn word(self) -> LoweredWord
-        ensures { λ r. ⌜ r ≡ wordAnswer self ⌝ }
+        ensures answer { λ r. ⌜ r ≡ wordAnswer self ⌝ }
     {
         match self {
             MaybeStatic::Static => LoweredWord::Word(0),
@@ -48,7 +48,7 @@ pub enum MaybeStaticDef {
 impl MaybeStaticDef {
     // What a lowered word stands for: 0 'static, k the lifetime numbered k - 1.
     pub fn from_word(word: usize) -> Self
-        ensures { λ r. ⌜ r ≡ defFromWord word ⌝ }
+        ensures answer { λ r. ⌜ r ≡ defFromWord word ⌝ }
     {
         if word == 0 {
             return MaybeStaticDef::Static;
@@ -58,7 +58,7 @@ impl MaybeStaticDef {
 
     // Its lowered word, where there is one.
     pub fn word(self) -> LoweredWord
-        ensures { λ r. ⌜ r ≡ defWordAnswer self ⌝ }
+        ensures answer { λ r. ⌜ r ≡ defWordAnswer self ⌝ }
     {
         match self {
             MaybeStaticDef::Static => LoweredWord::Word(0),

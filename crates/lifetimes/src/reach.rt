@@ -7,7 +7,7 @@ ghost use Prim.Native.Nat.{_+_, _≤_, _<_};
 ghost use lib.ListN.{length, take};
 ghost use lib.Seq.{sets};
 ghost use Rattle.lifetimes.specs.Refusals.{NoneDue};
-ghost use Rattle.lifetimes.specs.Lent.{counted, written};
+ghost use Rattle.lifetimes.specs.Lent.{counted, held, room, left, Fills};
 ghost use Rattle.lifetimes.specs.Env.{boundsOf, envChecks};
 ghost use Rattle.lifetimes.specs.Walk.{LastFirst, FirstFirst, orderOf, traversal};
 ghost use Rattle.lifetimes.specs.Reach.{listReach, reachSets, listWords, listEnds, listsAnswer};
@@ -20,7 +20,8 @@ use super::index::link;
 use super::lifetime::Lifetime;
 use super::walk::walk;
 
-// The reach of all lifetimes: the set of the lifetime x at place x. Places past the count hold 0, and all do beside a refusal.
+// The reach of all lifetimes: the set of the lifetime x at place x. Places past the count hold 0, and all do beside a
+// refusal.
 pub struct ReachSets {
     pub verdict: Verdict,
     pub sets: [u64; 64],
@@ -33,39 +34,40 @@ pub struct Lists {
 }
 
 impl LifetimeEnv {
-    // Write the lifetimes that outlive a lifetime to a slice, itself first, in the order of the Rust. Refused by 4 and 8 as the environment is,
-    // by 8 for a lifetime past the count, by 9 where the slice is too short.
+    // Write the lifetimes that outlive a lifetime to a slice, itself first, in the order of the Rust. Refused by 4 and
+    // 8 as the environment is, by 8 for a lifetime past the count, by 9 where the slice is too short.
     pub fn all_longer_lifetimes(self, lifetime: Lifetime, out: &mut [usize]) -> Listed
-        ensures { λ r. ⌜ r ≡ counted (listReach LastFirst true self (lifetime .0) (length (now (out .entry)))) ⌝ }
-        ensures { λ _. ⌜ now (out .exit) ≡ written (listReach LastFirst true self (lifetime .0) (length (now (out .entry)))) (now (out .entry)) ⌝ }
+        ensures answer { λ r. ⌜ r ≡ counted (listReach LastFirst true self (lifetime .0) (room out)) ⌝ }
+        ensures stored { λ _. ⌜ Fills (listReach LastFirst true self (lifetime .0) (room out)) out ⌝ }
     {
         traverse(self, false, lifetime, true, out)
     }
 
     // Write the lifetimes that a lifetime outlives, in the same way.
     pub fn all_shorter_lifetimes(self, lifetime: Lifetime, out: &mut [usize]) -> Listed
-        ensures { λ r. ⌜ r ≡ counted (listReach LastFirst false self (lifetime .0) (length (now (out .entry)))) ⌝ }
-        ensures { λ _. ⌜ now (out .exit) ≡ written (listReach LastFirst false self (lifetime .0) (length (now (out .entry)))) (now (out .entry)) ⌝ }
+        ensures answer { λ r. ⌜ r ≡ counted (listReach LastFirst false self (lifetime .0) (room out)) ⌝ }
+        ensures stored { λ _. ⌜ Fills (listReach LastFirst false self (lifetime .0) (room out)) out ⌝ }
     {
         traverse(self, false, lifetime, false, out)
     }
 
-    // Write a lifetime's list in the AST's order: depth first in list order. Longer or shorter; refused as the calls above.
+    // Write a lifetime's list in the AST's order: depth first in list order. Longer or shorter; refused as the calls
+    // above.
     pub fn depth_first_lifetimes(
         self,
         lifetime: Lifetime,
         longer: bool,
         out: &mut [usize],
     ) -> Listed
-        ensures { λ r. ⌜ r ≡ counted (listReach FirstFirst longer self (lifetime .0) (length (now (out .entry)))) ⌝ }
-        ensures { λ _. ⌜ now (out .exit) ≡ written (listReach FirstFirst longer self (lifetime .0) (length (now (out .entry)))) (now (out .entry)) ⌝ }
+        ensures answer { λ r. ⌜ r ≡ counted (listReach FirstFirst longer self (lifetime .0) (room out)) ⌝ }
+        ensures stored { λ _. ⌜ Fills (listReach FirstFirst longer self (lifetime .0) (room out)) out ⌝ }
     {
         traverse(self, true, lifetime, longer, out)
     }
 
     // The reach of all lifetimes as sets, in the direction longer or shorter. Refused by 4 and 8 as the environment is.
     pub fn reach_sets(self, longer: bool) -> ReachSets
-        ensures { λ r. ⌜ r ≡ reachSets longer self ⌝ }
+        ensures answer { λ r. ⌜ r ≡ reachSets longer self ⌝ }
     {
         let mut sets = [0u64; 64];
         let verdict = self.check();
@@ -85,12 +87,13 @@ impl LifetimeEnv {
         }
     }
 
-    // Write all lists of a direction, one after another, to one slice, and where each ends to another. Refused by 4 and 8 as the environment is,
-    // by 9 where either slice is too short. With as many words for each lifetime as there are lifetimes the lists fit in any case; with less they are measured first.
+    // Write all lists of a direction, one after another, to one slice, and where each ends to another. Refused by 4 and
+    // 8 as the environment is, by 9 where either slice is too short. With as many words for each lifetime as there are
+    // lifetimes the lists fit in any case; with less they are measured first.
     pub fn all_lists(self, longer: bool, words: &mut [usize], ends: &mut [usize]) -> Lists
-        ensures { λ r. ⌜ r ≡ listsAnswer longer self (length (now (words .entry))) (length (now (ends .entry))) ⌝ }
-        ensures { λ _. ⌜ now (words .exit) ≡ written (listWords longer self (length (now (words .entry))) (length (now (ends .entry)))) (now (words .entry)) ⌝ }
-        ensures { λ _. ⌜ now (ends .exit) ≡ written (listEnds longer self (length (now (words .entry))) (length (now (ends .entry)))) (now (ends .entry)) ⌝ }
+        ensures answer { λ r. ⌜ r ≡ listsAnswer longer self (room words) (room ends) ⌝ }
+        ensures words_filled { λ _. ⌜ Fills (listWords longer self (room words) (room ends)) words ⌝ }
+        ensures ends_filled { λ _. ⌜ Fills (listEnds longer self (room words) (room ends)) ends ⌝ }
     {
         let mut sets = [0u64; 64];
         let verdict = self.check();
@@ -143,8 +146,8 @@ fn traverse(
     longer: bool,
     out: &mut [usize],
 ) -> Listed
-    ensures { λ r. ⌜ r ≡ counted (listReach (orderOf ast) longer env (lifetime .0) (length (now (out .entry)))) ⌝ }
-    ensures { λ _. ⌜ now (out .exit) ≡ written (listReach (orderOf ast) longer env (lifetime .0) (length (now (out .entry)))) (now (out .entry)) ⌝ }
+    ensures { λ r. ⌜ r ≡ counted (listReach (orderOf ast) longer env (lifetime .0) (room out)) ⌝ }
+    ensures { λ _. ⌜ Fills (listReach (orderOf ast) longer env (lifetime .0) (room out)) out ⌝ }
 {
     let verdict = env.check();
     if let Verdict::Refused(refusal) = verdict {
@@ -167,7 +170,8 @@ fn traverse(
 fn list(env: LifetimeEnv, ast: bool, longer: bool, start: usize, items: &mut [usize; 64]) -> usize
     requires { ⌜ NoneDue (envChecks env) × (start < env .count) ⌝ }
     requires { ⌜ length (now items) ≡ 64 ⌝ }
-    ensures { λ r. ⌜ (r ≤ 64) × (length (now (items .exit)) ≡ 64) × (take r (now (items .exit)) ≡ traversal (orderOf ast) longer (boundsOf env) start) ⌝ }
+    ensures { λ r. ⌜ (r ≤ 64) × (length (left items) ≡ 64)
+        × (take r (left items) ≡ traversal (orderOf ast) longer (boundsOf env) start) ⌝ }
 {
     let declared = env.declared;
     let count = env.count;
@@ -193,7 +197,7 @@ fn limit_of(declared: usize, count: usize, start: usize) -> usize
 // Copy the first n items to a place of a slice.
 fn copy_to(items: &[usize; 64], n: usize, out: &mut [usize], at: usize)
     requires { ⌜ (n ≤ 64) × (length (now items) ≡ 64) × (at + n ≤ length (now out)) ⌝ }
-    ensures { λ _. ⌜ now (out .exit) ≡ sets (now (out .entry)) at (take n (now (items .entry))) ⌝ }
+    ensures { λ _. ⌜ left out ≡ sets (held out) at (take n (held items)) ⌝ }
 {
     let mut i = 0;
     while i < n {
@@ -202,7 +206,8 @@ fn copy_to(items: &[usize; 64], n: usize, out: &mut [usize], at: usize)
     }
 }
 
-// Whether all lists over an index have room together. None is longer than there are lifetimes, so with as many words for each they have; with less they are measured.
+// Whether all lists over an index have room together. None is longer than there are lifetimes, so with as many words
+// for each they have; with less they are measured.
 fn all_fit(
     far: &[u8; 256],
     before: &[u16; 256],
@@ -212,7 +217,8 @@ fn all_fit(
     room: usize,
 ) -> bool
     requires { ⌜ Measurable (now far) (now before) (now last) declared count ⌝ }
-    ensures { λ r. ⌜ ((g : Graph) → Indexed g (now (far .entry)) (now (before .entry)) (now (last .entry)) → Within g declared → Fits g count room r) ⌝ }
+    ensures { λ r. ⌜ ((g : Graph) → Indexed g (held far) (held before) (held last) → Within g declared
+        → Fits g count room r) ⌝ }
 {
     if count * count <= room {
         return true;
@@ -232,7 +238,8 @@ fn measure(
 ) -> usize
     requires { ⌜ Measurable (now far) (now before) (now last) declared count ⌝ }
     requires { ⌜ length (now reach) ≡ 64 ⌝ }
-    ensures { λ r. ⌜ ((g : Graph) → Indexed g (now (far .entry)) (now (before .entry)) (now (last .entry)) → Within g declared → Measures g count (now (reach .entry)) (now (reach .exit)) r) ⌝ }
+    ensures { λ r. ⌜ ((g : Graph) → Indexed g (held far) (held before) (held last) → Within g declared
+        → Measures g count (held reach) (left reach) r) ⌝ }
 {
     let mut items = [0usize; 64];
     let mut total = 0;
@@ -260,7 +267,8 @@ fn lay(
 ) -> usize
     requires { ⌜ Layable (now far) (now before) (now last) declared count (length (now words)) ⌝ }
     requires { ⌜ (count ≤ length (now ends)) × (length (now reach) ≡ 64) ⌝ }
-    ensures { λ r. ⌜ ((g : Graph) → Indexed g (now (far .entry)) (now (before .entry)) (now (last .entry)) → Within g declared → Lays g count (now (words .entry)) (now (ends .entry)) (now (reach .entry)) (now (words .exit)) (now (ends .exit)) (now (reach .exit)) r) ⌝ }
+    ensures { λ r. ⌜ ((g : Graph) → Indexed g (held far) (held before) (held last) → Within g declared
+        → Lays g count (held words) (held ends) (held reach) (left words) (left ends) (left reach) r) ⌝ }
 {
     let mut items = [0usize; 64];
     let mut at = 0;

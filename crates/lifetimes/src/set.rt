@@ -5,8 +5,7 @@ ghost use mathlib.Core.Path.{_≡_};
 ghost use mathlib.Core.Bool.{cond};
 ghost use Prim.Native.Nat.{_<_};
 ghost use lib.Dec.{ltb};
-ghost use lib.ListN.{length};
-ghost use Rattle.lifetimes.specs.Lent.{counted, written};
+ghost use Rattle.lifetimes.specs.Lent.{counted, room, Fills};
 ghost use Rattle.lifetimes.specs.Sets as sets;
 use super::answer::Listed;
 use super::answer::Refusal;
@@ -20,7 +19,7 @@ pub const CAPACITY: usize = 64;
 
 // Whether a lifetime is in a set.
 pub fn contains(set: u64, lifetime: Lifetime) -> bool
-    ensures { λ r. ⌜ r ≡ sets.member set (lifetime .0) ⌝ }
+    ensures answer { λ r. ⌜ r ≡ sets.member set (lifetime .0) ⌝ }
 {
     let number = lifetime.index();
     if number < CAPACITY {
@@ -31,7 +30,7 @@ pub fn contains(set: u64, lifetime: Lifetime) -> bool
 
 // The set with one lifetime more. One of 64 or more is in no set: the set stays.
 pub fn insert(set: u64, lifetime: Lifetime) -> u64
-    ensures { λ r. ⌜ r ≡ cond (ltb (lifetime .0) 64) (sets.insert set (lifetime .0)) set ⌝ }
+    ensures answer { λ r. ⌜ r ≡ cond (ltb (lifetime .0) 64) (sets.insert set (lifetime .0)) set ⌝ }
 {
     let number = lifetime.index();
     if number < CAPACITY {
@@ -42,22 +41,23 @@ pub fn insert(set: u64, lifetime: Lifetime) -> u64
 
 // The lifetimes of either set.
 pub fn union(first: u64, second: u64) -> u64
-    ensures { λ r. ⌜ r ≡ sets.union first second ⌝ }
+    ensures answer { λ r. ⌜ r ≡ sets.union first second ⌝ }
 {
     first | second
 }
 
 // How many lifetimes are in a set.
 pub fn count(set: u64) -> usize
-    ensures { λ r. ⌜ r ≡ sets.count set ⌝ }
+    ensures answer { λ r. ⌜ r ≡ sets.count set ⌝ }
 {
     u64::count_ones(set) as usize
 }
 
-// Write a set's lifetimes to a slice, ascending. Refused by 9 where the slice is too short. Looks at each of the 64 bits once.
+// Write a set's lifetimes to a slice, ascending. Refused by 9 where the slice is too short. Looks at each of the 64
+// bits once.
 pub fn members(set: u64, out: &mut [usize]) -> Listed
-    ensures { λ r. ⌜ r ≡ counted (sets.listMembers set (length (now (out .entry)))) ⌝ }
-    ensures { λ _. ⌜ now (out .exit) ≡ written (sets.listMembers set (length (now (out .entry)))) (now (out .entry)) ⌝ }
+    ensures answer { λ r. ⌜ r ≡ counted (sets.listMembers set (room out)) ⌝ }
+    ensures stored { λ _. ⌜ Fills (sets.listMembers set (room out)) out ⌝ }
 {
     let n = count(set);
     if out.len() < n {

@@ -1,8 +1,10 @@
 // One traversal over the index.
 ghost use mathlib.Core.Path.{_≡_};
-ghost use Prim.Native.Nat.{_≤_, _<_};
+ghost use Prim.Native.Nat.{_≤_};
 ghost use lib.ListN.{length};
-ghost use Rattle.lifetimes.specs.Index.{Graph, Chained, Indexed, Ready, Standing, Steps, Within, Walkable, Complete};
+ghost use Rattle.lifetimes.specs.Index.{Graph, Chained, Indexed, Ready, Standing, Steps, Within, Walkable};
+ghost use Rattle.lifetimes.specs.Index.{Complete};
+ghost use Rattle.lifetimes.specs.Lent.{held, left};
 use super::lifetime::Lifetime;
 use super::set;
 
@@ -25,7 +27,8 @@ pub(crate) struct Walked {
     pub(crate) seen: u64,
 }
 
-// The next unseen lifetime: pending entries that were seen are passed over. The `next` of the Rust's `LifetimeTransitivityIterator`.
+// The next unseen lifetime: pending entries that were seen are passed over. The `next` of the Rust's
+// `LifetimeTransitivityIterator`.
 fn advance(
     far: &[u8; 256],
     before: &[u16; 256],
@@ -35,7 +38,8 @@ fn advance(
     deep: usize,
 ) -> Stepped
     requires { ⌜ Standing (now far) (now before) (now stack) from deep ⌝ }
-    ensures { λ r. ⌜ ((g : Graph) → Chained g (now (far .entry)) (now (before .entry)) → Ready g (now (stack .entry)) from deep → Steps g (now (stack .entry)) seen from deep r) ⌝ }
+    ensures { λ r. ⌜ ((g : Graph) → Chained g (held far) (held before) → Ready g (held stack) from deep
+        → Steps g (held stack) seen from deep r) ⌝ }
 {
     let mut at = from;
     let mut depth = deep;
@@ -58,8 +62,8 @@ fn advance(
     Stepped { next, at, depth }
 }
 
-// The traversal from a lifetime, over the index of an environment whose lifetimes are below a limit, to the first places of `items`.
-// It stops when as many are listed as there are. A chain that is at its end is not stacked.
+// The traversal from a lifetime, over the index of an environment whose lifetimes are below a limit, to the first
+// places of `items`. It stops when as many are listed as there are. A chain that is at its end is not stacked.
 pub(crate) fn walk(
     far: &[u8; 256],
     before: &[u16; 256],
@@ -70,8 +74,9 @@ pub(crate) fn walk(
 ) -> Walked
     requires { ⌜ Walkable (now far) (now before) (now last) limit start ⌝ }
     requires { ⌜ length (now items) ≡ 64 ⌝ }
-    ensures { λ r. ⌜ (r .count ≤ 64) × (length (now (items .exit)) ≡ 64) ⌝ }
-    ensures { λ r. ⌜ ((g : Graph) → Indexed g (now (far .entry)) (now (before .entry)) (now (last .entry)) → Within g limit → Complete g start (now (items .exit)) r) ⌝ }
+    ensures { λ r. ⌜ (r .count ≤ 64) × (length (left items) ≡ 64) ⌝ }
+    ensures { λ r. ⌜ ((g : Graph) → Indexed g (held far) (held before) (held last) → Within g limit
+        → Complete g start (left items) r) ⌝ }
 {
     let mut stack = [0usize; 64];
     items[0] = start;

@@ -1,7 +1,6 @@
 -- 01's examples, crate by crate: those below have shown their own, the program's are computed here.
 use mathlib.Core.Path.{refl, ap}
 use mathlib.Core.List.{List, [], _∷_, _++_, map, flatMap, flatten}
-use lib.ListN.{take}
 use Rattle.lifetimes.specs.Refusals.{unless}
 use Rattle.lifetimes.specs.Ranges as ranges
 use Rattle.lifetimes.specs.Sets as sets
@@ -31,7 +30,8 @@ use Rattle.borrowing_param.specs.SheetMethod as sheets
 use Rattle.borrowing_param.specs.Examples as visits
 use Rattle.listing.specs.Listing as listings
 use Rattle.listing.specs.Listing.{response, listingOf, listingChecks}
-use Rattle.listing.specs.Examples.{Example, reachExample, astExample, elisionExample, visitsExample, programExamples, Right, Reached, Declared, Elided, Visited}
+use Rattle.listing.specs.Examples.{Example, reachExample, astExample, elisionExample, visitsExample}
+use Rattle.listing.specs.Examples.{programExamples, Right, Reached, Declared, Elided, Visited}
 
 -- the crates below have shown their own examples
 pub right-more : (xs ys : List Example) → Right xs → Right ys → Right (xs ++ ys)
@@ -55,20 +55,27 @@ visits-right [] p = tt
 visits-right (x ∷ xs) p = (ap Visited (p .0), visits-right xs (p .1))
 
 pub program-right : Right programExamples
-unfolding response unless listingOf listingChecks sheets.sheetRefusals sheets.recordsChecks read.textChecks read.sheetOf read.sheetIn read.linesBehind read.ten read.readLines read.behind read.allShort flatten flatMap text.line text.following text.digits text.digitsFor
-    shape.sheetInShape rows.methodInShape shapes.namesInShape shapes.allNames shapes.boundsInShape shapes.pairsOf ast-types.readType steps.readStep reading.readAll reading.inShape reading.itemsOf
-    declared.nameChecks declared.allPairChecks declared.has declared.implied declared.allImplied declared.envOf declared.place rfc.throughout rfc.anonymous rfc.hasSelfType rfc.ownFrom
-    rows.readKnown rows.readTypes rows.readRow types.readOpaque types.readStruct types.readSlice types.readBare types.readLowered method.typeChecks method.rowChecks method.paramChecks method.anyPast
-    used.usedSet used.numbersOf used.inTypes used.inRows new.created new.newVisitor map-of.listedTo map-of.listedEdges map-of.answersFrom brings.bring brings.anyDrawn brings.structEdges
-    listings.answersFrom env.envOf env.allBelow ranges.ascending ranges.select walk.reachSet walk.traversal walk.walk walk.walkFor walk.unpushed walk.neighbours sets.member sets.insert sets.insertAll sets.members
+unfolding response unless listingOf listingChecks sheets.sheetRefusals sheets.recordsChecks read.textChecks read.sheetOf
+    read.sheetIn read.linesBehind read.ten read.readLines read.behind read.allShort flatten flatMap text.line
+    text.following text.digits text.digitsFor
+    shape.sheetInShape rows.methodInShape shapes.namesInShape shapes.allNames shapes.boundsInShape shapes.pairsOf
+    ast-types.readType steps.readStep reading.readAll reading.inShape reading.itemsOf
+    declared.nameChecks declared.allPairChecks declared.has declared.implied declared.allImplied declared.envOf
+    declared.place rfc.throughout rfc.anonymous rfc.hasSelfType rfc.ownFrom
+    rows.readKnown rows.readTypes rows.readRow types.readOpaque types.readStruct types.readSlice types.readBare
+    types.readLowered method.typeChecks method.rowChecks method.paramChecks method.anyPast
+    used.usedSet used.numbersOf used.inTypes used.inRows new.created new.newVisitor map-of.listedTo map-of.listedEdges
+    map-of.answersFrom brings.bring brings.anyDrawn brings.structEdges
+    listings.answersFrom env.envOf env.allBelow ranges.ascending ranges.select walk.reachSet walk.traversal walk.walk
+    walk.walkFor walk.unpushed walk.neighbours sets.member sets.insert sets.insertAll sets.members
 program-right = (refl, (refl, tt))
 
 -- the lists one behind another, last first
 abbrev pub fromVisits : List Example
-fromVisits = map visitsExample (take 2 visits.examples) ++ programExamples
+fromVisits = map visitsExample visits.starred ++ programExamples
 
 abbrev pub fromElision : List Example
-fromElision = map elisionExample elision.examples ++ fromVisits
+fromElision = map elisionExample elision.starred ++ fromVisits
 
 abbrev pub fromAst : List Example
-fromAst = map astExample ast.examples ++ fromElision
+fromAst = map astExample ast.starred ++ fromElision

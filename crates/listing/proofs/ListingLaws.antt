@@ -1,7 +1,9 @@
--- What stands in the scratch is what the listing lists: lists by their ends, numbered; and the edges by sets of all lifetimes, also of those that are not used.
+-- What stands in the scratch is what the listing lists: lists by their ends, numbered; and the edges by sets of all
+-- lifetimes, also of those that are not used.
 use Prim.Native.Nat.{ℕ, zero, suc, _+_, _≤_}
 use mathlib.Core.Path.{_≡_, refl, sym, ap, _∙_}
-use mathlib.Core.List.{List, [], _∷_, _++_, map, flatMap, flatten, append-assoc, List·Memᴰ, List·Memᴰ·head, List·Memᴰ·tail}
+use mathlib.Core.List.{List, [], _∷_, _++_, map, flatMap, flatten, append-assoc, List·Memᴰ, List·Memᴰ·head}
+use mathlib.Core.List.{List·Memᴰ·tail}
 use native.Mathlib.Nat.{zero-add}
 use native.Mathlib.Omega.{arith}
 use lib.ListN.{length, getD, length-append}
@@ -25,7 +27,8 @@ slice-middle [] l rest = rw zero-add (front l)
     front : (l : List ℕ) → slice 0 (length l) (l ++ rest) ≡ l
     front [] = refl
     front (x ∷ l) = ap (λ (m : List ℕ). x ∷ m) (front l)
-slice-middle (b ∷ before) l rest = let e : suc (length before) + length l ≡ suc (length before + length l) = omega arith in rw e (slice-middle before l rest)
+slice-middle (b ∷ before) l rest = let e : suc (length before) + length l ≡ suc (length before + length l) =
+    omega arith in rw e (slice-middle before l rest)
 
 pub cut-lists : (before : List ℕ) (ls : List (List ℕ)) (rest past : List ℕ)
     → cutFrom (length before) (before ++ (flatten ls ++ rest)) (endsFrom (length before) ls ++ past) (length ls) ≡ ls
@@ -35,11 +38,15 @@ cut-lists before (l ∷ ls) rest past =
     let a : before ++ ((l ++ flatten ls) ++ rest) ≡ (before ++ l) ++ (flatten ls ++ rest) = simp append-assoc in
     let b : before ++ ((l ++ flatten ls) ++ rest) ≡ before ++ (l ++ (flatten ls ++ rest)) = simp append-assoc in
     let e : length before + length l ≡ length (before ++ l) = sym (length-append before l) in
-    let first : slice (length before) (length before + length l) (before ++ ((l ++ flatten ls) ++ rest)) ≡ l = rw b (slice-middle before l (flatten ls ++ rest)) in
-    let others : cutFrom (length before + length l) (before ++ ((l ++ flatten ls) ++ rest)) (endsFrom (length before + length l) ls ++ past) (length ls) ≡ ls = rw (a, e) (cut-lists (before ++ l) ls rest past) in
+    let first : slice (length before) (length before + length l) (before ++ ((l ++ flatten ls) ++ rest)) ≡ l =
+    rw b (slice-middle before l (flatten ls ++ rest)) in
+    let others : cutFrom (length before + length l) (before ++ ((l ++ flatten ls) ++ rest))
+    (endsFrom (length before + length l) ls ++ past) (length ls) ≡ ls =
+    rw (a, e) (cut-lists (before ++ l) ls rest past) in
     rw (first, others)
 
-pub ends-ascend : (at size : ℕ) (ls : List (List ℕ)) (past : List ℕ) → at + length (flatten ls) ≤ size → Ascend at size (endsFrom at ls ++ past) (length ls)
+pub ends-ascend : (at size : ℕ) (ls : List (List ℕ)) (past : List ℕ) → at + length (flatten ls) ≤ size
+    → Ascend at size (endsFrom at ls ++ past) (length ls)
 unfolding Ascend endsFrom flatten
 ends-ascend at size [] past h = tt
 ends-ascend at size (l ∷ ls) past h =
@@ -60,7 +67,8 @@ unfolding flatMap
 join-same f g [] h = refl
 join-same f g (x ∷ l) h = rw (h x (List·Memᴰ·head refl), join-same f g l (λ y m. h y (List·Memᴰ·tail m)))
 
-module _ (v w : BorrowingParamVisitor) (same : v .used ≡ w .used) (draws : (l : ℕ) → List·Memᴰ l (usedOf w) → getD (v .draws) l 0 ≡ getD (w .draws) l 0) where
+module _ (v w : BorrowingParamVisitor) (same : v .used ≡ w .used) (draws : (l : ℕ) → List·Memᴰ l (usedOf w)
+    → getD (v .draws) l 0 ≡ getD (w .draws) l 0) where
   brings-same : (t : LoweredType) (param l : ℕ) → List·Memᴰ l (usedOf w) → bringTo v t param l ≡ bringTo w t param l
   brings-same t param l m = ap (λ (s : ℕ). bring (drawsIn s) l param t) (draws l m)
 
@@ -71,11 +79,13 @@ module _ (v w : BorrowingParamVisitor) (same : v .used ≡ w .used) (draws : (l 
 
   pub edges-same : (ts : List LoweredType) → listedEdges v ts ≡ listedEdges w ts
   unfolding listedEdges
-  edges-same ts = ap (λ (u : ℕ). flatMap (listedTo v 0 ts) (members u)) same ∙ join-same (listedTo v 0 ts) (listedTo w 0 ts) (usedOf w) (λ l m. to-same 0 ts l m)
+  edges-same ts = ap (λ (u : ℕ). flatMap (listedTo v 0 ts) (members u)) same
+      ∙ join-same (listedTo v 0 ts) (listedTo w 0 ts) (usedOf w) (λ l m. to-same 0 ts l m)
 
   pub answers-same : (param : ℕ) (ts : List LoweredType) → answersFrom v param ts ≡ answersFrom w param ts
   unfolding answersFrom
   answers-same param [] = refl
   answers-same param (t ∷ ts) =
-      let all : bringAll v t param ≡ bringAll w t param = ap (λ (u : ℕ). flatMap (bringTo v t param) (members u)) same ∙ join-same (bringTo v t param) (bringTo w t param) (usedOf w) (λ l m. brings-same t param l m) in
+      let all : bringAll v t param ≡ bringAll w t param = ap (λ (u : ℕ). flatMap (bringTo v t param) (members u)) same
+      ∙ join-same (bringTo v t param) (bringTo w t param) (usedOf w) (λ l m. brings-same t param l m) in
       rw (all, answers-same (suc param) ts)

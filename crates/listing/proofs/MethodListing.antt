@@ -1,9 +1,10 @@
--- An accepted method, listed from what stands in scratch: all lists and sets as `all_lists` leaves them, the answers and edges of `borrow_map`.
-use Prim.Native.Nat.{ℕ, _+_, _*_, _-_, _/_, _≤_, _<_, _^_}
+-- An accepted method, listed from what stands in scratch: all lists and sets as `all_lists` leaves them, the answers
+-- and edges of `borrow_map`.
+use Prim.Native.Nat.{ℕ, _+_, _*_, _-_, _≤_, _<_, _^_}
 use mathlib.Core.Bool.{Bool, true, false, cond}
 use mathlib.Core.Path.{_≡_, refl, sym, ap, subst, _∙_}
 use mathlib.Core.List.{List, [], _∷_, _++_, map, flatMap, flatten, List·Memᴰ}
-use native.Mathlib.Nat.{zero-add, sub-zero, mul-le-mul, div-add-mod', mod-lt}
+use native.Mathlib.Nat.{zero-add, sub-zero, mul-le-mul}
 use native.Mathlib.Omega.{arith}
 use borrow.Author.Tests.{le-ltb, lt-ltb, ltb-true, ltb-false}
 use lib.Dec.{ltb}
@@ -19,15 +20,16 @@ use Rattle.lifetimes.specs.Refusals.{Check, Outcome, Gives, Refuses, FirstDue, 
 use Rattle.lifetimes.specs.Lent.{written, verdictOf, resultOr, roomCheck}
 use Rattle.lifetimes.specs.Ranges.{ascending}
 use Rattle.lifetimes.specs.Sets as sets
-use Rattle.lifetimes.specs.Env.{boundsOf, envOf}
+use Rattle.lifetimes.specs.Env.{boundsOf}
 use Rattle.lifetimes.specs.Walk.{LastFirst, traversal, reachSet}
 use Rattle.lifetimes.specs.Reach.{allSets, noSets, allLists, endsFrom, listsChecks, listWords, listEnds, listsAnswer}
-use Rattle.lifetimes.proofs.RefusalLaws.{due-given, due-refused, refused-first, accepted-none, none-first, none-rest, none-more, none-split, first-behind}
+use Rattle.lifetimes.proofs.RefusalLaws.{due-given, due-refused, refused-first, accepted-none, none-first, none-rest}
+use Rattle.lifetimes.proofs.RefusalLaws.{none-more, none-split, first-behind}
 use Rattle.lifetimes.proofs.SetLaws.{members-has, ascending-has, length-ascending}
 use Rattle.lifetimes.proofs.ReachLaws.{traversal-few}
 use Rattle.lifetimes.proofs.Laying.{length-ends}
 use Rattle.lowered_types.specs.LoweredTypes.{LoweredType}
-use Rattle.hir_types.specs.Method.{typesIn, methodChecks}
+use Rattle.hir_types.specs.Method.{typesIn, structsAndParamsChecks}
 use Rattle.sheet.specs.Text.{line}
 use Rattle.borrowing_param.specs.declared.listed.BorrowMap.{BorrowMap}
 use Rattle.borrowing_param.specs.declared.visitor.LifetimeEdge.{LifetimeEdge}
@@ -36,17 +38,20 @@ use Rattle.borrowing_param.specs.Edges.{width, edgeWords, edgesIn}
 use Rattle.borrowing_param.specs.Visit.{usedOf}
 use Rattle.borrowing_param.specs.New.{drawsTo, newVisitor}
 use Rattle.borrowing_param.specs.BorrowMap as spec
-use Rattle.borrowing_param.specs.BorrowMap.{Mapping, mappingOf, mapChecks, borrowMap, mapAnswer, mapAnswers, answersFrom, listedEdges}
+use Rattle.borrowing_param.specs.BorrowMap.{Mapping, mappingOf, mapChecks, borrowMap, mapAnswer, mapAnswers}
+use Rattle.borrowing_param.specs.BorrowMap.{answersFrom, listedEdges}
 use Rattle.borrowing_param.specs.Borrows.{Borrows}
 use Rattle.borrowing_param.proofs.Creating.{at-place, set-there}
 use Rattle.borrowing_param.proofs.Joining.{words-many, words-read}
 use Rattle.borrowing_param.proofs.Ordering.{listing-consistent}
 use Rattle.listing.specs.declared.within.Within.{Within}
 use Rattle.listing.specs.declared.within.Within.the-variants as within
-use Rattle.listing.specs.Listing.{countHeading, loweredHeading, longerHeading, longerLines, answerLines, edgeLines, mostEdges}
+use Rattle.listing.specs.Listing.{countHeading, loweredHeading, longerHeading, longerLines, answerLines}
+use Rattle.listing.specs.Listing.{edgeLines, mostEdges}
 use Rattle.listing.specs.InnerPrint.{Prints}
 use Rattle.listing.specs.InnerSections.{numbered, cutFrom, Ascend}
-use Rattle.listing.specs.InnerListing.{Lists, ListsWithin, methodBorrows, methodListing, listedMethod, Listable, sections, tooMany}
+use Rattle.listing.specs.InnerListing.{Lists, ListsWithin, methodBorrows, methodListing, listedMethod, Listable}
+use Rattle.listing.specs.InnerListing.{sections, tooMany}
 use Rattle.listing.proofs.ListingLaws.{cut-lists, ends-ascend, numbered-map, edges-same, answers-same}
 use Rattle.listing.proofs.RoomLaws.{lines-short, lifetimes-few, bounds-within}
 
@@ -55,7 +60,8 @@ unfolding flatten flatMap
 flatten-map f [] = refl
 flatten-map f (a ∷ l) = ap (λ (m : List ℕ). f a ++ m) (flatten-map f l)
 
-five-same : {a a₁ c c₁ d d₁ e e₁ : List ℕ} (b : List ℕ) → a ≡ a₁ → c ≡ c₁ → d ≡ d₁ → e ≡ e₁ → a ++ (b ++ (c ++ (d ++ e))) ≡ a₁ ++ (b ++ (c₁ ++ (d₁ ++ e₁)))
+five-same : {a a₁ c c₁ d d₁ e e₁ : List ℕ} (b : List ℕ) → a ≡ a₁ → c ≡ c₁ → d ≡ d₁ → e ≡ e₁
+    → a ++ (b ++ (c ++ (d ++ e))) ≡ a₁ ++ (b ++ (c₁ ++ (d₁ ++ e₁)))
 five-same b f g h i = rw (f, g, h, i)
 
 -- what `all_lists` leaves in scratch
@@ -67,14 +73,16 @@ pub record AllListed (env : LifetimeEnv) (lists ends : List ℕ) (l : reach.List
   pub ended : ends₁ ≡ written (listEnds true env (length lists) (length ends)) ends
 
 -- what `borrow_map` leaves there
-pub record Mapped (v : BorrowingParamVisitor) (structs params answers edges : List ℕ) (m : BorrowMap) (answers₁ edges₁ : List ℕ) : Type 0 where
+pub record Mapped (v : BorrowingParamVisitor) (structs params answers edges : List ℕ) (m : BorrowMap)
+    (answers₁ edges₁ : List ℕ) : Type 0 where
   pub sixteen : length answers ≡ 16
   pub most : length edges ≤ 20480
   pub maps : m ≡ mapAnswer (borrowMap v structs params (length answers) (length edges))
   pub noted : answers₁ ≡ written (mapAnswers (borrowMap v structs params (length answers) (length edges))) answers
   pub stored : edges₁ ≡ written (spec.mapEdges (borrowMap v structs params (length answers) (length edges))) edges
 
-module _ {env : LifetimeEnv} {used : ℕ} {structs params own given taken : List ℕ} (can : Listable env used structs params own given taken) where
+module _ {env : LifetimeEnv} {used : ℕ} {structs params own given taken : List ℕ}
+    (can : Listable env used structs params own given taken) where
   abbrev borrows : Borrows
   borrows = methodBorrows env used structs params
 
@@ -102,16 +110,19 @@ module _ {env : LifetimeEnv} {used : ℕ} {structs params own given taken : List
         ap (λ (n : ℕ). env .count * n) (length-ascending 0 (env .count)),
       ))
     where
-      many : length (flatMap (traversal LastFirst true (boundsOf env)) (ascending 0 (env .count))) ≤ env .count * length (ascending 0 (env .count))
+      many : length (flatMap (traversal LastFirst true (boundsOf env)) (ascending 0 (env .count)))
+          ≤ env .count * length (ascending 0 (env .count))
       many =
           lines-short (traversal LastFirst true (boundsOf env)) (env .count) (ascending 0 (env .count))
-          (λ l m. traversal-few LastFirst true (boundsOf env) l (env .count) (bounds-within env (can .valid)) (omega (arith, (ascending-has 0 (env .count) l) .0 m)))
+          (λ l m. traversal-few LastFirst true (boundsOf env) l (env .count) (bounds-within env (can .valid))
+          (omega (arith, (ascending-has 0 (env .count) l) .0 m)))
 
   lists-many : length (allLists true env) ≡ env .count
   unfolding allLists
   lists-many = rw length-map (length-ascending 0 (env .count))
 
-  pub lists-short : (lists : List ℕ) {edges : ℕ} {out : List ℕ} → length lists < env .count * env .count → ListsWithin listing ((4096 ≤ length lists) × (20480 ≤ edges)) out within.Short out
+  pub lists-short : (lists : List ℕ) {edges : ℕ} {out : List ℕ} → length lists < env .count * env .count
+      → ListsWithin listing ((4096 ≤ length lists) × (20480 ≤ edges)) out within.Short out
   lists-short lists h = (λ a. omega (arith, h, mul-le-mul few few, a .0), refl)
 
   module _ {lists ends : List ℕ} {l : reach.Lists} {lists₁ ends₁ : List ℕ} (all : AllListed env lists ends l lists₁ ends₁) where
@@ -123,7 +134,8 @@ module _ {env : LifetimeEnv} {used : ℕ} {structs params own given taken : List
     lists-none : NoneDue (listsChecks true env (length lists) (length ends))
     lists-none =
         none-more (can .valid)
-        (next (le-ltb (length ends) (length (endsFrom 0 (allLists true env))) (omega (arith, length-ends 0 (allLists true env), lists-many, few, places)))
+        (next (le-ltb (length ends) (length (endsFrom 0 (allLists true env)))
+        (omega (arith, length-ends 0 (allLists true env), lists-many, few, places)))
         (next (le-ltb (length lists) (length (flatten (allLists true env))) lists-fit) end))
 
     sets-are : l .sets ≡ allSets true env
@@ -147,14 +159,20 @@ module _ {env : LifetimeEnv} {used : ℕ} {structs params own given taken : List
     pub lists-ascend : Ascend 0 (length lists₁) ends₁ (env .count)
     lists-ascend =
         let k : 0 + length (flatten (allLists true env)) ≤ length lists₁ = rw (lists-are, length-append) (omega arith) in
-        subst (λ (n : ℕ). Ascend 0 (length lists₁) ends₁ n) lists-many (rw ends-are (ends-ascend 0 (length lists₁) (allLists true env) past k))
+        subst (λ (n : ℕ). Ascend 0 (length lists₁) ends₁ n) lists-many
+        (rw ends-are (ends-ascend 0 (length lists₁) (allLists true env) past k))
 
     lists-cut : cutFrom 0 lists₁ ends₁ (env .count) ≡ allLists true env
-    lists-cut = subst (λ (n : ℕ). cutFrom 0 lists₁ ends₁ n ≡ allLists true env) lists-many (rw (lists-are, ends-are) (cut-lists [] (allLists true env) behind past))
+    lists-cut =
+        subst (λ (n : ℕ). cutFrom 0 lists₁ ends₁ n ≡ allLists true env) lists-many
+        (rw (lists-are, ends-are) (cut-lists [] (allLists true env) behind past))
 
     longer-are : longerHeading ++ numbered 0 (cutFrom 0 lists₁ ends₁ (env .count)) ≡ longerLines env
     unfolding allLists
-    longer-are = rw lists-cut (ap (λ (t : List ℕ). longerHeading ++ t) (numbered-map (traversal LastFirst true (boundsOf env)) 0 (env .count)))
+    longer-are =
+        rw lists-cut
+        (ap (λ (t : List ℕ). longerHeading ++ t)
+        (numbered-map (traversal LastFirst true (boundsOf env)) 0 (env .count)))
 
     -- ---- the answers and the edges
 
@@ -170,7 +188,8 @@ module _ {env : LifetimeEnv} {used : ℕ} {structs params own given taken : List
     same-draws x m =
         let in-used = (members-has used x) .0 m in
         let there : getD (new .draws) x 0 ≡ reachSet true (boundsOf env) x =
-        at-place (drawsTo used (boundsOf env)) 0 64 x (in-used .0) ∙ ap (drawsTo used (boundsOf env)) (zero-add x) ∙ rw (in-used .1) in
+        at-place (drawsTo used (boundsOf env)) 0 64 x (in-used .0) ∙ ap (drawsTo used (boundsOf env)) (zero-add x)
+        ∙ rw (in-used .1) in
         ap (λ (s : List ℕ). getD s x 0) sets-are ∙ set-there env x (can .below x (in-used .1)) ∙ sym there
 
     edges-are : listedEdges visitor types ≡ borrows .edges
@@ -185,7 +204,8 @@ module _ {env : LifetimeEnv} {used : ℕ} {structs params own given taken : List
     few-answers : length (answersFrom visitor 0 types) ≤ 16
     few-answers = listing-consistent visitor structs params (can .of) .few-params
 
-    module _ {answers edges : List ℕ} {m : BorrowMap} {answers₁ edges₁ : List ℕ} (map : Mapped visitor structs params answers edges m answers₁ edges₁) where
+    module _ {answers edges : List ℕ} {m : BorrowMap} {answers₁ edges₁ : List ℕ}
+        (map : Mapped visitor structs params answers edges m answers₁ edges₁) where
       open Mapped map using (sixteen, most, maps, noted, stored)
 
       abbrev mapped : Outcome Mapping
@@ -214,7 +234,10 @@ module _ {env : LifetimeEnv} {used : ℕ} {structs params own given taken : List
       edges-many : {k : Refusal} → m .verdict ≡ verdict.Refused k → length edges < width * length (borrows .edges)
       unfolding borrowMap
       edges-many {k} v =
-          go (first-behind (next answers-fit end) (first-behind (can .of) (refused-first (mappingOf visitor types) k (mapChecks visitor structs params (length answers) (length edges)) (sym verdict-is ∙ v))))
+          go (first-behind (next answers-fit end)
+          (first-behind (can .of)
+          (refused-first (mappingOf visitor types) k
+          (mapChecks visitor structs params (length answers) (length edges)) (sym verdict-is ∙ v))))
         where
           go : FirstDue k (edgesRoom ∷ []) → length edges < width * length (borrows .edges)
           go (here d e) = omega (arith, ltb-true (length edges) (length (flatMap edgeWords (listedEdges visitor types))) d, words-are)
@@ -225,21 +248,31 @@ module _ {env : LifetimeEnv} {used : ℕ} {structs params own given taken : List
       map-refused {k} w out v e = rw (e, same) (go (ltb (length edges) 20480) refl)
         where
           refuses : mapped ≡ Refuses k
-          refuses = due-refused (mappingOf visitor types) (refused-first (mappingOf visitor types) k (mapChecks visitor structs params (length answers) (length edges)) (sym verdict-is ∙ v))
+          refuses =
+              due-refused (mappingOf visitor types)
+              (refused-first (mappingOf visitor types) k
+              (mapChecks visitor structs params (length answers) (length edges)) (sym verdict-is ∙ v))
 
           same : edges₁ ≡ edges
           same = stored ∙ ap (λ (o : Outcome Mapping). written (spec.mapEdges o) edges) refuses
 
-          go : (t : Bool) → ltb (length edges) 20480 ≡ t → ListsWithin listing ((4096 ≤ length lists) × (20480 ≤ length edges)) out (cond t within.Short (within.Done (listed.Refused NoRoom))) out
+          go : (t : Bool) → ltb (length edges) 20480 ≡ t
+              → ListsWithin listing ((4096 ≤ length lists) × (20480 ≤ length edges)) out
+              (cond t within.Short (within.Done (listed.Refused NoRoom))) out
           go true s = (λ a. omega (arith, ltb-true (length edges) 20480 s, a .1), refl)
           go false s =
-              let many : mostEdges < length (borrows .edges) = omega (arith, ltb-false (length edges) 20480 s, edges-many v) in
-              (due-refused (methodListing env used structs params own given taken) (here (lt-ltb mostEdges (length (borrows .edges)) many) refl), refl)
+              let many : mostEdges < length (borrows .edges) = omega (arith, ltb-false (length edges) 20480 s, edges-many v) in (
+                due-refused (methodListing env used structs params own given taken) (here
+                    (lt-ltb mostEdges (length (borrows .edges)) many) refl),
+                refl,
+              )
 
       module _ (fine : m .verdict ≡ verdict.Accepted) where
         map-none : NoneDue (mapChecks visitor structs params (length answers) (length edges))
         unfolding borrowMap
-        map-none = accepted-none (mappingOf visitor types) (mapChecks visitor structs params (length answers) (length edges)) (sym verdict-is ∙ fine)
+        map-none =
+            accepted-none (mappingOf visitor types) (mapChecks visitor structs params (length answers) (length edges))
+            (sym verdict-is ∙ fine)
 
         map-given : mapped ≡ Gives (record { answers = borrows .answers; edges = borrows .edges })
         unfolding borrowMap
@@ -247,8 +280,13 @@ module _ {env : LifetimeEnv} {used : ℕ} {structs params own given taken : List
 
         edges-fit : width * length (borrows .edges) ≤ length edges
         edges-fit =
-            let n = none-split (methodChecks (envOf 0 0 []) structs params [] (0 ∷ [])) (answersRoom ∷ edgesRoom ∷ []) map-none .1 in
-            omega (arith, ltb-false (length edges) (length (flatMap edgeWords (listedEdges visitor types))) (none-first (none-rest n)), words-are)
+            let n = none-split (structsAndParamsChecks structs params) (answersRoom ∷ edgesRoom ∷ []) map-none .1 in
+            omega (
+              arith,
+              ltb-false (length edges) (length (flatMap edgeWords (listedEdges visitor types)))
+                  (none-first (none-rest n)),
+              words-are,
+            )
 
         map-is : m ≡ mapAnswer (Gives (record { answers = borrows .answers; edges = borrows .edges }))
         map-is = maps ∙ ap mapAnswer map-given
@@ -283,7 +321,8 @@ module _ {env : LifetimeEnv} {used : ℕ} {structs params own given taken : List
         few-edges = omega (arith, edges-fit, most)
 
         module _ {many : ℕ} (counted : many ≡ sets.count used) where
-          sections-are : sections (counts many) own given taken lists₁ ends₁ answers₂ edges₁ ≡ methodListing env used structs params own given taken
+          sections-are : sections (counts many) own given taken lists₁ ends₁ answers₂ edges₁
+              ≡ methodListing env used structs params own given taken
           unfolding sections methodListing sets.count newVisitor
           sections-are =
               five-same (loweredHeading ++ (line own ++ (line given ++ line taken)))
@@ -293,11 +332,13 @@ module _ {env : LifetimeEnv} {used : ℕ} {structs params own given taken : List
           pub sections-small : length (sections (counts many) own given taken lists₁ ends₁ answers₂ edges₁) < 2 ^ 64
           sections-small = rw sections-are (omega (arith, can .short few-edges))
 
-          pub method-listed : {n : ℕ} {out out₁ : List ℕ} → Prints (sections (counts many) own given taken lists₁ ends₁ answers₂ edges₁) 0 out n out₁
+          pub method-listed : {n : ℕ} {out out₁ : List ℕ}
+              → Prints (sections (counts many) own given taken lists₁ ends₁ answers₂ edges₁) 0 out n out₁
               → ListsWithin listing ((4096 ≤ length lists) × (20480 ≤ length edges)) out (within.Done (listed.Count n)) out₁
           unfolding listedMethod
           method-listed p = (
             methodListing env used structs params own given taken,
-            due-given (methodListing env used structs params own given taken) (next (le-ltb mostEdges (length (borrows .edges)) few-edges) end),
+            due-given (methodListing env used structs params own given taken)
+                (next (le-ltb mostEdges (length (borrows .edges)) few-edges) end),
             rw sections-are at p,
           )

@@ -16,7 +16,8 @@ use Rattle.sheet.proofs.DigitLaws.{digits-single, digits-more}
 use Rattle.listing.specs.InnerPrint.{Prints, places, DigitsArePlaces}
 
 -- one text behind another
-pub prints-more : {s t : List ℕ} {at at₁ at₂ : ℕ} {out out₁ out₂ : List ℕ} → Prints s at out at₁ out₁ → Prints t at₁ out₁ at₂ out₂ → Prints (s ++ t) at out at₂ out₂
+pub prints-more : {s t : List ℕ} {at at₁ at₂ : ℕ} {out out₁ out₂ : List ℕ} → Prints s at out at₁ out₁
+    → Prints t at₁ out₁ at₂ out₂ → Prints (s ++ t) at out at₂ out₂
 prints-more {s} {t} {at} {at₁} {at₂} {out} p q =
     record {
       behind = rw length-append (omega (arith, p .behind, q .behind));
@@ -32,7 +33,8 @@ pub leaves-all : (text : List ℕ) (at : ℕ) (out : List ℕ) → Leaves text a
 leaves-all text at out = record { behind = refl; stored = refl }
 
 module _ {text : List ℕ} {at : ℕ} {out : List ℕ} {s : List ℕ} {at₁ at₂ : ℕ} {out₁ out₂ : List ℕ} where
-  pub leaves-rest : (rest : List ℕ) → Leaves text at out (s ++ rest) at₁ out₁ → Prints s at₁ out₁ at₂ out₂ → Leaves text at out rest at₂ out₂
+  pub leaves-rest : (rest : List ℕ) → Leaves text at out (s ++ rest) at₁ out₁ → Prints s at₁ out₁ at₂ out₂
+      → Leaves text at out rest at₂ out₂
   leaves-rest rest l p =
       record {
         behind = omega (arith, l .behind, p .behind, length-append s rest);
@@ -54,8 +56,10 @@ module _ {text : List ℕ} {at : ℕ} {out : List ℕ} {at₁ : ℕ} {out₁ : L
   pub last-fits : {s : List ℕ} → Leaves text at out s at₁ out₁ → at₁ + length s < 2 ^ 64
   last-fits l = omega (arith, small, l .behind)
 
-pub leaves-size : {text : List ℕ} {at : ℕ} {out : List ℕ} {rest : List ℕ} {at₁ : ℕ} {out₁ : List ℕ} → Leaves text at out rest at₁ out₁ → length out₁ ≡ length out
-leaves-size {text} {at} {out} {rest} {at₁} {out₁} l = sym (length-sets out₁ at₁ rest) ∙ ap length (l .stored) ∙ length-sets out at text
+pub leaves-size : {text : List ℕ} {at : ℕ} {out : List ℕ} {rest : List ℕ} {at₁ : ℕ} {out₁ : List ℕ}
+    → Leaves text at out rest at₁ out₁ → length out₁ ≡ length out
+leaves-size {text} {at} {out} {rest} {at₁} {out₁} l = sym (length-sets out₁ at₁ rest) ∙ ap length (l .stored)
+    ∙ length-sets out at text
 
 -- a store behind a run may come before it
 pub sets-behind : (l : List ℕ) (i j d : ℕ) (vs : List ℕ) → i + length vs ≤ j → sets (set l j d) i vs ≡ set (sets l i vs) j d
@@ -81,7 +85,8 @@ digits-are-places zero n low high =
     digits-single s ∙ rw e
 digits-are-places (suc k) n low high =
     let l : 10 ^ k ≤ n / 10 = (le-div-iff-mul-le {k = 10} {x = 10 ^ k} {y = n} (omega arith)) .1 (rw (pow-suc 10 k) at low) in
-    let h : n / 10 < 10 ^ suc k = (div-lt-iff-lt-mul {k = 10} {x = n} {y = 10 ^ suc k} (omega arith)) .1 (rw (pow-suc 10 (suc k)) at high) in
+    let h : n / 10 < 10 ^ suc k =
+    (div-lt-iff-lt-mul {k = 10} {x = n} {y = 10 ^ suc k} (omega arith)) .1 (rw (pow-suc 10 (suc k)) at high) in
     digits-more (omega (arith, one-le-pow k 10 (omega arith), div-add-mod' n 10)) ∙ rw (digits-are-places k (n / 10) l h)
 
 -- two digits
@@ -102,7 +107,12 @@ module _ {n power count : ℕ} (inv : Counting n power count) where
   counting-below h = omega (arith, div-add-mod' n 10)
 
   pub counting-more : power ≤ n / 10 → Counting n (power * 10) (count + 1)
-  counting-more h = record { is = rw (add-one count, pow-suc 10 count, inv .is); small = omega (arith, inv .small); below = counting-below h }
+  counting-more h =
+      record {
+        is = rw (add-one count, pow-suc 10 count, inv .is);
+        small = omega (arith, inv .small);
+        below = counting-below h;
+      }
 
   pub counting-end : n / 10 < power → digits n ≡ places (count + 1) n
   counting-end h =
@@ -120,7 +130,8 @@ pub placing-start : (k n at : ℕ) (out : List ℕ) → Placing k n at out out k
 placing-start k n at out = record { here = omega arith; size = refl; rest = refl }
 
 module _ {k n at : ℕ} {out₀ out : List ℕ} {left : ℕ} where
-  placing-next : (i : ℕ) → Placing k n at out₀ out (suc i) left → Placing k n at out₀ (set out (at + i) (48 + left % 10)) i (left / 10)
+  placing-next : (i : ℕ) → Placing k n at out₀ out (suc i) left
+      → Placing k n at out₀ (set out (at + i) (48 + left % 10)) i (left / 10)
   unfolding places
   placing-next i inv =
       let s = places i (left / 10) in
@@ -132,10 +143,12 @@ module _ {k n at : ℕ} {out₀ out : List ℕ} {left : ℕ} where
         rest = sets-behind out at (at + i) (48 + left % 10) s (omega (arith, length-places i (left / 10))) ∙ sym e ∙ inv .rest;
       }
 
-  pub placing-more : {out₁ : List ℕ} {i : ℕ} → Placing k n at out₀ out i left → 0 < i → out₁ ≡ set out (at + (i - 1)) (48 + left % 10) → Placing k n at out₀ out₁ (i - 1) (left / 10)
+  pub placing-more : {out₁ : List ℕ} {i : ℕ} → Placing k n at out₀ out i left → 0 < i
+      → out₁ ≡ set out (at + (i - 1)) (48 + left % 10) → Placing k n at out₀ out₁ (i - 1) (left / 10)
   placing-more {i = i} inv h e = let s : i ≡ suc (i - 1) = omega arith in rw e (placing-next (i - 1) (rw s at inv))
 
-pub placing-end : {k n at : ℕ} {out₀ out : List ℕ} {left i : ℕ} → Placing k n at out₀ out i left → i ≤ 0 → Prints (places k n) at out₀ (at + k) out
+pub placing-end : {k n at : ℕ} {out₀ out : List ℕ} {left i : ℕ} → Placing k n at out₀ out i left → i ≤ 0
+    → Prints (places k n) at out₀ (at + k) out
 unfolding places
 placing-end {k} {n} {at} {out₀} {out} {left} {i} inv h =
     let e : i ≡ 0 = omega arith in
@@ -145,7 +158,8 @@ placing-end {k} {n} {at} {out₀} {out} {left} {i} inv h =
     }
 
 -- the loop of `put_text` stores as much as there is room for
-pub text-end : {text : List ℕ} {n at i : ℕ} {out₀ out : List ℕ} → Copying text n at out₀ out i → n ≡ min (length text) (length out₀ - at) → n ≤ i → Prints text at out₀ (at + length text) out
+pub text-end : {text : List ℕ} {n at i : ℕ} {out₀ out : List ℕ} → Copying text n at out₀ out i
+    → n ≡ min (length text) (length out₀ - at) → n ≤ i → Prints text at out₀ (at + length text) out
 text-end {text} {n} {at} {i} {out₀} {out} inv e h =
     let most : n ≤ length text = omega arith in
     record { behind = refl; stored = copying-end inv most h ∙ go (leb (length text) n) refl }
@@ -167,7 +181,8 @@ unfolding following
 following-some [] = omega arith
 following-some (word ∷ words) = omega arith
 
-following-next : (words : List ℕ) (i : ℕ) → i < length words → following (drop i words) ≡ (space ∷ []) ++ (digits (getD words i 0) ++ following (drop (suc i) words))
+following-next : (words : List ℕ) (i : ℕ) → i < length words
+    → following (drop i words) ≡ (space ∷ []) ++ (digits (getD words i 0) ++ following (drop (suc i) words))
 unfolding following
 following-next words i h = rw (drop-cons words i 0 h)
 
@@ -178,19 +193,27 @@ module _ {words : List ℕ} {at : ℕ} {out₀ out : List ℕ} {to i : ℕ} (inv
   pub following-fits : at + length (following words) < 2 ^ 64 → to + 1 < 2 ^ 64
   following-fits f = omega (arith, inv .left .behind, following-some (drop i words))
 
-  pub following-end : {to₁ : ℕ} {out₁ : List ℕ} → length words ≤ i → Prints (newline ∷ []) to out to₁ out₁ → Prints (following words) at out₀ to₁ out₁
+  pub following-end : {to₁ : ℕ} {out₁ : List ℕ} → length words ≤ i → Prints (newline ∷ []) to out to₁ out₁
+      → Prints (following words) at out₀ to₁ out₁
   unfolding following
   following-end h p = leaves-none (rw (drop-of-length-le words {i = i} h) at (inv .left)) p
 
   module _ {next : ℕ} {out₁ : List ℕ} (h : i < length words) (spaced : Prints (space ∷ []) to out next out₁) where
     spaced-left : Leaves (following words) at out₀ (digits (getD words i 0) ++ following (drop (suc i) words)) next out₁
-    spaced-left = leaves-rest (digits (getD words i 0) ++ following (drop (suc i) words)) (rw (following-next words i h) at (inv .left)) spaced
+    spaced-left =
+        leaves-rest (digits (getD words i 0) ++ following (drop (suc i) words))
+        (rw (following-next words i h) at (inv .left)) spaced
 
     pub following-number : at + length (following words) < 2 ^ 64 → next + length (digits (getD words i 0)) < 2 ^ 64
     following-number f = omega (arith, spaced-left .behind, length-append (digits (getD words i 0)) (following (drop (suc i) words)))
 
-    pub following-more : {to₁ : ℕ} {out₂ : List ℕ} → Prints (digits (getD words i 0)) next out₁ to₁ out₂ → Following words at out₀ out₂ to₁ (i + 1)
-    following-more p = record { here = omega arith; left = rw (add-one i) (leaves-rest (following (drop (suc i) words)) spaced-left p) }
+    pub following-more : {to₁ : ℕ} {out₂ : List ℕ} → Prints (digits (getD words i 0)) next out₁ to₁ out₂
+        → Following words at out₀ out₂ to₁ (i + 1)
+    following-more p =
+        record {
+          here = omega arith;
+          left = rw (add-one i) (leaves-rest (following (drop (suc i) words)) spaced-left p);
+        }
 
 -- a line of words
 pub line-none : (words : List ℕ) → length words ≡ 0 → line words ≡ newline ∷ []
@@ -198,7 +221,8 @@ unfolding line
 line-none [] h = refl
 line-none (word ∷ words) h = absurd (omega arith)
 
-pub line-some : (words : List ℕ) → (length words ≡ 0 → ⊥) → line words ≡ digits (getD words 0 0) ++ following (take (length words - 1) (drop 1 words))
+pub line-some : (words : List ℕ) → (length words ≡ 0 → ⊥)
+    → line words ≡ digits (getD words 0 0) ++ following (take (length words - 1) (drop 1 words))
 unfolding line
 line-some [] h = absurd (h refl)
 line-some (word ∷ words) h = let e : suc (length words) - 1 ≡ length words = omega arith in rw (e, take-length words)

@@ -16,7 +16,8 @@ module _ (bytes : List ℕ) where
   abbrev pub whole : List ℕ
   whole = listingOf (sheetOf bytes)
 
-  pub judge : (o : Outcome (List ℕ)) → unless (listingChecks bytes) whole ≡ o → ((k : Refusal) × FirstDue k (listingChecks bytes)) ⊎ NoneDue (listingChecks bytes)
+  pub judge : (o : Outcome (List ℕ)) → unless (listingChecks bytes) whole ≡ o
+      → ((k : Refusal) × FirstDue k (listingChecks bytes)) ⊎ NoneDue (listingChecks bytes)
   judge (Gives t) e = inr (given-due whole t (listingChecks bytes) e .0)
   judge (Refuses k) e = inl (k, refused-due whole k (listingChecks bytes) e)
 

@@ -1,4 +1,5 @@
--- How long a listing can be: all that is printed but the number of edges is below 100, so a line of n words has at most 3 n + 1 bytes.
+-- How long a listing can be: all that is printed but the number of edges is below 100, so a line of n words has at most
+-- 3 n + 1 bytes.
 use Prim.Native.Nat.{ℕ, suc, _+_, _*_, _≤_, _<_}
 use mathlib.Core.Bool.{true}
 use mathlib.Core.Path.{_≡_, refl}
@@ -38,7 +39,8 @@ use Rattle.borrowing_param.specs.New.{created}
 use Rattle.borrowing_param.proofs.Forcing.{params-none}
 use Rattle.borrowing_param.proofs.MethodLaws.{env-valid, accepted-method}
 use Rattle.borrowing_param.proofs.Ordering.{listing-consistent}
-use Rattle.listing.specs.Listing.{countLines, loweredLines, longerLine, longerLines, answersFrom, answerLines, edgeLine, edgeLines, listingOf}
+use Rattle.listing.specs.Listing.{countLines, loweredLines, longerLine, longerLines, answersFrom, answerLines}
+use Rattle.listing.specs.Listing.{edgeLine, edgeLines, listingOf}
 
 -- ---- lines
 
@@ -60,7 +62,8 @@ line-short [] b = omega arith
 line-short (w ∷ ws) b = rw length-append (omega (arith, two-digits (b .0), following-short ws (b .1)))
 
 -- a line for each of some things, each of at most so many bytes
-pub lines-short : {A : Type 0} (f : A → List ℕ) (n : ℕ) (l : List A) → ((a : A) → List·Memᴰ a l → length (f a) ≤ n) → length (flatMap f l) ≤ n * length l
+pub lines-short : {A : Type 0} (f : A → List ℕ) (n : ℕ) (l : List A) → ((a : A) → List·Memᴰ a l → length (f a) ≤ n)
+    → length (flatMap f l) ≤ n * length l
 unfolding flatMap
 lines-short f n [] h = omega arith
 lines-short f n (a ∷ l) h =
@@ -78,7 +81,8 @@ small-below : (ls : List MaybeStatic) → AllSmall ls → Below 100 (words ls)
 small-below [] p = tt
 small-below (l ∷ ls) p = (omega (arith, p .0), small-below ls (p .1))
 
-counts-short : (lifetimes : ℕ) (b : Borrows) → lifetimes ≤ 64 → Consistent (b .used) (b .answers) (b .edges) → length (b .edges) ≤ 4096 → length (countLines lifetimes b) ≤ 43
+counts-short : (lifetimes : ℕ) (b : Borrows) → lifetimes ≤ 64 → Consistent (b .used) (b .answers) (b .edges)
+    → length (b .edges) ≤ 4096 → length (countLines lifetimes b) ≤ 43
 unfolding line following
 counts-short lifetimes b few c some =
     let p = two-digits {w = lifetimes} (omega (arith, few)) in
@@ -91,9 +95,15 @@ answers-short : (param : ℕ) (l : List ℕ) → param + length l ≤ 16 → Bel
 unfolding answersFrom
 answers-short param [] h b = omega arith
 answers-short param (a ∷ l) h b =
-    rw length-append (omega (arith, line-short (param ∷ a ∷ []) (omega (arith, h), (b .0, tt)), answers-short (suc param) l (omega (arith, h)) (b .1)))
+    rw length-append
+    (omega (
+      arith,
+      line-short (param ∷ a ∷ []) (omega (arith, h), (b .0, tt)),
+      answers-short (suc param) l (omega (arith, h)) (b .1),
+    ))
 
-edge-short : {used answers : List ℕ} {edges : List LifetimeEdge} → Consistent used answers edges → (e : LifetimeEdge) → List·Memᴰ e edges → length (edgeLine e) ≤ 16
+edge-short : {used answers : List ℕ} {edges : List LifetimeEdge} → Consistent used answers edges → (e : LifetimeEdge)
+    → List·Memᴰ e edges → length (edgeLine e) ≤ 16
 edge-short c e m =
     line-short (edgeWords e) (
       omega (arith, c .used-below (e .used) (c .edge-used e m)),
@@ -122,7 +132,8 @@ module _ (env : LifetimeEnv) (valid : NoneDue (envChecks env)) where
       let here : l < env .count = omega (arith, (ascending-has 0 (env .count) l) .0 m) in
       let few = traversal-few LastFirst true (boundsOf env) l (env .count) bounds-within here in
       let small = below-from 100 (traversal LastFirst true (boundsOf env) l)
-      (λ y k. let z : y < env .count = traversal-only LastFirst true (boundsOf env) l (λ y. y < env .count) (λ b i h. bounds-within b i) here y k in omega (arith, z, lifetimes-few)) in
+      (λ y k. let z : y < env .count = traversal-only LastFirst true (boundsOf env) l (λ y. y < env .count)
+      (λ b i h. bounds-within b i) here y k in omega (arith, z, lifetimes-few)) in
       let short = line-short (l ∷ traversal LastFirst true (boundsOf env) l) (omega (arith, here, lifetimes-few), small) in
       omega (arith, short, few, lifetimes-few)
 
@@ -133,9 +144,21 @@ module _ (env : LifetimeEnv) (valid : NoneDue (envChecks env)) where
 
 -- ---- the whole
 
-five-short : (a b c d e : List ℕ) {m n o p q : ℕ} → length a ≤ m → length b ≤ n → length c ≤ o → length d ≤ p → length e ≤ q → length (a ++ (b ++ (c ++ (d ++ e)))) ≤ m + n + o + p + q
+five-short : (a b c d e : List ℕ) {m n o p q : ℕ} → length a ≤ m → length b ≤ n → length c ≤ o → length d ≤ p
+    → length e ≤ q → length (a ++ (b ++ (c ++ (d ++ e)))) ≤ m + n + o + p + q
 five-short a b c d e h i j k l =
-    omega (arith, h, i, j, k, l, length-append a (b ++ (c ++ (d ++ e))), length-append b (c ++ (d ++ e)), length-append c (d ++ e), length-append d e)
+    omega (
+      arith,
+      h,
+      i,
+      j,
+      k,
+      l,
+      length-append a (b ++ (c ++ (d ++ e))),
+      length-append b (c ++ (d ++ e)),
+      length-append c (d ++ e),
+      length-append d e,
+    )
 
 module _ (r : Records) (none : NoneDue (recordsChecks r)) where
   abbrev names : List ℕ
@@ -155,16 +178,36 @@ module _ (r : Records) (none : NoneDue (recordsChecks r)) where
 
   lowered-short : length (loweredLines elided) ≤ 49166
   lowered-short =
-      let small = accepted-small names (receiverOf (r .self)) (accepted-names (r .names) (r .bounds) (r .types) (parts .1)) (stepsOf (r .steps)) (stepsOf (r .returns)) (parts .2) in
+      let small =
+      accepted-small names (receiverOf (r .self)) (accepted-names (r .names) (r .bounds) (r .types) (parts .1))
+      (stepsOf (r .steps)) (stepsOf (r .returns)) (parts .2) in
       let a = line-short (words (elided .self)) (small-below (elided .self) (small .0)) in
       let b = line-short (words (elided .steps)) (small-below (elided .steps) (small .1 .0)) in
       let c = line-short (words (elided .returns)) (small-below (elided .returns) (small .1 .1)) in
-      let steps = shapes-are-short r (parts .0) (r .steps) (List·Memᴰ·tail (List·Memᴰ·tail (List·Memᴰ·tail (List·Memᴰ·tail (List·Memᴰ·head refl))))) in
-      let returns = shapes-are-short r (parts .0) (r .returns) (List·Memᴰ·tail (List·Memᴰ·tail (List·Memᴰ·tail (List·Memᴰ·tail (List·Memᴰ·tail (List·Memᴰ·head refl)))))) in
+      let steps =
+      shapes-are-short r (parts .0) (r .steps)
+      (List·Memᴰ·tail (List·Memᴰ·tail (List·Memᴰ·tail (List·Memᴰ·tail (List·Memᴰ·head refl))))) in
+      let returns =
+      shapes-are-short r (parts .0) (r .returns)
+      (List·Memᴰ·tail (List·Memᴰ·tail (List·Memᴰ·tail (List·Memᴰ·tail (List·Memᴰ·tail (List·Memᴰ·head refl)))))) in
       let d = lowered-self names (receiverOf (r .self)) in
       let e = lowered-steps names (receiverOf (r .self)) (r .steps) in
       let f = lowered-returns names (receiverOf (r .self)) (r .steps) (r .returns) in
-      rw (length-append, length-append, length-append) (omega (arith, a, b, c, d, e, f, steps, returns, length-map (elided .self) wordOf, length-map (elided .steps) wordOf, length-map (elided .returns) wordOf))
+      rw (length-append, length-append, length-append)
+      (omega (
+        arith,
+        a,
+        b,
+        c,
+        d,
+        e,
+        f,
+        steps,
+        returns,
+        length-map (elided .self) wordOf,
+        length-map (elided .steps) wordOf,
+        length-map (elided .returns) wordOf,
+      ))
 
   pub consistent : Consistent (sheetBorrows r .used) (sheetBorrows r .answers) (sheetBorrows r .edges)
   consistent =
@@ -179,9 +222,13 @@ module _ (r : Records) (none : NoneDue (recordsChecks r)) where
       let b = sheetBorrows r in
       let counts = counts-short (envOfSheet r .count) b (lifetimes-few (envOfSheet r) valid) consistent few in
       let longer = all-longer-short (envOfSheet r) valid in
-      let answers = answers-short 0 (b .answers) (omega (arith, consistent .few-params)) (below-answers (b .answers) (consistent .most)) in
+      let answers =
+      answers-short 0 (b .answers) (omega (arith, consistent .few-params))
+      (below-answers (b .answers) (consistent .most)) in
       let edges = lines-short edgeLine 16 (b .edges) (edge-short consistent) in
       let answered : length (answerLines (b .answers)) ≤ 125 = rw length-append (omega (arith, answers, consistent .few-params)) in
       let edged : length (edgeLines (b .edges)) ≤ 65563 = rw length-append (omega (arith, edges, few)) in
-      let all = five-short (countLines (envOfSheet r .count) b) (loweredLines elided) (longerLines (envOfSheet r)) (answerLines (b .answers)) (edgeLines (b .edges)) counts lowered-short longer answered edged in
+      let all =
+      five-short (countLines (envOfSheet r .count) b) (loweredLines elided) (longerLines (envOfSheet r))
+      (answerLines (b .answers)) (edgeLines (b .edges)) counts lowered-short longer answered edged in
       omega (arith, all)

@@ -24,12 +24,16 @@ left-suc h = omega arith
 pub record Numbering (words ends : List ℕ) (count at : ℕ) (out : List ℕ) (next : ℕ) (out₁ : List ℕ) (from i : ℕ) : Type 0 where
   pub here : i ≤ count
   pub ascends : Ascend from (length words) (drop i ends) (count - i)
-  pub left : Leaves (numbered 0 (cutFrom 0 words ends count)) at out (numbered i (cutFrom from words (drop i ends) (count - i))) next out₁
+  pub left : Leaves (numbered 0 (cutFrom 0 words ends count)) at out
+      (numbered i (cutFrom from words (drop i ends) (count - i))) next out₁
 
-pub numbering-start : (words ends : List ℕ) (count at : ℕ) (out : List ℕ) → Ascend 0 (length words) ends count → Numbering words ends count at out at out 0 0
-numbering-start words ends count at out a = record { here = omega arith; ascends = rw sub-zero a; left = rw sub-zero (leaves-all _ at out) }
+pub numbering-start : (words ends : List ℕ) (count at : ℕ) (out : List ℕ) → Ascend 0 (length words) ends count
+    → Numbering words ends count at out at out 0 0
+numbering-start words ends count at out a =
+    record { here = omega arith; ascends = rw sub-zero a; left = rw sub-zero (leaves-all _ at out) }
 
-module _ {words ends : List ℕ} {count at : ℕ} {out : List ℕ} {next : ℕ} {out₁ : List ℕ} {from i : ℕ} (inv : Numbering words ends count at out next out₁ from i) where
+module _ {words ends : List ℕ} {count at : ℕ} {out : List ℕ} {next : ℕ} {out₁ : List ℕ} {from i : ℕ}
+    (inv : Numbering words ends count at out next out₁ from i) where
   pub numbering-end : count ≤ i → Prints (numbered 0 (cutFrom 0 words ends count)) at out next out₁
   unfolding numbered cutFrom
   numbering-end h =
@@ -67,30 +71,41 @@ module _ {words ends : List ℕ} {count at : ℕ} {out : List ℕ} {next : ℕ} 
     abbrev listed : List ℕ
     listed = take (to - from) (drop from words)
 
-    on : numbered i (cutFrom from words (drop i ends) (count - i)) ≡ digits i ++ (following listed ++ numbered (suc i) (cutFrom to words (drop (suc i) ends) (count - suc i)))
+    on : numbered i (cutFrom from words (drop i ends) (count - i))
+        ≡ digits i ++ (following listed ++ numbered (suc i) (cutFrom to words (drop (suc i) ends) (count - suc i)))
     unfolding numbered cutFrom line
     on = rw (left-suc h, ends-on, ← part-is from to words (more .0)) (append-assoc (digits i) (following listed) _)
 
-    left-number : Leaves (numbered 0 (cutFrom 0 words ends count)) at out (digits i ++ (following listed ++ numbered (suc i) (cutFrom to words (drop (suc i) ends) (count - suc i)))) next out₁
+    left-number : Leaves (numbered 0 (cutFrom 0 words ends count)) at out
+        (digits i ++ (following listed ++ numbered (suc i) (cutFrom to words (drop (suc i) ends) (count - suc i)))) next
+        out₁
     left-number = rw on at (inv .left)
 
     module _ {start : ℕ} {out₂ : List ℕ} (first : Prints (digits i) next out₁ start out₂) where
-      pub left-list : Leaves (numbered 0 (cutFrom 0 words ends count)) at out (following listed ++ numbered (suc i) (cutFrom to words (drop (suc i) ends) (count - suc i))) start out₂
+      pub left-list : Leaves (numbered 0 (cutFrom 0 words ends count)) at out
+          (following listed ++ numbered (suc i) (cutFrom to words (drop (suc i) ends) (count - suc i))) start out₂
       left-list = leaves-rest _ left-number first
 
-      pub numbering-more : {next₁ : ℕ} {out₃ : List ℕ} → Prints (following listed) start out₂ next₁ out₃ → Numbering words ends count at out next₁ out₃ to (i + 1)
-      numbering-more second = rw (add-one i) (record { here = omega (arith, h); ascends = more .2; left = leaves-rest _ left-list second })
+      pub numbering-more : {next₁ : ℕ} {out₃ : List ℕ} → Prints (following listed) start out₂ next₁ out₃
+          → Numbering words ends count at out next₁ out₃ to (i + 1)
+      numbering-more second =
+          rw (add-one i) (record { here = omega (arith, h); ascends = more .2; left = leaves-rest _ left-list second })
 
     -- no place is past 2^64
     module _ (small : at + length (numbered 0 (cutFrom 0 words ends count)) < 2 ^ 64) where
       pub number-fits : next + length (digits i) < 2 ^ 64
-      number-fits = next-fits small (digits i) (following listed ++ numbered (suc i) (cutFrom to words (drop (suc i) ends) (count - suc i))) left-number
+      number-fits =
+          next-fits small (digits i)
+          (following listed ++ numbered (suc i) (cutFrom to words (drop (suc i) ends) (count - suc i))) left-number
 
-      pub list-fits : {start : ℕ} {out₂ : List ℕ} → Prints (digits i) next out₁ start out₂ → start + length (following listed) < 2 ^ 64
+      pub list-fits : {start : ℕ} {out₂ : List ℕ} → Prints (digits i) next out₁ start out₂
+          → start + length (following listed) < 2 ^ 64
       list-fits first =
-          next-fits small (following listed) (numbered (suc i) (cutFrom to words (drop (suc i) ends) (count - suc i))) (left-list first)
+          next-fits small (following listed) (numbered (suc i) (cutFrom to words (drop (suc i) ends) (count - suc i)))
+          (left-list first)
 
-pub numbering-size : {words ends : List ℕ} {count at : ℕ} {out : List ℕ} {next : ℕ} {out₁ : List ℕ} {from i : ℕ} → Numbering words ends count at out next out₁ from i → length out₁ ≡ length out
+pub numbering-size : {words ends : List ℕ} {count at : ℕ} {out : List ℕ} {next : ℕ} {out₁ : List ℕ} {from i : ℕ}
+    → Numbering words ends count at out next out₁ from i → length out₁ ≡ length out
 numbering-size inv = leaves-size (inv .left)
 
 -- ---- `put_each_answer`
@@ -102,7 +117,8 @@ pub record Answering (answers : List ℕ) (at : ℕ) (out : List ℕ) (next : �
 pub answering-start : (answers : List ℕ) (at : ℕ) (out : List ℕ) → Answering answers at out at out 0
 answering-start answers at out = record { here = omega arith; left = leaves-all _ at out }
 
-module _ {answers : List ℕ} {at : ℕ} {out : List ℕ} {next : ℕ} {out₁ : List ℕ} {i : ℕ} (inv : Answering answers at out next out₁ i) where
+module _ {answers : List ℕ} {at : ℕ} {out : List ℕ} {next : ℕ} {out₁ : List ℕ} {i : ℕ}
+    (inv : Answering answers at out next out₁ i) where
   pub answering-size : length out₁ ≡ length out
   answering-size = leaves-size (inv .left)
 
@@ -127,14 +143,16 @@ module _ {answers : List ℕ} {at : ℕ} {out : List ℕ} {next : ℕ} {out₁ :
     unfolding answersFrom line
     on-answer = rw (one-is, answer-on) (append-assoc (digits i) (following (getD answers i 0 ∷ [])) _)
 
-    left-param : Leaves (answersFrom 0 answers) at out (digits i ++ (following one ++ answersFrom (suc i) (drop (suc i) answers))) next out₁
+    left-param : Leaves (answersFrom 0 answers) at out
+        (digits i ++ (following one ++ answersFrom (suc i) (drop (suc i) answers))) next out₁
     left-param = rw on-answer at (inv .left)
 
     module _ {start : ℕ} {out₂ : List ℕ} (first : Prints (digits i) next out₁ start out₂) where
       left-answer : Leaves (answersFrom 0 answers) at out (following one ++ answersFrom (suc i) (drop (suc i) answers)) start out₂
       left-answer = leaves-rest _ left-param first
 
-      pub answering-more : {next₁ : ℕ} {out₃ : List ℕ} → Prints (following one) start out₂ next₁ out₃ → Answering answers at out next₁ out₃ (i + 1)
+      pub answering-more : {next₁ : ℕ} {out₃ : List ℕ} → Prints (following one) start out₂ next₁ out₃
+          → Answering answers at out next₁ out₃ (i + 1)
       answering-more second = rw (add-one i) (record { here = omega (arith, h); left = leaves-rest _ left-answer second })
 
     module _ (small : at + length (answersFrom 0 answers) < 2 ^ 64) where
@@ -148,7 +166,8 @@ module _ {answers : List ℕ} {at : ℕ} {out : List ℕ} {next : ℕ} {out₁ :
 
 pub record Edging (edges : List ℕ) (count at : ℕ) (out : List ℕ) (next : ℕ) (out₁ : List ℕ) (i : ℕ) : Type 0 where
   pub here : i ≤ count
-  pub left : Leaves (flatMap edgeLine (edgesIn count edges)) at out (flatMap edgeLine (edgesIn (count - i) (drop (i * width) edges))) next out₁
+  pub left : Leaves (flatMap edgeLine (edgesIn count edges)) at out
+      (flatMap edgeLine (edgesIn (count - i) (drop (i * width) edges))) next out₁
 
 pub edging-start : (edges : List ℕ) (count at : ℕ) (out : List ℕ) → Edging edges count at out at out 0
 edging-start edges count at out = record { here = omega arith; left = rw sub-zero (leaves-all _ at out) }
@@ -162,7 +181,8 @@ first-words (a ∷ b ∷ c ∷ []) h = absurd (omega arith)
 first-words (a ∷ b ∷ c ∷ d ∷ []) h = absurd (omega arith)
 first-words (a ∷ b ∷ c ∷ d ∷ e ∷ ws) h = refl
 
-module _ {edges : List ℕ} {count at : ℕ} {out : List ℕ} {next : ℕ} {out₁ : List ℕ} {i : ℕ} (inv : Edging edges count at out next out₁ i) where
+module _ {edges : List ℕ} {count at : ℕ} {out : List ℕ} {next : ℕ} {out₁ : List ℕ} {i : ℕ}
+    (inv : Edging edges count at out next out₁ i) where
   pub edging-size : length out₁ ≡ length out
   edging-size = leaves-size (inv .left)
 
@@ -186,13 +206,15 @@ module _ {edges : List ℕ} {count at : ℕ} {out : List ℕ} {next : ℕ} {out�
         let many : width ≤ length (drop (i * width) edges) = omega (arith, room, h, length-drop (i * width) edges) in
         let is : i * width + width - i * width ≡ width = omega arith in
         let sum : i * width + width ≡ suc i * width = omega arith in
-        let behind : drop width (drop (i * width) edges) ≡ drop (suc i * width) edges = drop-drop width (i * width) edges ∙ ap (λ (k : ℕ). drop k edges) sum in
+        let behind : drop width (drop (i * width) edges) ≡ drop (suc i * width) edges =
+        drop-drop width (i * width) edges ∙ ap (λ (k : ℕ). drop k edges) sum in
         rw (left-suc h, is, ← first-words (drop (i * width) edges) many, behind)
 
     left-edge : Leaves (flatMap edgeLine (edgesIn count edges)) at out (line five ++ later) next out₁
     left-edge = rw on-edge at (inv .left)
 
-    pub edging-more : {next₁ : ℕ} {out₂ : List ℕ} → Prints (line five) next out₁ next₁ out₂ → Edging edges count at out next₁ out₂ (i + 1)
+    pub edging-more : {next₁ : ℕ} {out₂ : List ℕ} → Prints (line five) next out₁ next₁ out₂
+        → Edging edges count at out next₁ out₂ (i + 1)
     edging-more first = rw (add-one i) (record { here = omega (arith, h); left = leaves-rest _ left-edge first })
 
     pub edge-fits : at + length (flatMap edgeLine (edgesIn count edges)) < 2 ^ 64 → next + length (line five) < 2 ^ 64

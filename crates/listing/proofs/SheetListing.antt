@@ -8,14 +8,17 @@ use borrow.Author.Tests.{le-ltb, lt-ltb, ltb-false}
 use lib.ListN.{length, drop, length-append}
 use lib.Seq.{sets}
 use Rattle.lifetimes.specs.declared.answer.Refusal.{Refusal}
-use Rattle.lifetimes.specs.declared.answer.Refusal.the-variants.{Malformed, Duplicate, Undeclared, Full, NoSource, Ambiguous, Mismatch, OutOfRange, NoRoom, Unreadable}
+use Rattle.lifetimes.specs.declared.answer.Refusal.the-variants.{Malformed, Duplicate, Undeclared, Full, NoSource}
+use Rattle.lifetimes.specs.declared.answer.Refusal.the-variants.{Ambiguous, Mismatch, OutOfRange, NoRoom, Unreadable}
 use Rattle.lifetimes.specs.declared.answer.Listed.{Listed}
 use Rattle.lifetimes.specs.declared.answer.Listed.the-variants as listed
 use Rattle.lifetimes.specs.declared.answer.Verdict.the-variants as verdict
-use Rattle.lifetimes.specs.Refusals.{Check, Outcome, Gives, Refuses, unless, numberOf, FirstDue, here, NoneDue, next, end}
+use Rattle.lifetimes.specs.Refusals.{Check, Outcome, Gives, Refuses, unless, numberOf, FirstDue, here, NoneDue, next}
+use Rattle.lifetimes.specs.Refusals.{end}
 use Rattle.lifetimes.specs.Lent.{counted, written, roomCheck}
 use Rattle.lifetimes.proofs.Copying.{sets-front}
-use Rattle.lifetimes.proofs.RefusalLaws.{due-given, due-refused, refused-due, given-due, none-first, none-split, none-more, first-more, first-after}
+use Rattle.lifetimes.proofs.RefusalLaws.{due-given, due-refused, refused-due, given-due, none-first, none-split}
+use Rattle.lifetimes.proofs.RefusalLaws.{none-more, first-more, first-after}
 use Rattle.records.proofs.VerdictLaws.{unless-after}
 use Rattle.sheet.specs.declared.text.Text.{Text}
 use Rattle.sheet.specs.Text.{line, Records}
@@ -40,34 +43,51 @@ module _ (bytes : List ℕ) where
 
   -- ---- read
 
-  module _ (scratch : List ℕ) (roomy : Roomy bytes (length scratch)) {t : Text} (read : t ≡ sheetAnswer bytes (length scratch)) {scratch₁ : List ℕ}
+  module _ (scratch : List ℕ) (roomy : Roomy bytes (length scratch)) {t : Text}
+      (read : t ≡ sheetAnswer bytes (length scratch)) {scratch₁ : List ℕ}
       (wrote : scratch₁ ≡ written (shape.sheetWords bytes (length scratch)) scratch) where
-    pub text-refused : {k : Refusal} {out : List ℕ} → t .verdict ≡ verdict.Refused k → Lists (listedSheet bytes) out (listed.Refused k) out
+    pub text-refused : {k : Refusal} {out : List ℕ} → t .verdict ≡ verdict.Refused k
+        → Lists (listedSheet bytes) out (listed.Refused k) out
     unfolding listingChecks
-    text-refused v = (due-refused (listingOf sheet) (first-more (edgesCheck sheet ∷ []) (text-first bytes scratch roomy read wrote v)), refl)
+    text-refused v = (
+      due-refused (listingOf sheet) (first-more (edgesCheck sheet ∷ [])
+          (text-first bytes scratch roomy read wrote v)),
+      refl,
+    )
 
     module _ (fine : t .verdict ≡ verdict.Accepted) where
       records-same : listedRecords (recordsAt scratch₁ (t .ends)) ≡ listedSheet bytes
       unfolding listingChecks sheetRefusals
       records-same =
           ap listedRecords (found bytes scratch roomy read wrote fine)
-          ∙ sym (unless-after (listingOf sheet) (recordsChecks sheet ++ (edgesCheck sheet ∷ [])) (text-none bytes scratch roomy read wrote fine .0))
-          ∙ ap (λ (cs : List Check). unless cs (listingOf sheet)) (sym (append-assoc (textChecks bytes) (recordsChecks sheet) (edgesCheck sheet ∷ [])))
+          ∙ sym (unless-after (listingOf sheet) (recordsChecks sheet ++ (edgesCheck sheet ∷ []))
+          (text-none bytes scratch roomy read wrote fine .0))
+          ∙ ap (λ (cs : List Check). unless cs (listingOf sheet))
+          (sym (append-assoc (textChecks bytes) (recordsChecks sheet) (edgesCheck sheet ∷ [])))
 
-      pub text-listed : (A : Type 0) (w : Within) (out out₁ : List ℕ) → ListsWithin (listedRecords (recordsAt scratch₁ (t .ends))) A out w out₁ → ListsWithin (listedSheet bytes) A out w out₁
+      pub text-listed : (A : Type 0) (w : Within) (out out₁ : List ℕ)
+          → ListsWithin (listedRecords (recordsAt scratch₁ (t .ends))) A out w out₁
+          → ListsWithin (listedSheet bytes) A out w out₁
       text-listed A (within.Done x) out out₁ h = subst (λ (o : Outcome (List ℕ)). Lists o out x out₁) records-same h
       text-listed A within.Short out out₁ h = h
 
   -- ---- in ample scratch, or in smaller scratch first
 
-  pub never-short : {B : Type 0} (w : Within) (out out₁ : List ℕ) → ListsWithin (listedSheet bytes) (Ample 8192 8192 4096 20480) out w out₁ → w ≡ within.Short → B
-  never-short w out out₁ h e = absurd (subst (λ (y : Within). ListsWithin (listedSheet bytes) (Ample 8192 8192 4096 20480) out y out₁) e h .0 (omega arith, omega arith, omega arith, omega arith))
+  pub never-short : {B : Type 0} (w : Within) (out out₁ : List ℕ)
+      → ListsWithin (listedSheet bytes) (Ample 8192 8192 4096 20480) out w out₁ → w ≡ within.Short → B
+  never-short w out out₁ h e =
+      absurd
+      (subst (λ (y : Within). ListsWithin (listedSheet bytes) (Ample 8192 8192 4096 20480) out y out₁) e h .0
+      (omega arith, omega arith, omega arith, omega arith))
 
   -- what was found in some scratch is found
-  pub tried-done : (A : Type 0) (w : Within) (x : Listed) (out out₁ : List ℕ) → ListsWithin (listedSheet bytes) A out w out₁ → w ≡ within.Done x → Lists (listedSheet bytes) out x out₁
+  pub tried-done : (A : Type 0) (w : Within) (x : Listed) (out out₁ : List ℕ)
+      → ListsWithin (listedSheet bytes) A out w out₁ → w ≡ within.Done x → Lists (listedSheet bytes) out x out₁
   tried-done A w x out out₁ h e = subst (λ (y : Within). ListsWithin (listedSheet bytes) A out y out₁) e h
 
-  pub tried-again : (A : Type 0) (w : Within) (r : Listed) (out out₁ out₂ : List ℕ) → ListsWithin (listedSheet bytes) A out w out₁ → w ≡ within.Short → Lists (listedSheet bytes) out₁ r out₂ → Lists (listedSheet bytes) out r out₂
+  pub tried-again : (A : Type 0) (w : Within) (r : Listed) (out out₁ out₂ : List ℕ)
+      → ListsWithin (listedSheet bytes) A out w out₁ → w ≡ within.Short → Lists (listedSheet bytes) out₁ r out₂
+      → Lists (listedSheet bytes) out r out₂
   tried-again A w r out out₁ out₂ h e l =
       let same = subst (λ (y : Within). ListsWithin (listedSheet bytes) A out y out₁) e h .1 in
       subst (λ (o : List ℕ). Lists (listedSheet bytes) o r out₂) same l
@@ -95,7 +115,8 @@ module _ (bytes : List ℕ) where
     abbrev Answers : Listed → List ℕ → Type 0
     Answers r out₁ = (r ≡ counted answer) × (out₁ ≡ written answer out)
 
-    listing-refused : {k : Refusal} → FirstDue k (listingChecks bytes ++ (roomCheck (length out) whole ∷ [])) → Answers (listed.Refused k) out
+    listing-refused : {k : Refusal} → FirstDue k (listingChecks bytes ++ (roomCheck (length out) whole ∷ []))
+        → Answers (listed.Refused k) out
     unfolding spec.listing
     listing-refused f = rw (due-refused whole f) (refl, refl)
 
@@ -104,7 +125,8 @@ module _ (bytes : List ℕ) where
     refused-so {k} e = listing-refused (first-more (roomCheck (length out) whole ∷ []) (refused-due whole k (listingChecks bytes) e))
 
     -- measured, and too long
-    pub too-long : {n : ℕ} (m : Listed) (none none₁ : List ℕ) → Lists (listedSheet bytes) none m none₁ → m ≡ listed.Count n → length out < n → Answers (listed.Refused NoRoom) out
+    pub too-long : {n : ℕ} (m : Listed) (none none₁ : List ℕ) → Lists (listedSheet bytes) none m none₁
+        → m ≡ listed.Count n → length out < n → Answers (listed.Refused NoRoom) out
     too-long {n} m none none₁ l counts h = go (subst (λ (x : Listed). Lists (listedSheet bytes) none x none₁) counts l)
       where
         go : Lists (listedSheet bytes) none (listed.Count n) none₁ → Answers (listed.Refused NoRoom) out
@@ -113,28 +135,34 @@ module _ (bytes : List ℕ) where
             let size : length whole ≡ length text = ap length (g .1) in
             listing-refused (first-after (g .0) (here (lt-ltb (length out) (length whole) (omega (arith, size, p .behind, h))) refl))
 
-    pub measured-refused : {k : Refusal} (m : Listed) (none none₁ : List ℕ) → Lists (listedSheet bytes) none m none₁ → m ≡ listed.Refused k → Answers m out
-    measured-refused {k} m none none₁ l refuses = rw refuses (refused-so (subst (λ (x : Listed). Lists (listedSheet bytes) none x none₁) refuses l .0))
+    pub measured-refused : {k : Refusal} (m : Listed) (none none₁ : List ℕ) → Lists (listedSheet bytes) none m none₁
+        → m ≡ listed.Refused k → Answers m out
+    measured-refused {k} m none none₁ l refuses =
+        rw refuses (refused-so (subst (λ (x : Listed). Lists (listedSheet bytes) none x none₁) refuses l .0))
 
-    listing-written : {text : List ℕ} {n : ℕ} {out₁ : List ℕ} → listedSheet bytes ≡ Gives text → Prints text 0 out n out₁ → length whole ≤ length out → Answers (listed.Count n) out₁
+    listing-written : {text : List ℕ} {n : ℕ} {out₁ : List ℕ} → listedSheet bytes ≡ Gives text
+        → Prints text 0 out n out₁ → length whole ≤ length out → Answers (listed.Count n) out₁
     unfolding spec.listing
     listing-written {text} {n} {out₁} e p fits =
         let g = given-none e in
-        let none : NoneDue (listingChecks bytes ++ (roomCheck (length out) whole ∷ [])) = none-more (g .0) (next (le-ltb (length out) (length whole) fits) end) in
+        let none : NoneDue (listingChecks bytes ++ (roomCheck (length out) whole ∷ [])) =
+        none-more (g .0) (next (le-ltb (length out) (length whole) fits) end) in
         let same : whole ≡ text = g .1 in
         let size : n ≡ length whole = rw same (p .behind ∙ omega arith) in
         let stands : out₁ ≡ whole ++ drop (length whole) out = p .stored ∙ ap (sets out 0) (sym same) ∙ sets-front out whole fits in
         rw (due-given whole none) (ap listed.Count size, stands)
 
     -- where the slice is long enough
-    pub listed-so : (r : Listed) (out₁ : List ℕ) → Lists (listedSheet bytes) out r out₁ → (NoneDue (listingChecks bytes) → length whole ≤ length out) → Answers r out₁
+    pub listed-so : (r : Listed) (out₁ : List ℕ) → Lists (listedSheet bytes) out r out₁
+        → (NoneDue (listingChecks bytes) → length whole ≤ length out) → Answers r out₁
     listed-so (listed.Count n) out₁ (text, e, p) enough = listing-written e p (enough (given-none e .0))
     listed-so (listed.Refused k) out₁ (e, same) enough = rw same (refused-so e)
 
     pub wide-enough : 131072 ≤ length out → NoneDue (listingChecks bytes) → length whole ≤ length out
     wide-enough h n = omega (arith, h, fits-room n)
 
-    pub measured-enough : {n : ℕ} (m : Listed) (none none₁ : List ℕ) → Lists (listedSheet bytes) none m none₁ → m ≡ listed.Count n → n ≤ length out → NoneDue (listingChecks bytes) → length whole ≤ length out
+    pub measured-enough : {n : ℕ} (m : Listed) (none none₁ : List ℕ) → Lists (listedSheet bytes) none m none₁
+        → m ≡ listed.Count n → n ≤ length out → NoneDue (listingChecks bytes) → length whole ≤ length out
     measured-enough {n} m none none₁ l counts h due = go (subst (λ (x : Listed). Lists (listedSheet bytes) none x none₁) counts l)
       where
         go : Lists (listedSheet bytes) none (listed.Count n) none₁ → length whole ≤ length out
@@ -145,13 +173,15 @@ module _ (bytes : List ℕ) where
     abbrev Responds : ℕ → List ℕ → Type 0
     Responds n out₁ = (n ≡ length (response bytes)) × (out₁ ≡ response bytes ++ drop (length (response bytes)) out)
 
-    responds : (n : ℕ) (text : List ℕ) (out₁ : List ℕ) → response bytes ≡ text → length text ≤ length out → Prints text 0 out n out₁ → Responds n out₁
+    responds : (n : ℕ) (text : List ℕ) (out₁ : List ℕ) → response bytes ≡ text → length text ≤ length out
+        → Prints text 0 out n out₁ → Responds n out₁
     responds n text out₁ e fits p = (
       p .behind ∙ zero-add (length text) ∙ ap length (sym e),
       p .stored ∙ sets-front out text fits ∙ ap (λ (t : List ℕ). t ++ drop (length t) out) (sym e),
     )
 
-    pub respond-listed : {n : ℕ} (m : Listed) (out₁ : List ℕ) → length out ≡ 131072 → Lists (listedSheet bytes) out m out₁ → m ≡ listed.Count n → Responds n out₁
+    pub respond-listed : {n : ℕ} (m : Listed) (out₁ : List ℕ) → length out ≡ 131072
+        → Lists (listedSheet bytes) out m out₁ → m ≡ listed.Count n → Responds n out₁
     unfolding response
     respond-listed {n} m out₁ h l counts = go (subst (λ (x : Listed). Lists (listedSheet bytes) out x out₁) counts l)
       where
@@ -179,10 +209,14 @@ module _ (k : Refusal) {number : ℕ} (is : number ≡ numberOf k) where
   pub refusal-fits : 0 + length (refusalHeading ++ line (number ∷ [])) < 2 ^ 64
   refusal-fits = rw is (omega (arith, refusal-short k))
 
-  pub respond-refused : (bytes out : List ℕ) {n : ℕ} (m : Listed) (out₁ : List ℕ) {out₂ : List ℕ} → length out ≡ 131072 → Lists (listedSheet bytes) out m out₁ → m ≡ listed.Refused k
+  pub respond-refused : (bytes out : List ℕ) {n : ℕ} (m : Listed) (out₁ : List ℕ) {out₂ : List ℕ} → length out ≡ 131072
+      → Lists (listedSheet bytes) out m out₁ → m ≡ listed.Refused k
       → Prints (refusalHeading ++ line (number ∷ [])) 0 out₁ n out₂ → Responds bytes out n out₂
   unfolding response
-  respond-refused bytes out {n} m out₁ {out₂} h l refuses p = go (subst (λ (x : Listed). Lists (listedSheet bytes) out x out₁) refuses l)
+  respond-refused bytes out {n} m out₁ {out₂} h l refuses p =
+      go (subst (λ (x : Listed). Lists (listedSheet bytes) out x out₁) refuses l)
     where
       go : Lists (listedSheet bytes) out (listed.Refused k) out₁ → Responds bytes out n out₂
-      go (e, same) = responds bytes out n (refusalHeading ++ line (number ∷ [])) out₂ (ap said e ∙ rw is) (rw is (omega (arith, h, refusal-short k))) (rw same at p)
+      go (e, same) =
+          responds bytes out n (refusalHeading ++ line (number ∷ [])) out₂ (ap said e ∙ rw is)
+          (rw is (omega (arith, h, refusal-short k))) (rw same at p)

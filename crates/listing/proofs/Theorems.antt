@@ -2,7 +2,7 @@
 use Prim.Native.Nat.{ℕ}
 use mathlib.Core.Path.{_≡_, refl, sym, ap, _∙_}
 use mathlib.Core.List.{List, map}
-use lib.ListN.{length, getD, take}
+use lib.ListN.{length, getD}
 use native.Mathlib.Omega.{arith}
 use borrow.Author.Tests.{le-ltb}
 use Rattle.lifetimes.specs.Refusals.{Outcome, Gives, unless, next, end}
@@ -21,7 +21,8 @@ use Rattle.listing.specs.Theorems.{ProgramAnswers, VisitsAsListed, ToldA
 use Rattle.listing.proofs.SheetListing.{fits-room}
 use Rattle.listing.proofs.ProgramLaws.{whole, judge, fit}
 use Rattle.listing.proofs.VisitLaws.{as-listed}
-use Rattle.listing.proofs.ExampleLaws.{right-more, reach-right, ast-right, elision-right, visits-right, program-right, fromVisits, fromElision, fromAst}
+use Rattle.listing.proofs.ExampleLaws.{right-more, reach-right, ast-right, elision-right, visits-right}
+use Rattle.listing.proofs.ExampleLaws.{program-right, fromVisits, fromElision, fromAst}
 
 pub program-answers : ProgramAnswers
 unfolding response listing
@@ -30,7 +31,9 @@ program-answers bytes = record {
   refused = λ k f. ap said (due-refused (whole bytes) f);
   complete = λ n. ap said (due-given (whole bytes) n);
   fits = fit bytes (unless (listingChecks bytes) (whole bytes)) refl;
-  same = λ n. due-given (whole bytes) (none-more n (next (le-ltb 131072 (length (whole bytes)) (fits-room bytes n)) end)) ∙ ap (λ (o : Outcome (List ℕ)). Gives (said o)) (sym (due-given (whole bytes) n));
+  same = λ n. due-given (whole bytes)
+      (none-more n (next (le-ltb 131072 (length (whole bytes)) (fits-room bytes n)) end))
+      ∙ ap (λ (o : Outcome (List ℕ)). Gives (said o)) (sym (due-given (whole bytes) n));
 }
 
 pub told-apart : ToldApart
@@ -42,8 +45,8 @@ visits-as-listed bytes edges fine lent = as-listed bytes edges fine lent (progra
 
 pub examples-hold : ExamplesHold
 examples-hold =
-    right-more (map reachExample reach.examples) fromAst (reach-right reach.examples reach-proofs.examples-hold)
-    (right-more (map astExample ast.examples) fromElision (ast-right ast.examples ast-proofs.examples-hold)
-    (right-more (map elisionExample elision.examples) fromVisits (elision-right elision.examples elision-proofs.examples-hold)
-    (right-more (map visitsExample (take 2 visits.examples)) programExamples (visits-right (take 2 visits.examples) (visits-proofs.examples-hold .0, (visits-proofs.examples-hold .1 .0, tt)))
+    right-more (map reachExample reach.starred) fromAst (reach-right reach.starred reach-proofs.examples-hold)
+    (right-more (map astExample ast.starred) fromElision (ast-right ast.starred ast-proofs.examples-hold)
+    (right-more (map elisionExample elision.starred) fromVisits (elision-right elision.starred (elision-proofs.examples-hold .0))
+    (right-more (map visitsExample visits.starred) programExamples (visits-right visits.starred (visits-proofs.examples-hold .0))
     program-right)))

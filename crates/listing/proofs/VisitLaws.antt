@@ -24,7 +24,8 @@ use Rattle.listing.specs.Theorems.{Answered, ToldApart, visitorOf, param
 
 module _ (bytes edges : List ℕ) (fine : NoneDue (sheetRefusals bytes)) (lent : length edges ≡ width * mostEdges) where
   visits : AsVisited (sheetOf bytes .structs) (sheetOf bytes .params) (visitorOf bytes) edges
-  visits = listing-is-visits (envOfSheet (sheetOf bytes)) (sheetOf bytes .structs) (sheetOf bytes .params) (sheetOf bytes .output) (sheetOf bytes .force) (sheets-give-methods bytes fine) edges
+  visits = listing-is-visits (envOfSheet (sheetOf bytes)) (sheetOf bytes .structs) (sheetOf bytes .params)
+      (sheetOf bytes .output) (sheetOf bytes .force) (sheets-give-methods bytes fine) edges
 
   abbrev listed : ℕ
   listed = length (sheetBorrows (sheetOf bytes) .edges)
@@ -44,7 +45,8 @@ module _ (bytes edges : List ℕ) (fine : NoneDue (sheetRefusals bytes)) (lent :
     too-many true t e = ltb-true mostEdges listed t
     too-many false f e = absurd (apart (sheetOf bytes) NoRoom (sym (answered .complete (none-more fine (next f end))) ∙ e))
 
-    is-nine : (b : Bool) → ltb mostEdges listed ≡ b → (p : ℕ) × (p < paramsOf bytes) × (visitTo bytes edges p ≡ refuse NoRoom) → response bytes ≡ refusalText NoRoom
+    is-nine : (b : Bool) → ltb mostEdges listed ≡ b → (p : ℕ) × (p < paramsOf bytes)
+        × (visitTo bytes edges p ≡ refuse NoRoom) → response bytes ≡ refusalText NoRoom
     unfolding listingChecks
     is-nine true t w = answered .refused NoRoom (first-after fine (here t refl))
     is-nine false f w = absurd (told (w .2) (visits .answered (omega (arith, lent, ltb-false mostEdges listed f)) (w .0) (w .1) .0))

@@ -1,9 +1,9 @@
--- 01's starred examples ("Checked by hand (* is to be proved)"), all in one list, and 01's own sheet with its listing. Each question is answered by the definitions that the contracts cite; the crates
--- below have the questions of their own. Theorems.ExamplesHold: each question has its answer.
+-- 01's starred examples ("Checked by hand (* is to be proved)"), all in one list, and 01's own sheet with its listing.
+-- Each question is answered by the definitions that the contracts cite; the crates below have the questions of their
+-- own. Theorems.ExamplesHold: each question has its answer.
 use Prim.Native.Nat.{ℕ}
 use mathlib.Core.Path.{_≡_}
 use mathlib.Core.List.{List, [], _∷_, _++_, map}
-use lib.ListN.{take}
 use Rattle.lifetimes.specs.Refusals.{Outcome}
 use Rattle.lifetimes.specs.Examples as reach
 use Rattle.ast_lifetimes.specs.Examples as ast
@@ -11,7 +11,8 @@ use Rattle.elision.specs.Examples as elision
 use Rattle.sheet.specs.Text.{newline, space}
 use Rattle.sheet.specs.Examples.{sheetBytes}
 use Rattle.borrowing_param.specs.Examples as visits
-use Rattle.listing.specs.Listing.{countHeading, loweredHeading, longerHeading, answerHeading, edgeHeading, refusalHeading, response}
+use Rattle.listing.specs.Listing.{countHeading, loweredHeading, longerHeading, answerHeading, edgeHeading}
+use Rattle.listing.specs.Listing.{refusalHeading, response}
 
 pub data Question : Type 0 where
   -- traversals of an environment; AST environments; elision; methods and their visits
@@ -82,13 +83,12 @@ programExamples =
     ∷ asked (Program []) (Printed (refusalHeading ++ (49 ∷ 48 ∷ newline ∷ [])))
     ∷ []
 
--- of the worked methods the first two are starred; elision's last three are not, and are here too
-abbrev pub examples : List Example
-examples =
-    map reachExample reach.examples
-    ++ (map astExample ast.examples
-    ++ (map elisionExample elision.examples
-    ++ (map visitsExample (take 2 visits.examples)
+abbrev pub starred : List Example
+starred =
+    map reachExample reach.starred
+    ++ (map astExample ast.starred
+    ++ (map elisionExample elision.starred
+    ++ (map visitsExample visits.starred
     ++ programExamples)))
 
 -- each question of a list has its expected answer

@@ -21,7 +21,8 @@ use Rattle.borrowing_param.specs.Borrows.{Borrows, borrowsBy}
 use Rattle.borrowing_param.specs.InnerSheet.{OfMethod}
 use Rattle.listing.specs.declared.within.Within.{Within}
 use Rattle.listing.specs.declared.within.Within.the-variants as within
-use Rattle.listing.specs.Listing.{countHeading, countLines, loweredHeading, longerHeading, longerLines, answerLines, edgeLines, mostEdges, edgesCheck, listingOf, listingChecks}
+use Rattle.listing.specs.Listing.{countHeading, countLines, loweredHeading, longerHeading, longerLines}
+use Rattle.listing.specs.Listing.{answerLines, edgeLines, mostEdges, edgesCheck, listingOf, listingChecks}
 use Rattle.listing.specs.InnerPrint.{Prints}
 use Rattle.listing.specs.InnerSections.{numbered, cutFrom}
 
@@ -33,7 +34,8 @@ listedSheet bytes = unless (listingChecks bytes) (listingOf (sheetOf bytes))
 abbrev pub listedRecords : Records → Outcome (List ℕ)
 listedRecords r = unless (recordsChecks r ++ (edgesCheck r ∷ [])) (listingOf r)
 
--- what a function answers and leaves that lists into a slice: the text's length, and the text stored from the front as far as the slice goes; or a refusal, and the slice as it was
+-- what a function answers and leaves that lists into a slice: the text's length, and the text stored from the front as
+-- far as the slice goes; or a refusal, and the slice as it was
 abbrev pub Lists : Outcome (List ℕ) → List ℕ → Listed → List ℕ → Type 0
 Lists o out (listed.Count n) out₁ = (text : List ℕ) × (o ≡ Gives text) × Prints text 0 out n out₁
 Lists o out (listed.Refused k) out₁ = (o ≡ Refuses k) × (out₁ ≡ out)
@@ -61,15 +63,18 @@ methodListing env used structs params own given taken =
 
 unfoldable pub listedMethod : LifetimeEnv → ℕ → List ℕ → List ℕ → List ℕ → List ℕ → List ℕ → Outcome (List ℕ)
 listedMethod env used structs params own given taken =
-    unless (check (ltb mostEdges (length (methodBorrows env used structs params .edges))) NoRoom ∷ []) (methodListing env used structs params own given taken)
+    unless (check (ltb mostEdges (length (methodBorrows env used structs params .edges))) NoRoom ∷ [])
+    (methodListing env used structs params own given taken)
 
 pub record Listable (env : LifetimeEnv) (used : ℕ) (structs params own given taken : List ℕ) : Type 0 where
   pub valid : NoneDue (envChecks env)
   pub of : OfMethod structs params
   pub below : (k : ℕ) → member used k ≡ true → k < env .count
-  pub short : length (methodBorrows env used structs params .edges) ≤ mostEdges → length (methodListing env used structs params own given taken) ≤ 131072
+  pub short : length (methodBorrows env used structs params .edges) ≤ mostEdges
+      → length (methodListing env used structs params own given taken) ≤ 131072
 
--- the sections by what stands in slices: counts of lifetimes, used lifetimes, parameters and edges; lowered words; longer lists by their ends; answers; edges
+-- the sections by what stands in slices: counts of lifetimes, used lifetimes, parameters and edges; lowered words;
+-- longer lists by their ends; answers; edges
 unfoldable pub sections : List ℕ → List ℕ → List ℕ → List ℕ → List ℕ → List ℕ → List ℕ → List ℕ → List ℕ
 sections counts own given taken lists ends answers edges =
     (countHeading ++ line counts)

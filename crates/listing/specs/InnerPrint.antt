@@ -1,4 +1,5 @@
--- For private functions only: printing. A function that prints stores a text from a place on, as far as the slice goes, and answers the place behind it; so printing into no room at all measures.
+-- For private functions only: printing. A function that prints stores a text from a place on, as far as the slice goes,
+-- and answers the place behind it; so printing into no room at all measures.
 use Prim.Native.Nat.{ℕ, zero, suc, _+_, _/_, _%_, _^_, _≤_, _<_}
 use mathlib.Core.Path.{_≡_}
 use mathlib.Core.List.{List, [], _∷_, _++_}

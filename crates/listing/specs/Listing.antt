@@ -1,4 +1,5 @@
--- The listing of a sheet (01, "The listing"): bytes, from the sheet's records. Each part is of the definitions that the contracts of the crates below cite.
+-- The listing of a sheet (01, "The listing"): bytes, from the sheet's records. Each part is of the definitions that the
+-- contracts of the crates below cite.
 use Prim.Native.Nat.{ℕ, suc}
 use mathlib.Core.Bool.{true}
 use mathlib.Core.List.{List, [], _∷_, _++_, flatMap}
@@ -23,10 +24,12 @@ use Rattle.borrowing_param.specs.Borrows.{Borrows, sheetBorrows}
 
 -- "lifetimes used params edges", and how many there are of each
 abbrev pub countHeading : List ℕ
-countHeading = 108 ∷ 105 ∷ 102 ∷ 101 ∷ 116 ∷ 105 ∷ 109 ∷ 101 ∷ 115 ∷ space ∷ 117 ∷ 115 ∷ 101 ∷ 100 ∷ space ∷ 112 ∷ 97 ∷ 114 ∷ 97 ∷ 109 ∷ 115 ∷ space ∷ 101 ∷ 100 ∷ 103 ∷ 101 ∷ 115 ∷ newline ∷ []
+countHeading = 108 ∷ 105 ∷ 102 ∷ 101 ∷ 116 ∷ 105 ∷ 109 ∷ 101 ∷ 115 ∷ space ∷ 117 ∷ 115 ∷ 101 ∷ 100 ∷ space ∷ 112 ∷ 97
+    ∷ 114 ∷ 97 ∷ 109 ∷ 115 ∷ space ∷ 101 ∷ 100 ∷ 103 ∷ 101 ∷ 115 ∷ newline ∷ []
 
 abbrev pub countLines : ℕ → Borrows → List ℕ
-countLines lifetimes b = countHeading ++ line (lifetimes ∷ length (b .used) ∷ length (b .answers) ∷ length (b .edges) ∷ [])
+countLines lifetimes b =
+    countHeading ++ line (lifetimes ∷ length (b .used) ∷ length (b .answers) ∷ length (b .edges) ∷ [])
 
 -- "lowered", a line each for self, steps and returns
 abbrev pub loweredHeading : List ℕ
@@ -58,7 +61,8 @@ answerLines answers = answerHeading ++ answersFrom 0 answers
 
 -- "used param kind def option": a line for each edge
 abbrev pub edgeHeading : List ℕ
-edgeHeading = 117 ∷ 115 ∷ 101 ∷ 100 ∷ space ∷ 112 ∷ 97 ∷ 114 ∷ 97 ∷ 109 ∷ space ∷ 107 ∷ 105 ∷ 110 ∷ 100 ∷ space ∷ 100 ∷ 101 ∷ 102 ∷ space ∷ 111 ∷ 112 ∷ 116 ∷ 105 ∷ 111 ∷ 110 ∷ newline ∷ []
+edgeHeading = 117 ∷ 115 ∷ 101 ∷ 100 ∷ space ∷ 112 ∷ 97 ∷ 114 ∷ 97 ∷ 109 ∷ space ∷ 107 ∷ 105 ∷ 110 ∷ 100 ∷ space ∷ 100
+    ∷ 101 ∷ 102 ∷ space ∷ 111 ∷ 112 ∷ 116 ∷ 105 ∷ 111 ∷ 110 ∷ newline ∷ []
 
 abbrev pub edgeLine : LifetimeEdge → List ℕ
 edgeLine e = line (edgeWords e)
@@ -89,7 +93,8 @@ listingChecks bytes = sheetRefusals bytes ++ (edgesCheck (sheetOf bytes) ∷ [])
 
 -- `listing`: then a slice too short, also 9
 unfoldable pub listing : List ℕ → ℕ → Outcome (List ℕ)
-listing bytes room = unless (listingChecks bytes ++ (roomCheck room (listingOf (sheetOf bytes)) ∷ [])) (listingOf (sheetOf bytes))
+listing bytes room =
+    unless (listingChecks bytes ++ (roomCheck room (listingOf (sheetOf bytes)) ∷ [])) (listingOf (sheetOf bytes))
 
 -- `respond`, the program: "A refusal prints the line `refusal`, then a line with the number, and nothing else"
 abbrev pub refusalHeading : List ℕ

@@ -21,9 +21,10 @@ use Rattle.borrowing_param.specs.SheetMethod.{envOfSheet, sheetRefusals}
 use Rattle.borrowing_param.specs.Borrows.{sheetBorrows}
 use Rattle.borrowing_param.specs.Theorems.{visitOf, visited}
 use Rattle.listing.specs.Listing.{mostEdges, listingOf, listingChecks, listing, refusalText, response}
-use Rattle.listing.specs.Examples.{examples, Right}
+use Rattle.listing.specs.Examples.{starred, Right}
 
--- Condition 1. Whatever the bytes, a refusal is due on them or none is; what the program answers is that refusal's two lines, or the complete listing
+-- Condition 1. Whatever the bytes, a refusal is due on them or none is; what the program answers is that refusal's two
+-- lines, or the complete listing
 pub record Answered (bytes : List ℕ) : Type 0 where
   pub judged : ((k : Refusal) × FirstDue k (listingChecks bytes)) ⊎ NoneDue (listingChecks bytes)
   pub refused : (k : Refusal) → FirstDue k (listingChecks bytes) → response bytes ≡ refusalText k
@@ -36,9 +37,12 @@ pub record Answered (bytes : List ℕ) : Type 0 where
 abbrev pub ProgramAnswers : Type 0
 ProgramAnswers = (bytes : List ℕ) → Answered bytes
 
--- The listing is what visits give. Of every sheet on which no refusal but 9 is due: its parameters visited, one after another, by its method's new visitor with 4,096 edges lent
+-- The listing is what visits give. Of every sheet on which no refusal but 9 is due: its parameters visited, one after
+-- another, by its method's new visitor with 4,096 edges lent
 abbrev pub visitorOf : List ℕ → BorrowingParamVisitor
-visitorOf bytes = created (envOfSheet (sheetOf bytes)) (sheetOf bytes .structs) (sheetOf bytes .params) (sheetOf bytes .output) (sheetOf bytes .force) .visitor
+visitorOf bytes =
+    created (envOfSheet (sheetOf bytes)) (sheetOf bytes .structs) (sheetOf bytes .params) (sheetOf bytes .output)
+    (sheetOf bytes .force) .visitor
 
 abbrev pub paramsOf : List ℕ → ℕ
 paramsOf bytes = length (typesIn (sheetOf bytes .structs) (sheetOf bytes .params))
@@ -51,13 +55,20 @@ left bytes edges = visited (sheetOf bytes .structs) (sheetOf bytes .params) (vis
 
 pub record AsListed (bytes edges : List ℕ) : Type 0 where
   -- a visit is refused by 9 exactly where the program answers 9
-  pub nine : (response bytes ≡ refusalText NoRoom) ↔ ((p : ℕ) × (p < paramsOf bytes) × (visitTo bytes edges p ≡ refuse NoRoom))
-  -- else each visit answers the number that is listed, and each lifetime has the edges that are listed, in the same order
-  pub answers : NoneDue (listingChecks bytes) → (p : ℕ) → p < paramsOf bytes → (visitTo bytes edges p .verdict ≡ Accepted) × (visitTo bytes edges p .number ≡ getD (sheetBorrows (sheetOf bytes) .answers) p 0)
-  pub brings : NoneDue (listingChecks bytes) → (used : ℕ) → edgesOf used (edgesIn (left bytes edges .visitor .stored) (left bytes edges .words)) ≡ edgesOf used (sheetBorrows (sheetOf bytes) .edges)
+  pub nine : (response bytes ≡ refusalText NoRoom)
+      ↔ ((p : ℕ) × (p < paramsOf bytes) × (visitTo bytes edges p ≡ refuse NoRoom))
+  -- else each visit answers the number that is listed, and each lifetime has the edges that are listed, in the same
+  -- order
+  pub answers : NoneDue (listingChecks bytes) → (p : ℕ) → p < paramsOf bytes
+      → (visitTo bytes edges p .verdict ≡ Accepted)
+      × (visitTo bytes edges p .number ≡ getD (sheetBorrows (sheetOf bytes) .answers) p 0)
+  pub brings : NoneDue (listingChecks bytes) → (used : ℕ)
+      → edgesOf used (edgesIn (left bytes edges .visitor .stored) (left bytes edges .words))
+      ≡ edgesOf used (sheetBorrows (sheetOf bytes) .edges)
 
 abbrev pub VisitsAsListed : Type 0
-VisitsAsListed = (bytes edges : List ℕ) → NoneDue (sheetRefusals bytes) → length edges ≡ width * mostEdges → AsListed bytes edges
+VisitsAsListed = (bytes edges : List ℕ) → NoneDue (sheetRefusals bytes) → length edges ≡ width * mostEdges
+    → AsListed bytes edges
 
 -- No listing is the text of a refusal
 abbrev pub ToldApart : Type 0
@@ -65,4 +76,4 @@ ToldApart = (r : Records) (k : Refusal) → listingOf r ≡ refusalText k → �
 
 -- 01's starred examples, all of them, and its own listing
 abbrev pub ExamplesHold : Type 0
-ExamplesHold = Right examples
+ExamplesHold = Right starred

@@ -1,11 +1,12 @@
 // The listing of a sheet, from bytes to bytes.
 //
-// A sheet is judged and its answers are made in scratch that is lent (`list_within`), of one of four sizes, so that a small sheet does not pay for a large one.
-// Printing into no room at all measures, so nothing is written before it is known that all fits.
+// A sheet is judged and its answers are made in scratch that is lent (`list_within`), of one of four sizes, so that a
+// small sheet does not pay for a large one. Printing into no room at all measures, so nothing is written before it is
+// known that all fits.
 ghost use mathlib.Core.Path.{_≡_};
-ghost use mathlib.Core.List.{_++_};
-ghost use lib.ListN.{length, drop};
-ghost use Rattle.lifetimes.specs.Lent.{counted, written};
+ghost use lib.ListN.{length};
+ghost use Rattle.lifetimes.specs.Refusals.{Gives};
+ghost use Rattle.lifetimes.specs.Lent.{counted, held, room, left, Fills};
 ghost use Rattle.listing.specs.Listing as spec;
 ghost use Rattle.listing.specs.InnerListing.{listedSheet, Lists, ListsWithin, Ample};
 use super::sections::put_refusal;
@@ -17,11 +18,11 @@ use lifetimes::Refusal;
 // So many bytes take any answer of the program.
 pub const ROOM: usize = 131072;
 
-// Write the listing of a sheet to a slice. The answer is how many bytes it has. Refused as the sheet is (10; 1 over all records; 2 to 7 at the first bad place; 8), then by 9 for more than 4,096
-// edges or where the slice is too short.
+// Write the listing of a sheet to a slice. The answer is how many bytes it has. Refused as the sheet is (10; 1 over all
+// records; 2 to 7 at the first bad place; 8), then by 9 for more than 4,096 edges or where the slice is too short.
 pub fn listing(sheet: &[u8], out: &mut [u8]) -> Listed
-    ensures { λ r. ⌜ r ≡ counted (spec.listing (now (sheet .entry)) (length (now (out .entry)))) ⌝ }
-    ensures { λ _. ⌜ now (out .exit) ≡ written (spec.listing (now (sheet .entry)) (length (now (out .entry)))) (now (out .entry)) ⌝ }
+    ensures answer { λ r. ⌜ r ≡ counted (spec.listing (held sheet) (room out)) ⌝ }
+    ensures stored { λ _. ⌜ Fills (spec.listing (held sheet) (room out)) out ⌝ }
 {
     if out.len() < ROOM {
         return list_tight(sheet, out);
@@ -31,8 +32,8 @@ pub fn listing(sheet: &[u8], out: &mut [u8]) -> Listed
 
 // The same where the slice may be too short: the listing is measured first.
 fn list_tight(sheet: &[u8], out: &mut [u8]) -> Listed
-    ensures { λ r. ⌜ r ≡ counted (spec.listing (now (sheet .entry)) (length (now (out .entry)))) ⌝ }
-    ensures { λ _. ⌜ now (out .exit) ≡ written (spec.listing (now (sheet .entry)) (length (now (out .entry)))) (now (out .entry)) ⌝ }
+    ensures { λ r. ⌜ r ≡ counted (spec.listing (held sheet) (room out)) ⌝ }
+    ensures { λ _. ⌜ Fills (spec.listing (held sheet) (room out)) out ⌝ }
 {
     let mut none = [0u8; 0];
     let measured = list_sheet(sheet, &mut none);
@@ -45,10 +46,11 @@ fn list_tight(sheet: &[u8], out: &mut [u8]) -> Listed
     list_sheet(sheet, out)
 }
 
-// What the program answers: the listing, or the line `refusal` and a line with the number. It is never refused; what stands behind the answer stays.
+// What the program answers: the listing, or the line `refusal` and a line with the number. It is never refused; what
+// stands behind the answer stays.
 pub fn respond(sheet: &[u8], out: &mut [u8; ROOM]) -> usize
-    ensures { λ r. ⌜ r ≡ length (spec.response (now (sheet .entry))) ⌝ }
-    ensures { λ _. ⌜ now (out .exit) ≡ spec.response (now (sheet .entry)) ++ drop (length (spec.response (now (sheet .entry)))) (now (out .entry)) ⌝ }
+    ensures answer { λ r. ⌜ r ≡ length (spec.response (held sheet)) ⌝ }
+    ensures stored { λ _. ⌜ Fills (Gives (spec.response (held sheet))) out ⌝ }
 {
     let answer = list_sheet(sheet, out);
     match answer {
@@ -62,14 +64,15 @@ pub fn respond(sheet: &[u8], out: &mut [u8; ROOM]) -> usize
 
 // List a sheet, as far as the slice goes.
 fn list_sheet(sheet: &[u8], out: &mut [u8]) -> Listed
-    ensures { λ r. ⌜ Lists (listedSheet (now (sheet .entry))) (now (out .entry)) r (now (out .exit)) ⌝ }
+    ensures { λ r. ⌜ Lists (listedSheet (held sheet)) (held out) r (left out) ⌝ }
 {
     list_sized(sheet, out, 256)
 }
 
-// The same in scratch for sheets of so many bytes, and where that is too short, in the next larger. That it calls itself keeps the arrays of the larger sizes out of the frame of the smaller ones.
+// The same in scratch for sheets of so many bytes, and where that is too short, in the next larger. That it calls
+// itself keeps the arrays of the larger sizes out of the frame of the smaller ones.
 fn list_sized(sheet: &[u8], out: &mut [u8], bytes: usize) -> Listed
-    ensures { λ r. ⌜ Lists (listedSheet (now (sheet .entry))) (now (out .entry)) r (now (out .exit)) ⌝ }
+    ensures { λ r. ⌜ Lists (listedSheet (held sheet)) (held out) r (left out) ⌝ }
 {
     if bytes <= 256 {
         let tried = list_256(sheet, out);
@@ -95,9 +98,10 @@ fn list_sized(sheet: &[u8], out: &mut [u8], bytes: usize) -> Listed
     list_any(sheet, out)
 }
 
-// In scratch of one size: for the words of any sheet of at most so many bytes; for what 24 words of steps and 12 of returns give; for 12 lifetimes; for 20 edges.
+// In scratch of one size: for the words of any sheet of at most so many bytes; for what 24 words of steps and 12 of
+// returns give; for 12 lifetimes; for 20 edges.
 fn list_256(sheet: &[u8], out: &mut [u8]) -> Within
-    ensures { λ r. ⌜ ListsWithin (listedSheet (now (sheet .entry))) (Ample 192 96 144 100) (now (out .entry)) r (now (out .exit)) ⌝ }
+    ensures { λ r. ⌜ ListsWithin (listedSheet (held sheet)) (Ample 192 96 144 100) (held out) r (left out) ⌝ }
 {
     if 256 < sheet.len() {
         return Within::Short;
@@ -120,7 +124,7 @@ fn list_256(sheet: &[u8], out: &mut [u8]) -> Within
 
 // The same for 64 words of steps, 32 of returns, 32 lifetimes, 128 edges.
 fn list_1024(sheet: &[u8], out: &mut [u8]) -> Within
-    ensures { λ r. ⌜ ListsWithin (listedSheet (now (sheet .entry))) (Ample 512 256 1024 640) (now (out .entry)) r (now (out .exit)) ⌝ }
+    ensures { λ r. ⌜ ListsWithin (listedSheet (held sheet)) (Ample 512 256 1024 640) (held out) r (left out) ⌝ }
 {
     if 1024 < sheet.len() {
         return Within::Short;
@@ -143,7 +147,7 @@ fn list_1024(sheet: &[u8], out: &mut [u8]) -> Within
 
 // The same for 128 words of steps, 64 of returns, 64 lifetimes, 512 edges.
 fn list_4096(sheet: &[u8], out: &mut [u8]) -> Within
-    ensures { λ r. ⌜ ListsWithin (listedSheet (now (sheet .entry))) (Ample 1024 512 4096 2560) (now (out .entry)) r (now (out .exit)) ⌝ }
+    ensures { λ r. ⌜ ListsWithin (listedSheet (held sheet)) (Ample 1024 512 4096 2560) (held out) r (left out) ⌝ }
 {
     if 4096 < sheet.len() {
         return Within::Short;
@@ -166,7 +170,7 @@ fn list_4096(sheet: &[u8], out: &mut [u8]) -> Within
 
 // In scratch for any sheet.
 fn list_any(sheet: &[u8], out: &mut [u8]) -> Listed
-    ensures { λ r. ⌜ Lists (listedSheet (now (sheet .entry))) (now (out .entry)) r (now (out .exit)) ⌝ }
+    ensures { λ r. ⌜ Lists (listedSheet (held sheet)) (held out) r (left out) ⌝ }
 {
     let mut words = [0usize; 10240];
     let mut given = [0usize; 8192];

@@ -1,16 +1,18 @@
 // Printing: numbers, lines of words and fixed texts into a slice of bytes.
 //
-// Each function stores its text from a place on, as far as the slice goes, and answers the place behind the text. Printing into no room at all measures.
+// Each function stores its text from a place on, as far as the slice goes, and answers the place behind the text.
+// Printing into no room at all measures.
 ghost use Prim.Native.Nat.{_+_, _-_, _≤_, _<_, _^_, min};
 ghost use mathlib.Core.Path.{_≡_};
 ghost use lib.ListN.{length, set};
 ghost use mathlib.Core.List.{[], _∷_};
+ghost use Rattle.lifetimes.specs.Lent.{held, left};
 ghost use Rattle.sheet.specs.Text.{digits, following, line};
 ghost use Rattle.listing.specs.InnerPrint.{Prints, places};
 
 // A byte to a place; past the end it goes nowhere.
 fn store(out: &mut [u8], at: usize, byte: u8)
-    ensures { λ _. ⌜ now (out .exit) ≡ set (now (out .entry)) at byte ⌝ }
+    ensures { λ _. ⌜ left out ≡ set (held out) at byte ⌝ }
 {
     if at < out.len() {
         out[at] = byte;
@@ -20,7 +22,7 @@ fn store(out: &mut [u8], at: usize, byte: u8)
 // One byte.
 fn put(out: &mut [u8], at: usize, byte: u8) -> usize
     requires { ⌜ at + 1 < 2 ^ 64 ⌝ }
-    ensures { λ r. ⌜ Prints (byte ∷ []) at (now (out .entry)) r (now (out .exit)) ⌝ }
+    ensures { λ r. ⌜ Prints (byte ∷ []) at (held out) r (left out) ⌝ }
 {
     store(out, at, byte);
     at + 1
@@ -42,7 +44,7 @@ fn room(size: usize, at: usize, n: usize) -> usize
 // A fixed text.
 pub(crate) fn put_text(out: &mut [u8], at: usize, text: &[u8]) -> usize
     requires { ⌜ at + length (now text) < 2 ^ 64 ⌝ }
-    ensures { λ r. ⌜ Prints (now (text .entry)) at (now (out .entry)) r (now (out .exit)) ⌝ }
+    ensures { λ r. ⌜ Prints (held text) at (held out) r (left out) ⌝ }
 {
     let n = room(out.len(), at, text.len());
     let mut i = 0;
@@ -56,7 +58,7 @@ pub(crate) fn put_text(out: &mut [u8], at: usize, text: &[u8]) -> usize
 // The last `count` digits of a number, leading zeros kept; from the last one to the first.
 fn put_places(out: &mut [u8], at: usize, number: usize, count: usize) -> usize
     requires { ⌜ at + count < 2 ^ 64 ⌝ }
-    ensures { λ r. ⌜ Prints (places count number) at (now (out .entry)) r (now (out .exit)) ⌝ }
+    ensures { λ r. ⌜ Prints (places count number) at (held out) r (left out) ⌝ }
 {
     let mut left = number;
     let mut i = count;
@@ -86,7 +88,7 @@ fn count_digits(number: usize) -> usize
 // A number in decimal, without leading zeros.
 pub(crate) fn put_number(out: &mut [u8], at: usize, number: usize) -> usize
     requires { ⌜ at + length (digits number) < 2 ^ 64 ⌝ }
-    ensures { λ r. ⌜ Prints (digits number) at (now (out .entry)) r (now (out .exit)) ⌝ }
+    ensures { λ r. ⌜ Prints (digits number) at (held out) r (left out) ⌝ }
 {
     if number < 10 {
         return put(out, at, 48 + number as u8);
@@ -102,7 +104,7 @@ pub(crate) fn put_number(out: &mut [u8], at: usize, number: usize) -> usize
 // The words that follow in a line, each behind a space, and the line's end.
 pub(crate) fn put_following(out: &mut [u8], at: usize, words: &[usize]) -> usize
     requires { ⌜ at + length (following (now words)) < 2 ^ 64 ⌝ }
-    ensures { λ r. ⌜ Prints (following (now (words .entry))) at (now (out .entry)) r (now (out .exit)) ⌝ }
+    ensures { λ r. ⌜ Prints (following (held words)) at (held out) r (left out) ⌝ }
 {
     let mut to = at;
     let mut i = 0;
@@ -117,7 +119,7 @@ pub(crate) fn put_following(out: &mut [u8], at: usize, words: &[usize]) -> usize
 // A line of words; an empty one is a line's end alone.
 pub(crate) fn put_line(out: &mut [u8], at: usize, words: &[usize]) -> usize
     requires { ⌜ at + length (line (now words)) < 2 ^ 64 ⌝ }
-    ensures { λ r. ⌜ Prints (line (now (words .entry))) at (now (out .entry)) r (now (out .exit)) ⌝ }
+    ensures { λ r. ⌜ Prints (line (held words)) at (held out) r (left out) ⌝ }
 {
     if words.len() == 0 {
         return put(out, at, b'\n');

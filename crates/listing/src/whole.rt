@@ -1,8 +1,9 @@
 // A whole listing from what stands in slices.
-ghost use Prim.Native.Nat.{_+_, _*_, _≤_, _<_, _^_};
+ghost use Prim.Native.Nat.{_*_, _≤_, _<_, _^_};
 ghost use mathlib.Core.Path.{_≡_};
 ghost use lib.ListN.{length, getD};
 ghost use Rattle.borrowing_param.specs.Edges.{width};
+ghost use Rattle.lifetimes.specs.Lent.{held, left};
 ghost use Rattle.listing.specs.InnerPrint.{Prints};
 ghost use Rattle.listing.specs.InnerSections.{Ascend};
 ghost use Rattle.listing.specs.InnerListing.{sections};
@@ -12,7 +13,8 @@ use super::sections::put_edges;
 use super::sections::put_longer;
 use super::sections::put_lowered;
 
-// All sections, one after another, from the front of a slice: how many lifetimes, used lifetimes, parameters and edges there are (`counts`); lowered words; longer lists by their ends; answers; edges.
+// All sections, one after another, from the front of a slice: how many lifetimes, used lifetimes, parameters and edges
+// there are (`counts`); lowered words; longer lists by their ends; answers; edges.
 pub(crate) fn put_listing(
     out: &mut [u8],
     counts: &[usize; 4],
@@ -27,8 +29,12 @@ pub(crate) fn put_listing(
     requires { ⌜ length (now counts) ≡ 4 ⌝ }
     requires { ⌜ Ascend 0 (length (now lists)) (now ends) (getD (now counts) 0 0) ⌝ }
     requires { ⌜ width * getD (now counts) 3 0 ≤ length (now edges) ⌝ }
-    requires { ⌜ length (sections (now counts) (now own) (now given) (now taken) (now lists) (now ends) (now answers) (now edges)) < 2 ^ 64 ⌝ }
-    ensures { λ r. ⌜ Prints (sections (now (counts .entry)) (now (own .entry)) (now (given .entry)) (now (taken .entry)) (now (lists .entry)) (now (ends .entry)) (now (answers .entry)) (now (edges .entry))) 0 (now (out .entry)) r (now (out .exit)) ⌝ }
+    requires { ⌜ length
+        (sections (now counts) (now own) (now given) (now taken) (now lists) (now ends) (now answers) (now edges))
+        < 2 ^ 64 ⌝ }
+    ensures { λ r. ⌜ Prints
+        (sections (held counts) (held own) (held given) (held taken) (held lists) (held ends) (held answers)
+        (held edges)) 0 (held out) r (left out) ⌝ }
 {
     let lowered = put_counts(out, 0, counts);
     let longer = put_lowered(out, lowered, own, given, taken);

@@ -3,10 +3,12 @@ ghost use Prim.Native.Nat.{_≤_};
 ghost use mathlib.Core.Bool.{true};
 ghost use mathlib.Core.Path.{_≡_};
 ghost use lib.ListN.{length};
+ghost use Rattle.lifetimes.specs.Lent.{held, room, left};
 ghost use Rattle.sheet.specs.Shape.{sheetInShape};
 ghost use Rattle.sheet.specs.Inner.{Laid, recordsAt, Roomy};
 ghost use Rattle.borrowing_param.specs.InnerSheet.{records};
-ghost use Rattle.listing.specs.InnerListing.{listedSheet, listedRecords, Ample, ListsWithin, listedMethod, Listable, tooMany};
+ghost use Rattle.listing.specs.InnerListing.{listedSheet, listedRecords, Ample, ListsWithin, listedMethod};
+ghost use Rattle.listing.specs.InnerListing.{Listable, tooMany};
 use super::whole::put_listing;
 use borrowing_param::BorrowingParamVisitor;
 use elision::lower;
@@ -26,7 +28,8 @@ pub(crate) enum Within {
     Short,
 }
 
-// List a sheet. `words` takes the words of any sheet of so many bytes; `given` and `taken` are for the lowered words of steps and returns, `lists` for the longer lists, `edges` for the edges.
+// List a sheet. `words` takes the words of any sheet of so many bytes; `given` and `taken` are for the lowered words of
+// steps and returns, `lists` for the longer lists, `edges` for the edges.
 pub(crate) fn list_within(
     sheet: &[u8],
     words: &mut [usize],
@@ -37,7 +40,8 @@ pub(crate) fn list_within(
     out: &mut [u8],
 ) -> Within
     requires { ⌜ Roomy (now sheet) (length (now words)) × (length (now edges) ≤ 20480) ⌝ }
-    ensures { λ r. ⌜ ListsWithin (listedSheet (now (sheet .entry))) (Ample (length (now (given .entry))) (length (now (taken .entry))) (length (now (lists .entry))) (length (now (edges .entry)))) (now (out .entry)) r (now (out .exit)) ⌝ }
+    ensures { λ r. ⌜ ListsWithin (listedSheet (held sheet)) (Ample (room given) (room taken) (room lists) (room edges))
+        (held out) r (left out) ⌝ }
 {
     let text = read_sheet(sheet, words);
     let verdict = text.verdict;
@@ -58,8 +62,10 @@ fn list_laid(
     edges: &mut [usize],
     out: &mut [u8],
 ) -> Within
-    requires { ⌜ Laid (now words) ends × (sheetInShape (recordsAt (now words) ends) ≡ true) × (length (now edges) ≤ 20480) ⌝ }
-    ensures { λ r. ⌜ ListsWithin (listedRecords (recordsAt (now (words .entry)) ends)) (Ample (length (now (given .entry))) (length (now (taken .entry))) (length (now (lists .entry))) (length (now (edges .entry)))) (now (out .entry)) r (now (out .exit)) ⌝ }
+    requires { ⌜ Laid (now words) ends × (sheetInShape (recordsAt (now words) ends) ≡ true)
+        × (length (now edges) ≤ 20480) ⌝ }
+    ensures { λ r. ⌜ ListsWithin (listedRecords (recordsAt (held words) ends))
+        (Ample (room given) (room taken) (room lists) (room edges)) (held out) r (left out) ⌝ }
 {
     list_records(
         record_words(words, ends, 0),
@@ -98,8 +104,14 @@ fn list_records(
     edges: &mut [usize],
     out: &mut [u8],
 ) -> Within
-    requires { ⌜ (sheetInShape (records (now names) (now bounds) (now types) (now receiver) (now steps) (now returns) (now structs) (now params) (now output) (now force)) ≡ true) × (length (now edges) ≤ 20480) ⌝ }
-    ensures { λ r. ⌜ ListsWithin (listedRecords (records (now (names .entry)) (now (bounds .entry)) (now (types .entry)) (now (receiver .entry)) (now (steps .entry)) (now (returns .entry)) (now (structs .entry)) (now (params .entry)) (now (output .entry)) (now (force .entry)))) (Ample (length (now (given .entry))) (length (now (taken .entry))) (length (now (lists .entry))) (length (now (edges .entry)))) (now (out .entry)) r (now (out .exit)) ⌝ }
+    requires { ⌜ (sheetInShape
+        (records (now names) (now bounds) (now types) (now receiver) (now steps) (now returns) (now structs)
+        (now params) (now output) (now force)) ≡ true) × (length (now edges) ≤ 20480) ⌝ }
+    ensures { λ r. ⌜ ListsWithin
+        (listedRecords
+        (records (held names) (held bounds) (held types) (held receiver) (held steps) (held returns) (held structs)
+        (held params) (held output) (held force))) (Ample (room given) (room taken) (room lists) (room edges))
+        (held out) r (left out) ⌝ }
 {
     if given.len() / 8 < steps.len() {
         return Within::Short;
@@ -153,8 +165,11 @@ fn list_method(
     edges: &mut [usize],
     out: &mut [u8],
 ) -> Within
-    requires { ⌜ Listable env used (now structs) (now params) (now own) (now given) (now taken) × (length (now edges) ≤ 20480) ⌝ }
-    ensures { λ r. ⌜ ListsWithin (listedMethod env used (now (structs .entry)) (now (params .entry)) (now (own .entry)) (now (given .entry)) (now (taken .entry))) ((4096 ≤ length (now (lists .entry))) × (20480 ≤ length (now (edges .entry)))) (now (out .entry)) r (now (out .exit)) ⌝ }
+    requires { ⌜ Listable env used (now structs) (now params) (now own) (now given) (now taken)
+        × (length (now edges) ≤ 20480) ⌝ }
+    ensures { λ r. ⌜ ListsWithin
+        (listedMethod env used (held structs) (held params) (held own) (held given) (held taken))
+        ((4096 ≤ room lists) × (20480 ≤ room edges)) (held out) r (left out) ⌝ }
 {
     let count = env.count;
     if lists.len() < count * count {

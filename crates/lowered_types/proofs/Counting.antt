@@ -31,13 +31,16 @@ module _ {A : Type 0} (item : ℕ → List ℕ → Reading A) where
   read-none number (suc steps) = refl
 
   pub read-next : (number steps : ℕ) (words : List ℕ) → 0 < steps → 0 < length words
-      → readAll item number steps words ≡ onward (item number words) (λ a rest. onward (readAll item (suc number) (steps - 1) rest) (λ items end. Read (a ∷ items) end))
+      → readAll item number steps words
+      ≡ onward (item number words)
+      (λ a rest. onward (readAll item (suc number) (steps - 1) rest) (λ items end. Read (a ∷ items) end))
   unfolding readAll
   read-next number zero words h k = absurd (omega arith)
   read-next number (suc steps) [] h k = absurd (omega arith)
   read-next number (suc steps) (word ∷ words) h k = rw sub-one
 
-  tally-all : (words : List ℕ) → length words ≤ 1024 → tally 0 (readAll item 0 (length words) words) ≡ howMany (inShape item words) (itemsOf item words)
+  tally-all : (words : List ℕ) → length words ≤ 1024
+      → tally 0 (readAll item 0 (length words) words) ≡ howMany (inShape item words) (itemsOf item words)
   unfolding inShape itemsOf
   tally-all words h = rw (le-leb (length words) 1024 h) (go (readAll item 0 (length words) words))
     where
@@ -45,7 +48,8 @@ module _ {A : Type 0} (item : ℕ → List ℕ → Reading A) where
       go (Read items rest) = rw zero-add
       go Fails = refl
 
-  tally-after : (number : ℕ) (a : A) (r : Reading (List A)) → tally number (onward r (λ items end. Read (a ∷ items) end)) ≡ tally (suc number) r
+  tally-after : (number : ℕ) (a : A) (r : Reading (List A))
+      → tally number (onward r (λ items end. Read (a ∷ items) end)) ≡ tally (suc number) r
   tally-after number a (Read items rest) = let e : number + suc (length items) ≡ suc number + length items = omega arith in rw e
   tally-after number a Fails = refl
 
@@ -65,7 +69,15 @@ module _ {A : Type 0} (item : ℕ → List ℕ → Reading A) where
     pub left : tally number (readAll item number steps (drop at words)) ≡ tally 0 (readAll item 0 (length words) words)
 
   pub counting-start : (words : List ℕ) → length words ≤ 1024 → Counting words 0 0
-  counting-start words h = record { few = h; here = omega arith; before = omega arith; steps = length words; enough = omega arith; left = refl }
+  counting-start words h =
+      record {
+        few = h;
+        here = omega arith;
+        before = omega arith;
+        steps = length words;
+        enough = omega arith;
+        left = refl;
+      }
 
   pub counting-long : (words : List ℕ) → 1024 < length words → Refused Malformed ≡ howMany (inShape item words) (itemsOf item words)
   unfolding inShape
@@ -78,10 +90,12 @@ module _ {A : Type 0} {item : ℕ → List ℕ → Reading A} {words : List ℕ}
       rw (← tally-all item words (inv .few), ← inv .left, drop-of-length-le words {i = at} h, read-none item number (inv .steps), z)
 
   module _ (h : at < length words) where
-    next-here : readAll item number (inv .steps) (drop at words) ≡ onward (item number (drop at words)) (λ a rest. onward (readAll item (suc number) (inv .steps - 1) rest) (λ items end. Read (a ∷ items) end))
+    next-here : readAll item number (inv .steps) (drop at words) ≡ onward (item number (drop at words))
+        (λ a rest. onward (readAll item (suc number) (inv .steps - 1) rest) (λ items end. Read (a ∷ items) end))
     next-here = read-next item number (inv .steps) (drop at words) (omega (arith, inv .enough)) (rw length-drop (omega arith))
 
-    pub counting-missing : EndsAt words at (item number (drop at words)) Missing → Refused Malformed ≡ howMany (inShape item words) (itemsOf item words)
+    pub counting-missing : EndsAt words at (item number (drop at words)) Missing
+        → Refused Malformed ≡ howMany (inShape item words) (itemsOf item words)
     counting-missing k = rw (← tally-all item words (inv .few), ← inv .left, next-here, missing-fails k)
 
     pub counting-more : {next : ℕ} → EndsAt words at (item number (drop at words)) (At next) → Counting item words (number + 1) next

@@ -37,11 +37,14 @@ module _ (words : List ℕ) (place rows : ℕ) where
 
 -- ---- `types_end`: what is left to read, read from here, ends where all ends
 
-chain : {words : List ℕ} {place next : ℕ} {reading : Reading LoweredType} {r : End} → EndsAt words place reading (At next) → (more : List ℕ → Reading (List LoweredType))
-    → EndsFrom words next (more (drop next words)) r → EndsFrom words place (onward reading (λ t rest. onward (more rest) (λ ts end. Read (t ∷ ts) end))) r
+chain : {words : List ℕ} {place next : ℕ} {reading : Reading LoweredType} {r : End}
+    → EndsAt words place reading (At next) → (more : List ℕ → Reading (List LoweredType))
+    → EndsFrom words next (more (drop next words)) r
+    → EndsFrom words place (onward reading (λ t rest. onward (more rest) (λ ts end. Read (t ∷ ts) end))) r
 chain {words} {place} {next} (at.ends {a} {rest} d b e) more k = rw (← d) (wrap b k)
   where
-    wrap : {reading : Reading (List LoweredType)} {r : End} → place < next → EndsFrom words next reading r → EndsFrom words place (onward reading (λ ts end. Read (a ∷ ts) end)) r
+    wrap : {reading : Reading (List LoweredType)} {r : End} → place < next → EndsFrom words next reading r
+        → EndsFrom words place (onward reading (λ ts end. Read (a ∷ ts) end)) r
     wrap h (ends {next = last} d b e) = ends {next = last} d (omega arith) e
     wrap h missing = missing
 
@@ -49,21 +52,30 @@ pub record Ending (words : List ℕ) (rows count from place i : ℕ) : Type 0 wh
   pub past : from ≤ place
   pub within : place ≤ length words
   pub counted : i ≤ count
-  pub onto : (r : End) → EndsFrom words place (readTypes rows (count - i) (drop place words)) r → EndsFrom words from (readTypes rows count (drop from words)) r
+  pub onto : (r : End) → EndsFrom words place (readTypes rows (count - i) (drop place words)) r
+      → EndsFrom words from (readTypes rows count (drop from words)) r
 
 pub ending-start : (words : List ℕ) (rows count from : ℕ) → from ≤ length words → Ending words rows count from from 0
-ending-start words rows count from h = record { past = omega arith; within = h; counted = omega arith; onto = λ r k. let e : count - 0 ≡ count = omega arith in rw e at k }
+ending-start words rows count from h =
+    record {
+      past = omega arith;
+      within = h;
+      counted = omega arith;
+      onto = λ r k. let e : count - 0 ≡ count = omega arith in rw e at k;
+    }
 
 module _ {words : List ℕ} {rows count from place i : ℕ} (inv : Ending words rows count from place i) where
   module _ (h : i < count) where
     one-more : count - i ≡ suc (count - (i + 1))
     one-more = omega arith
 
-    pub ending-missing : EndsAt words place (readKnown rows (drop place words)) Missing → EndsFrom words from (readTypes rows count (drop from words)) Missing
+    pub ending-missing : EndsAt words place (readKnown rows (drop place words)) Missing
+        → EndsFrom words from (readTypes rows count (drop from words)) Missing
     unfolding readTypes
     ending-missing k = inv .onto Missing (rw (one-more, missing-fails k) missing)
 
-    pub ending-more : {next : ℕ} → EndsAt words place (readKnown rows (drop place words)) (At next) → Ending words rows count from next (i + 1)
+    pub ending-more : {next : ℕ} → EndsAt words place (readKnown rows (drop place words)) (At next)
+        → Ending words rows count from next (i + 1)
     unfolding readTypes
     ending-more {next} k = record {
       past = omega (arith, inv .past, ends-past k);
@@ -74,7 +86,8 @@ module _ {words : List ℕ} {rows count from place i : ℕ} (inv : Ending words 
 
   pub ending-end : count ≤ i → EndsFrom words from (readTypes rows count (drop from words)) (At place)
   unfolding readTypes
-  ending-end h = let e : count - i ≡ 0 = omega arith in inv .onto (At place) (rw e (ends {next = place} refl (omega arith) (inv .within)))
+  ending-end h = let e : count - i ≡ 0 = omega arith in
+      inv .onto (At place) (rw e (ends {next = place} refl (omega arith) (inv .within)))
 
 -- ---- `row_end`
 
@@ -96,14 +109,27 @@ module _ (words : List ℕ) (place number : ℕ) where
       module _ (d : getD words place 0 ≤ 16) where
         pub row-many : 16 < getD words (place + 1) 0 → EndsAt words place (readRow number (drop place words)) Missing
         unfolding readRow
-        row-many b = rw (word-here words place h, word-behind words place k, le-leb (getD words place 0) 16 d, lt-leb (getD words (place + 1) 0) 16 b) at.missing
+        row-many b =
+            rw (
+              word-here words place h,
+              word-behind words place k,
+              le-leb (getD words place 0) 16 d,
+              lt-leb (getD words (place + 1) 0) 16 b,
+            ) at.missing
 
-        pub row-ends : getD words (place + 1) 0 ≤ 16 → {r : End} → EndsFrom words (place + 2) (readTypes number (getD words (place + 1) 0) (drop (place + 2) words)) r
+        pub row-ends : getD words (place + 1) 0 ≤ 16 → {r : End}
+            → EndsFrom words (place + 2) (readTypes number (getD words (place + 1) 0) (drop (place + 2) words)) r
             → EndsAt words place (readRow number (drop place words)) r
         unfolding readRow
         row-ends b m =
-            rw (word-here words place h, word-behind words place k, le-leb (getD words place 0) 16 d, le-leb (getD words (place + 1) 0) 16 b) (go m)
+            rw (
+              word-here words place h,
+              word-behind words place k,
+              le-leb (getD words place 0) 16 d,
+              le-leb (getD words (place + 1) 0) 16 b,
+            ) (go m)
           where
-            go : {reading : Reading (List LoweredType)} {r : End} → EndsFrom words (place + 2) reading r → EndsAt words place (onward reading (λ fields end. Read (rowWith (getD words place 0) fields) end)) r
+            go : {reading : Reading (List LoweredType)} {r : End} → EndsFrom words (place + 2) reading r
+                → EndsAt words place (onward reading (λ fields end. Read (rowWith (getD words place 0) fields) end)) r
             go (ends {next = last} d b e) = at.ends {next = last} d (omega arith) e
             go missing = at.missing

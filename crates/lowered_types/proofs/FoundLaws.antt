@@ -37,4 +37,7 @@ module _ {words rest : List ℕ} {at : ℕ} {t : LoweredType} {p : Parts} (s : S
   path-inside = let n = simp (length-take, length-drop) at (ap length (s .path)) in omega (arith, s .count)
 
   pub path-word : getD words (p .from + i) 0 ≡ getD (t .path) i 0
-  path-word = sym (ap (λ (l : List ℕ). getD l i 0) (sym (s .path)) ∙ rw (getD-take (p .count) (drop (p .from) words) i 0 h, getD-drop (p .from) words i 0))
+  path-word =
+      sym
+      (ap (λ (l : List ℕ). getD l i 0) (sym (s .path))
+      ∙ rw (getD-take (p .count) (drop (p .from) words) i 0 h, getD-drop (p .from) words i 0))

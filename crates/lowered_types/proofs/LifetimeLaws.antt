@@ -1,14 +1,14 @@
 -- The lifetimes of one type: what stands at an index, and the ways out of `type_lifetimes`.
 use Prim.Native.Nat.{ℕ, zero, suc, _+_, _-_, _^_, _≤_, _<_}
-use mathlib.Core.Path.{_≡_, refl, sym, _∙_}
+use mathlib.Core.Path.{_≡_, refl, sym, _∙_, ap}
 use mathlib.Core.List.{List, [], _∷_, _++_, map}
 use native.Mathlib.Omega.{arith}
 use lib.ListN.{length, getD, drop-of-length-le}
 use lib.Seq.{drop-cons}
-use Rattle.lifetimes.specs.declared.answer.Refusal.the-variants.{Malformed}
 use Rattle.lifetimes.specs.declared.lifetime.Lifetime as lifetime
-use Rattle.lifetimes.specs.declared.maybe_static.MaybeStatic.{MaybeStatic}
 use Rattle.lifetimes.specs.declared.maybe_static.MaybeStatic.the-variants.{NonStatic}
+use Rattle.lifetimes.specs.declared.answer.Refusal.the-variants.{Malformed}
+use Rattle.lifetimes.specs.declared.maybe_static.MaybeStatic.{MaybeStatic}
 use Rattle.lifetimes.specs.Numbers as numbers
 use Rattle.lifetimes.specs.LoweredWords.{fromWord}
 use Rattle.lifetimes.specs.Refusals.{Gives}
@@ -16,15 +16,19 @@ use Rattle.records.specs.Reading.{Fails}
 use Rattle.lowered_types.specs.declared.types.Own.{Own}
 use Rattle.lowered_types.specs.declared.types.Own.the-variants as own
 use Rattle.lowered_types.specs.declared.types.Parts.{Parts}
+use Rattle.lowered_types.specs.declared.types.OwnLifetime.{OwnLifetime}
+use Rattle.lowered_types.specs.declared.types.OwnLifetime.the-variants as behind
 use Rattle.lowered_types.specs.declared.types.LifetimeAt.{LifetimeAt}
 use Rattle.lowered_types.specs.declared.types.LifetimeAt.the-variants.{Lifetime, Absent, Refused}
-use Rattle.lowered_types.specs.LoweredTypes.{LoweredType, readLowered, ownLifetimes, lifetimesOf, entryAt, typeLifetimes, lifetimeAnswer}
+use Rattle.lowered_types.specs.LoweredTypes.{LoweredType, readLowered, ownLifetimes, lifetimesOf, entryAt}
+use Rattle.lowered_types.specs.LoweredTypes.{ownLifetime, oneOrNone, typeLifetimes, lifetimeAnswer}
 use Rattle.lowered_types.specs.Theorems.{ListsLifetimes}
 use Rattle.lowered_types.proofs.FoundLaws.{Found, path-word}
 
 -- ---- `entryAt`
 
-entry-path : (l : List ℕ) (m : List MaybeStatic) (i : ℕ) → i < length l → entryAt (map fromWord l ++ m) i ≡ Lifetime (fromWord (getD l i 0))
+entry-path : (l : List ℕ) (m : List MaybeStatic) (i : ℕ) → i < length l
+    → entryAt (map fromWord l ++ m) i ≡ Lifetime (fromWord (getD l i 0))
 unfolding entryAt
 entry-path [] m i h = absurd (omega arith)
 entry-path (w ∷ l) m zero h = refl
@@ -50,28 +54,41 @@ pub in-order : (t : LoweredType) → ListsLifetimes t
 unfolding entryAt
 in-order t =
     let at-end : entryAt (lifetimesOf t) (length (t .path)) ≡ entryAt (ownLifetimes (t .own)) 0 =
-    entry-past (t .path) (ownLifetimes (t .own)) (length (t .path)) (omega arith) ∙ let z : length (t .path) - length (t .path) ≡ 0 = omega arith in rw z in
+    entry-past (t .path) (ownLifetimes (t .own)) (length (t .path)) (omega arith)
+    ∙ let z : length (t .path) - length (t .path) ≡ 0 = omega arith in rw z in
     record {
       path = λ i h. entry-path (t .path) (ownLifetimes (t .own)) i h;
       borrow = λ word e. at-end ∙ rw e;
       strs = λ e. at-end ∙ rw e;
       unborrowed = λ e. at-end ∙ rw e;
-      past = λ i h. entry-past (t .path) (ownLifetimes (t .own)) i (omega arith) ∙ entry-one (t .own) (i - length (t .path)) (omega arith);
+      past = λ i h. entry-past (t .path) (ownLifetimes (t .own)) i (omega arith)
+          ∙ entry-one (t .own) (i - length (t .path)) (omega arith);
     }
 
--- ---- `Own::lifetime`
+-- ---- a type's own lifetime: what `Own::lifetime` answers, and what its answer says
 
-pub own-none : (o : Own) → o ≡ own.Absent → Absent ≡ entryAt (ownLifetimes o) 0
-unfolding entryAt
-own-none o e = rw e
-
-pub own-word : {m : MaybeStatic} {word : ℕ} (o : Own) → o ≡ own.Word word → m ≡ fromWord word → Lifetime m ≡ entryAt (ownLifetimes o) 0
-unfolding entryAt
+pub own-word : {m : MaybeStatic} {word : ℕ} (o : Own) → o ≡ own.Word word → m ≡ fromWord word
+    → behind.Lifetime m ≡ ownLifetime o
 own-word o e k = rw (e, k)
 
-pub own-strs : {l : lifetime.Lifetime} (o : Own) → o ≡ own.Strs → l ≡ numbers.lifetime (2 ^ 64 - 1) → Lifetime (NonStatic l) ≡ entryAt (ownLifetimes o) 0
-unfolding entryAt
+pub own-strs : {l : lifetime.Lifetime} (o : Own) → o ≡ own.Strs → l ≡ numbers.lifetime (2 ^ 64 - 1)
+    → behind.Lifetime (NonStatic l) ≡ ownLifetime o
 own-strs o e k = rw (e, k)
+
+module _ {r : OwnLifetime} (o : Own) (is : r ≡ ownLifetime o) where
+  pub own-one : {m : MaybeStatic} → r ≡ behind.Lifetime m → ownLifetimes o ≡ m ∷ []
+  own-one e = ap oneOrNone (sym is ∙ e)
+
+  pub own-none : r ≡ behind.Absent → ownLifetimes o ≡ []
+  own-none e = ap oneOrNone (sym is ∙ e)
+
+  pub at-one : {m : MaybeStatic} → r ≡ behind.Lifetime m → Lifetime m ≡ entryAt (ownLifetimes o) 0
+  unfolding entryAt
+  at-one e = rw (own-one e)
+
+  pub at-none : r ≡ behind.Absent → Absent ≡ entryAt (ownLifetimes o) 0
+  unfolding entryAt
+  at-none e = rw (own-none e)
 
 -- ---- `type_lifetimes`
 
@@ -92,18 +109,24 @@ module _ (words : List ℕ) (index : ℕ) where
       unfolding typeLifetimes
       all-read = rw (f .reads, ← f .stands .left, e, drop-of-length-le words {i = length words} (omega arith))
 
-      pub lifetimes-path : {m : MaybeStatic} → index < p .count → m ≡ fromWord (getD words (p .from + index) 0) → Lifetime m ≡ lifetimeAnswer (typeLifetimes words) index
+      pub lifetimes-path : {m : MaybeStatic} → index < p .count → m ≡ fromWord (getD words (p .from + index) 0)
+          → Lifetime m ≡ lifetimeAnswer (typeLifetimes words) index
       lifetimes-path h k =
           let s = f .stands in
-          rw (k, all-read, path-word s index h) (sym (entry-path (f .type .path) (ownLifetimes (f .type .own)) index (omega (arith, s .count))))
+          rw (k, all-read, path-word s index h)
+          (sym (entry-path (f .type .path) (ownLifetimes (f .type .own)) index (omega (arith, s .count))))
 
-      pub lifetimes-own : {r : LifetimeAt} → index ≡ p .count → r ≡ entryAt (ownLifetimes (p .own)) 0 → r ≡ lifetimeAnswer (typeLifetimes words) index
+      pub lifetimes-own : {r : LifetimeAt} → index ≡ p .count → r ≡ entryAt (ownLifetimes (p .own)) 0
+          → r ≡ lifetimeAnswer (typeLifetimes words) index
       lifetimes-own h k =
           let s = f .stands in
           let z : index - length (f .type .path) ≡ 0 = omega (arith, s .count) in
-          k ∙ rw (all-read, s .own) (sym (entry-past (f .type .path) (ownLifetimes (f .type .own)) index (omega (arith, s .count)) ∙ rw z))
+          k ∙ rw (all-read, s .own)
+          (sym (entry-past (f .type .path) (ownLifetimes (f .type .own)) index (omega (arith, s .count)) ∙ rw z))
 
       pub lifetimes-past : p .count ≤ index → (index ≡ p .count → ⊥) → Absent ≡ lifetimeAnswer (typeLifetimes words) index
       lifetimes-past h k =
           let s = f .stands in
-          rw all-read (sym (entry-past (f .type .path) (ownLifetimes (f .type .own)) index (omega (arith, s .count)) ∙ entry-one (f .type .own) (index - length (f .type .path)) (omega (arith, s .count, k))))
+          rw all-read
+          (sym (entry-past (f .type .path) (ownLifetimes (f .type .own)) index (omega (arith, s .count))
+          ∙ entry-one (f .type .own) (index - length (f .type .path)) (omega (arith, s .count, k))))

@@ -25,7 +25,8 @@ use Rattle.lowered_types.specs.Places.{Stands}
 pub word-here : (words : List ℕ) (at : ℕ) → at < length words → drop at words ≡ getD words at 0 ∷ drop (at + 1) words
 word-here words at h = rw add-one (drop-cons words at 0 h)
 
-pub word-behind : (words : List ℕ) (at : ℕ) → at + 1 < length words → drop (at + 1) words ≡ getD words (at + 1) 0 ∷ drop (at + 2) words
+pub word-behind : (words : List ℕ) (at : ℕ) → at + 1 < length words
+    → drop (at + 1) words ≡ getD words (at + 1) 0 ∷ drop (at + 2) words
 word-behind words at h = let e : at + 2 ≡ suc (at + 1) = omega arith in rw e (drop-cons words (at + 1) 0 h)
 
 -- ---- some words in a row, as `path_words` lends them
@@ -35,7 +36,8 @@ module _ (words : List ℕ) (from count : ℕ) where
   lent-none h = rw (drop-of-length-le words {i = from} h, take-nil count)
 
   pub lent-fewer : length words - from < count → take (length words - from) (drop from words) ≡ take count (drop from words)
-  lent-fewer h = take-all (length words - from) (drop from words) (simp length-drop (omega arith)) ∙ sym (take-all count (drop from words) (simp length-drop (omega arith)))
+  lent-fewer h = take-all (length words - from) (drop from words) (simp length-drop (omega arith))
+      ∙ sym (take-all count (drop from words) (simp length-drop (omega arith)))
 
   pub lent-all : take (from + count - from) (drop from words) ≡ take count (drop from words)
   lent-all = let e : from + count - from ≡ count = omega arith in rw e
@@ -45,7 +47,8 @@ module _ (words : List ℕ) (from count : ℕ) where
 pub missing-fails : {A : Type 0} {words : List ℕ} {at : ℕ} {reading : Reading A} → EndsAt words at reading Missing → reading ≡ Fails
 missing-fails missing = refl
 
-pub ends-reads : {A : Type 0} {words : List ℕ} {at next : ℕ} {reading : Reading A} → EndsAt words at reading (At next) → (a : A) × (reading ≡ Read a (drop next words))
+pub ends-reads : {A : Type 0} {words : List ℕ} {at next : ℕ} {reading : Reading A} → EndsAt words at reading (At next)
+    → (a : A) × (reading ≡ Read a (drop next words))
 ends-reads (ends {a} {rest} d b e) = (a, rw d)
 
 -- ---- a list of lifetimes
@@ -61,17 +64,30 @@ few-read : (path rest : List ℕ) → readLifetimes (length path ∷ (path ++ re
 few-read path rest e = go (leb (length path) 16) refl e
   where
     go : (b : Bool) → leb (length path) 16 ≡ b
-        → cond (b && leb (length path) (length (path ++ rest))) (Read (take (length path) (path ++ rest)) (drop (length path) (path ++ rest))) Fails ≡ Read path rest → length path ≤ 16
+        → cond (b && leb (length path) (length (path ++ rest)))
+        (Read (take (length path) (path ++ rest)) (drop (length path) (path ++ rest))) Fails ≡ Read path rest
+        → length path ≤ 16
     go true q e = leb-true (length path) 16 q
     go false q e = let z : _≡_ {A = ℕ} 0 1 = cc in absurd (omega arith)
 
-path-there : (words : List ℕ) (at behind : ℕ) (path : List ℕ) → readLifetimes (drop at words) ≡ Read path (drop behind words) → at < behind → behind ≤ length words → PathAt words at behind path
+path-there : (words : List ℕ) (at behind : ℕ) (path : List ℕ)
+    → readLifetimes (drop at words) ≡ Read path (drop behind words) → at < behind → behind ≤ length words
+    → PathAt words at behind path
 path-there words at behind path e past within =
-    let here : length path ∷ (path ++ drop behind words) ≡ drop at words = holds-read (LifetimesIn (drop at words)) path (drop behind words) (rw e at (lifetimes-read (drop at words))) in
-    let sizes : suc (length path + (length words - behind)) ≡ length words - at = simp (length-append, length-drop) at (ap length here) in
-    let cell : length path ∷ (path ++ drop behind words) ≡ getD words at 0 ∷ drop (at + 1) words = here ∙ word-here words at (omega arith) in
+    let here : length path ∷ (path ++ drop behind words) ≡ drop at words =
+    holds-read (LifetimesIn (drop at words)) path (drop behind words) (rw e at (lifetimes-read (drop at words))) in
+    let sizes : suc (length path + (length words - behind)) ≡ length words - at =
+    simp (length-append, length-drop) at (ap length here) in
+    let cell : length path ∷ (path ++ drop behind words) ≡ getD words at 0 ∷ drop (at + 1) words =
+    here ∙ word-here words at (omega arith) in
     let rest : path ++ drop behind words ≡ drop (at + 1) words = cc in
-    record { reads = e; size = omega arith; few = few-read path (drop behind words) (rw (← here) at e); stands = rw (← rest) (take-at path (drop behind words) (length path) refl); within = within }
+    record {
+      reads = e;
+      size = omega arith;
+      few = few-read path (drop behind words) (rw (← here) at e);
+      stands = rw (← rest) (take-at path (drop behind words) (length path) refl);
+      within = within;
+    }
 
 module _ (words : List ℕ) (at : ℕ) {r : End} (q : r ≡ endOf (length words) (readLifetimes (drop at words))) where
   pub path-at : {behind : ℕ} → r ≡ At behind → (path : List ℕ) × PathAt words at behind path
@@ -98,11 +114,25 @@ flag-fails word words h = rw (ne-eqb word 0 (λ e. omega arith), ne-eqb word 1 (
 
 -- ---- a type without path words, and one with
 
-pub stands-none : {words : List ℕ} {at : ℕ} (option : Bool) (kind : Kind) (own : Own) (from next : ℕ) → at < next → next ≤ length words
-    → Stands words at (lowered option kind [] own) (drop next words) (record { option = option; kind = kind; from = from; count = 0; own = own; next = next })
-stands-none option kind own from next past within = record { option = refl; kind = refl; count = refl; few = omega arith; path = refl; own = refl; left = refl; past = past; within = within }
+pub stands-none : {words : List ℕ} {at : ℕ} (option : Bool) (kind : Kind) (own : Own) (from next : ℕ) → at < next
+    → next ≤ length words
+    → Stands words at (lowered option kind [] own) (drop next words)
+    (record { option = option; kind = kind; from = from; count = 0; own = own; next = next })
+stands-none option kind own from next past within =
+    record {
+      option = refl;
+      kind = refl;
+      count = refl;
+      few = omega arith;
+      path = refl;
+      own = refl;
+      left = refl;
+      past = past;
+      within = within;
+    }
 
-pub stands-path : {words path : List ℕ} {at behind : ℕ} → PathAt words (at + 2) behind path → (option : Bool) (kind : Kind) (own : Own) (next : ℕ) → behind ≤ next → next ≤ length words
+pub stands-path : {words path : List ℕ} {at behind : ℕ} → PathAt words (at + 2) behind path
+    → (option : Bool) (kind : Kind) (own : Own) (next : ℕ) → behind ≤ next → next ≤ length words
     → Stands words at (lowered option kind path own) (drop next words)
     (record { option = option; kind = kind; from = at + 3; count = behind - (at + 3); own = own; next = next })
 stands-path {words} {path} {at} {behind} there option kind own next past within =

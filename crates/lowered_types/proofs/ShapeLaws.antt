@@ -13,7 +13,8 @@ use Rattle.lifetimes.specs.declared.answer.Verdict.the-variants as verdict
 use Rattle.lifetimes.specs.declared.answer.Listed.{Listed}
 use Rattle.lifetimes.specs.declared.answer.Listed.the-variants.{Count, Refused}
 use Rattle.records.specs.Reading.{shapeVerdict}
-use Rattle.lowered_types.specs.Rows.{forceInShape, outputInShape, paramsInShape, structsInShape, rowsOf, typesOf, methodInShape, methodShape, noShape, howMany}
+use Rattle.lowered_types.specs.Rows.{forceInShape, outputInShape, paramsInShape, structsInShape, rowsOf, typesOf}
+use Rattle.lowered_types.specs.Rows.{methodInShape, methodShape, noShape, howMany}
 
 -- ---- `force`
 
@@ -22,7 +23,8 @@ force-size [] h = refl
 force-size (word ∷ []) h = absurd (h refl)
 force-size (word ∷ other ∷ words) h = refl
 
-pub force-large : (force : List ℕ) → length force ≡ 1 → 1 < getD force 0 0 → verdict.Refused Malformed ≡ shapeVerdict (forceInShape force)
+pub force-large : (force : List ℕ) → length force ≡ 1 → 1 < getD force 0 0
+    → verdict.Refused Malformed ≡ shapeVerdict (forceInShape force)
 force-large [] e h = absurd (omega arith)
 force-large (word ∷ []) e h = rw (lt-leb word 1 h)
 force-large (word ∷ other ∷ words) e h = absurd (omega arith)
@@ -34,11 +36,13 @@ force-flag (word ∷ other ∷ words) e h = absurd (omega arith)
 
 -- ---- what a count says
 
-pub counted-shape : {A : Type 0} (b : Bool) (items : List A) {r : Listed} {n : ℕ} → r ≡ howMany b items → r ≡ Count n → (b ≡ true) × (length items ≡ n)
+pub counted-shape : {A : Type 0} (b : Bool) (items : List A) {r : Listed} {n : ℕ} → r ≡ howMany b items → r ≡ Count n
+    → (b ≡ true) × (length items ≡ n)
 counted-shape true items e k = let q : Count (length items) ≡ Count _ = sym e ∙ k in (refl, cc)
 counted-shape false items e k = let z : _≡_ {A = ℕ} 0 1 = cc in absurd (omega arith)
 
-pub refused-shape : {A : Type 0} (b : Bool) (items : List A) {r : Listed} {s : Refusal} → r ≡ howMany b items → r ≡ Refused s → b ≡ false
+pub refused-shape : {A : Type 0} (b : Bool) (items : List A) {r : Listed} {s : Refusal} → r ≡ howMany b items
+    → r ≡ Refused s → b ≡ false
 refused-shape true items e k = let z : _≡_ {A = ℕ} 0 1 = cc in absurd (omega arith)
 refused-shape false items e k = refl
 
@@ -88,7 +92,13 @@ module _ (structs params output force : List ℕ) {a : Listed} (e : a ≡ howMan
 
       pub method-output : {s : Refusal} → c ≡ Refused s → noShape ≡ methodShape structs params output force
       unfolding methodInShape methodShape
-      method-output m = rw (rows-right .0, rows-right .1, params-right .0, refused-shape (outputInShape rows output) (typesOf rows output) g m)
+      method-output m =
+          rw (
+            rows-right .0,
+            rows-right .1,
+            params-right .0,
+            refused-shape (outputInShape rows output) (typesOf rows output) g m,
+          )
 
       module _ {m : ℕ} (q : c ≡ Count m) {v : Verdict} (w : v ≡ shapeVerdict (forceInShape force)) where
         output-right : (outputInShape rows output ≡ true) × (length (typesOf rows output) ≡ m)
@@ -98,6 +108,17 @@ module _ (structs params output force : List ℕ) {a : Listed} (e : a ≡ howMan
         unfolding methodInShape methodShape
         method-force t = rw (rows-right .0, rows-right .1, params-right .0, output-right .0, flag-refused (forceInShape force) w t)
 
-        pub method-whole : v ≡ verdict.Accepted → record { verdict = verdict.Accepted; rows = rows; params = n; outputs = m } ≡ methodShape structs params output force
+        pub method-whole : v ≡ verdict.Accepted
+            → record { verdict = verdict.Accepted; rows = rows; params = n; outputs = m }
+            ≡ methodShape structs params output force
         unfolding methodInShape methodShape
-        method-whole t = rw (rows-right .0, rows-right .1, params-right .0, output-right .0, flag-accepted (forceInShape force) w t, params-right .1, output-right .1)
+        method-whole t =
+            rw (
+              rows-right .0,
+              rows-right .1,
+              params-right .0,
+              output-right .0,
+              flag-accepted (forceInShape force) w t,
+              params-right .1,
+              output-right .1,
+            )

@@ -12,16 +12,20 @@ use Rattle.lowered_types.specs.declared.types.Own.the-variants.{Absent, 
 use Rattle.lowered_types.specs.declared.types.Parts.{Parts}
 use Rattle.lowered_types.specs.declared.types.Located.{Located}
 use Rattle.lowered_types.specs.declared.types.Located.the-variants.{At, Missing}
-use Rattle.lowered_types.specs.LoweredTypes.{LoweredType, lowered, readFlag, readOwner, readOpaque, readStruct, readSlice, readBare, readLowered, located}
+use Rattle.lowered_types.specs.LoweredTypes.{LoweredType, lowered, readFlag, readOwner, readOpaque, readStruct}
+use Rattle.lowered_types.specs.LoweredTypes.{readSlice, readBare, readLowered, located}
 use Rattle.lowered_types.specs.Places.{Stands, Locates, locates, nowhere}
 use Rattle.lowered_types.specs.Inner.{startsAt, LocatesBare}
-use Rattle.lowered_types.proofs.PathLaws.{word-here, word-behind, PathAt, flag-read, flag-fails, stands-none, stands-path}
+use Rattle.lowered_types.proofs.PathLaws.{word-here, word-behind, PathAt, flag-read, flag-fails, stands-none}
+use Rattle.lowered_types.proofs.PathLaws.{stands-path}
 
 -- a reading that fails, and one that does not
-fails-bare : {words : List ℕ} {at : ℕ} {option : Bool} {reading : Reading LoweredType} → reading ≡ Fails → LocatesBare words at option reading Missing
+fails-bare : {words : List ℕ} {at : ℕ} {option : Bool} {reading : Reading LoweredType} → reading ≡ Fails
+    → LocatesBare words at option reading Missing
 fails-bare e = rw e (record { found = nowhere; start = tt })
 
-reads-bare : {words : List ℕ} {at : ℕ} {option : Bool} {reading : Reading LoweredType} {t : LoweredType} {rest : List ℕ} {p : Parts} → reading ≡ Read t rest → Stands words at t rest p
+reads-bare : {words : List ℕ} {at : ℕ} {option : Bool} {reading : Reading LoweredType} {t : LoweredType} {rest : List ℕ}
+    {p : Parts} → reading ≡ Read t rest → Stands words at t rest p
     → p .option ≡ option → p .from ≡ at + 3 → LocatesBare words at option reading (At p)
 reads-bare e s o f = rw e (record { found = locates s; start = (o, f) })
 
@@ -36,16 +40,26 @@ module _ (words : List ℕ) (at : ℕ) (option : Bool) where
   struct-short h = fails-bare (rw (none-behind words at h))
 
   module _ (h : at + 1 < length words) where
-    pub struct-missing : readLifetimes (drop (at + 2) words) ≡ Fails → LocatesBare words at option (readStruct option (drop (at + 1) words)) Missing
+    pub struct-missing : readLifetimes (drop (at + 2) words) ≡ Fails
+        → LocatesBare words at option (readStruct option (drop (at + 1) words)) Missing
     unfolding readStruct
     struct-missing e = fails-bare (rw (word-behind words at h, e))
 
     pub struct-whole : {path : List ℕ} {next : ℕ} → PathAt words (at + 2) next path
         → LocatesBare words at option (readStruct option (drop (at + 1) words))
-        (At (record { option = option; kind = Struct (getD words (at + 1) 0); from = at + 3; count = next - (at + 3); own = Absent; next = next }))
+        (At (record {
+          option = option;
+          kind = Struct (getD words (at + 1) 0);
+          from = at + 3;
+          count = next - (at + 3);
+          own = Absent;
+          next = next;
+        }))
     unfolding readStruct
     struct-whole {path} {next} there =
-        reads-bare (rw (word-behind words at h, there .reads)) (stands-path there option (Struct (getD words (at + 1) 0)) Absent next (omega arith) (there .within)) refl refl
+        reads-bare (rw (word-behind words at h, there .reads))
+        (stands-path there option (Struct (getD words (at + 1) 0)) Absent next (omega arith) (there .within)) refl
+        refl
 
 -- ---- an opaque
 
@@ -68,7 +82,8 @@ module _ (words : List ℕ) (at : ℕ) (option : Bool) where
       unfolding readOpaque
       opaque-path = let f = flag-read (getD words (at + 1) 0) (drop (at + 2) words) flag in rw (word-behind words at h, f .1)
 
-      pub opaque-missing : readLifetimes (drop (at + 2) words) ≡ Fails → LocatesBare words at option (readOpaque option (drop (at + 1) words)) Missing
+      pub opaque-missing : readLifetimes (drop (at + 2) words) ≡ Fails
+          → LocatesBare words at option (readOpaque option (drop (at + 1) words)) Missing
       opaque-missing e = fails-bare (rw (opaque-path, e))
 
       module _ {path : List ℕ} {owner : ℕ} (there : PathAt words (at + 2) owner path) where
@@ -78,12 +93,27 @@ module _ (words : List ℕ) (at : ℕ) (option : Bool) where
         module _ (k : owner < length words) where
           pub opaque-owned : getD words owner 0 ≡ 0
               → LocatesBare words at option (readOpaque option (drop (at + 1) words))
-              (At (record { option = option; kind = Opaque; from = at + 3; count = owner - (at + 3); own = Absent; next = owner + 1 }))
+              (At (record {
+                option = option;
+                kind = Opaque;
+                from = at + 3;
+                count = owner - (at + 3);
+                own = Absent;
+                next = owner + 1;
+              }))
           opaque-owned e =
-              reads-bare (rw (opaque-path, there .reads, word-here words owner k, e)) (stands-path there option Opaque Absent (owner + 1) (omega arith) (omega arith)) refl refl
+              reads-bare (rw (opaque-path, there .reads, word-here words owner k, e))
+              (stands-path there option Opaque Absent (owner + 1) (omega arith) (omega arith)) refl refl
 
           pub opaque-no-owner : 1 < getD words owner 0 → LocatesBare words at option (readOpaque option (drop (at + 1) words)) Missing
-          opaque-no-owner b = fails-bare (rw (opaque-path, there .reads, word-here words owner k, flag-fails (getD words owner 0) (drop (owner + 1) words) b))
+          opaque-no-owner b =
+              fails-bare
+              (rw (
+                opaque-path,
+                there .reads,
+                word-here words owner k,
+                flag-fails (getD words owner 0) (drop (owner + 1) words) b,
+              ))
 
           module _ (some : getD words owner 0 ≡ 0 → ⊥) (few : getD words owner 0 ≤ 1) where
             borrowed : getD words owner 0 ≡ 1
@@ -94,7 +124,14 @@ module _ (words : List ℕ) (at : ℕ) (option : Bool) where
 
             pub opaque-borrowed : owner + 1 < length words
                 → LocatesBare words at option (readOpaque option (drop (at + 1) words))
-                (At (record { option = option; kind = Opaque; from = at + 3; count = owner - (at + 3); own = Word (getD words (owner + 1) 0); next = owner + 2 }))
+                (At (record {
+                  option = option;
+                  kind = Opaque;
+                  from = at + 3;
+                  count = owner - (at + 3);
+                  own = Word (getD words (owner + 1) 0);
+                  next = owner + 2;
+                }))
             opaque-borrowed b =
                 reads-bare (rw (opaque-path, there .reads, word-here words owner k, borrowed, word-behind words owner b))
                 (stands-path there option Opaque (Word (getD words (owner + 1) 0)) (owner + 2) (omega arith) (omega arith)) refl refl
@@ -111,15 +148,20 @@ module _ (words : List ℕ) (at : ℕ) (option : Bool) where
         → LocatesBare words at option (readSlice option (drop (at + 1) words))
         (At (record { option = option; kind = Slice; from = at + 3; count = 0; own = Absent; next = at + 2 }))
     unfolding readSlice
-    slice-bare e = reads-bare (rw (word-behind words at h, e)) (stands-none option Slice Absent (at + 3) (at + 2) (omega arith) (omega arith)) refl refl
+    slice-bare e =
+        reads-bare (rw (word-behind words at h, e))
+        (stands-none option Slice Absent (at + 3) (at + 2) (omega arith) (omega arith)) refl refl
 
     pub slice-strs : getD words (at + 1) 0 ≡ 2
         → LocatesBare words at option (readSlice option (drop (at + 1) words))
         (At (record { option = option; kind = Slice; from = at + 3; count = 0; own = Strs; next = at + 2 }))
     unfolding readSlice
-    slice-strs e = reads-bare (rw (word-behind words at h, e)) (stands-none option Slice Strs (at + 3) (at + 2) (omega arith) (omega arith)) refl refl
+    slice-strs e =
+        reads-bare (rw (word-behind words at h, e))
+        (stands-none option Slice Strs (at + 3) (at + 2) (omega arith) (omega arith)) refl refl
 
-    pub slice-lost : getD words (at + 1) 0 ≡ 1 → length words ≤ at + 2 → LocatesBare words at option (readSlice option (drop (at + 1) words)) Missing
+    pub slice-lost : getD words (at + 1) 0 ≡ 1 → length words ≤ at + 2
+        → LocatesBare words at option (readSlice option (drop (at + 1) words)) Missing
     unfolding readSlice
     slice-lost e k = fails-bare (rw (word-behind words at h, e, drop-of-length-le words {i = at + 2} k))
 
@@ -129,9 +171,12 @@ module _ (words : List ℕ) (at : ℕ) (option : Bool) where
     unfolding readSlice
     slice-own e k =
         let f : at + 3 ≡ at + 2 + 1 = omega arith in
-        reads-bare (rw (word-behind words at h, e, f, word-here words (at + 2) k)) (stands-none option Slice (Word (getD words (at + 2) 0)) (at + 3) (at + 3) (omega arith) (omega arith)) refl refl
+        reads-bare (rw (word-behind words at h, e, f, word-here words (at + 2) k))
+        (stands-none option Slice (Word (getD words (at + 2) 0)) (at + 3) (at + 3) (omega arith) (omega arith)) refl
+        refl
 
-    pub slice-missing : getD words (at + 1) 0 ≡ 3 → readLifetimes (drop (at + 2) words) ≡ Fails → LocatesBare words at option (readSlice option (drop (at + 1) words)) Missing
+    pub slice-missing : getD words (at + 1) 0 ≡ 3 → readLifetimes (drop (at + 2) words) ≡ Fails
+        → LocatesBare words at option (readSlice option (drop (at + 1) words)) Missing
     unfolding readSlice
     slice-missing e k = fails-bare (rw (word-behind words at h, e, k))
 
@@ -142,12 +187,21 @@ module _ (words : List ℕ) (at : ℕ) (option : Bool) where
 
       pub slice-opaques : own < length words
           → LocatesBare words at option (readSlice option (drop (at + 1) words))
-          (At (record { option = option; kind = Slice; from = at + 3; count = own - (at + 3); own = Word (getD words own 0); next = own + 1 }))
+          (At (record {
+            option = option;
+            kind = Slice;
+            from = at + 3;
+            count = own - (at + 3);
+            own = Word (getD words own 0);
+            next = own + 1;
+          }))
       unfolding readSlice
       slice-opaques k =
-          reads-bare (rw (word-behind words at h, e, there .reads, word-here words own k)) (stands-path there option Slice (Word (getD words own 0)) (own + 1) (omega arith) (omega arith)) refl refl
+          reads-bare (rw (word-behind words at h, e, there .reads, word-here words own k))
+          (stands-path there option Slice (Word (getD words own 0)) (own + 1) (omega arith) (omega arith)) refl refl
 
-    pub slice-no-code : (getD words (at + 1) 0 ≡ 0 → ⊥) → (getD words (at + 1) 0 ≡ 1 → ⊥) → (getD words (at + 1) 0 ≡ 2 → ⊥) → (getD words (at + 1) 0 ≡ 3 → ⊥)
+    pub slice-no-code : (getD words (at + 1) 0 ≡ 0 → ⊥) → (getD words (at + 1) 0 ≡ 1 → ⊥)
+        → (getD words (at + 1) 0 ≡ 2 → ⊥) → (getD words (at + 1) 0 ≡ 3 → ⊥)
         → LocatesBare words at option (readSlice option (drop (at + 1) words)) Missing
     unfolding readSlice
     slice-no-code e₀ e₁ e₂ e₃ = fails-bare (rw (word-behind words at h, ne-eqb _ _ e₀, ne-eqb _ _ e₁, ne-eqb _ _ e₂, ne-eqb _ _ e₃))
@@ -161,20 +215,26 @@ module _ (words : List ℕ) (at : ℕ) (option : Bool) where
 
   module _ (h : at < length words) where
     pub bare-plain : getD words at 0 ≡ 0
-        → LocatesBare words at option (readBare option (drop at words)) (At (record { option = option; kind = Plain; from = at + 3; count = 0; own = Absent; next = at + 1 }))
+        → LocatesBare words at option (readBare option (drop at words))
+        (At (record { option = option; kind = Plain; from = at + 3; count = 0; own = Absent; next = at + 1 }))
     unfolding readBare
-    bare-plain e = reads-bare (rw (word-here words at h, e)) (stands-none option Plain Absent (at + 3) (at + 1) (omega arith) (omega arith)) refl refl
+    bare-plain e =
+        reads-bare (rw (word-here words at h, e))
+        (stands-none option Plain Absent (at + 3) (at + 1) (omega arith) (omega arith)) refl refl
 
     module _ {r : Located} where
-      pub bare-opaque : getD words at 0 ≡ 1 → LocatesBare words at option (readOpaque option (drop (at + 1) words)) r → LocatesBare words at option (readBare option (drop at words)) r
+      pub bare-opaque : getD words at 0 ≡ 1 → LocatesBare words at option (readOpaque option (drop (at + 1) words)) r
+          → LocatesBare words at option (readBare option (drop at words)) r
       unfolding readBare
       bare-opaque e k = rw (word-here words at h, e) k
 
-      pub bare-struct : getD words at 0 ≡ 2 → LocatesBare words at option (readStruct option (drop (at + 1) words)) r → LocatesBare words at option (readBare option (drop at words)) r
+      pub bare-struct : getD words at 0 ≡ 2 → LocatesBare words at option (readStruct option (drop (at + 1) words)) r
+          → LocatesBare words at option (readBare option (drop at words)) r
       unfolding readBare
       bare-struct e k = rw (word-here words at h, e) k
 
-      pub bare-slice : getD words at 0 ≡ 3 → LocatesBare words at option (readSlice option (drop (at + 1) words)) r → LocatesBare words at option (readBare option (drop at words)) r
+      pub bare-slice : getD words at 0 ≡ 3 → LocatesBare words at option (readSlice option (drop (at + 1) words)) r
+          → LocatesBare words at option (readBare option (drop at words)) r
       unfolding readBare
       bare-slice e k = rw (word-here words at h, e) k
 
@@ -187,39 +247,37 @@ module _ (words : List ℕ) (at : ℕ) (option : Bool) where
 
 -- what a call says that found a type
 abbrev Told : List ℕ → ℕ → Located → Type 0
-Told words at r = (r ≡ located at (length words) (readLowered (drop at words))) × Locates words at (readLowered (drop at words)) r
+Told words at r = r ≡ located at (length words) (readLowered (drop at words))
 
 -- the parts, from where they stand
-same-parts : {words rest : List ℕ} {at : ℕ} {t : LoweredType} {p : Parts} (place : ℕ) → Stands words at t rest p → p .from ≡ cond (p .option) (place + 4) (place + 3)
+same-parts : {words rest : List ℕ} {at : ℕ} {t : LoweredType} {p : Parts} (place : ℕ) → Stands words at t rest p
+    → p .from ≡ cond (p .option) (place + 4) (place + 3)
     → At p ≡ located place (length words) (Read t rest)
 same-parts {words} {rest} {at} {t} {p} place s f =
     let size : length words - p .next ≡ length rest = rw length-drop at (ap length (s .left)) in
     let n : length words - length rest ≡ p .next = omega (arith, s .within) in
     rw (← s .option, ← f, ← s .kind, ← s .count, ← s .own, n)
 
-wider : {words : List ℕ} {at from : ℕ} {reading : Reading LoweredType} {r : Located} → at ≤ from → Locates words from reading r → Locates words at reading r
-wider {at = at} l (locates {p = p} s) =
-    locates {p = p} (record { option = s .option; kind = s .kind; count = s .count; few = s .few; path = s .path; own = s .own; left = s .left; past = omega (arith, s .past); within = s .within })
-wider l nowhere = nowhere
-
 module _ (words : List ℕ) (at : ℕ) where
   pub type-none : length words ≤ at → Told words at Missing
   unfolding readLowered
-  type-none h = rw (drop-of-length-le words {i = at} h) (refl, nowhere)
+  type-none h = rw (drop-of-length-le words {i = at} h)
 
-  told : (place : ℕ) (option : Bool) {reading : Reading LoweredType} {r : Located} → at ≤ place → place + 3 ≡ cond option (at + 4) (at + 3) → LocatesBare words place option reading r
-      → (r ≡ located at (length words) reading) × Locates words at reading r
-  told place option l e b = go (b .found) (b .start)
+  told : (place : ℕ) (option : Bool) {reading : Reading LoweredType} {r : Located}
+      → place + 3 ≡ cond option (at + 4) (at + 3) → LocatesBare words place option reading r
+      → r ≡ located at (length words) reading
+  told place option e b = go (b .found) (b .start)
     where
-      go : {reading : Reading LoweredType} {r : Located} → Locates words place reading r → startsAt option (place + 3) r → (r ≡ located at (length words) reading) × Locates words at reading r
-      go nowhere s = (refl, nowhere)
-      go (locates {t} {rest} {p} k) s = (same-parts at k (s .1 ∙ rw (s .0) e), wider l (locates k))
+      go : {reading : Reading LoweredType} {r : Located} → Locates words place reading r → startsAt option (place + 3) r
+          → r ≡ located at (length words) reading
+      go nowhere s = refl
+      go (locates {t} {rest} {p} k) s = same-parts at k (s .1 ∙ rw (s .0) e)
 
   module _ (h : at < length words) {r : Located} where
     pub type-option : getD words at 0 ≡ 4 → LocatesBare words (at + 1) true (readBare true (drop (at + 1) words)) r → Told words at r
     unfolding readLowered
-    type-option e k = rw (word-here words at h, e) (told (at + 1) true (omega arith) (omega arith) k)
+    type-option e k = rw (word-here words at h, e) (told (at + 1) true (omega arith) k)
 
     pub type-bare : (getD words at 0 ≡ 4 → ⊥) → LocatesBare words at false (readBare false (drop at words)) r → Told words at r
     unfolding readLowered
-    type-bare e k = rw (word-here words at h, ne-eqb _ _ e, ← word-here words at h) (told at false (omega arith) refl k)
+    type-bare e k = rw (word-here words at h, ne-eqb _ _ e, ← word-here words at h) (told at false refl k)

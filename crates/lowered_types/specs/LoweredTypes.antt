@@ -1,4 +1,5 @@
--- Lowered types (in a struct's fields, in `params`, in `output`): what stands in front of some words, where its parts are, and its lifetimes.
+-- Lowered types (in a struct's fields, in `params`, in `output`): what stands in front of some words, where its parts
+-- are, and its lifetimes.
 use Prim.Native.Nat.{ℕ, zero, suc, _+_, _-_, _^_}
 use mathlib.Core.Bool.{Bool, true, false, cond}
 use mathlib.Core.List.{List, [], _∷_, _++_, map}
@@ -17,11 +18,13 @@ use Rattle.lowered_types.specs.declared.types.Own.{Own}
 use Rattle.lowered_types.specs.declared.types.Own.the-variants.{Absent, Word, Strs}
 use Rattle.lowered_types.specs.declared.types.Located.{Located}
 use Rattle.lowered_types.specs.declared.types.Located.the-variants.{At, Missing}
+use Rattle.lowered_types.specs.declared.types.OwnLifetime.{OwnLifetime}
+use Rattle.lowered_types.specs.declared.types.OwnLifetime.the-variants as behind
 use Rattle.lowered_types.specs.declared.types.LifetimeAt.{LifetimeAt}
 use Rattle.lowered_types.specs.declared.types.LifetimeAt.the-variants as entry
 
--- A type: whether it is under an option (01's code 4), its kind (codes 0 to 3), its path words, and the lifetime behind them. That an opaque is optional is kept
--- nowhere: no answer depends on it.
+-- A type: whether it is under an option (01's code 4), its kind (codes 0 to 3), its path words, and the lifetime behind
+-- them. That an opaque is optional is kept nowhere: no answer depends on it.
 pub record LoweredType : Type 0 where
   pub option : Bool
   pub kind : Kind
@@ -52,7 +55,9 @@ readOpaque option words =
 
 -- code 2, a struct: its row, its words
 unfoldable pub readStruct : Bool → List ℕ → Reading LoweredType
-readStruct option words = onward (readWord words) (λ row rest. onward (readLifetimes rest) (λ path end. Read (lowered option (Struct row) path Absent) end))
+readStruct option words =
+    onward (readWord words)
+    (λ row rest. onward (readLifetimes rest) (λ path end. Read (lowered option (Struct row) path Absent) end))
 
 -- code 3, a slice: 0 without a lifetime; 1 with its own; 2 `Strs`; 3 of opaques, with their path words and its own
 unfoldable pub readSlice : Bool → List ℕ → Reading LoweredType
@@ -61,7 +66,9 @@ readSlice option (code ∷ words) =
     cond (eqb code 0) (Read (lowered option Slice [] Absent) words)
     (cond (eqb code 1) (onward (readWord words) (λ word end. Read (lowered option Slice [] (Word word)) end))
     (cond (eqb code 2) (Read (lowered option Slice [] Strs) words)
-    (cond (eqb code 3) (onward (readLifetimes words) (λ path rest. onward (readWord rest) (λ word end. Read (lowered option Slice path (Word word)) end)))
+    (cond (eqb code 3)
+    (onward (readLifetimes words)
+    (λ path rest. onward (readWord rest) (λ word end. Read (lowered option Slice path (Word word)) end)))
     Fails)))
 
 -- a type that is no option; code 0 is one without lifetimes
@@ -86,7 +93,8 @@ knows rows Opaque = true
 knows rows (Struct row) = ltb row rows
 knows rows Slice = true
 
--- Where its parts are, in so many words: the path words start three places behind the type, or behind the option that it is under
+-- Where its parts are, in so many words: the path words start three places behind the type, or behind the option that
+-- it is under
 abbrev pub located : ℕ → ℕ → Reading LoweredType → Located
 located at n (Read t rest) =
     At (record {
@@ -99,12 +107,20 @@ located at n (Read t rest) =
     })
 located at n Fails = Missing
 
--- Its lifetimes (`Type::lifetimes`): the path words, then the borrow. That of `Strs` is numbered 2^64 - 1, outside every environment
+-- Its lifetimes (`Type::lifetimes`): the path words, then the borrow. That of `Strs` is numbered 2^64 - 1, outside
+-- every environment
+
+abbrev pub ownLifetime : Own → OwnLifetime
+ownLifetime Absent = behind.Absent
+ownLifetime (Word word) = behind.Lifetime (fromWord word)
+ownLifetime Strs = behind.Lifetime (NonStatic (lifetime (2 ^ 64 - 1)))
+
+abbrev pub oneOrNone : OwnLifetime → List MaybeStatic
+oneOrNone (behind.Lifetime m) = m ∷ []
+oneOrNone behind.Absent = []
 
 abbrev pub ownLifetimes : Own → List MaybeStatic
-ownLifetimes Absent = []
-ownLifetimes (Word word) = fromWord word ∷ []
-ownLifetimes Strs = NonStatic (lifetime (2 ^ 64 - 1)) ∷ []
+ownLifetimes own = oneOrNone (ownLifetime own)
 
 abbrev pub lifetimesOf : LoweredType → List MaybeStatic
 lifetimesOf t = map fromWord (t .path) ++ ownLifetimes (t .own)

@@ -1,4 +1,5 @@
--- Where a type's words stand: what `type_at` says besides its answer. It follows from the answer, and spares whoever reads on to show it again.
+-- For private functions only: where a type's words stand. It follows from the answer of `type_at`
+-- (proofs/LocatedLaws.antt); no public contract cites this file.
 use Prim.Native.Nat.{ℕ, _≤_, _<_}
 use mathlib.Core.Path.{_≡_}
 use mathlib.Core.List.{List}
@@ -22,5 +23,6 @@ pub record Stands (words : List ℕ) (at : ℕ) (t : LoweredType) (rest : List �
   pub within : p .next ≤ length words
 
 pub data Locates (words : List ℕ) (at : ℕ) : Reading LoweredType → Located → Type 0 where
-  locates : {t : LoweredType} {rest : List ℕ} {p : Parts} → Stands words at t rest p → Locates words at (Read t rest) (At p)
+  locates : {t : LoweredType} {rest : List ℕ} {p : Parts} → Stands words at t rest p
+      → Locates words at (Read t rest) (At p)
   nowhere : Locates words at Fails Missing

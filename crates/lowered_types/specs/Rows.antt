@@ -1,4 +1,5 @@
--- The records `structs`, `params`, `output` and `force`: their shape (refusal 1, 01's "torn"), and what a record in shape says.
+-- The records `structs`, `params`, `output` and `force`: their shape (refusal 1, 01's "torn"), and what a record in
+-- shape says.
 use Prim.Native.Nat.{ℕ, zero, suc}
 use mathlib.Core.Bool.{Bool, true, false, cond, _&&_}
 use mathlib.Core.List.{List, [], _∷_}
@@ -19,9 +20,11 @@ readKnown rows words = onward (readLowered words) (λ t rest. cond (knows rows (
 -- so many types
 unfoldable pub readTypes : ℕ → ℕ → List ℕ → Reading (List LoweredType)
 readTypes rows zero words = Read [] words
-readTypes rows (suc n) words = onward (readKnown rows words) (λ t rest. onward (readTypes rows n rest) (λ ts end. Read (t ∷ ts) end))
+readTypes rows (suc n) words =
+    onward (readKnown rows words) (λ t rest. onward (readTypes rows n rest) (λ ts end. Read (t ∷ ts) end))
 
--- `structs`: rows one after another, the first numbered 0. A row: lifetimes d, field count, fields; d and fields at most 16; a field names only earlier rows
+-- `structs`: rows one after another, the first numbered 0. A row: lifetimes d, field count, fields; d and fields at
+-- most 16; a field names only earlier rows
 pub record Row : Type 0 where
   pub lifetimes : ℕ
   pub fields : List LoweredType
@@ -41,7 +44,8 @@ structsInShape structs = inShape readRow structs
 abbrev pub rowsOf : List ℕ → List Row
 rowsOf structs = itemsOf readRow structs
 
--- `params`: types one after another; each row that is named is among so many. All rows of the record count, also those past the 32nd
+-- `params`: types one after another; each row that is named is among so many. All rows of the record count, also those
+-- past the 32nd
 abbrev pub paramsInShape : ℕ → List ℕ → Bool
 paramsInShape rows params = inShape (λ number. readKnown rows) params
 

@@ -1,7 +1,9 @@
-// Lowered types: what stands in the records `structs`, `params` and `output` of a method, and the shape of these and of `force`.
+// Lowered types: what stands in the records `structs`, `params` and `output` of a method, and the shape of these and of
+// `force`.
 //
-// Of `hir/types.rs`, `hir/paths.rs` and `hir/defs.rs` of diplomat_core 0.17.0. Types are words read in place: a type is where it stands, and a definition is the number of
-// its row. The scope paper ("01") decides what is right; a refused call answers one of its numbers.
+// Of `hir/types.rs`, `hir/paths.rs` and `hir/defs.rs` of diplomat_core 0.17.0. Types are words read in place: a type is
+// where it stands, and a definition is the number of its row. The scope paper ("01") decides what is right; a refused
+// call answers one of its numbers.
 //
 // What is here: one type and its lifetimes (`types`), and the shape of the four records (`shapes`).
 mod shapes;
@@ -17,6 +19,7 @@ pub use types::Kind;
 pub use types::LifetimeAt;
 pub use types::Located;
 pub use types::Own;
+pub use types::OwnLifetime;
 pub use types::Parts;
 pub use types::path_words;
 pub use types::type_at;

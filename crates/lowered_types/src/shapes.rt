@@ -2,9 +2,11 @@
 ghost use mathlib.Core.Path.{_≡_};
 ghost use Prim.Native.Nat.{_≤_};
 ghost use lib.ListN.{length, drop};
+ghost use Rattle.lifetimes.specs.Lent.{held};
 ghost use Rattle.records.specs.Reading.{shapeVerdict};
 ghost use Rattle.records.specs.Ends.{EndsAt};
-ghost use Rattle.lowered_types.specs.Rows.{readKnown, readTypes, readRow, structsInShape, rowsOf, paramsInShape, typesOf, outputInShape, forceInShape, methodShape, noShape, howMany};
+ghost use Rattle.lowered_types.specs.Rows.{readKnown, readTypes, readRow, structsInShape, rowsOf, paramsInShape};
+ghost use Rattle.lowered_types.specs.Rows.{typesOf, outputInShape, forceInShape, methodShape, noShape, howMany};
 ghost use Rattle.lowered_types.specs.Inner.{EndsFrom};
 use super::types::Located;
 use super::types::type_at;
@@ -16,9 +18,10 @@ use records::End;
 // How many fields a struct may have, and how many lifetimes.
 const MAX_FIELDS: usize = 16;
 
-// Whether `structs` is in shape, and how many rows it has: all that stand there, also past the 32nd. Refused by 1. Reads each type once.
+// Whether `structs` is in shape, and how many rows it has: all that stand there, also past the 32nd. Refused by 1.
+// Reads each type once.
 pub fn structs_shape(structs: &[usize]) -> Listed
-    ensures { λ r. ⌜ r ≡ howMany (structsInShape (now (structs .entry))) (rowsOf (now (structs .entry))) ⌝ }
+    ensures answer { λ r. ⌜ r ≡ howMany (structsInShape (held structs)) (rowsOf (held structs)) ⌝ }
 {
     if End::MAX_WORDS < structs.len() {
         return Listed::Refused(Refusal::Malformed);
@@ -36,9 +39,10 @@ pub fn structs_shape(structs: &[usize]) -> Listed
     Listed::Count(rows)
 }
 
-// Whether `params` is in shape beside so many rows, and how many parameters there are, also past the 16th. Refused by 1. Reads each type once.
+// Whether `params` is in shape beside so many rows, and how many parameters there are, also past the 16th. Refused by
+// 1. Reads each type once.
 pub fn params_shape(params: &[usize], rows: usize) -> Listed
-    ensures { λ r. ⌜ r ≡ howMany (paramsInShape rows (now (params .entry))) (typesOf rows (now (params .entry))) ⌝ }
+    ensures answer { λ r. ⌜ r ≡ howMany (paramsInShape rows (held params)) (typesOf rows (held params)) ⌝ }
 {
     if End::MAX_WORDS < params.len() {
         return Listed::Refused(Refusal::Malformed);
@@ -58,7 +62,7 @@ pub fn params_shape(params: &[usize], rows: usize) -> Listed
 
 // Whether `output` is in shape beside so many rows, and how many types it has: at most two. Refused by 1.
 pub fn output_shape(output: &[usize], rows: usize) -> Listed
-    ensures { λ r. ⌜ r ≡ howMany (outputInShape rows (now (output .entry))) (typesOf rows (now (output .entry))) ⌝ }
+    ensures answer { λ r. ⌜ r ≡ howMany (outputInShape rows (held output)) (typesOf rows (held output)) ⌝ }
 {
     let types = params_shape(output, rows);
     let Listed::Count(count) = types else {
@@ -72,7 +76,7 @@ pub fn output_shape(output: &[usize], rows: usize) -> Listed
 
 // Whether `force` is in shape: one word, 0 or 1. Refused by 1.
 pub fn force_shape(force: &[usize]) -> Verdict
-    ensures { λ r. ⌜ r ≡ shapeVerdict (forceInShape (now (force .entry))) ⌝ }
+    ensures answer { λ r. ⌜ r ≡ shapeVerdict (forceInShape (held force)) ⌝ }
 {
     if force.len() != 1 {
         return Verdict::Refused(Refusal::Malformed);
@@ -83,7 +87,8 @@ pub fn force_shape(force: &[usize]) -> Verdict
     Verdict::Accepted
 }
 
-// The shape of a method's four records: accepted, and how many rows, parameters and output types there are; or refused, and 0 for each.
+// The shape of a method's four records: accepted, and how many rows, parameters and output types there are; or refused,
+// and 0 for each.
 pub struct Shape {
     pub verdict: Verdict,
     pub rows: usize,
@@ -93,7 +98,7 @@ pub struct Shape {
 
 // Whether the four records of a method are in shape, and how much stands in them. Refused by 1.
 pub fn method_shape(structs: &[usize], params: &[usize], output: &[usize], force: &[usize]) -> Shape
-    ensures { λ r. ⌜ r ≡ methodShape (now (structs .entry)) (now (params .entry)) (now (output .entry)) (now (force .entry)) ⌝ }
+    ensures answer { λ r. ⌜ r ≡ methodShape (held structs) (held params) (held output) (held force) ⌝ }
 {
     let first = structs_shape(structs);
     let Listed::Count(rows) = first else {
@@ -133,7 +138,7 @@ fn malformed() -> Shape
 
 // Where the row ends that stands at a place and has a number: its fields name earlier rows only.
 fn row_end(structs: &[usize], at: usize, number: usize) -> End
-    ensures { λ r. ⌜ EndsAt (now (structs .entry)) at (readRow number (drop at (now (structs .entry)))) r ⌝ }
+    ensures { λ r. ⌜ EndsAt (held structs) at (readRow number (drop at (held structs))) r ⌝ }
 {
     let n = structs.len();
     if n <= at {
@@ -155,7 +160,7 @@ fn row_end(structs: &[usize], at: usize, number: usize) -> End
 // Where so many types end that stand one after another from a place on.
 fn types_end(words: &[usize], from: usize, count: usize, rows: usize) -> End
     requires { ⌜ from ≤ length (now words) ⌝ }
-    ensures { λ r. ⌜ EndsFrom (now (words .entry)) from (readTypes rows count (drop from (now (words .entry)))) r ⌝ }
+    ensures { λ r. ⌜ EndsFrom (held words) from (readTypes rows count (drop from (held words))) r ⌝ }
 {
     let mut at = from;
     let mut i = 0;
@@ -172,7 +177,7 @@ fn types_end(words: &[usize], from: usize, count: usize, rows: usize) -> End
 
 // Where the type ends that stands at a place, its row among so many.
 fn type_end(words: &[usize], at: usize, rows: usize) -> End
-    ensures { λ r. ⌜ EndsAt (now (words .entry)) at (readKnown rows (drop at (now (words .entry)))) r ⌝ }
+    ensures { λ r. ⌜ EndsAt (held words) at (readKnown rows (drop at (held words))) r ⌝ }
 {
     let found = type_at(words, at);
     let Located::At(parts) = found else {

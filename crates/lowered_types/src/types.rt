@@ -2,8 +2,11 @@
 ghost use mathlib.Core.Path.{_≡_};
 ghost use Prim.Native.Nat.{_+_, _<_};
 ghost use lib.ListN.{length, take, drop};
-ghost use Rattle.lowered_types.specs.LoweredTypes.{readOpaque, readStruct, readSlice, readBare, readLowered, located, knows, entryAt, ownLifetimes, typeLifetimes, lifetimeAnswer};
-ghost use Rattle.lowered_types.specs.Places.{Locates};
+ghost use Rattle.lifetimes.specs.Lent.{held};
+ghost use Rattle.lowered_types.specs.LoweredTypes.{readOpaque, readStruct, readSlice, readBare, readLowered};
+ghost use Rattle.lowered_types.specs.LoweredTypes.{ownLifetime};
+ghost use Rattle.lowered_types.specs.LoweredTypes.{located, knows, entryAt, ownLifetimes, typeLifetimes};
+ghost use Rattle.lowered_types.specs.LoweredTypes.{lifetimeAnswer};
 ghost use Rattle.lowered_types.specs.Inner.{LocatesBare};
 use lifetimes::Lifetime;
 use lifetimes::MaybeStatic;
@@ -33,29 +36,37 @@ impl Kind {
     }
 }
 
-// The lifetime behind a type's path words: an opaque's borrow, or a slice's own lifetime. `Strs` has one that no word stands for.
+// The lifetime behind a type's path words: an opaque's borrow, or a slice's own lifetime. `Strs` has one that no word
+// stands for.
 pub enum Own {
     Absent,
     Word(usize),
     Strs,
 }
 
+// That lifetime, if there is one.
+pub enum OwnLifetime {
+    Lifetime(MaybeStatic),
+    Absent,
+}
+
 impl Own {
     // The lifetime, if there is one.
-    pub fn lifetime(self) -> LifetimeAt
-        ensures { λ r. ⌜ r ≡ entryAt (ownLifetimes self) 0 ⌝ }
+    pub fn lifetime(self) -> OwnLifetime
+        ensures answer { λ r. ⌜ r ≡ ownLifetime self ⌝ }
     {
         match self {
-            Own::Absent => LifetimeAt::Absent,
-            Own::Word(word) => LifetimeAt::Lifetime(MaybeStatic::from_word(word)),
-            Own::Strs => LifetimeAt::Lifetime(MaybeStatic::NonStatic(Lifetime::new(
+            Own::Absent => OwnLifetime::Absent,
+            Own::Word(word) => OwnLifetime::Lifetime(MaybeStatic::from_word(word)),
+            Own::Strs => OwnLifetime::Lifetime(MaybeStatic::NonStatic(Lifetime::new(
                 18446744073709551615,
             ))),
         }
     }
 }
 
-// A type that stands in some words: whether it is under an option, its kind, where its path words start and how many they are, its own lifetime, and the place behind it.
+// A type that stands in some words: whether it is under an option, its kind, where its path words start and how many
+// they are, its own lifetime, and the place behind it.
 pub struct Parts {
     pub option: bool,
     pub kind: Kind,
@@ -78,10 +89,11 @@ pub enum LifetimeAt {
     Refused(Refusal),
 }
 
-// The lifetime at an index among those of the type that some words are (the Rust's `Type::lifetimes`): the path words in order, then the borrow; an option has its inner
-// type's. Refused by 1 where the words are no lowered type, or more than one. The row of a struct is not looked up.
+// The lifetime at an index among those of the type that some words are (the Rust's `Type::lifetimes`): the path words
+// in order, then the borrow; an option has its inner type's. Refused by 1 where the words are no lowered type, or more
+// than one. The row of a struct is not looked up.
 pub fn type_lifetimes(words: &[usize], index: usize) -> LifetimeAt
-    ensures { λ r. ⌜ r ≡ lifetimeAnswer (typeLifetimes (now (words .entry))) index ⌝ }
+    ensures answer { λ r. ⌜ r ≡ lifetimeAnswer (typeLifetimes (held words)) index ⌝ }
 {
     let found = type_at(words, 0);
     let Located::At(parts) = found else {
@@ -99,15 +111,26 @@ pub fn type_lifetimes(words: &[usize], index: usize) -> LifetimeAt
     }
     if index == count {
         let own = parts.own;
-        return own.lifetime();
+        return own_at(own);
     }
     LifetimeAt::Absent
 }
 
-// Some words in a row, lent on: those of a type's path, by where they start and how many they are. A type without path words may say a place past the
-// end; whatever is not there is left out.
+// The lifetime behind the path words as an answer of `type_lifetimes`.
+fn own_at(own: Own) -> LifetimeAt
+    ensures { λ r. ⌜ r ≡ entryAt (ownLifetimes own) 0 ⌝ }
+{
+    let lifetime = own.lifetime();
+    match lifetime {
+        OwnLifetime::Lifetime(one) => LifetimeAt::Lifetime(one),
+        OwnLifetime::Absent => LifetimeAt::Absent,
+    }
+}
+
+// Some words in a row, lent on: those of a type's path, by where they start and how many they are. A type without path
+// words may say a place past the end; whatever is not there is left out.
 pub fn path_words(words: &[usize], from: usize, count: usize) -> &[usize]
-    ensures { λ r. ⌜ now r ≡ take count (drop from (now (words .entry))) ⌝ }
+    ensures answer { λ r. ⌜ now r ≡ take count (drop from (held words)) ⌝ }
 {
     let n = words.len();
     if n <= from {
@@ -122,8 +145,7 @@ pub fn path_words(words: &[usize], from: usize, count: usize) -> &[usize]
 
 // The type that stands at a place, its row not looked up. Reads only the words that say where its parts are.
 pub fn type_at(words: &[usize], at: usize) -> Located
-    ensures { λ r. ⌜ r ≡ located at (length (now (words .entry))) (readLowered (drop at (now (words .entry)))) ⌝ }
-    ensures { λ r. ⌜ Locates (now (words .entry)) at (readLowered (drop at (now (words .entry)))) r ⌝ }
+    ensures answer { λ r. ⌜ r ≡ located at (length (held words)) (readLowered (drop at (held words))) ⌝ }
 {
     if words.len() <= at {
         return Located::Missing;
@@ -136,7 +158,7 @@ pub fn type_at(words: &[usize], at: usize) -> Located
 
 // The type that stands at a place and is no option; whether it is under one is handed on.
 fn bare_at(words: &[usize], at: usize, option: bool) -> Located
-    ensures { λ r. ⌜ LocatesBare (now (words .entry)) at option (readBare option (drop at (now (words .entry)))) r ⌝ }
+    ensures { λ r. ⌜ LocatesBare (held words) at option (readBare option (drop at (held words))) r ⌝ }
 {
     if words.len() <= at {
         return Located::Missing;
@@ -169,7 +191,7 @@ fn bare_at(words: &[usize], at: usize, option: bool) -> Located
 // The opaque whose code stands at a place.
 fn opaque_at(words: &[usize], at: usize, option: bool) -> Located
     requires { ⌜ at < length (now words) ⌝ }
-    ensures { λ r. ⌜ LocatesBare (now (words .entry)) at option (readOpaque option (drop (at + 1) (now (words .entry)))) r ⌝ }
+    ensures { λ r. ⌜ LocatesBare (held words) at option (readOpaque option (drop (at + 1) (held words))) r ⌝ }
 {
     let n = words.len();
     if n <= at + 1 {
@@ -220,7 +242,7 @@ fn opaque_at(words: &[usize], at: usize, option: bool) -> Located
 // The struct whose code stands at a place.
 fn struct_at(words: &[usize], at: usize, option: bool) -> Located
     requires { ⌜ at < length (now words) ⌝ }
-    ensures { λ r. ⌜ LocatesBare (now (words .entry)) at option (readStruct option (drop (at + 1) (now (words .entry)))) r ⌝ }
+    ensures { λ r. ⌜ LocatesBare (held words) at option (readStruct option (drop (at + 1) (held words))) r ⌝ }
 {
     let n = words.len();
     if n <= at + 1 {
@@ -246,7 +268,7 @@ fn struct_at(words: &[usize], at: usize, option: bool) -> Located
 // The slice whose code stands at a place.
 fn slice_at(words: &[usize], at: usize, option: bool) -> Located
     requires { ⌜ at < length (now words) ⌝ }
-    ensures { λ r. ⌜ LocatesBare (now (words .entry)) at option (readSlice option (drop (at + 1) (now (words .entry)))) r ⌝ }
+    ensures { λ r. ⌜ LocatesBare (held words) at option (readSlice option (drop (at + 1) (held words))) r ⌝ }
 {
     let n = words.len();
     if n <= at + 1 {

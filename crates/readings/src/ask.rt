@@ -26,8 +26,9 @@ fn response(text: &[u8]) {
     print::counted(&out[..n]);
 }
 
-// The line of a text: its bytes, then for `read_text` and for `read_sheet`, each lent so many words (at most 10,240), the refusal's number or 0, the ten ends, and the words
-// of the lent slice up to the last that was written, with their number in front.
+// The line of a text: its bytes, then for `read_text` and for `read_sheet`, each lent so many words (at most 10,240),
+// the refusal's number or 0, the ten ends, and the words of the lent slice up to the last that was written, with their
+// number in front.
 fn both(text: &[u8], room: usize) {
     let n = scan::least(room, 10240);
     print::first(text.len());

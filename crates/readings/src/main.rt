@@ -1,9 +1,12 @@
-// The readings replayed: what the crates `sheet` and `listing` answer to bytes, beside what the scope paper ("01") says.
+// The readings replayed: what the crates `sheet` and `listing` answer to bytes, beside what the scope paper ("01")
+// says.
 //
-// Standard input holds questions, at most 262,144 bytes of them. A question is a LF, its kind, the length of the lent slice, and how many pieces the text has; then the pieces. A
-// piece is how many times it stands in the text, and how many bytes it has; then exactly these bytes, whatever they are. Behind each number stands one byte, a blank or a LF.
-// Kind 0 asks `read_text` and `read_sheet`; its answer is a line of numbers on standard output. Kind 1 asks `respond`, whose slice has one length only; its answer is a line with the
-// number of the response's bytes, then these bytes. The files stdin and stdout beside src/ are made by tests/readings.py.
+// Standard input holds questions, at most 262,144 bytes of them. A question is a LF, its kind, the length of the lent
+// slice, and how many pieces the text has; then the pieces. A piece is how many times it stands in the text, and how
+// many bytes it has; then exactly these bytes, whatever they are. Behind each number stands one byte, a blank or a LF.
+// Kind 0 asks `read_text` and `read_sheet`; its answer is a line of numbers on standard output. Kind 1 asks `respond`,
+// whose slice has one length only; its answer is a line with the number of the response's bytes, then these bytes. The
+// files stdin and stdout beside src/ are made by tests/readings.py.
 mod ask;
 mod pieces;
 mod print;

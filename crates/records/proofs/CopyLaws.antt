@@ -28,14 +28,16 @@ module _ (count : ℕ) (words : List ℕ) where
       go true t = let e : min count (length words) ≡ count = omega (arith, leb-true count (length words) t) in rw e
       go false f =
           let e : min count (length words) ≡ length words = omega (arith, leb-false count (length words) f) in
-          rw e (take-all (length words) words (omega arith) ∙ sym (take-all count words (omega (arith, leb-false count (length words) f))))
+          rw e (take-all (length words) words (omega arith)
+          ∙ sym (take-all count words (omega (arith, leb-false count (length words) f))))
 
   how-many : length (take count words) ≡ min count (length words)
   how-many = ap length (sym taken) ∙ length-take-le (min count (length words)) words (omega arith)
 
   -- what the call answers and leaves, by whether the slice takes them
   module _ {n : ℕ} (e : n ≡ min count (length words)) (out : List ℕ) where
-    pub copy-refused : length out < n → (listed.Refused NoRoom ≡ counted (copied words count (length out))) × (out ≡ written (copied words count (length out)) out)
+    pub copy-refused : length out < n → (listed.Refused NoRoom ≡ counted (copied words count (length out)))
+        × (out ≡ written (copied words count (length out)) out)
     unfolding copied
     copy-refused h = answers-refusal (take count words) out (no-room (length out) (take count words) (omega (arith, how-many, e)))
 
@@ -45,15 +47,18 @@ module _ (count : ℕ) (words : List ℕ) where
     copy-done {i} {out′} room inv h =
         let all = answers-list (take count words) out (has-room (length out) (take count words) (omega (arith, how-many, e)) end) in
         let same : take n words ≡ take count words = rw e taken in
-        let stored : out′ ≡ sets out 0 (take count words) = rw same at (copying-end inv (omega (arith, e)) h) in
-        (ap (λ (k : ℕ). listed.Count k) (e ∙ sym how-many) ∙ all .0, stored ∙ sets-front out (take count words) (omega (arith, how-many, e)) ∙ all .1)
+        let stored : out′ ≡ sets out 0 (take count words) = rw same at (copying-end inv (omega (arith, e)) h) in (
+          ap (λ (k : ℕ). listed.Count k) (e ∙ sym how-many) ∙ all .0,
+          stored ∙ sets-front out (take count words) (omega (arith, how-many, e)) ∙ all .1,
+        )
 
 -- one check alone that is refused is due
 first-here : {r : Refusal} {c : Check} → FirstDue r (c ∷ []) → c .due ≡ true
 first-here (here h e) = h
 
 -- what a caller has of it, who asks for no more words than there are
-module _ (words : List ℕ) (count : ℕ) (out : List ℕ) (most : count ≤ length words) {out′ : List ℕ} (w : out′ ≡ written (copied words count (length out)) out) where
+module _ (words : List ℕ) (count : ℕ) (out : List ℕ) (most : count ≤ length words) {out′ : List ℕ}
+    (w : out′ ≡ written (copied words count (length out)) out) where
   size : length (take count words) ≡ count
   size = length-take-le count words most
 
@@ -68,14 +73,29 @@ module _ (words : List ℕ) (count : ℕ) (out : List ℕ) (most : count ≤ len
     unfolding copied
     copied-all {n} c = go (unless (roomCheck (length out) (take count words) ∷ []) (take count words)) refl (sym e ∙ c)
       where
-        go : (o : Outcome (List ℕ)) → unless (roomCheck (length out) (take count words) ∷ []) (take count words) ≡ o → counted o ≡ listed.Count n → count ≤ length out
-        go (Gives l) u z = omega (arith, size, ltb-false (length out) (length (take count words)) (none-first ((given-due (take count words) l _ u) .0)))
+        go : (o : Outcome (List ℕ)) → unless (roomCheck (length out) (take count words) ∷ []) (take count words) ≡ o
+            → counted o ≡ listed.Count n → count ≤ length out
+        go (Gives l) u z =
+            omega (
+              arith,
+              size,
+              ltb-false (length out) (length (take count words)) (none-first ((given-due (take count words) l _ u) .0)),
+            )
         go (Refuses k) u z = let no : _≡_ {A = ℕ} 0 1 = cc in absurd (omega arith)
 
     pub copied-none : {k : Refusal} → r ≡ listed.Refused k → (length out < count) × (out′ ≡ out)
     unfolding copied
     copied-none {k} c = go (unless (roomCheck (length out) (take count words) ∷ []) (take count words)) refl (sym e ∙ c)
       where
-        go : (o : Outcome (List ℕ)) → unless (roomCheck (length out) (take count words) ∷ []) (take count words) ≡ o → counted o ≡ listed.Refused k → (length out < count) × (out′ ≡ out)
+        go : (o : Outcome (List ℕ)) → unless (roomCheck (length out) (take count words) ∷ []) (take count words) ≡ o
+            → counted o ≡ listed.Refused k → (length out < count) × (out′ ≡ out)
         go (Gives l) u z = let no : _≡_ {A = ℕ} 0 1 = cc in absurd (omega arith)
-        go (Refuses j) u z = (omega (arith, size, ltb-true (length out) (length (take count words)) (first-here (refused-due (take count words) j _ u))), w ∙ rw u)
+        go (Refuses j) u z = (
+          omega (
+            arith,
+            size,
+            ltb-true (length out) (length (take count words)) (first-here (refused-due (take count words) j _ u)),
+          ),
+          w
+              ∙ rw u,
+        )

@@ -36,7 +36,9 @@ module _ {A : Type 0} (item : ℕ → List ℕ → Reading A) where
   read-end number (suc steps) = refl
 
   read-step : (number steps : ℕ) (words : List ℕ) → 0 < steps → 0 < length words
-      → readAll item number steps words ≡ onward (item number words) (λ a rest. onward (readAll item (suc number) (steps - 1) rest) (λ items end. Read (a ∷ items) end))
+      → readAll item number steps words
+      ≡ onward (item number words)
+      (λ a rest. onward (readAll item (suc number) (steps - 1) rest) (λ items end. Read (a ∷ items) end))
   unfolding readAll
   read-step number zero words h k = absurd (omega arith)
   read-step number (suc steps) [] h k = absurd (omega arith)
@@ -50,20 +52,29 @@ read-after f Fails = refl
 missing-read : {A : Type 0} {words : List ℕ} {at : ℕ} {reading : Reading A} → EndsAt words at reading Missing → reading ≡ Fails
 missing-read missing = refl
 
-ends-read : {A B C : Type 0} {words : List ℕ} {at second : ℕ} {reading : Reading A} (next : List ℕ → Reading B) (f : A → B → C) → EndsAt words at reading (At second)
+ends-read : {A B C : Type 0} {words : List ℕ} {at second : ℕ} {reading : Reading A} (next : List ℕ → Reading B)
+    (f : A → B → C) → EndsAt words at reading (At second)
     → isRead (onward reading (λ a rest. onward (next rest) (λ b end. Read (f a b) end))) ≡ isRead (next (drop second words))
 ends-read next f (ends {a} {rest} d b e) = rw d (read-after (f a) (next rest))
 
 module _ {A : Type 0} {item : ℕ → List ℕ → Reading A} {words : List ℕ} {number at : ℕ} (inv : Shaping item words number at) where
   pub shaping-end : length words ≤ at → Accepted ≡ shapeVerdict (inShape item words)
   unfolding inShape
-  shaping-end h = rw (le-leb (length words) 1024 (inv .few), ← inv .left, drop-of-length-le words {i = at} h, read-end item number (inv .steps))
+  shaping-end h =
+      rw (
+        le-leb (length words) 1024 (inv .few),
+        ← inv .left,
+        drop-of-length-le words {i = at} h,
+        read-end item number (inv .steps),
+      )
 
   module _ (h : at < length words) where
-    step-here : readAll item number (inv .steps) (drop at words) ≡ onward (item number (drop at words)) (λ a rest. onward (readAll item (suc number) (inv .steps - 1) rest) (λ items end. Read (a ∷ items) end))
+    step-here : readAll item number (inv .steps) (drop at words) ≡ onward (item number (drop at words))
+        (λ a rest. onward (readAll item (suc number) (inv .steps - 1) rest) (λ items end. Read (a ∷ items) end))
     step-here = read-step item number (inv .steps) (drop at words) (omega (arith, inv .enough)) (rw length-drop (omega arith))
 
-    pub shaping-missing : EndsAt words at (item number (drop at words)) Missing → Refused Malformed ≡ shapeVerdict (inShape item words)
+    pub shaping-missing : EndsAt words at (item number (drop at words)) Missing
+        → Refused Malformed ≡ shapeVerdict (inShape item words)
     unfolding inShape
     shaping-missing k = rw (le-leb (length words) 1024 (inv .few), ← inv .left, step-here, missing-read k)
 
@@ -73,5 +84,6 @@ module _ {A : Type 0} {item : ℕ → List ℕ → Reading A} {words : List ℕ}
       here = ends-within k;
       steps = inv .steps - 1;
       enough = omega (arith, inv .enough, ends-past k);
-      left = rw (add-one number) (sym (ends-read (readAll item (suc number) (inv .steps - 1)) (λ a items. a ∷ items) k) ∙ ap isRead (sym step-here) ∙ inv .left);
+      left = rw (add-one number) (sym (ends-read (readAll item (suc number) (inv .steps - 1)) (λ a items. a ∷ items) k)
+          ∙ ap isRead (sym step-here) ∙ inv .left);
     }

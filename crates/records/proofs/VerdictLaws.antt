@@ -1,4 +1,5 @@
--- Laws of `judged`, the verdict of some checks: what the verdict on the first checks says of the verdict on them and more.
+-- Laws of `judged`, the verdict of some checks: what the verdict on the first checks says of the verdict on them and
+-- more.
 use Prim.Native.Nat.{ℕ}
 use mathlib.Core.Path.{_≡_, refl}
 use mathlib.Core.List.{List, _++_}
@@ -13,7 +14,8 @@ use Rattle.records.specs.Ends.{judged}
 pub refused-accepted : {A : Type 0} {r : Refusal} → Refused r ≡ Accepted → A
 refused-accepted e = let z : _≡_ {A = ℕ} 0 1 = cc in absurd (omega arith)
 
-pub unless-after : {A : Type 0} (a : A) {checks : List Check} (more : List Check) → NoneDue checks → unless (checks ++ more) a ≡ unless more a
+pub unless-after : {A : Type 0} (a : A) {checks : List Check} (more : List Check) → NoneDue checks
+    → unless (checks ++ more) a ≡ unless more a
 unfolding unless
 unless-after a more end = refl
 unless-after a more (next h n) = rw h (unless-after a more n)

@@ -1,4 +1,5 @@
--- For private functions only: where a reading ends that starts at a place of some words, and the verdict of some checks. No public contract cites this file.
+-- For private functions only: where a reading ends that starts at a place of some words, and the verdict of some
+-- checks. No public contract cites this file.
 use Prim.Native.Nat.{ℕ, _≤_, _<_}
 use mathlib.Core.Path.{_≡_}
 use mathlib.Core.List.{List}
@@ -12,7 +13,8 @@ use Rattle.records.specs.Reading.{Reading, Read, Fails}
 
 -- it ends past that place, and what is left there is what the reading leaves
 pub data EndsAt {A : Type 0} (words : List ℕ) (at : ℕ) : Reading A → End → Type 0 where
-  ends : {a : A} {rest : List ℕ} {next : ℕ} → drop next words ≡ rest → at < next → next ≤ length words → EndsAt words at (Read a rest) (At next)
+  ends : {a : A} {rest : List ℕ} {next : ℕ} → drop next words ≡ rest → at < next → next ≤ length words
+      → EndsAt words at (Read a rest) (At next)
   missing : EndsAt words at Fails Missing
 
 -- the verdict of some checks

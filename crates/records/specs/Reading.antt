@@ -40,7 +40,8 @@ abbrev pub readLifetimes : List ℕ → Reading (List ℕ)
 readLifetimes [] = Fails
 readLifetimes (n ∷ words) = cond (leb n 16 && leb n (length words)) (Read (take n words) (drop n words)) Fails
 
--- items one after another, to the end of the words; an item may depend on its number. Each takes a word at least, so that as many steps as words are enough
+-- items one after another, to the end of the words; an item may depend on its number. Each takes a word at least, so
+-- that as many steps as words are enough
 abbrev pub untilEnd : {A : Type 0} → List ℕ → Reading (List A) → Reading (List A)
 untilEnd [] more = Read [] []
 untilEnd (word ∷ words) more = more
@@ -48,13 +49,17 @@ untilEnd (word ∷ words) more = more
 unfoldable pub readAll : {A : Type 0} → (ℕ → List ℕ → Reading A) → ℕ → ℕ → List ℕ → Reading (List A)
 readAll item number zero words = untilEnd words Fails
 readAll item number (suc steps) words =
-    untilEnd words (onward (item number words) (λ a rest. onward (readAll item (suc number) steps rest) (λ items end. Read (a ∷ items) end)))
+    untilEnd words
+    (onward (item number words)
+    (λ a rest. onward (readAll item (suc number) steps rest) (λ items end. Read (a ∷ items) end)))
 
 -- "A record has at most 1,024 words"
 abbrev pub fewWords : List ℕ → Bool
 fewWords words = leb (length words) 1024
 
--- a record of items: its shape (refusal 1, 01's "torn", if it is not in shape), and the items. A record that is not in shape has no items
+-- a record of items: its shape (refusal 1, 01's "torn", if it is not in shape), and the items. Words that do not make
+-- items to their end have none; a record that only has too many words has its items all the same, and its shape refuses
+-- it
 unfoldable pub inShape : {A : Type 0} → (ℕ → List ℕ → Reading A) → List ℕ → Bool
 inShape item words = fewWords words && isRead (readAll item 0 (length words) words)
 

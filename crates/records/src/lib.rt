@@ -1,11 +1,12 @@
 // Records of words, read in place: what the records of a method have in common.
 //
-// A record is a lent slice of words. What is read from it are items, one after another to its end; most of them hold lifetimes, as many as a word in front says. The
-// scope paper ("01") decides what is right. Where the words do not make an item the answer is `Missing`; which refusal that is, the caller says.
+// A record is a lent slice of words. What is read from it are items, one after another to its end; most of them hold
+// lifetimes, as many as a word in front says. The scope paper ("01") decides what is right. Where the words do not make
+// an item the answer is `Missing`; which refusal that is, the caller says.
 ghost use Prim.Native.Nat.{min};
 ghost use mathlib.Core.Path.{_≡_};
 ghost use lib.ListN.{length, drop};
-ghost use Rattle.lifetimes.specs.Lent.{counted, written};
+ghost use Rattle.lifetimes.specs.Lent.{counted, held, room, Fills};
 ghost use Rattle.records.specs.Copied.{copied};
 ghost use Rattle.records.specs.Reading.{readLifetimes, endOf};
 use lifetimes::Listed;
@@ -27,7 +28,7 @@ impl End {
 
 // Where a list of lifetimes ends: how many they are, at most 16, then they.
 pub fn lifetimes_end(words: &[usize], at: usize) -> End
-    ensures { λ r. ⌜ r ≡ endOf (length (now (words .entry))) (readLifetimes (drop at (now (words .entry)))) ⌝ }
+    ensures answer { λ r. ⌜ r ≡ endOf (length (held words)) (readLifetimes (drop at (held words))) ⌝ }
 {
     let n = words.len();
     if n <= at {
@@ -44,10 +45,11 @@ pub fn lifetimes_end(words: &[usize], at: usize) -> End
     End::At(from + count)
 }
 
-// Copy the first words of a record, so many, to the front of a slice; where the record has fewer, all of them. Refused by 9 where the slice is too short for them.
+// Copy the first words of a record, so many, to the front of a slice; where the record has fewer, all of them. Refused
+// by 9 where the slice is too short for them.
 pub fn copy_words(words: &[usize], count: usize, out: &mut [usize]) -> Listed
-    ensures { λ r. ⌜ r ≡ counted (copied (now (words .entry)) count (length (now (out .entry)))) ⌝ }
-    ensures { λ _. ⌜ now (out .exit) ≡ written (copied (now (words .entry)) count (length (now (out .entry)))) (now (out .entry)) ⌝ }
+    ensures answer { λ r. ⌜ r ≡ counted (copied (held words) count (room out)) ⌝ }
+    ensures stored { λ _. ⌜ Fills (copied (held words) count (room out)) out ⌝ }
 {
     let n = least(count, words.len());
     if out.len() < n {

@@ -1,4 +1,5 @@
--- Answers: what the parts of a text say of the whole, what `measure` answers, and what `read_text` and `read_sheet` answer and write.
+-- Answers: what the parts of a text say of the whole, what `measure` answers, and what `read_text` and `read_sheet`
+-- answer and write.
 use Prim.Native.Nat.{ℕ, zero, suc, _+_, _≤_, _<_}
 use mathlib.Core.Bool.{Bool, true, false, cond, not}
 use mathlib.Core.Path.{_≡_, refl, sym, ap, subst, _∙_}
@@ -15,14 +16,16 @@ use Rattle.lifetimes.specs.declared.answer.Refusal.the-variants.{Malformed, NoR
 use Rattle.lifetimes.specs.declared.answer.Verdict.the-variants as verdict
 use Rattle.lifetimes.specs.Refusals.{Check, Gives, Refuses, unless, FirstDue, here, NoneDue, end, next}
 use Rattle.lifetimes.specs.Lent.{written}
-use Rattle.lifetimes.proofs.RefusalLaws.{due-given, due-refused, given-due, refused-due, refused-first, accepted-none, none-first, first-more, first-after, none-more}
+use Rattle.lifetimes.proofs.RefusalLaws.{due-given, due-refused, given-due, refused-due, refused-first, accepted-none}
+use Rattle.lifetimes.proofs.RefusalLaws.{none-first, first-more, first-after, none-more}
 use Rattle.lifetimes.proofs.Answering.{no-room, has-room}
 use Rattle.lifetimes.proofs.Copying.{sets-front}
 use Rattle.sheet.specs.declared.text.Text.{Text}
 use Rattle.sheet.specs.declared.lines.Judged.{Judged}
 use Rattle.sheet.specs.declared.lines.Judged.the-variants as judged
 use Rattle.sheet.specs.Text.{heading, line, Records, lists, wordsOf, text, mostWord, mostBytes}
-use Rattle.sheet.specs.Reading.{behind, LineStart, recordsOf, ten, linesBehind, sheetIn, sheetOf, isNone, allShort, textChecks}
+use Rattle.sheet.specs.Reading.{behind, LineStart, recordsOf, ten, linesBehind, sheetIn, sheetOf, isNone}
+use Rattle.sheet.specs.Reading.{allShort, textChecks}
 use Rattle.lifetimes.specs.Reach.{endsFrom}
 use Rattle.sheet.specs.Answer.{answerOf, measured, withRoom, readWords, readEnds, readAnswer}
 use Rattle.sheet.specs.Shape.{sheetInShape, sheetChecks, sheetWords, sheetEnds, sheetAnswer}
@@ -47,7 +50,8 @@ module _ (bytes : List ℕ) where
       unfolding sheetIn linesBehind
       not-ten n = rw (le-leb (length bytes) mostBytes h, e) n
 
-      pub are-ten : (ls : List (List ℕ)) → readFrom LineStart bytes 66 ≡ some ls → length ls ≡ 10 → sheetIn bytes ≡ some (recordsOf ls)
+      pub are-ten : (ls : List (List ℕ)) → readFrom LineStart bytes 66 ≡ some ls → length ls ≡ 10
+          → sheetIn bytes ≡ some (recordsOf ls)
       unfolding sheetIn linesBehind ten
       are-ten ls r c = rw (le-leb (length bytes) mostBytes h, e, r, eq-eqb (length ls) 10 c)
 
@@ -75,7 +79,8 @@ module _ (bytes : List ℕ) (t : Bool) (e : behind heading bytes ≡ cond t (som
   heading-is f = rw f at e
 
 -- what `scan` answers, by what `lines` answers
-module _ (bytes words words′ ends : List ℕ) {r : Judged} (l : LinesRead bytes 66 words words′ ends r) (h : length bytes ≤ mostBytes) (e : behind heading bytes ≡ some (drop 66 bytes)) where
+module _ (bytes words words′ ends : List ℕ) {r : Judged} (l : LinesRead bytes 66 words words′ ends r)
+    (h : length bytes ≤ mostBytes) (e : behind heading bytes ≡ some (drop 66 bytes)) where
   pub measured-unreadable : r ≡ judged.Unreadable → answerOf (Refuses Unreadable) ≡ measured bytes
   measured-unreadable q = measured-none bytes (not-ten bytes h e (subst (LinesRead bytes 66 words words′ ends) q l))
 
@@ -100,7 +105,8 @@ pub accepted-reads : (bytes : List ℕ) → NoneDue (textChecks bytes) → readF
 unfolding textChecks sheetOf text
 accepted-reads bytes n = go (sheetIn bytes) refl (none-first n)
   where
-    go : (o : Option Records) → sheetIn bytes ≡ o → isNone (sheetIn bytes) ≡ false → readFrom LineStart bytes 66 ≡ some (lists (sheetOf bytes))
+    go : (o : Option Records) → sheetIn bytes ≡ o → isNone (sheetIn bytes) ≡ false
+        → readFrom LineStart bytes 66 ≡ some (lists (sheetOf bytes))
     go none e f = let z : _≡_ {A = ℕ} 0 1 = let q : true ≡ false = rw e at f in cc in absurd (omega arith)
     go (some r) e f =
         let s = in-sheet bytes r e in
@@ -109,7 +115,8 @@ accepted-reads bytes n = go (sheetIn bytes) refl (none-first n)
 -- what `write` writes, and `scan`
 module _ (bytes words words′ ends : List ℕ) (none : NoneDue (textChecks bytes)) where
   wrote-ten : {t : Bool} → TenAt bytes 66 words words′ ends t → words′ ≡ sets words 0 (wordsOf (sheetOf bytes))
-  wrote-ten t = let r = t .reads in let a = accepted-reads bytes none in let e : t .lines ≡ lists (sheetOf bytes) = cc in t .stored ∙ rw e
+  wrote-ten t = let r = t .reads in let a = accepted-reads bytes none in let e : t .lines ≡ lists (sheetOf bytes) =
+      cc in t .stored ∙ rw e
 
   pub wrote : (r : Judged) → LinesRead bytes 66 words words′ ends r → words′ ≡ sets words 0 (wordsOf (sheetOf bytes))
   unfolding ten
@@ -118,15 +125,18 @@ module _ (bytes words words′ ends : List ℕ) (none : NoneDue (textChecks byte
   wrote judged.Good l = wrote-ten l
 
 -- a text that `scan` refuses is not an accepted one
-pub scan-refused : {A : Type 0} (bytes : List ℕ) {k : Refusal} → answerOf (Refuses k) ≡ measured bytes → NoneDue (textChecks bytes) → A
+pub scan-refused : {A : Type 0} (bytes : List ℕ) {k : Refusal} → answerOf (Refuses k) ≡ measured bytes
+    → NoneDue (textChecks bytes) → A
 unfolding measured
 scan-refused bytes e n =
     let z : _≡_ {A = ℕ} 0 1 =
-    let q = ap (λ (x : Text). x .verdict) (e ∙ ap answerOf (due-given (endsFrom 0 (lists (sheetOf bytes))) n)) in cc in absurd (omega arith)
+    let q = ap (λ (x : Text). x .verdict) (e ∙ ap answerOf (due-given (endsFrom 0 (lists (sheetOf bytes))) n)) in cc in
+    absurd (omega arith)
 
 -- what `write_all` leaves: all words where they fit, else none
 module _ (count : ℕ) (words all : List ℕ) where
-  pub left-fitting : leb count (length words) ≡ true → {words′ : List ℕ} → words′ ≡ all → words′ ≡ cond (leb count (length words)) all words
+  pub left-fitting : leb count (length words) ≡ true → {words′ : List ℕ} → words′ ≡ all
+      → words′ ≡ cond (leb count (length words)) all words
   left-fitting t w = rw t w
 
   pub left-short : leb count (length words) ≡ false → words ≡ cond (leb count (length words)) all words
@@ -153,17 +163,21 @@ module _ (bytes : List ℕ) (j : Text) (m : j ≡ measured bytes) (e : j .verdic
   measured-given = m ∙ rw (due-given (endsFrom 0 (lists (sheetOf bytes))) none-due)
 
 -- a refused text, by what they answer
-measured-refused : (bytes : List ℕ) (j : Text) → j ≡ measured bytes → {k : Refusal} → j .verdict ≡ verdict.Refused k → FirstDue k (textChecks bytes) × (j ≡ answerOf (Refuses k))
+measured-refused : (bytes : List ℕ) (j : Text) → j ≡ measured bytes → {k : Refusal} → j .verdict ≡ verdict.Refused k
+    → FirstDue k (textChecks bytes) × (j ≡ answerOf (Refuses k))
 unfolding measured
 measured-refused bytes j m {k} e =
-    let f : FirstDue k (textChecks bytes) = refused-first (endsFrom 0 (lists (sheetOf bytes))) k (textChecks bytes) (sym (ap (λ (x : Text). x .verdict) m) ∙ e) in
+    let f : FirstDue k (textChecks bytes) =
+    refused-first (endsFrom 0 (lists (sheetOf bytes))) k (textChecks bytes)
+    (sym (ap (λ (x : Text). x .verdict) m) ∙ e) in
     (f, m ∙ rw (due-refused (endsFrom 0 (lists (sheetOf bytes))) f))
 
 -- a call that refuses by some checks, then by 9, and else writes the words of some records
 module _ (checks : List Check) (s : Records) (words : List ℕ) where
   abbrev Answers : Text → List ℕ → Type 0
   Answers a words′ =
-      (a ≡ answerOf (unless (withRoom checks (length words) s) (endsFrom 0 (lists s)))) × (words′ ≡ written (unless (withRoom checks (length words) s) (wordsOf s)) words)
+      (a ≡ answerOf (unless (withRoom checks (length words) s) (endsFrom 0 (lists s))))
+      × (words′ ≡ written (unless (withRoom checks (length words) s) (wordsOf s)) words)
 
   call-refuses : {k : Refusal} → FirstDue k (withRoom checks (length words) s) → Answers (answerOf (Refuses k)) words
   call-refuses f = (rw (due-refused (endsFrom 0 (lists s)) f), rw (due-refused (wordsOf s) f))
@@ -226,7 +240,8 @@ module _ (bytes words : List ℕ) (j : Text) (m : j ≡ measured bytes) where
         unfolding sheetChecks
         sheet-none = none-more (none-due bytes j m e) (next (ap not (sym s ∙ f)) end)
 
-        module _ {fits : Bool} (l : fits ≡ leb (getD (j .ends) 9 0) (length words)) {words′ : List ℕ} (w : words′ ≡ cond fits (sets words 0 (wordsOf (sheetOf bytes))) words) where
+        module _ {fits : Bool} (l : fits ≡ leb (getD (j .ends) 9 0) (length words)) {words′ : List ℕ}
+            (w : words′ ≡ cond fits (sets words 0 (wordsOf (sheetOf bytes))) words) where
           pub sheet-short : fits ≡ false → ReadsSheet (answerOf (Refuses NoRoom)) words′
           unfolding sheetAnswer sheetEnds sheetWords
           sheet-short = call-short (sheetChecks bytes) (sheetOf bytes) words sheet-none (ends-end bytes j m e) l w
@@ -245,7 +260,8 @@ module _ (bytes words : List ℕ) (j : Text) (m : j ≡ measured bytes) where
 
 -- what such a call answers, from what reading gives
 pub call-gives : (checks : List Check) (s : Records) (room : ℕ)
-    → CallGives (unless checks s) (unless (withRoom checks room s) (wordsOf s)) (unless (withRoom checks room s) (endsFrom 0 (lists s))) room
+    → CallGives (unless checks s) (unless (withRoom checks room s) (wordsOf s))
+    (unless (withRoom checks room s) (endsFrom 0 (lists s))) room
 call-gives checks s room = record {
   given = λ r e h.
       let d = given-due s r checks e in

@@ -21,7 +21,8 @@ fuel (suc f) zero n p q = absurd (omega arith)
 fuel (suc f) (suc g) n p q = go (ltb n 10) refl (λ a b. fuel f g (n / 10) a b)
   where
     go : (t : Bool) → ltb n 10 ≡ t → (n / 10 < f → n / 10 < g → digitsFor f (n / 10) ≡ digitsFor g (n / 10))
-        → cond t ((48 + n) ∷ []) (digitsFor f (n / 10) ++ ((48 + n % 10) ∷ [])) ≡ cond t ((48 + n) ∷ []) (digitsFor g (n / 10) ++ ((48 + n % 10) ∷ []))
+        → cond t ((48 + n) ∷ []) (digitsFor f (n / 10) ++ ((48 + n % 10) ∷ []))
+        ≡ cond t ((48 + n) ∷ []) (digitsFor g (n / 10) ++ ((48 + n % 10) ∷ []))
     go true e ih = refl
     go false e ih = let h = ltb-false n 10 e in rw (ih (omega (arith, tenth-less h)) (omega (arith, tenth-less h)))
 
@@ -48,7 +49,8 @@ digits-length (suc k) n h = go (ltb n 10) refl (digits-length k (n / 10))
     go : (t : Bool) → ltb n 10 ≡ t → (n / 10 < 10 ^ suc k → length (digits (n / 10)) ≤ suc k) → length (digits n) ≤ suc (suc k)
     go true e ih = rw (digits-single (ltb-true n 10 e)) (omega arith)
     go false e ih =
-        let q : n / 10 < 10 ^ suc k = (div-lt-iff-lt-mul {k = 10} {x = n} {y = 10 ^ suc k} (omega arith)) .1 (rw (pow-suc 10 (suc k)) at h) in
+        let q : n / 10 < 10 ^ suc k =
+        (div-lt-iff-lt-mul {k = 10} {x = n} {y = 10 ^ suc k} (omega arith)) .1 (rw (pow-suc 10 (suc k)) at h) in
         rw (digits-more (ltb-false n 10 e), length-append) (omega (arith, ih q))
 
 -- and at least one

@@ -36,7 +36,8 @@ lines-some : (ls rs : List (List ℕ)) → linesBefore ls (some rs) ≡ some (ls
 lines-some [] rs = refl
 lines-some (l ∷ ls) rs = ap (lineBefore l) (lines-some ls rs)
 
-lines-more : (ls : List (List ℕ)) (l : List ℕ) (o : Option (List (List ℕ))) → linesBefore (ls ++ (l ∷ [])) o ≡ linesBefore ls (lineBefore l o)
+lines-more : (ls : List (List ℕ)) (l : List ℕ) (o : Option (List (List ℕ)))
+    → linesBefore (ls ++ (l ∷ [])) o ≡ linesBefore ls (lineBefore l o)
 lines-more [] l o = refl
 lines-more (k ∷ ls) l o = ap (lineBefore k) (lines-more ls l o)
 
@@ -61,11 +62,13 @@ judged-more : (few others : Bool) → cond few (judgedBy others) TooLong ≡ jud
 judged-more true others = refl
 judged-more false others = refl
 
-ends-more : (at : ℕ) (ls : List (List ℕ)) (l : List ℕ) → endsFrom at (ls ++ (l ∷ [])) ≡ endsFrom at ls ++ ((at + length (flatten ls) + length l) ∷ [])
+ends-more : (at : ℕ) (ls : List (List ℕ)) (l : List ℕ)
+    → endsFrom at (ls ++ (l ∷ [])) ≡ endsFrom at ls ++ ((at + length (flatten ls) + length l) ∷ [])
 unfolding endsFrom flatten
 ends-more at [] l = rw add-zero
 ends-more at (k ∷ ls) l =
-    let e : at + length k + length (flatten ls) + length l ≡ at + length (k ++ flatten ls) + length l = omega (arith, length-append k (flatten ls)) in
+    let e : at + length k + length (flatten ls) + length l ≡ at + length (k ++ flatten ls) + length l =
+    omega (arith, length-append k (flatten ls)) in
     ap (λ (x : List ℕ). (at + length k) ∷ x) (ends-more (at + length k) ls l ∙ rw e)
 
 -- at the end of the bytes there are no more lines; elsewhere there is one, or they are not readable
@@ -83,7 +86,8 @@ some-line bytes at h e =
 
 -- what `line` answers, by its answer
 module _ (bytes : List ℕ) (from : ℕ) (words words′ : List ℕ) (to : ℕ) {r : Read} where
-  pub read-words : {at count : ℕ} → r ≡ read.Words at count → LineRead bytes from words words′ to r → LineAt bytes from words words′ to at count
+  pub read-words : {at count : ℕ} → r ≡ read.Words at count → LineRead bytes from words words′ to r
+      → LineAt bytes from words words′ to at count
   read-words e w = subst (LineRead bytes from words words′ to) e w
 
   pub read-nothing : r ≡ read.Nothing → LineRead bytes from words words′ to r → NoLine bytes from
@@ -102,7 +106,8 @@ pub record Lining (bytes : List ℕ) (from : ℕ) (words₀ words ends : List �
   pub place : count ≤ at
   pub last : i ≤ 10
 
-pub lining-start : (bytes : List ℕ) (from : ℕ) (words ends : List ℕ) → length ends ≡ 10 → Lining bytes from words words ends from 0 Good 0
+pub lining-start : (bytes : List ℕ) (from : ℕ) (words ends : List ℕ) → length ends ≡ 10
+    → Lining bytes from words words ends from 0 Good 0
 unfolding flatten endsFrom allShort
 lining-start bytes from words ends h = record {
   lines = [];
@@ -117,7 +122,8 @@ lining-start bytes from words ends h = record {
   last = omega arith;
 }
 
-module _ {bytes : List ℕ} {from : ℕ} {words₀ words ends : List ℕ} {at count : ℕ} {judged : Judged} {i : ℕ} (inv : Lining bytes from words₀ words ends at count judged i) where
+module _ {bytes : List ℕ} {from : ℕ} {words₀ words ends : List ℕ} {at count : ℕ} {judged : Judged} {i : ℕ}
+    (inv : Lining bytes from words₀ words ends at count judged i) where
   pub lining-size : length words ≡ length words₀
   lining-size = ap length (inv .stored) ∙ length-sets words₀ 0 (flatten (inv .lines))
 
@@ -126,11 +132,13 @@ module _ {bytes : List ℕ} {from : ℕ} {words₀ words ends : List ℕ} {at co
   unread e = ap ten (inv .reads ∙ ap (linesBefore (inv .lines)) e ∙ lines-none (inv .lines))
 
   -- not ten lines
-  other : (rs : List (List ℕ)) → (i + length rs ≡ 10 → ⊥) → readFrom LineStart bytes at ≡ some rs → ten (readFrom LineStart bytes from) ≡ none
+  other : (rs : List (List ℕ)) → (i + length rs ≡ 10 → ⊥) → readFrom LineStart bytes at ≡ some rs
+      → ten (readFrom LineStart bytes from) ≡ none
   unfolding ten
   other rs n e =
       let m : length (inv .lines ++ rs) ≡ 10 → ⊥ = λ q. n (omega (arith, length-append (inv .lines) rs, inv .many)) in
-      ap ten (inv .reads ∙ ap (linesBefore (inv .lines)) e ∙ lines-some (inv .lines) rs) ∙ rw (ne-eqb (length (inv .lines ++ rs)) 10 m)
+      ap ten (inv .reads ∙ ap (linesBefore (inv .lines)) e ∙ lines-some (inv .lines) rs)
+      ∙ rw (ne-eqb (length (inv .lines ++ rs)) 10 m)
 
   pub lining-none : i < 10 → NoLine bytes at → ten (readFrom LineStart bytes from) ≡ none
   lining-none h = ⊎-elim (λ e. other [] (λ q. omega arith) (end-of-bytes bytes at e)) unread
@@ -167,7 +175,8 @@ module _ {bytes : List ℕ} {from : ℕ} {words₀ words ends : List ℕ} {at co
     pub lining-sub : count ≤ more
     lining-sub = omega (arith, l .counts)
 
-    pub lining-more : i < 10 → {judged′ : Judged} {ends′ : List ℕ} → judged′ ≡ cond (leb (more - count) mostWords) judged TooLong → ends′ ≡ set ends i more
+    pub lining-more : i < 10 → {judged′ : Judged} {ends′ : List ℕ}
+        → judged′ ≡ cond (leb (more - count) mostWords) judged TooLong → ends′ ≡ set ends i more
         → Lining bytes from words₀ words′ ends′ next more judged′ (i + 1)
     lining-more h {judged′} {ends′} f e =
         let z : length (flatten (inv .lines ++ (l .line ∷ []))) ≡ count + length (l .line) =
@@ -175,16 +184,26 @@ module _ {bytes : List ℕ} {from : ℕ} {words₀ words ends : List ℕ} {at co
         let d : more - count ≡ length (l .line) = omega (arith, l .counts) in
         let m : 0 + length (flatten (inv .lines)) + length (l .line) ≡ more = omega (arith, l .counts, inv .counts) in
         let s : sets words₀ 0 (flatten (inv .lines ++ (l .line ∷ []))) ≡ words′ =
-        rw (flatten-more (inv .lines) (l .line), sets-append words₀ 0 (flatten (inv .lines)) (l .line), ← inv .stored, zero-add, ← inv .counts) (sym (l .stored)) in
+        rw (
+          flatten-more (inv .lines) (l .line),
+          sets-append words₀ 0 (flatten (inv .lines)) (l .line),
+          ← inv .stored,
+          zero-add,
+          ← inv .counts,
+        ) (sym (l .stored)) in
         record {
           lines = inv .lines ++ (l .line ∷ []);
-          reads = inv .reads ∙ ap (linesBefore (inv .lines)) (l .reads) ∙ sym (lines-more (inv .lines) (l .line) (readFrom LineStart bytes next));
+          reads = inv .reads ∙ ap (linesBefore (inv .lines)) (l .reads)
+              ∙ sym (lines-more (inv .lines) (l .line) (readFrom LineStart bytes next));
           many = length-append (inv .lines) (l .line ∷ []) ∙ rw (inv .many);
           counts = omega (arith, l .counts, z);
           stored = sym s;
-          placed = rw (e, add-one i) (take-suc-set ends i more (omega (arith, inv .size)) ∙ rw (inv .placed) (sym (ends-more 0 (inv .lines) (l .line) ∙ rw m)));
+          placed = rw (e, add-one i)
+              (take-suc-set ends i more (omega (arith, inv .size))
+              ∙ rw (inv .placed) (sym (ends-more 0 (inv .lines) (l .line) ∙ rw m)));
           size = ap length e ∙ length-set ends i more ∙ inv .size;
-          short = f ∙ rw (d, inv .short, few-more (inv .lines) (l .line)) (judged-more (leb (length (l .line)) mostWords) (allShort (inv .lines)));
+          short = f ∙ rw (d, inv .short, few-more (inv .lines) (l .line))
+              (judged-more (leb (length (l .line)) mostWords) (allShort (inv .lines)));
           place = omega (arith, l .counts, l .after, inv .place);
           last = omega arith;
         }

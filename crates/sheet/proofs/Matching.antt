@@ -42,13 +42,22 @@ module _ {prefix bytes : List ℕ} {i : ℕ} (inv : Matching prefix bytes i) whe
     unfolding behind
     matching-not n =
         inv .rest
-        ∙ rw (drop-cons prefix i 0 h, drop-cons bytes i 0 (omega (arith, inv .long)), ne-eqb (getD prefix i 0) (getD bytes i 0) (λ e. n (sym e)))
+        ∙ rw (
+          drop-cons prefix i 0 h,
+          drop-cons bytes i 0 (omega (arith, inv .long)),
+          ne-eqb (getD prefix i 0) (getD bytes i 0) (λ e. n (sym e)),
+        )
 
     pub matching-more : getD bytes i 0 ≡ getD prefix i 0 → Matching prefix bytes (i + 1)
     unfolding behind
     matching-more e = record {
       rest = inv .rest
-          ∙ rw (drop-cons prefix i 0 h, drop-cons bytes i 0 (omega (arith, inv .long)), eq-eqb (getD prefix i 0) (getD bytes i 0) (sym e), add-one i);
+          ∙ rw (
+            drop-cons prefix i 0 h,
+            drop-cons bytes i 0 (omega (arith, inv .long)),
+            eq-eqb (getD prefix i 0) (getD bytes i 0) (sym e),
+            add-one i,
+          );
       here = omega arith;
       long = inv .long;
     }
@@ -63,7 +72,8 @@ module _ (prefix bytes : List ℕ) (i : ℕ) where
   comparing-here true inv = (inv .here, inv .long)
   comparing-here false inv = (inv .1, inv .2)
 
-  pub comparing-more : (same : Bool) → Comparing same prefix bytes i → i < length prefix → (also : Bool) → also ≡ same && eqb (getD bytes i 0) (getD prefix i 0) → Comparing also prefix bytes (i + 1)
+  pub comparing-more : (same : Bool) → Comparing same prefix bytes i → i < length prefix → (also : Bool)
+      → also ≡ same && eqb (getD bytes i 0) (getD prefix i 0) → Comparing also prefix bytes (i + 1)
   comparing-more false inv h also e = rw e (inv .0, omega arith, inv .2)
   comparing-more true inv h also e = go (eqb (getD bytes i 0) (getD prefix i 0)) refl
     where
@@ -71,6 +81,7 @@ module _ (prefix bytes : List ℕ) (i : ℕ) where
       go true q = rw (e, q) (matching-more inv h (eqb-true (getD bytes i 0) (getD prefix i 0) q))
       go false q = rw (e, q) (matching-not inv h (eqb-false (getD bytes i 0) (getD prefix i 0) q), omega arith, inv .long)
 
-  pub comparing-end : (same : Bool) → Comparing same prefix bytes i → length prefix ≤ i → behind prefix bytes ≡ cond same (some (drop i bytes)) none
+  pub comparing-end : (same : Bool) → Comparing same prefix bytes i → length prefix ≤ i
+      → behind prefix bytes ≡ cond same (some (drop i bytes)) none
   comparing-end true inv h = matching-end inv h
   comparing-end false inv h = inv .0

@@ -36,12 +36,14 @@ module _ (bytes : List ℕ) (i : ℕ) where
   unfolding readLines
   no-word h d = rw (drop-cons bytes i 0 h, d)
 
-  pub first-digit : i < length bytes → isDigit (getD bytes i 0) ≡ true → readFrom WordStart bytes i ≡ readFrom (Behind (getD bytes i 0 - 48)) bytes (i + 1)
+  pub first-digit : i < length bytes → isDigit (getD bytes i 0) ≡ true
+      → readFrom WordStart bytes i ≡ readFrom (Behind (getD bytes i 0 - 48)) bytes (i + 1)
   unfolding readLines
   first-digit h d = rw (drop-cons bytes i 0 h, d, add-one i)
 
   module _ (n : ℕ) (h : i < length bytes) (p : 48 ≤ getD bytes i 0) (q : getD bytes i 0 ≤ 57) where
-    pub next-digit : 0 < n → n * 10 + (getD bytes i 0 - 48) ≤ mostWord → readFrom (Behind n) bytes i ≡ readFrom (Behind (n * 10 + (getD bytes i 0 - 48))) bytes (i + 1)
+    pub next-digit : 0 < n → n * 10 + (getD bytes i 0 - 48) ≤ mostWord
+        → readFrom (Behind n) bytes i ≡ readFrom (Behind (n * 10 + (getD bytes i 0 - 48))) bytes (i + 1)
     unfolding readLines
     next-digit z m =
         rw (
@@ -84,7 +86,13 @@ module _ (bytes : List ℕ) (from : ℕ) {d : ℕ} (byte : d ≡ getD bytes from
     first = rw byte (first-digit bytes from h (is-digit {b = getD bytes from 0} (omega arith) (omega arith)))
 
     pub zero-alone : d - 48 ≡ 0 → NumberAt bytes from (d - 48) (from + 1)
-    zero-alone z = record { reads = first; after = omega arith; inside = omega arith; stops = λ i. rw z (refused (isDigit (getD bytes (from + 1) 0))) }
+    zero-alone z =
+        record {
+          reads = first;
+          after = omega arith;
+          inside = omega arith;
+          stops = λ i. rw z (refused (isDigit (getD bytes (from + 1) 0)));
+        }
       where
         refused : (t : Bool) → t && false ≡ false
         refused true = refl
@@ -100,7 +108,13 @@ module _ {bytes : List ℕ} {from value at : ℕ} (inv : Numbering bytes from va
 
   module _ {b : ℕ} (byte : b ≡ getD bytes at 0) where
     pub numbering-stop : isDigit b ≡ false → NumberAt bytes from value at
-    numbering-stop f = record { reads = inv .reads; after = inv .after; inside = inv .inside; stops = λ i. not-continues mostWord value (getD bytes at 0) (rw byte at f) }
+    numbering-stop f =
+        record {
+          reads = inv .reads;
+          after = inv .after;
+          inside = inv .inside;
+          stops = λ i. not-continues mostWord value (getD bytes at 0) (rw byte at f);
+        }
 
     module _ (h : at < length bytes) (p : 48 ≤ b) (q : b ≤ 57) where
       pub numbering-above : mostWord < value * 10 + (b - 48) → readFrom WordStart bytes from ≡ none

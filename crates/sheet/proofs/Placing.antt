@@ -15,7 +15,7 @@ use Rattle.lifetimes.specs.declared.answer.Verdict.the-variants as verdict
 use Rattle.lifetimes.specs.declared.answer.Listed.{Listed}
 use Rattle.lifetimes.specs.declared.answer.Listed.the-variants.{Count, Refused}
 use Rattle.lifetimes.specs.Lent as lent
-use Rattle.lifetimes.specs.Lent.{written}
+use Rattle.lifetimes.specs.Lent.{written, isAccepted}
 use Rattle.lifetimes.proofs.Copying.{sets-front}
 use Rattle.lifetimes.specs.Refusals.{Refuses, NoneDue}
 use Rattle.lifetimes.proofs.RefusalLaws.{due-given, none-first, none-rest}
@@ -34,7 +34,7 @@ use Rattle.sheet.specs.Reading.{sheetOf, textChecks, allShort, readText}
 use Rattle.lifetimes.specs.Reach.{endsFrom}
 use Rattle.sheet.specs.Answer.{answerOf, startOf, recordWords, measured}
 use Rattle.sheet.specs.Shape.{sheetInShape, sheetAnswer, sheetWords}
-use Rattle.sheet.specs.Inner.{recordAt, recordsAt, Laid, Counted, Roomy, isAccepted}
+use Rattle.sheet.specs.Inner.{recordAt, recordsAt, Laid, Counted, Roomy}
 use Rattle.sheet.proofs.SheetLaws.{few-all, total-words}
 use Rattle.sheet.proofs.Answers.{last-end, list-between, none-due, counted, sheet-short, sheet-wrote}
 use Rattle.sheet.proofs.Theorems.{room-for-any-sheet, words-take-two-bytes}
@@ -91,7 +91,9 @@ module _ (words ends : List ℕ) (i : ℕ) where
 
       pub record-there : getD ends i 0 ≤ length words → take (getD ends i 0 - from) (drop from words) ≡ recordWords words ends i
       unfolding recordWords
-      record-there m = rw (is, lt-ltb i 10 h, in-order, le-leb (getD ends i 0) (length words) m) (part-is (startOf ends i) (getD ends i 0) words (omega (arith, is)))
+      record-there m =
+          rw (is, lt-ltb i 10 h, in-order, le-leb (getD ends i 0) (length words) m)
+          (part-is (startOf ends i) (getD ends i 0) words (omega (arith, is)))
 
 module _ {words ends : List ℕ} (l : Laid words ends) where
   pub laid-after : (i : ℕ) → i < 10 → getD (0 ∷ ends) i 0 ≤ getD ends i 0
@@ -103,7 +105,12 @@ module _ {words ends : List ℕ} (l : Laid words ends) where
   -- the public call finds it there
   pub laid-words : (i : ℕ) → i < 10 → recordWords words ends i ≡ recordAt words ends i
   unfolding recordWords
-  laid-words i h = rw (lt-ltb i 10 h, le-leb (startOf ends i) (getD ends i 0) (laid-after i h), le-leb (getD ends i 0) (length words) (laid-inside i h))
+  laid-words i h =
+      rw (
+        lt-ltb i 10 h,
+        le-leb (startOf ends i) (getD ends i 0) (laid-after i h),
+        le-leb (getD ends i 0) (length words) (laid-inside i h),
+      )
 
   pub laid-record : (i : ℕ) → i < 10 → recordAt words ends i ≡ getD (lists (l .sheet)) i []
   laid-record i h = rw (l .placed, l .stored) (list-between [] 0 (lists (l .sheet)) (l .rest) i refl h)
@@ -135,7 +142,8 @@ module _ {bytes ends : List ℕ} (c : Counted bytes ends) where
       let f : allShort (lists (sheetOf bytes)) ≡ true = not-false _ (none-first (none-rest (c .due))) in
       omega (arith, counted-end, total-words (lists (sheetOf bytes)) (few-all (lists (sheetOf bytes)) f))
 
-  module _ (words : List ℕ) {words′ : List ℕ} (h : getD ends 9 0 ≤ length words) (w : words′ ≡ sets words 0 (wordsOf (sheetOf bytes))) where
+  module _ (words : List ℕ) {words′ : List ℕ} (h : getD ends 9 0 ≤ length words)
+      (w : words′ ≡ sets words 0 (wordsOf (sheetOf bytes))) where
     pub counted-laid : Laid words′ ends
     counted-laid = record {
       sheet = sheetOf bytes;
@@ -159,10 +167,13 @@ pub roomy-fits : (bytes : List ℕ) {room : ℕ} → Roomy bytes room → NoneDu
 unfolding readText
 roomy-fits bytes roomy n =
     let e = due-given (sheetOf bytes) n in
-    roomy (length (wordsOf (sheetOf bytes))) (omega (arith, room-for-any-sheet bytes (sheetOf bytes) e)) (words-take-two-bytes bytes (sheetOf bytes) e)
+    roomy (length (wordsOf (sheetOf bytes))) (omega (arith, room-for-any-sheet bytes (sheetOf bytes) e))
+    (words-take-two-bytes bytes (sheetOf bytes) e)
 
--- an accepted text that `scan` left in such scratch: its records stand there, their shape is the sheet's, and what is copied from the front are its words
-module _ (bytes scratch : List ℕ) (roomy : Roomy bytes (length scratch)) {j : Text} (m : j ≡ measured bytes) (e : j .verdict ≡ verdict.Accepted)
+-- an accepted text that `scan` left in such scratch: its records stand there, their shape is the sheet's, and what is
+-- copied from the front are its words
+module _ (bytes scratch : List ℕ) (roomy : Roomy bytes (length scratch)) {j : Text} (m : j ≡ measured bytes)
+    (e : j .verdict ≡ verdict.Accepted)
     {scratch₁ : List ℕ} (w : NoneDue (textChecks bytes) → scratch₁ ≡ sets scratch 0 (wordsOf (sheetOf bytes))) where
   ends-counted : Counted bytes (j .ends)
   ends-counted = counted bytes j m e
@@ -185,13 +196,16 @@ module _ (bytes scratch : List ℕ) (roomy : Roomy bytes (length scratch)) {j : 
   inside = rw (scanned-laid .stored, length-append) (omega (arith, counted-end ends-counted))
 
   module _ {t : Bool} (shape : t ≡ sheetInShape (recordsAt scratch₁ (j .ends))) (right : t ≡ true) (words : List ℕ) {words′ : List ℕ}
-      (left : words′ ≡ written (copied scratch₁ (getD (j .ends) 9 0) (length words)) words) {r : Listed} (told : r ≡ lent.counted (copied scratch₁ (getD (j .ends) 9 0) (length words))) where
-    pub scanned-short : {k : Refusal} → r ≡ Refused k → (answerOf (Refuses NoRoom) ≡ sheetAnswer bytes (length words)) × (words′ ≡ written (sheetWords bytes (length words)) words)
+      (left : words′ ≡ written (copied scratch₁ (getD (j .ends) 9 0) (length words)) words) {r : Listed}
+      (told : r ≡ lent.counted (copied scratch₁ (getD (j .ends) 9 0) (length words))) where
+    pub scanned-short : {k : Refusal} → r ≡ Refused k → (answerOf (Refuses NoRoom) ≡ sheetAnswer bytes (length words))
+        × (words′ ≡ written (sheetWords bytes (length words)) words)
     scanned-short c =
         let none = copied-none scratch₁ (getD (j .ends) 9 0) words inside left told c in
         sheet-short bytes words j m e (scanned-shape shape) right {fits = false} (sym (lt-leb _ _ (none .0))) (none .1) refl
 
-    pub scanned-wrote : {n : ℕ} → r ≡ Count n → (j ≡ sheetAnswer bytes (length words)) × (words′ ≡ written (sheetWords bytes (length words)) words)
+    pub scanned-wrote : {n : ℕ} → r ≡ Count n → (j ≡ sheetAnswer bytes (length words))
+        × (words′ ≡ written (sheetWords bytes (length words)) words)
     scanned-wrote c =
         let fits = copied-all scratch₁ (getD (j .ends) 9 0) words inside left told c in
         sheet-wrote bytes words j m e (scanned-shape shape) right {fits = true} (sym (le-leb _ _ fits))
@@ -202,7 +216,8 @@ accepted-shape : (t : Bool) → isAccepted (shapeVerdict t) ≡ t
 accepted-shape true = refl
 accepted-shape false = refl
 
-pub shape-is : (shape : List ℕ → Bool) {l m : List ℕ} {v : Verdict} {t : Bool} → m ≡ l → v ≡ shapeVerdict (shape m) → t ≡ isAccepted v → t ≡ shape l
+pub shape-is : (shape : List ℕ → Bool) {l m : List ℕ} {v : Verdict} {t : Bool} → m ≡ l → v ≡ shapeVerdict (shape m)
+    → t ≡ isAccepted v → t ≡ shape l
 shape-is shape {l} e f g = g ∙ ap isAccepted (f ∙ ap (λ (x : List ℕ). shapeVerdict (shape x)) e) ∙ accepted-shape (shape l)
 
 -- all of three
@@ -210,9 +225,11 @@ pub all-three : {a b c t u w r s : Bool} → t ≡ a → u ≡ b → w ≡ c →
 all-three e f g h k = k ∙ rw (h, e, f, g)
 
 -- the shape of a method's four records, and of all ten
-method-verdict : (structs params output force : List ℕ) → isAccepted (methodShape structs params output force .verdict) ≡ methodInShape structs params output force
+method-verdict : (structs params output force : List ℕ) → isAccepted (methodShape structs params output force .verdict)
+    ≡ methodInShape structs params output force
 unfolding methodShape
-method-verdict structs params output force = go (methodInShape structs params output force) (methodShape structs params output force) refl
+method-verdict structs params output force =
+    go (methodInShape structs params output force) (methodShape structs params output force) refl
   where
     go : (t : Bool) (s : Shape)
         → s
@@ -228,12 +245,15 @@ method-verdict structs params output force = go (methodInShape structs params ou
     go true s e = rw e
     go false s e = rw e
 
-pub method-is : {a b c d a′ b′ c′ d′ : List ℕ} {s : Shape} {t : Bool} → a′ ≡ a → b′ ≡ b → c′ ≡ c → d′ ≡ d → s ≡ methodShape a′ b′ c′ d′ → t ≡ isAccepted (s .verdict)
+pub method-is : {a b c d a′ b′ c′ d′ : List ℕ} {s : Shape} {t : Bool} → a′ ≡ a → b′ ≡ b → c′ ≡ c → d′ ≡ d
+    → s ≡ methodShape a′ b′ c′ d′ → t ≡ isAccepted (s .verdict)
     → t ≡ methodInShape a b c d
 method-is {a} {b} {c} {d} e f g h k l = l ∙ rw (k, e, f, g, h) (method-verdict a b c d)
 
-pub sheet-is : (r : Records) {t u w x y : Bool} → t ≡ namesInShape (r .names) && (boundsInShape (r .bounds) && typesInShape (r .types))
-    → u ≡ selfInShape (r .self) && (stepsInShape (r .steps) && stepsInShape (r .returns)) → w ≡ methodInShape (r .structs) (r .params) (r .output) (r .force) → y ≡ u && w → x ≡ t && y
+pub sheet-is : (r : Records) {t u w x y : Bool}
+    → t ≡ namesInShape (r .names) && (boundsInShape (r .bounds) && typesInShape (r .types))
+    → u ≡ selfInShape (r .self) && (stepsInShape (r .steps) && stepsInShape (r .returns))
+    → w ≡ methodInShape (r .structs) (r .params) (r .output) (r .force) → y ≡ u && w → x ≡ t && y
     → x ≡ sheetInShape r
 unfolding sheetInShape
 sheet-is r e f g h k = all-three e f g h k

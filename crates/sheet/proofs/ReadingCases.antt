@@ -18,13 +18,18 @@ by-cases bytes (NoSheet e n) = record {
 }
 by-cases bytes (Few r e s f) = record {
   given = λ q. (
-    λ g. let h : r ≡ q = cc in subst (λ (x : Records). IsSheet bytes x × ((l : List ℕ) → List·Memᴰ l (lists x) → length l ≤ mostWords)) h (s, few-all (lists r) f),
+    λ g. let h : r ≡ q = cc in
+        subst (λ (x : Records). IsSheet bytes x × ((l : List ℕ) → List·Memᴰ l (lists x) → length l ≤ mostWords)) h
+        (s, few-all (lists r) f),
     λ p. let h : r ≡ q = one-sheet s (p .0) in cc,
   );
   unreadable = (λ g. let z : _≡_ {A = ℕ} 0 1 = cc in absurd (omega arith), λ n. absurd (n r s));
   malformed = (
     λ g. let z : _≡_ {A = ℕ} 0 1 = cc in absurd (omega arith),
-    λ p. let h : p .0 ≡ r = one-sheet (p .1) s in absurd (omega (arith, few-all (lists r) f (p .2 .0) (subst (λ (x : Records). List·Memᴰ (p .2 .0) (lists x)) h (p .2 .1)))),
+    λ p. let h : p .0 ≡ r = one-sheet (p .1) s in
+        absurd
+        (omega
+        (arith, few-all (lists r) f (p .2 .0) (subst (λ (x : Records). List·Memᴰ (p .2 .0) (lists x)) h (p .2 .1)))),
   );
   refusals = λ k g. let z : _≡_ {A = ℕ} 0 1 = cc in absurd (omega arith);
 }
@@ -32,7 +37,8 @@ by-cases bytes (Many r e s f) = record {
   given = λ q. (
     λ g. let z : _≡_ {A = ℕ} 0 1 = cc in absurd (omega arith),
     λ p. let h : r ≡ q = one-sheet s (p .0) in
-        let k = many-some (lists r) f in absurd (omega (arith, p .1 (k .0) (subst (λ (x : Records). List·Memᴰ (k .0) (lists x)) h (k .1)), k .2)),
+        let k = many-some (lists r) f in
+        absurd (omega (arith, p .1 (k .0) (subst (λ (x : Records). List·Memᴰ (k .0) (lists x)) h (k .1)), k .2)),
   );
   unreadable = (λ g. let z : _≡_ {A = ℕ} 0 1 = cc in absurd (omega arith), λ n. absurd (n r s));
   malformed = (λ g. (r, s, many-some (lists r) f), λ g. e);

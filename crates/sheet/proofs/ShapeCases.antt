@@ -10,36 +10,34 @@ use lib.Dec.{leb}
 use lib.ListN.{length}
 use Rattle.lifetimes.specs.declared.answer.Refusal.the-variants.{Malformed, Unreadable}
 use Rattle.lifetimes.specs.Refusals.{Gives, Refuses, FirstDue, here, NoneDue, end, next}
-use Rattle.lifetimes.proofs.RefusalLaws.{due-given, due-refused, given-due, refused-due, first-more, first-after, none-more}
+use Rattle.lifetimes.proofs.RefusalLaws.{due-given, due-refused, given-due, refused-due, first-more, first-after}
+use Rattle.lifetimes.proofs.RefusalLaws.{none-more}
 use Rattle.records.specs.Reading.{Reading, fewWords, inShape}
 use Rattle.ast_lifetimes.specs.Shapes.{namesInShape, boundsInShape}
 use Rattle.ast_lifetimes.specs.Types.{typesInShape, readType}
 use Rattle.elision.specs.Steps.{selfInShape, stepsInShape, readStep}
-use Rattle.lowered_types.specs.Rows.{structsInShape, paramsInShape, outputInShape, forceInShape, methodInShape, rowsOf, readRow, readKnown}
+use Rattle.lowered_types.specs.Rows.{structsInShape, paramsInShape, outputInShape, forceInShape, methodInShape, rowsOf}
+use Rattle.lowered_types.specs.Rows.{readRow, readKnown}
 use Rattle.sheet.specs.Text.{Records, lists, mostWords}
 use Rattle.sheet.specs.Reading.{allShort, sheetOf, textChecks, readText}
 use Rattle.sheet.specs.Shape.{sheetInShape, sheetChecks, readSheet}
 use Rattle.sheet.specs.Theorems.{IsSheet, ReadsInShape}
 use Rattle.sheet.proofs.SheetLaws.{Read, NoSheet, Few, Many, read-cases, one-sheet}
 
--- both of two
-both : (a b : Bool) → a && b ≡ true → (a ≡ true) × (b ≡ true)
-both a b e = (and-eq-true-iff a b) .0 e
-
 -- no record in shape has more than 1,024 words
 names-short : (l : List ℕ) → namesInShape l ≡ true → leb (length l) mostWords ≡ true
 unfolding namesInShape
 names-short [] e = refl
-names-short (n ∷ l) e = both (fewWords (n ∷ l)) _ e .0
+names-short (n ∷ l) e = (and-eq-true-iff (fewWords (n ∷ l)) _) .0 e .0
 
 bounds-short : (l : List ℕ) → boundsInShape l ≡ true → leb (length l) mostWords ≡ true
 unfolding boundsInShape
 bounds-short [] e = refl
-bounds-short (n ∷ l) e = both (fewWords (n ∷ l)) _ e .0
+bounds-short (n ∷ l) e = (and-eq-true-iff (fewWords (n ∷ l)) _) .0 e .0
 
 items-short : {A : Type 0} (item : ℕ → List ℕ → Reading A) (l : List ℕ) → inShape item l ≡ true → leb (length l) mostWords ≡ true
 unfolding inShape
-items-short item l e = both (fewWords l) _ e .0
+items-short item l e = (and-eq-true-iff (fewWords l) _) .0 e .0
 
 self-short : (l : List ℕ) → selfInShape l ≡ true → leb (length l) mostWords ≡ true
 self-short l e = le-leb (length l) mostWords (omega (arith, leb-true (length l) 1 e))
@@ -53,16 +51,16 @@ pub shape-short : (r : Records) → sheetInShape r ≡ true → allShort (lists 
 unfolding sheetInShape methodInShape allShort
 shape-short r e =
     let rows = length (rowsOf (r .structs)) in
-    let a = both (namesInShape (r .names) && (boundsInShape (r .bounds) && typesInShape (r .types))) _ e in
-    let b = both (selfInShape (r .self) && (stepsInShape (r .steps) && stepsInShape (r .returns))) _ (a .1) in
-    let n = both (namesInShape (r .names)) _ (a .0) in
-    let t = both (boundsInShape (r .bounds)) _ (n .1) in
-    let s = both (selfInShape (r .self)) _ (b .0) in
-    let q = both (stepsInShape (r .steps)) _ (s .1) in
-    let m = both (structsInShape (r .structs)) _ (b .1) in
-    let p = both (paramsInShape rows (r .params)) _ (m .1) in
-    let o = both (outputInShape rows (r .output)) _ (p .1) in
-    let w = both (paramsInShape rows (r .output)) _ (o .0) in
+    let a = (and-eq-true-iff (namesInShape (r .names) && (boundsInShape (r .bounds) && typesInShape (r .types))) _) .0 e in
+    let b = (and-eq-true-iff (selfInShape (r .self) && (stepsInShape (r .steps) && stepsInShape (r .returns))) _) .0 (a .1) in
+    let n = (and-eq-true-iff (namesInShape (r .names)) _) .0 (a .0) in
+    let t = (and-eq-true-iff (boundsInShape (r .bounds)) _) .0 (n .1) in
+    let s = (and-eq-true-iff (selfInShape (r .self)) _) .0 (b .0) in
+    let q = (and-eq-true-iff (stepsInShape (r .steps)) _) .0 (s .1) in
+    let m = (and-eq-true-iff (structsInShape (r .structs)) _) .0 (b .1) in
+    let p = (and-eq-true-iff (paramsInShape rows (r .params)) _) .0 (m .1) in
+    let o = (and-eq-true-iff (outputInShape rows (r .output)) _) .0 (p .1) in
+    let w = (and-eq-true-iff (paramsInShape rows (r .output)) _) .0 (o .0) in
     rw (
       names-short (r .names) (n .0),
       bounds-short (r .bounds) (t .0),
@@ -91,7 +89,9 @@ data Shaped (bytes : List ℕ) : Type 0 where
 shaped : (bytes : List ℕ) → Read bytes → Shaped bytes
 unfolding readText readSheet sheetChecks
 shaped bytes (NoSheet e n) =
-    let f : FirstDue Unreadable (sheetChecks bytes) = first-more _ (refused-due (sheetOf bytes) Unreadable (textChecks bytes) e) in None (due-refused (sheetOf bytes) f) n
+    let f : FirstDue Unreadable (sheetChecks bytes) =
+    first-more _ (refused-due (sheetOf bytes) Unreadable (textChecks bytes) e) in
+    None (due-refused (sheetOf bytes) f) n
 shaped bytes (Many r e s f) =
     let d : FirstDue Malformed (sheetChecks bytes) = first-more _ (refused-due (sheetOf bytes) Malformed (textChecks bytes) e) in
     Bad r (due-refused (sheetOf bytes) d) s (long-not r f)
@@ -99,9 +99,12 @@ shaped bytes (Few r e s f) = go (sheetInShape r) refl (given-due (sheetOf bytes)
   where
     go : (t : Bool) → sheetInShape r ≡ t → NoneDue (textChecks bytes) × (sheetOf bytes ≡ r) → Shaped bytes
     go true q g =
-        let n : NoneDue (sheetChecks bytes) = none-more (g .0) (next (ap not (ap sheetInShape (g .1) ∙ q)) end) in Good r (due-given (sheetOf bytes) n ∙ ap Gives (g .1)) s q
+        let n : NoneDue (sheetChecks bytes) = none-more (g .0) (next (ap not (ap sheetInShape (g .1) ∙ q)) end) in
+        Good r (due-given (sheetOf bytes) n ∙ ap Gives (g .1)) s q
     go false q g =
-        let d : FirstDue Malformed (sheetChecks bytes) = first-after (g .0) (here (ap not (ap sheetInShape (g .1) ∙ q)) refl) in Bad r (due-refused (sheetOf bytes) d) s q
+        let d : FirstDue Malformed (sheetChecks bytes) =
+        first-after (g .0) (here (ap not (ap sheetInShape (g .1) ∙ q)) refl) in
+        Bad r (due-refused (sheetOf bytes) d) s q
 
 by-cases : (bytes : List ℕ) → Shaped bytes → ReadsInShape bytes
 by-cases bytes (None e n) = record {

@@ -3,7 +3,8 @@ use Prim.Native.Nat.{ℕ, _+_, _*_, _≤_, _<_}
 use mathlib.Core.Bool.{Bool, true, false, cond, _&&_, and-eq-true-iff}
 use mathlib.Core.Logic.{⊎-elim}
 use mathlib.Core.Path.{_≡_, refl, sym, ap, _∙_}
-use mathlib.Core.List.{List, [], _∷_, _++_, flatMap, flatten, List·Memᴰ, List·Memᴰ·head, List·Memᴰ·tail, List·Memᴰ·cases-cons, List·Memᴰ·not-nil}
+use mathlib.Core.List.{List, [], _∷_, _++_, flatMap, flatten, List·Memᴰ, List·Memᴰ·head, List·Memᴰ·tail}
+use mathlib.Core.List.{List·Memᴰ·cases-cons, List·Memᴰ·not-nil}
 use mathlib.Core.Option.{Option, none, some}
 use native.Mathlib.Omega.{arith}
 use borrow.Author.Tests.{leb-true, leb-false, le-leb, eqb-true}
@@ -12,8 +13,10 @@ use lib.ListN.{length, length-append, drop-of-length-le}
 use lib.Seq.{drop-cons}
 use Rattle.lifetimes.specs.declared.answer.Refusal.the-variants.{Malformed, Unreadable}
 use Rattle.lifetimes.specs.Refusals.{Gives, Refuses, unless}
-use Rattle.sheet.specs.Text.{heading, line, following, Records, lists, wordsOf, text, mostWord, mostBytes, mostWords}
-use Rattle.sheet.specs.Reading.{behind, LineStart, readLines, recordsOf, ten, linesBehind, sheetIn, sheetOf, allShort, textChecks, readText}
+use Rattle.sheet.specs.Text.{heading, line, following, Records, lists, wordsOf, text, mostWord, mostBytes}
+use Rattle.sheet.specs.Text.{mostWords}
+use Rattle.sheet.specs.Reading.{behind, LineStart, readLines, recordsOf, ten, linesBehind, sheetIn, sheetOf}
+use Rattle.sheet.specs.Reading.{allShort, textChecks, readText}
 use Rattle.sheet.specs.Theorems.{IsSheet}
 use Rattle.sheet.proofs.DigitLaws.{digits-some}
 use Rattle.sheet.proofs.TextLaws.{read-lines, behind-append, behind-splits}
@@ -42,14 +45,20 @@ lists-of-ten ls h =
 pub sheet-in : {bytes : List ℕ} {r : Records} → IsSheet bytes r → sheetIn bytes ≡ some r
 unfolding sheetIn linesBehind ten text
 sheet-in {bytes} {r} s =
-    rw (le-leb (length bytes) mostBytes (s .size), s .spelt, behind-append heading (flatMap line (lists r)), read-lines mostWord (lists r) (s .words))
+    rw (
+      le-leb (length bytes) mostBytes (s .size),
+      s .spelt,
+      behind-append heading (flatMap line (lists r)),
+      read-lines mostWord (lists r) (s .words),
+    )
 
 -- and what is read is what the bytes are
 pub in-sheet : (bytes : List ℕ) (r : Records) → sheetIn bytes ≡ some r → IsSheet bytes r
 unfolding sheetIn linesBehind ten text
 in-sheet bytes r e = size (leb (length bytes) mostBytes) refl e
   where
-    counted : (ls : List (List ℕ)) (rest : List ℕ) → behind heading bytes ≡ some rest → readLines mostWord LineStart rest ≡ some ls → length bytes ≤ mostBytes
+    counted : (ls : List (List ℕ)) (rest : List ℕ) → behind heading bytes ≡ some rest
+        → readLines mostWord LineStart rest ≡ some ls → length bytes ≤ mostBytes
         → (t : Bool) → eqb (length ls) 10 ≡ t → cond t (some (recordsOf ls)) none ≡ some r → IsSheet bytes r
     counted ls rest b l z true q e =
         let v = lists-of-ten ls (eqb-true (length ls) 10 q) in
@@ -59,15 +68,18 @@ in-sheet bytes r e = size (leb (length bytes) mostBytes) refl e
         record { spelt = behind-splits heading bytes rest b ∙ rw (s .spells, g); words = λ w m. s .within w (rw g at m); size = z }
     counted ls rest b l z false q e = let z : _≡_ {A = ℕ} 0 1 = cc in absurd (omega arith)
 
-    lined : (rest : List ℕ) (o : Option (List (List ℕ))) → behind heading bytes ≡ some rest → readLines mostWord LineStart rest ≡ o → length bytes ≤ mostBytes → ten o ≡ some r → IsSheet bytes r
+    lined : (rest : List ℕ) (o : Option (List (List ℕ))) → behind heading bytes ≡ some rest
+        → readLines mostWord LineStart rest ≡ o → length bytes ≤ mostBytes → ten o ≡ some r → IsSheet bytes r
     lined rest none b l z e = let z : _≡_ {A = ℕ} 0 1 = cc in absurd (omega arith)
     lined rest (some ls) b l z e = counted ls rest b l z (eqb (length ls) 10) refl e
 
-    headed : (o : Option (List ℕ)) → behind heading bytes ≡ o → length bytes ≤ mostBytes → ten (linesBehind o) ≡ some r → IsSheet bytes r
+    headed : (o : Option (List ℕ)) → behind heading bytes ≡ o → length bytes ≤ mostBytes → ten (linesBehind o) ≡ some r
+        → IsSheet bytes r
     headed none b z e = let z : _≡_ {A = ℕ} 0 1 = cc in absurd (omega arith)
     headed (some rest) b z e = lined rest (readLines mostWord LineStart rest) b refl z e
 
-    size : (t : Bool) → leb (length bytes) mostBytes ≡ t → cond t (ten (linesBehind (behind heading bytes))) none ≡ some r → IsSheet bytes r
+    size : (t : Bool) → leb (length bytes) mostBytes ≡ t
+        → cond t (ten (linesBehind (behind heading bytes))) none ≡ some r → IsSheet bytes r
     size true q e = headed (behind heading bytes) refl (leb-true (length bytes) mostBytes q) e
     size false q e = let z : _≡_ {A = ℕ} 0 1 = cc in absurd (omega arith)
 
@@ -84,18 +96,21 @@ unfolding allShort
 many-some [] e = let z : _≡_ {A = ℕ} 0 1 = cc in absurd (omega arith)
 many-some (k ∷ ls) e = go (leb (length k) mostWords) refl (many-some ls) e
   where
-    go : (t : Bool) → leb (length k) mostWords ≡ t → (allShort ls ≡ false → (l : List ℕ) × List·Memᴰ l ls × (mostWords < length l)) → t && allShort ls ≡ false
+    go : (t : Bool) → leb (length k) mostWords ≡ t
+        → (allShort ls ≡ false → (l : List ℕ) × List·Memᴰ l ls × (mostWords < length l)) → t && allShort ls ≡ false
         → (l : List ℕ) × List·Memᴰ l (k ∷ ls) × (mostWords < length l)
     go true q ih e = let f = ih e in (f .0, List·Memᴰ·tail (f .1), f .2)
     go false q ih e = (k, List·Memᴰ·head refl, leb-false (length k) mostWords q)
 
-pub total-words : (ls : List (List ℕ)) → ((l : List ℕ) → List·Memᴰ l ls → length l ≤ mostWords) → length (flatten ls) ≤ length ls * mostWords
+pub total-words : (ls : List (List ℕ)) → ((l : List ℕ) → List·Memᴰ l ls → length l ≤ mostWords)
+    → length (flatten ls) ≤ length ls * mostWords
 unfolding flatten
 total-words [] h = omega arith
 total-words (l ∷ ls) h =
     rw length-append (omega (arith, h l (List·Memᴰ·head refl), total-words ls (λ k m. h k (List·Memᴰ·tail m))))
 
--- What reading does: the bytes are no sheet, a sheet whose records have few words, or one with a record that has too many
+-- What reading does: the bytes are no sheet, a sheet whose records have few words, or one with a record that has too
+-- many
 pub data Read (bytes : List ℕ) : Type 0 where
   NoSheet : readText bytes ≡ Refuses Unreadable → ((r : Records) → IsSheet bytes r → ⊥) → Read bytes
   Few : (r : Records) → readText bytes ≡ Gives r → IsSheet bytes r → allShort (lists r) ≡ true → Read bytes
@@ -134,11 +149,13 @@ text-lists r s e =
     let f : flatMap line (lists r) ≡ flatMap line (lists s) =
     let a = behind-append heading (flatMap line (lists r)) in
     let b = behind-append heading (flatMap line (lists s)) in
-    let c : behind heading (heading ++ flatMap line (lists r)) ≡ behind heading (heading ++ flatMap line (lists s)) = ap (behind heading) e in
+    let c : behind heading (heading ++ flatMap line (lists r)) ≡ behind heading (heading ++ flatMap line (lists s)) =
+    ap (behind heading) e in
     cc in
     let a = read-lines limit (lists r) (λ w m. omega (arith, within-total (wordsOf r) w m)) in
     let b = read-lines limit (lists s) (λ w m. omega (arith, within-total (wordsOf s) w m)) in
-    let c : readLines limit LineStart (flatMap line (lists r)) ≡ readLines limit LineStart (flatMap line (lists s)) = ap (readLines limit LineStart) f in
+    let c : readLines limit LineStart (flatMap line (lists r)) ≡ readLines limit LineStart (flatMap line (lists s)) =
+    ap (readLines limit LineStart) f in
     cc
 
 -- each word takes two bytes or more: a digit, and what follows it

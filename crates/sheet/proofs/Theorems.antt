@@ -9,10 +9,13 @@ use Rattle.elision.specs.Steps.{readStep}
 use Rattle.lowered_types.specs.LoweredTypes.{readLowered, readBare, readOpaque, readSlice, readStruct}
 use Rattle.lowered_types.specs.Rows.{methodInShape, readKnown}
 use Rattle.sheet.specs.Text.{lists, text, line, following, digits, digitsFor}
-use Rattle.sheet.specs.Reading.{recordsOf, readText, textChecks, sheetOf, sheetIn, linesBehind, ten, readLines, behind, allShort}
+use Rattle.sheet.specs.Reading.{recordsOf, readText, textChecks, sheetOf, sheetIn, linesBehind, ten, readLines}
+use Rattle.sheet.specs.Reading.{behind, allShort}
 use Rattle.sheet.specs.Shape.{readSheet, sheetWords, sheetEnds, sheetChecks, sheetInShape}
 use Rattle.sheet.specs.Answer.{readWords, readEnds}
-use Rattle.sheet.specs.Theorems.{DigitsOfNumbers, TextIsOneToOne, ReadingIsInverse, ReadingJudgesShapes, ShapesAreShort, CallReadsText, CallReadsSheet, RecordsInPlace, RoomForAnySheet, WordsTakeTwoBytes, ExamplesHold, SheetExamplesHold}
+use Rattle.sheet.specs.Theorems.{DigitsOfNumbers, TextIsOneToOne, ReadingIsInverse, ReadingJudgesShapes}
+use Rattle.sheet.specs.Theorems.{ShapesAreShort, CallReadsText, CallReadsSheet, RecordsInPlace, RoomForAnySheet}
+use Rattle.sheet.specs.Theorems.{WordsTakeTwoBytes, ExamplesHold, SheetExamplesHold}
 use Rattle.sheet.proofs.DigitLaws.{digits-single, digits-more, digits-of-word}
 use Rattle.sheet.proofs.SheetLaws.{text-lists, text-bytes, total-words, few-all}
 use Rattle.sheet.proofs.Answers.{call-gives, list-between}
@@ -53,9 +56,14 @@ words-take-two-bytes bytes r e = rw ((reads-back bytes .given r) .0 e .0 .spelt)
 
 pub examples-hold : ExamplesHold
 unfolding readText textChecks sheetOf sheetIn linesBehind ten readLines behind allShort unless flatten
-examples-hold = (refl, (refl, (refl, (refl, (refl, (refl, (refl, (refl, (refl, (refl, (refl, (refl, (refl, (refl, (refl, tt)))))))))))))))
+examples-hold = (
+  refl,
+  (refl, (refl, (refl, (refl, (refl, (refl, (refl, (refl, (refl, (refl, (refl, (refl, (refl, (refl, tt)))))))))))))),
+)
 
 pub sheet-examples-hold : SheetExamplesHold
-unfolding readSheet sheetChecks textChecks sheetOf sheetIn linesBehind ten readLines behind allShort unless flatten flatMap text line following digits digitsFor
-    sheetInShape methodInShape namesInShape allNames boundsInShape inShape itemsOf readAll readType readStep readKnown readLowered readBare readOpaque readSlice readStruct
+unfolding readSheet sheetChecks textChecks sheetOf sheetIn linesBehind ten readLines behind allShort unless flatten
+    flatMap text line following digits digitsFor
+    sheetInShape methodInShape namesInShape allNames boundsInShape inShape itemsOf readAll readType readStep readKnown
+    readLowered readBare readOpaque readSlice readStruct
 sheet-examples-hold = (refl, (refl, (refl, (refl, (refl, (refl, (refl, (refl, tt))))))))

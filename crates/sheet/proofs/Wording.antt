@@ -30,7 +30,8 @@ pub words-more : (ws : List ℕ) (v : ℕ) (o : Option (List (List ℕ))) → wo
 words-more [] v o = refl
 words-more (w ∷ ws) v o = ap (wordBefore w) (words-more ws v o)
 
-pub words-last : (ws : List ℕ) (v : ℕ) (o : Option (List (List ℕ))) → wordsBefore ws (lineBefore (v ∷ []) o) ≡ lineBefore (ws ++ (v ∷ [])) o
+pub words-last : (ws : List ℕ) (v : ℕ) (o : Option (List (List ℕ)))
+    → wordsBefore ws (lineBefore (v ∷ []) o) ≡ lineBefore (ws ++ (v ∷ [])) o
 words-last [] v o = refl
 words-last (w ∷ ws) v o = ap (wordBefore w) (words-last ws v o) ∙ word-line w (ws ++ (v ∷ [])) o
 
@@ -44,7 +45,8 @@ module _ (bytes : List ℕ) (i : ℕ) (h : i < length bytes) where
   unfolding readLines
   at-word n = rw (drop-cons bytes i 0 h, ne-eqb (getD bytes i 0) newline n)
 
-  pub newline-behind : (v : ℕ) → getD bytes i 0 ≡ newline → readFrom (Behind v) bytes i ≡ lineBefore (v ∷ []) (readFrom LineStart bytes (i + 1))
+  pub newline-behind : (v : ℕ) → getD bytes i 0 ≡ newline
+      → readFrom (Behind v) bytes i ≡ lineBefore (v ∷ []) (readFrom LineStart bytes (i + 1))
   unfolding readLines
   newline-behind v e = rw (drop-cons bytes i 0 h, eq-eqb (getD bytes i 0) newline e, add-one i)
 
@@ -73,10 +75,26 @@ pub record Wording (bytes : List ℕ) (from to : ℕ) (words₀ words : List ℕ
 
 module _ (bytes : List ℕ) (from to : ℕ) (words : List ℕ) (h : from < length bytes) where
   pub empty-line : getD bytes from 0 ≡ newline → LineAt bytes from words words to (from + 1) to
-  empty-line e = record { line = []; reads = at-newline bytes from h e; counts = omega arith; stored = refl; after = omega arith; inside = omega arith }
+  empty-line e =
+      record {
+        line = [];
+        reads = at-newline bytes from h e;
+        counts = omega arith;
+        stored = refl;
+        after = omega arith;
+        inside = omega arith;
+      }
 
   pub wording-start : (getD bytes from 0 ≡ newline → ⊥) → Wording bytes from to words words from to
-  wording-start n = record { line = []; reads = at-word bytes from h n; counts = omega arith; stored = refl; place = omega arith; inside = omega arith }
+  wording-start n =
+      record {
+        line = [];
+        reads = at-word bytes from h n;
+        counts = omega arith;
+        stored = refl;
+        place = omega arith;
+        inside = omega arith;
+      }
 
 module _ {bytes : List ℕ} {from to : ℕ} {words₀ words : List ℕ} {i count : ℕ} (inv : Wording bytes from to words₀ words i count) where
   pub wording-size : length words ≡ length words₀
@@ -113,7 +131,8 @@ module _ {bytes : List ℕ} {from to : ℕ} {words₀ words : List ℕ} {i count
         pub wording-end : getD bytes at 0 ≡ newline → LineAt bytes from words₀ words′ to (at + 1) (count + 1)
         wording-end e = record {
           line = inv .line ++ (value ∷ []);
-          reads = reads-on ∙ ap (wordsBefore (inv .line)) (newline-behind bytes at h value e) ∙ words-last (inv .line) value (readFrom LineStart bytes (at + 1));
+          reads = reads-on ∙ ap (wordsBefore (inv .line)) (newline-behind bytes at h value e)
+              ∙ words-last (inv .line) value (readFrom LineStart bytes (at + 1));
           counts = omega (arith, longer, inv .counts);
           stored = puts;
           after = omega (arith, longer, inv .place, number .after);

@@ -1,4 +1,5 @@
--- What `read_text` answers: the words of the ten records one after another in the lent slice, and where each record ends.
+-- What `read_text` answers: the words of the ten records one after another in the lent slice, and where each record
+-- ends.
 use Prim.Native.Nat.{ℕ}
 use mathlib.Core.Bool.{cond, _&&_}
 use mathlib.Core.List.{List, [], _∷_, _++_}
@@ -12,7 +13,8 @@ use Rattle.sheet.specs.declared.text.Text.{Text}
 use Rattle.sheet.specs.Text.{Records, lists, wordsOf}
 use Rattle.sheet.specs.Reading.{sheetOf, textChecks}
 
--- the words of the record with a number: from where the one before ends to where it ends. None where there is no such record, or where these are no ends of records in the slice
+-- the words of the record with a number: from where the one before ends to where it ends. None where there is no such
+-- record, or where these are no ends of records in the slice
 abbrev pub startOf : List ℕ → ℕ → ℕ
 startOf ends i = getD (0 ∷ ends) i 0
 

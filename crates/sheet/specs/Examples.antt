@@ -1,4 +1,5 @@
--- Examples of texts: 01's own sheet, and the edges of the rules, as one list of bytes and what reading gives; and a list of sheets with their shapes. Theorems.ExamplesHold: each is so.
+-- Examples of texts: 01's own sheet, and the edges of the rules, as one list of bytes and what reading gives; and a
+-- list of sheets with their shapes. Theorems.ExamplesHold: each is so.
 use Prim.Native.Nat.{ℕ}
 use mathlib.Core.Path.{_≡_}
 use mathlib.Core.List.{List, [], _∷_, _++_, flatten}
@@ -26,7 +27,8 @@ sheetBytes =
     ++ (48 ∷ space ∷ 55 ∷ space ∷ 48 ∷ space ∷ 57 ∷ space ∷ 48 ∷ space ∷ 49 ∷ newline ∷ [])
     ++ (48 ∷ space ∷ 55 ∷ newline ∷ [])
     ++ (newline ∷ [])
-    ++ (49 ∷ space ∷ 48 ∷ space ∷ 49 ∷ space ∷ 50 ∷ space ∷ 49 ∷ space ∷ 49 ∷ space ∷ 51 ∷ space ∷ 49 ∷ space ∷ 51 ∷ newline ∷ [])
+    ++ (49 ∷ space ∷ 48 ∷ space ∷ 49 ∷ space ∷ 50 ∷ space ∷ 49 ∷ space ∷ 49 ∷ space ∷ 51 ∷ space ∷ 49 ∷ space ∷ 51
+    ∷ newline ∷ [])
     ++ (49 ∷ space ∷ 48 ∷ space ∷ 49 ∷ space ∷ 49 ∷ space ∷ 48 ∷ newline ∷ [])
     ++ (48 ∷ newline ∷ [])
 
@@ -62,7 +64,8 @@ examples =
     ∷ reads (heading ++ emptyLines 9) (Refuses Unreadable)
     ∷ reads (heading ++ emptyLines 11) (Refuses Unreadable)
     -- a last line `65535`, `65536`, `00`, `07`, with a space behind its word, without its end
-    ∷ reads (heading ++ emptyLines 9 ++ (54 ∷ 53 ∷ 53 ∷ 51 ∷ 53 ∷ newline ∷ [])) (Gives (recordsOf ([] ∷ [] ∷ [] ∷ [] ∷ [] ∷ [] ∷ [] ∷ [] ∷ [] ∷ (65535 ∷ []) ∷ [])))
+    ∷ reads (heading ++ emptyLines 9 ++ (54 ∷ 53 ∷ 53 ∷ 51 ∷ 53 ∷ newline ∷ []))
+    (Gives (recordsOf ([] ∷ [] ∷ [] ∷ [] ∷ [] ∷ [] ∷ [] ∷ [] ∷ [] ∷ (65535 ∷ []) ∷ [])))
     ∷ reads (heading ++ emptyLines 9 ++ (54 ∷ 53 ∷ 53 ∷ 51 ∷ 54 ∷ newline ∷ [])) (Refuses Unreadable)
     ∷ reads (heading ++ emptyLines 9 ++ (48 ∷ 48 ∷ newline ∷ [])) (Refuses Unreadable)
     ∷ reads (heading ++ emptyLines 9 ++ (48 ∷ 55 ∷ newline ∷ [])) (Refuses Unreadable)

@@ -1,4 +1,5 @@
--- Predicates that only private contracts cite: what reading a word, a line and ten lines from a place on says of reading the rest; records one after another.
+-- Predicates that only private contracts cite: what reading a word, a line and ten lines from a place on says of
+-- reading the rest; records one after another.
 use Prim.Native.Nat.{ℕ, _+_, _*_, _≤_, _<_}
 use mathlib.Core.Bool.{Bool, true, false}
 use mathlib.Core.Path.{_≡_}
@@ -7,8 +8,6 @@ use mathlib.Core.List.{List, _∷_, _++_, flatten}
 use mathlib.Core.Option.{Option, none, some}
 use lib.ListN.{length, getD, drop}
 use lib.Seq.{sets, slice}
-use Rattle.lifetimes.specs.declared.answer.Verdict.{Verdict}
-use Rattle.lifetimes.specs.declared.answer.Verdict.the-variants as verdict
 use Rattle.lifetimes.specs.Refusals.{NoneDue}
 use Rattle.sheet.specs.declared.word.Found.{Found}
 use Rattle.sheet.specs.declared.word.Found.the-variants as found
@@ -17,7 +16,8 @@ use Rattle.sheet.specs.declared.lines.Read.the-variants as read
 use Rattle.sheet.specs.declared.lines.Judged.{Judged}
 use Rattle.sheet.specs.declared.lines.Judged.the-variants as judged
 use Rattle.sheet.specs.Text.{Records, lists, wordsOf, mostWord}
-use Rattle.sheet.specs.Reading.{Place, LineStart, WordStart, Behind, continues, lineBefore, readLines, ten, allShort, sheetOf, textChecks}
+use Rattle.sheet.specs.Reading.{Place, LineStart, WordStart, Behind, continues, lineBefore, readLines, ten}
+use Rattle.sheet.specs.Reading.{allShort, sheetOf, textChecks}
 use Rattle.lifetimes.specs.Reach.{endsFrom}
 
 -- reading the bytes from an index on
@@ -105,7 +105,3 @@ pub record Counted (bytes ends : List ℕ) : Type 0 where
 -- so many words are enough for any sheet of these bytes
 abbrev pub Roomy : List ℕ → ℕ → Type 0
 Roomy bytes room = (n : ℕ) → n ≤ 10240 → 2 * n ≤ length bytes → n ≤ room
-
-abbrev pub isAccepted : Verdict → Bool
-isAccepted verdict.Accepted = true
-isAccepted (verdict.Refused k) = false

@@ -1,4 +1,5 @@
--- Reading the bytes of a sheet. That this is the inverse of `text`, with 01's refusals, is TextIsOneToOne and ReadingIsInverse in specs/Theorems.antt.
+-- Reading the bytes of a sheet. That this is the inverse of `text`, with 01's refusals, is TextIsOneToOne and
+-- ReadingIsInverse in specs/Theorems.antt.
 use Prim.Native.Nat.{ℕ, _+_, _*_, _-_}
 use mathlib.Core.Bool.{Bool, true, false, cond, not, _&&_}
 use mathlib.Core.List.{List, [], _∷_}
@@ -38,7 +39,8 @@ wordBefore w none = none
 wordBefore w (some []) = none
 wordBefore w (some (l ∷ ls)) = some ((w ∷ l) ∷ ls)
 
--- The lines of words that the bytes are, byte by byte; or none. No number grows above the limit (65,535, so that one digit is always within it).
+-- The lines of words that the bytes are, byte by byte; or none. No number grows above the limit (65,535, so that one
+-- digit is always within it).
 unfoldable pub readLines : ℕ → Place → List ℕ → Option (List (List ℕ))
 readLines limit LineStart [] = some []
 readLines limit WordStart [] = none
@@ -103,7 +105,8 @@ allShort (l ∷ ls) = leb (length l) mostWords && allShort ls
 
 -- The checks of a sheet's text, in 01's order: 10; then 1 for a record above 1,024 words, once the whole text is read
 unfoldable pub textChecks : List ℕ → List Check
-textChecks bytes = check (isNone (sheetIn bytes)) Unreadable ∷ check (not (allShort (lists (sheetOf bytes)))) Malformed ∷ []
+textChecks bytes = check (isNone (sheetIn bytes)) Unreadable ∷ check (not (allShort (lists (sheetOf bytes)))) Malformed
+    ∷ []
 
 unfoldable pub readText : List ℕ → Outcome Records
 readText bytes = unless (textChecks bytes) (sheetOf bytes)

@@ -14,14 +14,16 @@ use Rattle.sheet.specs.Reading.{sheetOf, textChecks}
 use Rattle.lifetimes.specs.Reach.{endsFrom}
 use Rattle.sheet.specs.Answer.{answerOf, withRoom}
 
--- Whether all ten are in shape; the last four are those of a method (`structs`; `params` and `output` beside so many rows; `force`)
+-- Whether all ten are in shape; the last four are those of a method (`structs`; `params` and `output` beside so many
+-- rows; `force`)
 unfoldable pub sheetInShape : Records → Bool
 sheetInShape r =
     (namesInShape (r .names) && (boundsInShape (r .bounds) && typesInShape (r .types)))
     && ((selfInShape (r .self) && (stepsInShape (r .steps) && stepsInShape (r .returns)))
     && methodInShape (r .structs) (r .params) (r .output) (r .force))
 
--- The checks of a sheet, in 01's order: 10; then 1 over all records, for one above 1,024 words or one that is not in shape
+-- The checks of a sheet, in 01's order: 10; then 1 over all records, for one above 1,024 words or one that is not in
+-- shape
 unfoldable pub sheetChecks : List ℕ → List Check
 sheetChecks bytes = textChecks bytes ++ (check (not (sheetInShape (sheetOf bytes))) Malformed ∷ [])
 

@@ -1,4 +1,5 @@
--- The text of a sheet (01, "The sheet"): a heading line with the records' names, then a line of words for each of the ten records. Bytes are numbers.
+-- The text of a sheet (01, "The sheet"): a heading line with the records' names, then a line of words for each of the
+-- ten records. Bytes are numbers.
 use Prim.Native.Nat.{ℕ, zero, suc, _+_, _/_, _%_, _≤_}
 use mathlib.Core.Bool.{cond}
 use mathlib.Core.List.{List, [], _∷_, _++_, flatMap, flatten, List·Memᴰ}
@@ -11,10 +12,12 @@ newline = 10
 abbrev pub space : ℕ
 space = 32
 
--- "decimal .., no leading zeros": the digits of a number, each 48 and its value, with enough fuel. DigitsOfNumbers in specs/Theorems.antt has the equations without the fuel.
+-- "decimal .., no leading zeros": the digits of a number, each 48 and its value, with enough fuel. DigitsOfNumbers in
+-- specs/Theorems.antt has the equations without the fuel.
 unfoldable pub digitsFor : ℕ → ℕ → List ℕ
 digitsFor zero n = []
-digitsFor (suc fuel) n = let more = digitsFor fuel (n / 10) ++ ((48 + n % 10) ∷ []) in cond (ltb n 10) ((48 + n) ∷ []) more
+digitsFor (suc fuel) n = let more = digitsFor fuel (n / 10) ++ ((48 + n % 10) ∷ []) in
+    cond (ltb n 10) ((48 + n) ∷ []) more
 
 unfoldable pub digits : ℕ → List ℕ
 digits n = digitsFor (suc n) n
@@ -32,9 +35,12 @@ line (word ∷ words) = digits word ++ following words
 -- "One line of names": names bounds types self steps returns structs params output force
 abbrev pub heading : List ℕ
 heading =
-    110 ∷ 97 ∷ 109 ∷ 101 ∷ 115 ∷ space ∷ 98 ∷ 111 ∷ 117 ∷ 110 ∷ 100 ∷ 115 ∷ space ∷ 116 ∷ 121 ∷ 112 ∷ 101 ∷ 115 ∷ space ∷ 115 ∷ 101 ∷ 108 ∷ 102 ∷ space
-    ∷ 115 ∷ 116 ∷ 101 ∷ 112 ∷ 115 ∷ space ∷ 114 ∷ 101 ∷ 116 ∷ 117 ∷ 114 ∷ 110 ∷ 115 ∷ space ∷ 115 ∷ 116 ∷ 114 ∷ 117 ∷ 99 ∷ 116 ∷ 115 ∷ space ∷ 112
-    ∷ 97 ∷ 114 ∷ 97 ∷ 109 ∷ 115 ∷ space ∷ 111 ∷ 117 ∷ 116 ∷ 112 ∷ 117 ∷ 116 ∷ space ∷ 102 ∷ 111 ∷ 114 ∷ 99 ∷ 101 ∷ newline ∷ []
+    110 ∷ 97 ∷ 109 ∷ 101 ∷ 115 ∷ space ∷ 98 ∷ 111 ∷ 117 ∷ 110 ∷ 100 ∷ 115 ∷ space ∷ 116 ∷ 121 ∷ 112 ∷ 101 ∷ 115 ∷ space
+    ∷ 115 ∷ 101 ∷ 108 ∷ 102 ∷ space
+    ∷ 115 ∷ 116 ∷ 101 ∷ 112 ∷ 115 ∷ space ∷ 114 ∷ 101 ∷ 116 ∷ 117 ∷ 114 ∷ 110 ∷ 115 ∷ space ∷ 115 ∷ 116 ∷ 114 ∷ 117 ∷ 99
+    ∷ 116 ∷ 115 ∷ space ∷ 112
+    ∷ 97 ∷ 114 ∷ 97 ∷ 109 ∷ 115 ∷ space ∷ 111 ∷ 117 ∷ 116 ∷ 112 ∷ 117 ∷ 116 ∷ space ∷ 102 ∷ 111 ∷ 114 ∷ 99 ∷ 101
+    ∷ newline ∷ []
 
 -- the ten records of a sheet, each a list of words
 pub record Records : Type 0 where
@@ -51,7 +57,8 @@ pub record Records : Type 0 where
 
 -- "ten lines of values in that order"
 abbrev pub lists : Records → List (List ℕ)
-lists r = r .names ∷ r .bounds ∷ r .types ∷ r .self ∷ r .steps ∷ r .returns ∷ r .structs ∷ r .params ∷ r .output ∷ r .force ∷ []
+lists r = r .names ∷ r .bounds ∷ r .types ∷ r .self ∷ r .steps ∷ r .returns ∷ r .structs ∷ r .params ∷ r .output
+    ∷ r .force ∷ []
 
 -- the words of all records, one after another
 abbrev pub wordsOf : Records → List ℕ

@@ -1,4 +1,5 @@
--- The main theorems of this crate, stated. Each has its proof, a term of exactly this type and of the same name in small letters, in proofs/Theorems.antt.
+-- The main theorems of this crate, stated. Each has its proof, a term of exactly this type and of the same name in
+-- small letters, in proofs/Theorems.antt.
 use Prim.Native.Nat.{ℕ, _+_, _*_, _/_, _%_, _≤_, _<_}
 use mathlib.Core.Bool.{true, false}
 use mathlib.Core.Path.{_≡_}
@@ -35,19 +36,23 @@ pub record IsSheet (bytes : List ℕ) (r : Records) : Type 0 where
   pub words : WordsUpTo mostWord r
   pub size : length bytes ≤ mostBytes
 
--- Reading gives a sheet exactly if the bytes are that sheet and no record of it has more than 1,024 words; it refuses with 10 exactly if the bytes are no sheet; with 1 exactly if they are
--- a sheet with a longer record; and with nothing else.
+-- Reading gives a sheet exactly if the bytes are that sheet and no record of it has more than 1,024 words; it refuses
+-- with 10 exactly if the bytes are no sheet; with 1 exactly if they are a sheet with a longer record; and with nothing
+-- else.
 pub record ReadsBack (bytes : List ℕ) : Type 0 where
-  pub given : (r : Records) → (readText bytes ≡ Gives r) ↔ (IsSheet bytes r × ((l : List ℕ) → List·Memᴰ l (lists r) → length l ≤ mostWords))
+  pub given : (r : Records) → (readText bytes ≡ Gives r)
+      ↔ (IsSheet bytes r × ((l : List ℕ) → List·Memᴰ l (lists r) → length l ≤ mostWords))
   pub unreadable : (readText bytes ≡ Refuses Unreadable) ↔ ((r : Records) → IsSheet bytes r → ⊥)
-  pub malformed : (readText bytes ≡ Refuses Malformed) ↔ ((r : Records) × IsSheet bytes r × ((l : List ℕ) × List·Memᴰ l (lists r) × (mostWords < length l)))
+  pub malformed : (readText bytes ≡ Refuses Malformed)
+      ↔ ((r : Records) × IsSheet bytes r × ((l : List ℕ) × List·Memᴰ l (lists r) × (mostWords < length l)))
   pub refusals : (k : Refusal) → readText bytes ≡ Refuses k → (k ≡ Unreadable) ⊎ (k ≡ Malformed)
 
 abbrev pub ReadingIsInverse : Type 0
 ReadingIsInverse = (bytes : List ℕ) → ReadsBack bytes
 
--- Reading with the shapes: gives a sheet exactly if the bytes are that sheet and its records are in shape; refuses with 10 exactly if the bytes are no sheet; with 1 exactly if
--- they are a sheet whose records are not all in shape (a record above 1,024 words is not); and with nothing else.
+-- Reading with the shapes: gives a sheet exactly if the bytes are that sheet and its records are in shape; refuses with
+-- 10 exactly if the bytes are no sheet; with 1 exactly if they are a sheet whose records are not all in shape (a record
+-- above 1,024 words is not); and with nothing else.
 pub record ReadsInShape (bytes : List ℕ) : Type 0 where
   pub given : (r : Records) → (readSheet bytes ≡ Gives r) ↔ (IsSheet bytes r × (sheetInShape r ≡ true))
   pub unreadable : (readSheet bytes ≡ Refuses Unreadable) ↔ ((r : Records) → IsSheet bytes r → ⊥)
@@ -61,23 +66,29 @@ ReadingJudgesShapes = (bytes : List ℕ) → ReadsInShape bytes
 abbrev pub ShapesAreShort : Type 0
 ShapesAreShort = (r : Records) → sheetInShape r ≡ true → (l : List ℕ) → List·Memᴰ l (lists r) → length l ≤ mostWords
 
--- What a call answers and writes, from what reading gives: the words and ends of the sheet's records; 9 where the words are more than the slice takes; else the refusal of the reading.
+-- What a call answers and writes, from what reading gives: the words and ends of the sheet's records; 9 where the words
+-- are more than the slice takes; else the refusal of the reading.
 pub record CallGives (reading : Outcome Records) (words ends : Outcome (List ℕ)) (room : ℕ) : Type 0 where
-  pub given : (r : Records) → reading ≡ Gives r → length (wordsOf r) ≤ room → (words ≡ Gives (wordsOf r)) × (ends ≡ Gives (endsFrom 0 (lists r)))
-  pub short : (r : Records) → reading ≡ Gives r → room < length (wordsOf r) → (words ≡ Refuses NoRoom) × (ends ≡ Refuses NoRoom)
+  pub given : (r : Records) → reading ≡ Gives r → length (wordsOf r) ≤ room → (words ≡ Gives (wordsOf r))
+      × (ends ≡ Gives (endsFrom 0 (lists r)))
+  pub short : (r : Records) → reading ≡ Gives r → room < length (wordsOf r) → (words ≡ Refuses NoRoom)
+      × (ends ≡ Refuses NoRoom)
   pub refused : (k : Refusal) → reading ≡ Refuses k → (words ≡ Refuses k) × (ends ≡ Refuses k)
 
 -- `read_text`, and `read_sheet`
 abbrev pub CallReadsText : Type 0
-CallReadsText = (bytes : List ℕ) (room : ℕ) → CallGives (readText bytes) (readWords bytes room) (readEnds bytes room) room
+CallReadsText = (bytes : List ℕ) (room : ℕ) → CallGives (readText bytes) (readWords bytes room) (readEnds bytes room)
+    room
 
 abbrev pub CallReadsSheet : Type 0
-CallReadsSheet = (bytes : List ℕ) (room : ℕ) → CallGives (readSheet bytes) (sheetWords bytes room) (sheetEnds bytes room) room
+CallReadsSheet =
+    (bytes : List ℕ) (room : ℕ) → CallGives (readSheet bytes) (sheetWords bytes room) (sheetEnds bytes room) room
 
 -- The words of each record stand from where the one before ends to where it ends, whatever is behind them
 abbrev pub RecordsInPlace : Type 0
 RecordsInPlace = (r : Records) (rest : List ℕ) (i : ℕ) → i < 10
-    → slice (getD (0 ∷ endsFrom 0 (lists r)) i 0) (getD (endsFrom 0 (lists r)) i 0) (wordsOf r ++ rest) ≡ getD (lists r) i []
+    → slice (getD (0 ∷ endsFrom 0 (lists r)) i 0) (getD (endsFrom 0 (lists r)) i 0) (wordsOf r ++ rest)
+    ≡ getD (lists r) i []
 
 -- A slice of 10,240 words takes any sheet that reading gives
 abbrev pub RoomForAnySheet : Type 0

@@ -6,6 +6,7 @@ ghost use mathlib.Core.Bool.{cond};
 ghost use mathlib.Core.Path.{_≡_};
 ghost use lib.Dec.{leb};
 ghost use lib.ListN.{length, set};
+ghost use Rattle.lifetimes.specs.Lent.{held, left};
 ghost use Rattle.sheet.specs.declared.lines.Judged.the-variants.{TooLong};
 ghost use Rattle.sheet.specs.Text.{mostWords};
 ghost use Rattle.sheet.specs.Inner.{LineRead, LinesRead};
@@ -21,7 +22,7 @@ enum Read {
 
 // Store a word, where the slice has the place.
 fn put(words: &mut [usize], at: usize, word: usize)
-    ensures { λ _. ⌜ now (words .exit) ≡ set (now (words .entry)) at word ⌝ }
+    ensures { λ _. ⌜ left words ≡ set (held words) at word ⌝ }
 {
     if at < words.len() {
         words[at] = word;
@@ -31,7 +32,7 @@ fn put(words: &mut [usize], at: usize, word: usize)
 // The words of the line that starts at a place, stored from `to` on; none at the end of the bytes.
 fn line(bytes: &[u8], from: usize, words: &mut [usize], to: usize) -> Read
     requires { ⌜ to ≤ from ⌝ }
-    ensures { λ r. ⌜ LineRead (now (bytes .entry)) from (now (words .entry)) (now (words .exit)) to r ⌝ }
+    ensures { λ r. ⌜ LineRead (held bytes) from (held words) (left words) to r ⌝ }
 {
     let n = bytes.len();
     if n <= from {
@@ -81,7 +82,8 @@ fn also(before: Judged, count: usize) -> Judged
     before
 }
 
-// The words of ten lines from a place on to the end of the bytes, stored from the front, and where each line's words end.
+// The words of ten lines from a place on to the end of the bytes, stored from the front, and where each line's words
+// end.
 pub(crate) fn lines(
     bytes: &[u8],
     from: usize,
@@ -89,7 +91,7 @@ pub(crate) fn lines(
     ends: &mut [usize; 10],
 ) -> Judged
     requires { ⌜ length (now ends) ≡ 10 ⌝ }
-    ensures { λ r. ⌜ LinesRead (now (bytes .entry)) from (now (words .entry)) (now (words .exit)) (now (ends .exit)) r ⌝ }
+    ensures { λ r. ⌜ LinesRead (held bytes) from (held words) (left words) (left ends) r ⌝ }
 {
     let mut at = from;
     let mut count = 0;

@@ -1,12 +1,13 @@
 // The words of one record, where ten stand one after another.
 ghost use Prim.Native.Nat.{_<_};
 ghost use mathlib.Core.Path.{_≡_};
+ghost use Rattle.lifetimes.specs.Lent.{held};
 ghost use Rattle.sheet.specs.Answer.{recordWords, startOf};
 
-// The words of the record with a number, 0 to 9, in a slice where ten records end at these places: as `read_text` and `read_sheet` write and answer them. None where there is no such record, or
-// where records in this slice cannot end so.
+// The words of the record with a number, 0 to 9, in a slice where ten records end at these places: as `read_text` and
+// `read_sheet` write and answer them. None where there is no such record, or where records in this slice cannot end so.
 pub fn record_words(words: &[usize], ends: [usize; 10], i: usize) -> &[usize]
-    ensures { λ r. ⌜ now r ≡ recordWords (now (words .entry)) ends i ⌝ }
+    ensures answer { λ r. ⌜ now r ≡ recordWords (held words) ends i ⌝ }
 {
     if 10 <= i {
         return &words[0..0];

@@ -4,9 +4,10 @@ ghost use mathlib.Core.Path.{_≡_};
 ghost use Rattle.ast_lifetimes.specs.Shapes.{namesInShape, boundsInShape};
 ghost use Rattle.ast_lifetimes.specs.Types.{typesInShape};
 ghost use Rattle.elision.specs.Steps.{selfInShape, stepsInShape};
+ghost use Rattle.lifetimes.specs.Lent.{held, isAccepted};
 ghost use Rattle.lowered_types.specs.Rows.{methodInShape};
 ghost use Rattle.sheet.specs.Shape.{sheetInShape};
-ghost use Rattle.sheet.specs.Inner.{isAccepted, recordAt, recordsAt, Laid};
+ghost use Rattle.sheet.specs.Inner.{recordAt, recordsAt, Laid};
 use super::record::record_words;
 use ast_lifetimes::bounds_shape;
 use ast_lifetimes::names_shape;
@@ -19,7 +20,7 @@ use lowered_types::method_shape;
 // Whether records are in shape whose words stand one record after another.
 pub(crate) fn laid_in_shape(words: &[usize], ends: [usize; 10]) -> bool
     requires { ⌜ Laid (now words) ends ⌝ }
-    ensures { λ r. ⌜ r ≡ sheetInShape (recordsAt (now (words .entry)) ends) ⌝ }
+    ensures { λ r. ⌜ r ≡ sheetInShape (recordsAt (held words) ends) ⌝ }
 {
     let environment = environment_in_shape(words, ends);
     let elision = elision_in_shape(words, ends);
@@ -29,7 +30,8 @@ pub(crate) fn laid_in_shape(words: &[usize], ends: [usize; 10]) -> bool
 
 fn environment_in_shape(words: &[usize], ends: [usize; 10]) -> bool
     requires { ⌜ Laid (now words) ends ⌝ }
-    ensures { λ r. ⌜ r ≡ namesInShape (recordAt (now (words .entry)) ends 0) && (boundsInShape (recordAt (now (words .entry)) ends 1) && typesInShape (recordAt (now (words .entry)) ends 2)) ⌝ }
+    ensures { λ r. ⌜ r ≡ namesInShape (recordAt (held words) ends 0)
+        && (boundsInShape (recordAt (held words) ends 1) && typesInShape (recordAt (held words) ends 2)) ⌝ }
 {
     let names = accepted(names_shape(record_words(words, ends, 0)));
     let bounds = accepted(bounds_shape(record_words(words, ends, 1)));
@@ -39,7 +41,8 @@ fn environment_in_shape(words: &[usize], ends: [usize; 10]) -> bool
 
 fn elision_in_shape(words: &[usize], ends: [usize; 10]) -> bool
     requires { ⌜ Laid (now words) ends ⌝ }
-    ensures { λ r. ⌜ r ≡ selfInShape (recordAt (now (words .entry)) ends 3) && (stepsInShape (recordAt (now (words .entry)) ends 4) && stepsInShape (recordAt (now (words .entry)) ends 5)) ⌝ }
+    ensures { λ r. ⌜ r ≡ selfInShape (recordAt (held words) ends 3)
+        && (stepsInShape (recordAt (held words) ends 4) && stepsInShape (recordAt (held words) ends 5)) ⌝ }
 {
     let own = accepted(self_shape(record_words(words, ends, 3)));
     let steps = accepted(steps_shape(record_words(words, ends, 4)));
@@ -49,7 +52,8 @@ fn elision_in_shape(words: &[usize], ends: [usize; 10]) -> bool
 
 fn method_in_shape(words: &[usize], ends: [usize; 10]) -> bool
     requires { ⌜ Laid (now words) ends ⌝ }
-    ensures { λ r. ⌜ r ≡ methodInShape (recordAt (now (words .entry)) ends 6) (recordAt (now (words .entry)) ends 7) (recordAt (now (words .entry)) ends 8) (recordAt (now (words .entry)) ends 9) ⌝ }
+    ensures { λ r. ⌜ r ≡ methodInShape (recordAt (held words) ends 6) (recordAt (held words) ends 7)
+        (recordAt (held words) ends 8) (recordAt (held words) ends 9) ⌝ }
 {
     let shape = method_shape(
         record_words(words, ends, 6),

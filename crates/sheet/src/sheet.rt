@@ -1,11 +1,11 @@
 // The call that reads a sheet and judges the shape of its records.
 //
-// A refused call writes nothing, so the words are read into scratch, judged there, and copied once nothing can be refused any more. Scratch has four sizes, so that a small sheet does not pay for
-// a large one.
+// A refused call writes nothing, so the words are read into scratch, judged there, and copied once nothing can be
+// refused any more. Scratch has four sizes, so that a small sheet does not pay for a large one.
 ghost use Prim.Native.Nat.{_≤_};
 ghost use mathlib.Core.Path.{_≡_};
 ghost use lib.ListN.{length};
-ghost use Rattle.lifetimes.specs.Lent.{written};
+ghost use Rattle.lifetimes.specs.Lent.{held, room, Fills};
 ghost use Rattle.sheet.specs.Shape.{sheetAnswer, sheetWords};
 ghost use Rattle.sheet.specs.Inner.{Roomy};
 use super::shapes::laid_in_shape;
@@ -17,21 +17,23 @@ use lifetimes::Refusal;
 use lifetimes::Verdict;
 use records::copy_words;
 
-// Read a sheet whose records are all in shape. The words of its ten records are written to a slice, one record after another; the answer says where each ends.
-// Refused by 10 where the bytes are not the text of a sheet, then by 1 where a record has more than 1,024 words or is not in shape, then by 9 where the slice is too short.
-// 10,240 words are always enough. Reads each byte once.
+// Read a sheet whose records are all in shape. The words of its ten records are written to a slice, one record after
+// another; the answer says where each ends. Refused by 10 where the bytes are not the text of a sheet, then by 1 where
+// a record has more than 1,024 words or is not in shape, then by 9 where the slice is too short. 10,240 words are
+// always enough. Reads each byte once.
 pub fn read_sheet(sheet: &[u8], words: &mut [usize]) -> Text
-    ensures { λ r. ⌜ r ≡ sheetAnswer (now (sheet .entry)) (length (now (words .entry))) ⌝ }
-    ensures { λ _. ⌜ now (words .exit) ≡ written (sheetWords (now (sheet .entry)) (length (now (words .entry)))) (now (words .entry)) ⌝ }
+    ensures answer { λ r. ⌜ r ≡ sheetAnswer (held sheet) (room words) ⌝ }
+    ensures stored { λ _. ⌜ Fills (sheetWords (held sheet) (room words)) words ⌝ }
 {
     read_sized(sheet, words, 256)
 }
 
-// The same with scratch for sheets of so many bytes, or of more where this sheet has more. That it calls itself keeps the arrays of the larger sizes out of the frame of the smaller ones: the
-// compiler puts no large frame into that of a function that calls itself.
+// The same with scratch for sheets of so many bytes, or of more where this sheet has more. That it calls itself keeps
+// the arrays of the larger sizes out of the frame of the smaller ones: the compiler puts no large frame into that of a
+// function that calls itself.
 fn read_sized(sheet: &[u8], words: &mut [usize], bytes: usize) -> Text
-    ensures { λ r. ⌜ r ≡ sheetAnswer (now (sheet .entry)) (length (now (words .entry))) ⌝ }
-    ensures { λ _. ⌜ now (words .exit) ≡ written (sheetWords (now (sheet .entry)) (length (now (words .entry)))) (now (words .entry)) ⌝ }
+    ensures { λ r. ⌜ r ≡ sheetAnswer (held sheet) (room words) ⌝ }
+    ensures { λ _. ⌜ Fills (sheetWords (held sheet) (room words)) words ⌝ }
 {
     if bytes <= 256 {
         if sheet.len() <= 256 {
@@ -54,8 +56,8 @@ fn read_sized(sheet: &[u8], words: &mut [usize], bytes: usize) -> Text
 // The same in scratch of one size: a word takes two bytes at least.
 fn read_256(sheet: &[u8], words: &mut [usize]) -> Text
     requires { ⌜ length (now sheet) ≤ 256 ⌝ }
-    ensures { λ r. ⌜ r ≡ sheetAnswer (now (sheet .entry)) (length (now (words .entry))) ⌝ }
-    ensures { λ _. ⌜ now (words .exit) ≡ written (sheetWords (now (sheet .entry)) (length (now (words .entry)))) (now (words .entry)) ⌝ }
+    ensures { λ r. ⌜ r ≡ sheetAnswer (held sheet) (room words) ⌝ }
+    ensures { λ _. ⌜ Fills (sheetWords (held sheet) (room words)) words ⌝ }
 {
     let mut scratch = [0usize; 128];
     read_within(sheet, &mut scratch, words)
@@ -63,8 +65,8 @@ fn read_256(sheet: &[u8], words: &mut [usize]) -> Text
 
 fn read_1024(sheet: &[u8], words: &mut [usize]) -> Text
     requires { ⌜ length (now sheet) ≤ 1024 ⌝ }
-    ensures { λ r. ⌜ r ≡ sheetAnswer (now (sheet .entry)) (length (now (words .entry))) ⌝ }
-    ensures { λ _. ⌜ now (words .exit) ≡ written (sheetWords (now (sheet .entry)) (length (now (words .entry)))) (now (words .entry)) ⌝ }
+    ensures { λ r. ⌜ r ≡ sheetAnswer (held sheet) (room words) ⌝ }
+    ensures { λ _. ⌜ Fills (sheetWords (held sheet) (room words)) words ⌝ }
 {
     let mut scratch = [0usize; 512];
     read_within(sheet, &mut scratch, words)
@@ -72,16 +74,16 @@ fn read_1024(sheet: &[u8], words: &mut [usize]) -> Text
 
 fn read_4096(sheet: &[u8], words: &mut [usize]) -> Text
     requires { ⌜ length (now sheet) ≤ 4096 ⌝ }
-    ensures { λ r. ⌜ r ≡ sheetAnswer (now (sheet .entry)) (length (now (words .entry))) ⌝ }
-    ensures { λ _. ⌜ now (words .exit) ≡ written (sheetWords (now (sheet .entry)) (length (now (words .entry)))) (now (words .entry)) ⌝ }
+    ensures { λ r. ⌜ r ≡ sheetAnswer (held sheet) (room words) ⌝ }
+    ensures { λ _. ⌜ Fills (sheetWords (held sheet) (room words)) words ⌝ }
 {
     let mut scratch = [0usize; 2048];
     read_within(sheet, &mut scratch, words)
 }
 
 fn read_any(sheet: &[u8], words: &mut [usize]) -> Text
-    ensures { λ r. ⌜ r ≡ sheetAnswer (now (sheet .entry)) (length (now (words .entry))) ⌝ }
-    ensures { λ _. ⌜ now (words .exit) ≡ written (sheetWords (now (sheet .entry)) (length (now (words .entry)))) (now (words .entry)) ⌝ }
+    ensures { λ r. ⌜ r ≡ sheetAnswer (held sheet) (room words) ⌝ }
+    ensures { λ _. ⌜ Fills (sheetWords (held sheet) (room words)) words ⌝ }
 {
     let mut scratch = [0usize; 10240];
     read_within(sheet, &mut scratch, words)
@@ -90,8 +92,8 @@ fn read_any(sheet: &[u8], words: &mut [usize]) -> Text
 // The same with scratch that takes the words of any sheet of so many bytes.
 fn read_within(sheet: &[u8], scratch: &mut [usize], words: &mut [usize]) -> Text
     requires { ⌜ Roomy (now sheet) (length (now scratch)) ⌝ }
-    ensures { λ r. ⌜ r ≡ sheetAnswer (now (sheet .entry)) (length (now (words .entry))) ⌝ }
-    ensures { λ _. ⌜ now (words .exit) ≡ written (sheetWords (now (sheet .entry)) (length (now (words .entry)))) (now (words .entry)) ⌝ }
+    ensures { λ r. ⌜ r ≡ sheetAnswer (held sheet) (room words) ⌝ }
+    ensures { λ _. ⌜ Fills (sheetWords (held sheet) (room words)) words ⌝ }
 {
     let text = scan(sheet, scratch);
     let verdict = text.verdict;

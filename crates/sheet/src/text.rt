@@ -3,10 +3,10 @@ ghost use mathlib.Core.Bool.{cond};
 ghost use mathlib.Core.Path.{_≡_};
 ghost use mathlib.Core.Option.{none, some};
 ghost use lib.Dec.{leb};
-ghost use lib.ListN.{length, drop};
+ghost use lib.ListN.{drop};
 ghost use lib.Seq.{sets};
 ghost use Rattle.lifetimes.specs.Refusals.{Refuses, NoneDue};
-ghost use Rattle.lifetimes.specs.Lent.{written};
+ghost use Rattle.lifetimes.specs.Lent.{held, room, left, Fills};
 ghost use Rattle.sheet.specs.Text.{heading, wordsOf};
 ghost use Rattle.sheet.specs.Reading.{behind, sheetOf, textChecks};
 ghost use Rattle.sheet.specs.Answer.{answerOf, measured, readAnswer, readWords};
@@ -16,7 +16,8 @@ use super::shapes::both;
 use lifetimes::Refusal;
 use lifetimes::Verdict;
 
-// Whether a text is refused, and where the words of each of its ten records end, one record after another. Beside a refusal all ends are 0.
+// Whether a text is refused, and where the words of each of its ten records end, one record after another. Beside a
+// refusal all ends are 0.
 pub struct Text {
     pub verdict: Verdict,
     pub ends: [usize; 10],
@@ -30,12 +31,13 @@ impl Text {
     pub const HEADING: usize = 66;
 }
 
-// Read the text of a sheet, whatever the shape of its records. The words of its ten records are written to a slice, one record after another; the answer says where each ends.
-// Refused by 10 where the bytes are not the text of a sheet, then by 1 for a record above 1,024 words, then by 9 where the slice is too short. 10,240 words are always
-// enough. Reads each byte twice: once to judge and to count, once to write.
+// Read the text of a sheet, whatever the shape of its records. The words of its ten records are written to a slice, one
+// record after another; the answer says where each ends. Refused by 10 where the bytes are not the text of a sheet,
+// then by 1 for a record above 1,024 words, then by 9 where the slice is too short. 10,240 words are always enough.
+// Reads each byte twice: once to judge and to count, once to write.
 pub fn read_text(sheet: &[u8], words: &mut [usize]) -> Text
-    ensures { λ r. ⌜ r ≡ readAnswer (now (sheet .entry)) (length (now (words .entry))) ⌝ }
-    ensures { λ _. ⌜ now (words .exit) ≡ written (readWords (now (sheet .entry)) (length (now (words .entry)))) (now (words .entry)) ⌝ }
+    ensures answer { λ r. ⌜ r ≡ readAnswer (held sheet) (room words) ⌝ }
+    ensures stored { λ _. ⌜ Fills (readWords (held sheet) (room words)) words ⌝ }
 {
     let judged = measure(sheet);
     let verdict = judged.verdict;
@@ -61,7 +63,7 @@ pub(crate) fn refused(refusal: Refusal) -> Text
 
 // Judge a text and count its words, without writing any. Refused by 10, then by 1.
 fn measure(sheet: &[u8]) -> Text
-    ensures { λ r. ⌜ r ≡ measured (now (sheet .entry)) ⌝ }
+    ensures { λ r. ⌜ r ≡ measured (held sheet) ⌝ }
 {
     let mut unused = [0usize; 1];
     scan(sheet, &mut unused)
@@ -69,8 +71,10 @@ fn measure(sheet: &[u8]) -> Text
 
 // The same, and the words of an accepted text are left in scratch, one record after another, as far as it goes.
 pub(crate) fn scan(sheet: &[u8], scratch: &mut [usize]) -> Text
-    ensures { λ r. ⌜ r ≡ measured (now (sheet .entry)) ⌝ }
-    ensures { λ _. ⌜ (NoneDue (textChecks (now (sheet .entry))) → now (scratch .exit) ≡ sets (now (scratch .entry)) 0 (wordsOf (sheetOf (now (sheet .entry))))) ⌝ }
+    ensures { λ r. ⌜ r ≡ measured (held sheet) ⌝ }
+    ensures { λ _.
+        ⌜ (NoneDue (textChecks (held sheet)) → left scratch
+        ≡ sets (held scratch) 0 (wordsOf (sheetOf (held sheet)))) ⌝ }
 {
     if Text::MAX_BYTES < sheet.len() {
         return refused(Refusal::Unreadable);
@@ -89,11 +93,12 @@ pub(crate) fn scan(sheet: &[u8], scratch: &mut [usize]) -> Text
     }
 }
 
-// Write the words of an accepted text, `count` of them, where the slice takes them all; else none. Says whether it does.
+// Write the words of an accepted text, `count` of them, where the slice takes them all; else none. Says whether it
+// does.
 fn write_all(sheet: &[u8], count: usize, words: &mut [usize]) -> bool
     requires { ⌜ NoneDue (textChecks (now sheet)) ⌝ }
-    ensures { λ r. ⌜ r ≡ leb count (length (now (words .entry))) ⌝ }
-    ensures { λ r. ⌜ now (words .exit) ≡ cond r (sets (now (words .entry)) 0 (wordsOf (sheetOf (now (sheet .entry))))) (now (words .entry)) ⌝ }
+    ensures { λ r. ⌜ r ≡ leb count (room words) ⌝ }
+    ensures { λ r. ⌜ left words ≡ cond r (sets (held words) 0 (wordsOf (sheetOf (held sheet)))) (held words) ⌝ }
 {
     let fits = count <= words.len();
     if fits {
@@ -105,15 +110,16 @@ fn write_all(sheet: &[u8], count: usize, words: &mut [usize]) -> bool
 // Write the words of an accepted text, one record after another, as far as the slice goes.
 fn write(sheet: &[u8], words: &mut [usize])
     requires { ⌜ NoneDue (textChecks (now sheet)) ⌝ }
-    ensures { λ _. ⌜ now (words .exit) ≡ sets (now (words .entry)) 0 (wordsOf (sheetOf (now (sheet .entry)))) ⌝ }
+    ensures { λ _. ⌜ left words ≡ sets (held words) 0 (wordsOf (sheetOf (held sheet))) ⌝ }
 {
     let mut ends = [0usize; 10];
     lines(sheet, Text::HEADING, words, &mut ends);
 }
 
-// Whether the first line is the heading. All its bytes are compared: without an early end the compiler compares many at a time.
+// Whether the first line is the heading. All its bytes are compared: without an early end the compiler compares many at
+// a time.
 fn headed(bytes: &[u8]) -> bool
-    ensures { λ r. ⌜ behind heading (now (bytes .entry)) ≡ cond r (some (drop 66 (now (bytes .entry)))) none ⌝ }
+    ensures { λ r. ⌜ behind heading (held bytes) ≡ cond r (some (drop 66 (held bytes))) none ⌝ }
 {
     let line = b"names bounds types self steps returns structs params output force\n";
     if bytes.len() < Text::HEADING {

@@ -1,5 +1,6 @@
 // One number of a line.
 ghost use mathlib.Core.Path.{_≡_};
+ghost use Rattle.lifetimes.specs.Lent.{held};
 ghost use Rattle.sheet.specs.Inner.{WordRead};
 
 // A number that stands at a place, and the place behind its digits; or none.
@@ -16,7 +17,7 @@ fn wide(b: u8) -> usize
 
 // The number that starts at a place: decimal, no leading zero, at most 65535. Reads its digits and one byte more.
 pub(crate) fn word(bytes: &[u8], from: usize) -> Found
-    ensures { λ r. ⌜ WordRead (now (bytes .entry)) from r ⌝ }
+    ensures { λ r. ⌜ WordRead (held bytes) from r ⌝ }
 {
     let n = bytes.len();
     if n <= from {

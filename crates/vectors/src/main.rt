@@ -58,6 +58,7 @@ fn answer(kind: usize, words: &[usize], at: usize) -> usize
         22 => lowerer::input_then_output(words, at),
         23 => borrows::borrow(words, at),
         24 | 25 | 26 => sheets::ask(kind, words, at),
+        27 => visits::edge(words, at),
         _ => words.len(),
     }
 }

@@ -7,7 +7,10 @@ use super::rooms;
 use super::scan;
 use super::types;
 use borrowing_param::BorrowingParamVisitor;
+use borrowing_param::EdgeAt;
+use borrowing_param::LifetimeEdge;
 use borrowing_param::ParamBorrowInfo;
+use borrowing_param::edge_at;
 use lifetimes::Verdict;
 use lifetimes::set;
 use records::End;
@@ -162,4 +165,29 @@ fn print_pair(def: usize, used: u64) {
         print::next(set::count(used));
         types::print_members(used);
     }
+}
+
+// Kind 27: a record of words, and a place. `edge_at`: 0 for none; or 1 and the values of the edge.
+pub(crate) fn edge(words: &[usize], at: usize) -> usize
+    requires { ⌜ at ≤ length (now words) ⌝ }
+    ensures { λ r. ⌜ (at ≤ r) × (r ≤ length (now (words .entry))) ⌝ }
+{
+    let place = scan::behind_record(words, at);
+    let found = edge_at(scan::record(words, at), scan::number(words, place));
+    match found {
+        EdgeAt::Absent => print::first(0),
+        EdgeAt::Edge(edge) => print_edge(edge),
+    }
+    print::end();
+    scan::behind(words, place)
+}
+
+// An edge that is there.
+fn print_edge(edge: LifetimeEdge) {
+    print::first(1);
+    print::next(edge.used);
+    print::next(edge.param);
+    print::next(edge.kind);
+    print::next(edge.def);
+    print::next(edge.option);
 }

@@ -11,57 +11,40 @@ use Rattle.ast_lifetimes.proofs.bounds.push_pair.Tie as tie
 sized : (c : tie.Start) → length (take (c .args .named) (c .args .names .now)) ≡ c .args .named
 sized c = length-take-le (c .args .named) (c .args .names .now) (omega (arith, c .pre .0))
 
-position-requires : tie.Need-position-requires
-position-requires c κs = search needs
-
 returns : tie.Need-returns
-returns c = let s = c .before .before in push-longer (sized s) (s .pre .1 .1) (s .pre .1 .2) (c .before .position .ensures) (c .if1 .taken)
-
-position-requires-2 : tie.Need-position-requires-2
-position-requires-2 c κs = search needs
+returns c = let s = c .before .before in
+    push-longer (sized s) (s .pre .1 .1) (s .pre .1 .2) (c .before .position .ensures) (c .if1 .taken)
 
 returns-2 : tie.Need-returns-2
 returns-2 c =
     let s = c .before .before .before .before in
-    push-shorter (sized s) (s .pre .1 .1) (s .pre .1 .2) (c .before .before .before .position .ensures) (c .before .before .if1 .left) (c .before .position2 .ensures) (c .if2 .taken)
+    push-shorter (sized s) (s .pre .1 .1) (s .pre .1 .2) (c .before .before .before .position .ensures)
+    (c .before .before .if1 .left) (c .before .position2 .ensures) (c .if2 .taken)
 
 returns-3 : tie.Need-returns-3
 returns-3 c =
     let s = c .before .before .before .before .before in
     let long = c .before .before .before .before .position in
     let short = c .before .before .position2 in
-    push-full (sized s) (s .pre .1 .1) (s .pre .1 .2) (long .ensures) (c .before .before .before .if1 .left) (short .ensures) (c .before .if2 .left) (c .if3 .taken)
-
-cast-longs : tie.Need-cast-longs
-cast-longs c = search needs
-
-element-write-longs : tie.Need-element-write-longs
-element-write-longs c = search needs
-
-cast-shorts : tie.Need-cast-shorts
-cast-shorts c = search needs
-
-element-write-shorts : tie.Need-element-write-shorts
-element-write-shorts c = search needs
+    push-full (sized s) (s .pre .1 .1) (s .pre .1 .2) (long .ensures) (c .before .before .before .if1 .left)
+    (short .ensures) (c .before .if2 .left) (c .if3 .taken)
 
 returns-4 : tie.Need-returns-4
 returns-4 c =
     let s = c .before .before .before .before .before in
     let long = c .before .before .before .before .position in
     let short = c .before .before .position2 in
-    push-given (sized s) (s .pre .1 .1) (s .pre .1 .2) (long .ensures) (c .before .before .before .if1 .left) (short .ensures) (c .before .if2 .left) (c .if3 .left)
+    push-given (sized s) (s .pre .1 .1) (s .pre .1 .2) (long .ensures) (c .before .before .before .if1 .left)
+    (short .ensures) (c .before .if2 .left) (c .if3 .left)
 
 pub push-pair-spec : {M : Type 1} → statement M
 push-pair-spec =
     tie.close
     (tie.spec
-    position-requires
+    (λ c κs. search needs)
     returns
-    position-requires-2
+    (λ c κs. search needs)
     returns-2
     returns-3
-    cast-longs
-    element-write-longs
-    cast-shorts
-    element-write-shorts
+    (λ c. search needs) (λ c. search needs) (λ c. search needs) (λ c. search needs)
     returns-4)

@@ -1,9 +1,13 @@
--- `build` meets its contract. Each stage, accepted or refused, is a law of proofs/Building.antt; `one` to `four` say what stands after the accepted stages.
+-- `build` meets its contract. Each stage, accepted or refused, is a law of proofs/Building.antt; `one` to `four` say
+-- what stands after the accepted stages.
 use mathlib.Core.Path.{refl}
 use native.Mathlib.Omega.{arith}
 use borrow.Author.Needs.{needs}
 use Rattle.ast_lifetimes.specs.Types.{typesOf}
-use Rattle.ast_lifetimes.proofs.Building.{Shaped, shaped, ImplNamed, ImplBound, AllNamed, AllBound, impl-names-refused, impl-named, impl-pairs-refused, impl-bound, method-names-refused, all-named, method-pairs-refused, all-bound, all-below, all-built}
+use Rattle.ast_lifetimes.proofs.Building.{Shaped, shaped, ImplNamed, ImplBound, AllNamed, AllBound}
+use Rattle.ast_lifetimes.proofs.Building.{impl-names-refused, impl-named, impl-pairs-refused, impl-bound}
+use Rattle.ast_lifetimes.proofs.Building.{method-names-refused, all-named, method-pairs-refused, all-bound}
+use Rattle.ast_lifetimes.proofs.Building.{all-below, all-built}
 use Rattle.ast_lifetimes.proofs.env.build.Statement.{statement}
 use Rattle.ast_lifetimes.proofs.env.build.Tie as tie
 
@@ -23,19 +27,24 @@ to-two c = c .before .before .before .before
 abbrev to-three : tie.After-enum-told7 → tie.After-enum-told5
 to-three c = c .before .before .before .before .before .before
 
-one : (c : tie.After-enum-told) → let s = start c in ImplNamed (s .args .names .now) (s .args .bounds .now) (s .args .types .now) (c .before .before .declare-all .last .1 .1 .1 .0)
+one : (c : tie.After-enum-told) → let s = start c in
+    ImplNamed (s .args .names .now) (s .args .bounds .now) (s .args .types .now)
+    (c .before .before .declare-all .last .1 .1 .1 .0)
 one c = impl-named (shape (start c)) (c .before .before .declare-all .ensures) (c .enum-told .given .1)
 
 two : (c : tie.After-enum-told3) → let s = start (to-one c) in let p = c .before .before .push-pairs .last in
-    ImplBound (s .args .names .now) (s .args .bounds .now) (s .args .types .now) (to-one c .before .before .declare-all .last .1 .1 .1 .0) (p .1 .1 .1 .1 .1 .0) (p .1 .1 .1 .1 .1 .1 .0)
+    ImplBound (s .args .names .now) (s .args .bounds .now) (s .args .types .now)
+    (to-one c .before .before .declare-all .last .1 .1 .1 .0) (p .1 .1 .1 .1 .1 .0) (p .1 .1 .1 .1 .1 .1 .0)
 two c = impl-bound (one (to-one c)) (c .before .before .push-pairs .ensures) (c .enum-told3 .given .1)
 
 three : (c : tie.After-enum-told5) → let s = start (to-one (to-two c)) in let p = to-two c .before .before .push-pairs .last in
-    AllNamed (s .args .names .now) (s .args .bounds .now) (s .args .types .now) (c .before .before .declare-all2 .last .1 .1 .1 .0) (p .1 .1 .1 .1 .1 .0) (p .1 .1 .1 .1 .1 .1 .0)
+    AllNamed (s .args .names .now) (s .args .bounds .now) (s .args .types .now)
+    (c .before .before .declare-all2 .last .1 .1 .1 .0) (p .1 .1 .1 .1 .1 .0) (p .1 .1 .1 .1 .1 .1 .0)
 three c = all-named (two (to-two c)) (c .before .before .declare-all2 .ensures) (c .enum-told5 .given .1)
 
 four : (c : tie.After-enum-told7) → let s = start (to-one (to-two (to-three c))) in let p = c .before .before .push-pairs2 .last in
-    AllBound (s .args .names .now) (s .args .bounds .now) (s .args .types .now) (to-three c .before .before .declare-all2 .last .1 .1 .1 .0) (p .1 .1 .1 .1 .1 .0) (p .1 .1 .1 .1 .1 .1 .0)
+    AllBound (s .args .names .now) (s .args .bounds .now) (s .args .types .now)
+    (to-three c .before .before .declare-all2 .last .1 .1 .1 .0) (p .1 .1 .1 .1 .1 .0) (p .1 .1 .1 .1 .1 .1 .0)
 four c = all-bound (three (to-three c)) (c .before .before .push-pairs2 .ensures) (c .enum-told7 .given .1)
 
 shared-slice-read-impls : tie.Need-shared-slice-read-impls
@@ -58,12 +67,6 @@ declare-all-requires c κs =
     let s = c .before .before .before .before .before .before in
     ((omega arith, (shape s) .in-names .fits), (omega arith, s .pre .1 .0))
 
-enum-told : tie.Need-enum-told
-enum-told c = search needs
-
-enum-told-2 : tie.Need-enum-told-2
-enum-told-2 c = search needs
-
 returns : tie.Need-returns
 returns c =
     let s = c .before .before .before .before .before .before .before .before .before in
@@ -76,20 +79,13 @@ push-pairs-requires c κs =
     let h = o .shaped .in-bounds in
     (omega (arith, h .fits, h .even), ((o .named .few, o .named .size), (omega arith, s .pre .1 .1, s .pre .1 .2)))
 
-enum-told-3 : tie.Need-enum-told-3
-enum-told-3 c = search needs
-
-enum-told-4 : tie.Need-enum-told-4
-enum-told-4 c = search needs
-
 returns-2 : tie.Need-returns-2
-returns-2 c = impl-pairs-refused (one (c .before .before .before .before .before .before)) (c .before .before .push-pairs .ensures) (c .enum-told4 .given .1)
+returns-2 c =
+    impl-pairs-refused (one (c .before .before .before .before .before .before))
+    (c .before .before .push-pairs .ensures) (c .enum-told4 .given .1)
 
 add-declare-all-2 : tie.Need-add-declare-all-2
 add-declare-all-2 c = let h = two c .shaped .in-names in omega (arith, h .few, h .fits)
-
-add-declare-all-3 : tie.Need-add-declare-all-3
-add-declare-all-3 c = search needs
 
 declare-all-requires-2 : tie.Need-declare-all-requires-2
 declare-all-requires-2 c κs =
@@ -97,14 +93,9 @@ declare-all-requires-2 c κs =
     let h = t .shaped .in-names in
     ((omega (arith, h .fits), omega (arith, h .some)), (t .named .few, t .named .size))
 
-enum-told-5 : tie.Need-enum-told-5
-enum-told-5 c = search needs
-
-enum-told-6 : tie.Need-enum-told-6
-enum-told-6 c = search needs
-
 returns-3 : tie.Need-returns-3
-returns-3 c = method-names-refused (two (c .before .before .before .before)) (c .before .before .declare-all2 .ensures) (c .enum-told6 .given .1)
+returns-3 c = method-names-refused (two (c .before .before .before .before)) (c .before .before .declare-all2 .ensures)
+    (c .enum-told6 .given .1)
 
 mul-push-pairs : tie.Need-mul-push-pairs
 mul-push-pairs c = let h = three c .shaped .in-bounds in omega (arith, h .few, h .fits, h .even)
@@ -121,14 +112,10 @@ push-pairs-requires-2 c κs =
     let h = t .shaped .in-bounds in
     (omega (arith, h .fits, h .even), ((t .named .few, t .named .size), (t .sides .few, t .sides .size-longs, t .sides .size-shorts)))
 
-enum-told-7 : tie.Need-enum-told-7
-enum-told-7 c = search needs
-
-enum-told-8 : tie.Need-enum-told-8
-enum-told-8 c = search needs
-
 returns-4 : tie.Need-returns-4
-returns-4 c = method-pairs-refused (three (c .before .before .before .before .before .before)) (c .before .before .push-pairs2 .ensures) (c .enum-told8 .given .1)
+returns-4 c =
+    method-pairs-refused (three (c .before .before .before .before .before .before))
+    (c .before .before .push-pairs2 .ensures) (c .enum-told8 .given .1)
 
 close-requires : tie.Need-close-requires
 close-requires c κs =
@@ -156,25 +143,21 @@ build-spec =
     sub-pairs
     add-declare-all
     declare-all-requires
-    enum-told
-    enum-told-2
+    (λ c. search needs) (λ c. search needs)
     returns
     push-pairs-requires
-    enum-told-3
-    enum-told-4
+    (λ c. search needs) (λ c. search needs)
     returns-2
     add-declare-all-2
-    add-declare-all-3
+    (λ c. search needs)
     declare-all-requires-2
-    enum-told-5
-    enum-told-6
+    (λ c. search needs) (λ c. search needs)
     returns-3
     mul-push-pairs
     add-push-pairs
     sub-push-pairs
     push-pairs-requires-2
-    enum-told-7
-    enum-told-8
+    (λ c. search needs) (λ c. search needs)
     returns-4
     close-requires
     push-types-requires

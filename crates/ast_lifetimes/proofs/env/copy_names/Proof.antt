@@ -1,4 +1,5 @@
--- `copy_names` meets its contract: each turn stores one name more. The loop's invariant is `Copying` of the crate lifetimes.
+-- `copy_names` meets its contract: each turn stores one name more. The loop's invariant is `Copying` of the crate
+-- lifetimes.
 use Prim.Native.Nat.{_-_}
 use native.Mathlib.Omega.{arith}
 use borrow.Author.Needs.{needs}
@@ -13,27 +14,6 @@ Inv-loop declared named names₀ i₀ names i = Copying declared named 0 names�
 abbrev μ-loop : tie.MeasureT-loop
 μ-loop declared named names₀ i₀ names i = named - i
 
-loop-holds : tie.Need-loop-holds Inv-loop μ-loop
-loop-holds c = copying-start _ _ _ _
-
-mul-names : tie.Need-mul-names Inv-loop μ-loop
-mul-names c = search needs
-
-element-copy-out-names : tie.Need-element-copy-out-names Inv-loop μ-loop
-element-copy-out-names c = search needs
-
-mul-names-2 : tie.Need-mul-names-2 Inv-loop μ-loop
-mul-names-2 c = search needs
-
-element-write-names : tie.Need-element-write-names Inv-loop μ-loop
-element-write-names c = search needs
-
-add-i : tie.Need-add-i Inv-loop μ-loop
-add-i c = search needs
-
-loop-less : tie.Need-loop-less Inv-loop μ-loop
-loop-less c = search needs
-
 loop-again : tie.Need-loop-again Inv-loop μ-loop
 loop-again c = names-more (c .before .before .loop .inv) (omega (arith, c .before .before .before .pre)) (c .before .loop-test .taken)
 
@@ -46,12 +26,8 @@ copy-names-spec =
     (tie.spec
     Inv-loop
     μ-loop
-    loop-holds
-    mul-names
-    element-copy-out-names
-    mul-names-2
-    element-write-names
-    add-i
-    loop-less
+    (λ c. search (copying-start, needs))
+    (λ c. search needs) (λ c. search needs) (λ c. search needs) (λ c. search needs) (λ c. search needs)
+    (λ c. search needs)
     loop-again
     returns)

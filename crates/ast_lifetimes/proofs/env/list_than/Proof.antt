@@ -18,20 +18,11 @@ none c =
     let e = c .before .before .before .before .args .env in
     accepted-none e (envChecks e) (sym (c .before .before .check .ensures) ∙ c .enum-told .given .1)
 
-check-requires : tie.Need-check-requires
-check-requires c κs = search needs
-
-enum-known-verdict : tie.Need-enum-known-verdict
-enum-known-verdict c = search needs
-
 returns : tie.Need-returns
 returns c =
     let s = c .before .before .before .before .before .args in
     than-refused (s .longer) (s .env) (s .name) (s .out .now)
     (refused-first (s .env) _ (envChecks (s .env)) (sym (c .before .before .before .check .ensures) ∙ c .before .verdict .given .1))
-
-enum-told : tie.Need-enum-told
-enum-told c = search needs
 
 position-requires : tie.Need-position-requires
 position-requires c κs =
@@ -41,37 +32,27 @@ position-requires c κs =
 returns-2 : tie.Need-returns-2
 returns-2 c =
     let s = c .before .before .before .before .before .before .before .before in
-    than-unknown (s .args .longer) (s .args .env) (s .args .name) (s .args .out .now) (none (c .before .before .before .before)) (full s)
+    than-unknown (s .args .longer) (s .args .env) (s .args .name) (s .args .out .now)
+    (none (c .before .before .before .before)) (full s)
     (c .before .position .ensures) (c .if1 .taken)
-
-new-requires : tie.Need-new-requires
-new-requires c κs = search needs
-
-depth-first-lifetimes-requires : tie.Need-depth-first-lifetimes-requires
-depth-first-lifetimes-requires c κs = search needs
-
-same-length : tie.Need-same-length
-same-length c = search needs
 
 returns-3 : tie.Need-returns-3
 returns-3 c =
     let n = c .before .before .before .before .before .before .before .before .before .before in
     let s = n .before .before .before .before in
     than-traversal (s .args .longer) (s .args .env) (s .args .name) (s .args .out .now) (none n) (full s)
-    (c .before .before .before .before .before .before .before .position .ensures) (c .before .before .before .before .before .before .if1 .left)
+    (c .before .before .before .before .before .before .before .position .ensures)
+    (c .before .before .before .before .before .before .if1 .left)
     (c .before .before .before .before .new .ensures) (c .before .before .depth-first-lifetimes .ensures)
 
 pub list-than-spec : {M : Type 1} → statement M
 list-than-spec =
     tie.close
     (tie.spec
-    check-requires
-    enum-known-verdict
+    (λ c κs. search needs) (λ c. search needs)
     returns
-    enum-told
+    (λ c. search needs)
     position-requires
     returns-2
-    new-requires
-    depth-first-lifetimes-requires
-    same-length
+    (λ c κs. search needs) (λ c κs. search needs) (λ c. search needs)
     returns-3)

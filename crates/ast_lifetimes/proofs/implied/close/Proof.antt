@@ -10,47 +10,29 @@ use Rattle.ast_lifetimes.proofs.implied.close.Statement.{statement}
 use Rattle.ast_lifetimes.proofs.implied.close.Tie as tie
 
 abbrev Inv-loop : tie.InvT-loop
-Inv-loop longs shorts pushed named reach₀ i₀ reach i = (i ≤ pushed) × (length reach ≡ 32) × Reaches (sidesOf i longs shorts) named reach
+Inv-loop longs shorts pushed named reach₀ i₀ reach i =
+    (i ≤ pushed) × (length reach ≡ 32) × Reaches (sidesOf i longs shorts) named reach
 
 abbrev μ-loop : tie.MeasureT-loop
 μ-loop longs shorts pushed named reach₀ i₀ reach i = pushed - i
 
-each-itself-requires : tie.Need-each-itself-requires Inv-loop μ-loop
-each-itself-requires c κs = search needs
-
-loop-holds : tie.Need-loop-holds Inv-loop μ-loop
-loop-holds c = (omega arith, c .each-itself .ensures .0, closing-start (c .before .before .args .named) (c .before .before .args .longs .now) (c .before .before .args .shorts .now) (c .each-itself .last .1 .0) (c .each-itself .ensures .1))
-
-element-copy-out-long : tie.Need-element-copy-out-long Inv-loop μ-loop
-element-copy-out-long c = search needs
-
 cast-long : tie.Need-cast-long Inv-loop μ-loop
-cast-long c = let s = c .before .before .before .before .before in omega (arith, s .pre .0 .0, s .pre .0 .2 (c .before .before .loop .i) (c .before .loop-test .taken) .0)
-
-element-copy-out-short : tie.Need-element-copy-out-short Inv-loop μ-loop
-element-copy-out-short c = search needs
+cast-long c = let s = c .before .before .before .before .before in
+    omega (arith, s .pre .0 .0, s .pre .0 .2 (c .before .before .loop .i) (c .before .loop-test .taken) .0)
 
 cast-short : tie.Need-cast-short Inv-loop μ-loop
-cast-short c = let s = c .before .before .before .before .before .before in omega (arith, s .pre .0 .0, s .pre .0 .2 (c .before .before .before .loop .i) (c .before .before .loop-test .taken) .1)
+cast-short c = let s = c .before .before .before .before .before .before in
+    omega (
+      arith,
+      s .pre .0 .0,
+      s .pre .0 .2 (c .before .before .before .loop .i) (c .before .before .loop-test .taken) .1,
+    )
 
 join-requires : tie.Need-join-requires Inv-loop μ-loop
 join-requires c κs =
     let s = c .before .before .before .before .before .before .before in
     let h = s .pre .0 .2 (c .before .before .before .before .loop .i) (c .before .before .before .loop-test .taken) in
     (s .pre .0 .0, h .0, h .1, c .before .before .before .before .loop .inv .1)
-
-add-i : tie.Need-add-i Inv-loop μ-loop
-add-i c = search needs
-
-loop-less : tie.Need-loop-less Inv-loop μ-loop
-loop-less c = search needs
-
-loop-again : tie.Need-loop-again Inv-loop μ-loop
-loop-again c =
-    let at-loop = c .before .before .before .before .before in
-    let s = at-loop .before .before .before in
-    let l = at-loop .loop in
-    (omega arith, c .join .ensures .size, closing-more (l .i) (s .args .longs .now) (s .args .shorts .now) (c .join .ensures) (l .inv .2))
 
 returns : tie.Need-returns Inv-loop μ-loop
 returns c =
@@ -64,14 +46,13 @@ close-spec =
     (tie.spec
     Inv-loop
     μ-loop
-    each-itself-requires
-    loop-holds
-    element-copy-out-long
+    (λ c κs. search needs)
+    (λ c. search (closing-start, needs))
+    (λ c. search needs)
     cast-long
-    element-copy-out-short
+    (λ c. search needs)
     cast-short
     join-requires
-    add-i
-    loop-less
-    loop-again
+    (λ c. search needs) (λ c. search needs)
+    (λ c. search (closing-more, needs))
     returns)

@@ -11,7 +11,8 @@ use lib.Seq.{slice, length-take-le}
 use Rattle.ast_lifetimes.specs.Shapes.{isName, pair}
 use Rattle.ast_lifetimes.specs.Env.{place, among, pathPairs}
 use Rattle.ast_lifetimes.specs.Inner.{sidesOf, Reaches, isImplied, Joins}
-use Rattle.ast_lifetimes.proofs.Extending.{Run, run-start, extends-one, accepted-sides, extends-refused, run-same, run-end, run-refused, run-more}
+use Rattle.ast_lifetimes.proofs.Extending.{Run, run-start, extends-one, accepted-sides, extends-refused}
+use Rattle.ast_lifetimes.proofs.Extending.{run-same, run-end, run-refused, run-more}
 use Rattle.ast_lifetimes.proofs.PathLaws.{implied-test, path-pushed, path-passed, path-end}
 use Rattle.ast_lifetimes.proofs.implied.push_path.Statement.{statement}
 use Rattle.ast_lifetimes.proofs.implied.push_path.Tie as tie
@@ -19,7 +20,9 @@ use Rattle.ast_lifetimes.proofs.implied.push_path.Tie as tie
 abbrev Inv-lifetimes : tie.InvT-lifetimes
 Inv-lifetimes words from to behind names named longs₀ shorts₀ pushed reach₀ taken short count₀ at₀ longs shorts reach count at =
     (from ≤ at) × (at ≤ to)
-    × Run (take named names) (pathPairs (take named names) (sidesOf pushed longs₀ shorts₀) behind (slice from to words)) (pathPairs (take named names) (sidesOf pushed longs₀ shorts₀) behind (slice at to words)) longs₀ shorts₀ pushed longs shorts reach count
+    × Run (take named names) (pathPairs (take named names) (sidesOf pushed longs₀ shorts₀) behind (slice from to words))
+    (pathPairs (take named names) (sidesOf pushed longs₀ shorts₀) behind (slice at to words)) longs₀ shorts₀ pushed
+    longs shorts reach count
 
 abbrev μ-lifetimes : tie.MeasureT-lifetimes
 μ-lifetimes words from to behind names named longs₀ shorts₀ pushed reach₀ taken short count₀ at₀ longs shorts reach count at = to - at
@@ -28,68 +31,69 @@ named-long : (s : tie.Start Inv-lifetimes μ-lifetimes) → length (take (s .arg
 named-long s = length-take-le (s .args .named) (s .args .names .now) (omega (arith, s .pre .1 .0))
 
 -- the sets at entry
-reaches : (s : tie.Start Inv-lifetimes μ-lifetimes) → Reaches (sidesOf (s .args .pushed) (s .args .longs .now) (s .args .shorts .now)) (length (take (s .args .named) (s .args .names .now))) (s .args .reach .now)
+reaches : (s : tie.Start Inv-lifetimes μ-lifetimes)
+    → Reaches (sidesOf (s .args .pushed) (s .args .longs .now) (s .args .shorts .now))
+    (length (take (s .args .named) (s .args .names .now))) (s .args .reach .now)
 reaches s = rw (named-long s) (s .pre .1 .1 .1 .1)
 
 -- the code's test is the definition's
 tested : (c : tie.After-is-implied Inv-lifetimes μ-lifetimes) →
     let s = c .before .before .before .before .before .before .before .before in
     let w = getD (s .args .words .now) (c .before .before .before .lifetimes .at) 0 in
-    isImplied (take (s .args .named) (s .args .names .now)) (c .before .before .before .before .before .outlived .result) w ≡ (isName w && not (among (take (s .args .named) (s .args .names .now)) (sidesOf (s .args .pushed) (s .args .longs .now) (s .args .shorts .now)) (s .args .behind) w))
+    isImplied (take (s .args .named) (s .args .names .now))
+    (c .before .before .before .before .before .outlived .result) w
+    ≡ (isName w
+    && not
+    (among (take (s .args .named) (s .args .names .now))
+    (sidesOf (s .args .pushed) (s .args .longs .now) (s .args .shorts .now)) (s .args .behind) w))
 tested c =
     let at-outlived = c .before .before .before .before .before in
     let s = at-outlived .before .before .before in
     let w = getD (s .args .words .now) (c .before .before .before .lifetimes .at) 0 in
     ap (λ (t : ℕ). isImplied (take (s .args .named) (s .args .names .now)) t w) (at-outlived .outlived .ensures)
-    ∙ implied-test (take (s .args .named) (s .args .names .now)) (sidesOf (s .args .pushed) (s .args .longs .now) (s .args .shorts .now)) (s .args .reach .now) (reaches s) (s .args .behind) w
+    ∙ implied-test (take (s .args .named) (s .args .names .now))
+    (sidesOf (s .args .pushed) (s .args .longs .now) (s .args .shorts .now)) (s .args .reach .now) (reaches s)
+    (s .args .behind) w
 
 -- what is left begins with this lifetime's pair
 pushed-next : (c : tie.After-is-implied Inv-lifetimes μ-lifetimes) → not (c .is-implied .result) ≡ false →
     let s = c .before .before .before .before .before .before .before .before in
     let l = c .before .before .before .lifetimes in
-    pathPairs (take (s .args .named) (s .args .names .now)) (sidesOf (s .args .pushed) (s .args .longs .now) (s .args .shorts .now)) (s .args .behind) (slice (l .at) (s .args .to) (s .args .words .now))
-    ≡ (pair (getD (s .args .words .now) (l .at) 0) (s .args .behind) ∷ []) ++ pathPairs (take (s .args .named) (s .args .names .now)) (sidesOf (s .args .pushed) (s .args .longs .now) (s .args .shorts .now)) (s .args .behind) (slice (l .at + 1) (s .args .to) (s .args .words .now))
+    pathPairs (take (s .args .named) (s .args .names .now))
+    (sidesOf (s .args .pushed) (s .args .longs .now) (s .args .shorts .now)) (s .args .behind)
+    (slice (l .at) (s .args .to) (s .args .words .now))
+    ≡ (pair (getD (s .args .words .now) (l .at) 0) (s .args .behind) ∷ [])
+    ++ pathPairs (take (s .args .named) (s .args .names .now))
+    (sidesOf (s .args .pushed) (s .args .longs .now) (s .args .shorts .now)) (s .args .behind)
+    (slice (l .at + 1) (s .args .to) (s .args .words .now))
 pushed-next c h =
     let s = c .before .before .before .before .before .before .before .before in
     let l = c .before .before .before .lifetimes in
-    path-pushed (take (s .args .named) (s .args .names .now)) (sidesOf (s .args .pushed) (s .args .longs .now) (s .args .shorts .now)) (s .args .behind) (s .args .words .now) (l .at) (s .args .to) (c .before .before .lifetimes-test .taken) (s .pre .0 .1)
+    path-pushed (take (s .args .named) (s .args .names .now))
+    (sidesOf (s .args .pushed) (s .args .longs .now) (s .args .shorts .now)) (s .args .behind) (s .args .words .now)
+    (l .at) (s .args .to) (c .before .before .lifetimes-test .taken) (s .pre .0 .1)
     (sym (tested c) ∙ sym (c .is-implied .ensures) ∙ not-false _ h)
 
 -- the bound of the pair is joined
 joined : (c : tie.After-join Inv-lifetimes μ-lifetimes) →
     let s = c .before .before .before .before .before .before .before .before .before .before .before .before .before .before .before .before .before in
     let l = c .before .before .before .before .before .before .before .before .before .before .before .before .lifetimes in
-    Joins (length (take (s .args .named) (s .args .names .now))) (place (take (s .args .named) (s .args .names .now)) (getD (s .args .words .now) (l .at) 0)) (place (take (s .args .named) (s .args .names .now)) (s .args .behind)) (l .reach) (c .join .last .0)
+    Joins (length (take (s .args .named) (s .args .names .now)))
+    (place (take (s .args .named) (s .args .names .now)) (getD (s .args .words .now) (l .at) 0))
+    (place (take (s .args .named) (s .args .names .now)) (s .args .behind)) (l .reach) (c .join .last .0)
 joined c =
     let at-position = c .before .before .before .before .before .before .before .before .before .before .before .before .before in
     let s = at-position .before .before .before .before in
     rw (named-long s, ← c .before .before .position2 .ensures, ← at-position .position .ensures) (c .join .ensures)
 
-outlived-requires : tie.Need-outlived-requires Inv-lifetimes μ-lifetimes
-outlived-requires c κs = search needs
-
-position-requires : tie.Need-position-requires Inv-lifetimes μ-lifetimes
-position-requires c κs = search needs
-
 lifetimes-holds : tie.Need-lifetimes-holds Inv-lifetimes μ-lifetimes
 lifetimes-holds c =
-    let s = c .before .before .before .before in
-    (omega arith, s .pre .0 .0, run-start (take (s .args .named) (s .args .names .now)) _ _ _ _ _ (s .pre .1 .1 .0 .0) (s .pre .1 .1 .0 .1) (s .pre .1 .1 .0 .2) (s .pre .1 .1 .1 .0) (reaches s))
-
-mul-word : tie.Need-mul-word Inv-lifetimes μ-lifetimes
-mul-word c = search needs
-
-shared-slice-read-word : tie.Need-shared-slice-read-word Inv-lifetimes μ-lifetimes
-shared-slice-read-word c = search needs
-
-add-at : tie.Need-add-at Inv-lifetimes μ-lifetimes
-add-at c = search needs
-
-is-implied-requires : tie.Need-is-implied-requires Inv-lifetimes μ-lifetimes
-is-implied-requires c κs = search needs
-
-lifetimes-less : tie.Need-lifetimes-less Inv-lifetimes μ-lifetimes
-lifetimes-less c = search needs
+    let s = c .before .before .before .before in (
+      omega arith,
+      s .pre .0 .0,
+      run-start (take (s .args .named) (s .args .names .now)) _ _ _ _ _ (s .pre .1 .1 .0 .0) (s .pre .1 .1 .0 .1)
+          (s .pre .1 .1 .0 .2) (s .pre .1 .1 .1 .0) (reaches s),
+    )
 
 lifetimes-again : tie.Need-lifetimes-again Inv-lifetimes μ-lifetimes
 lifetimes-again c =
@@ -98,18 +102,12 @@ lifetimes-again c =
     let l = at-lifetimes .lifetimes in (
       omega arith,
       omega arith,
-      run-same (l .inv .2) (path-passed (take (s .args .named) (s .args .names .now)) (sidesOf (s .args .pushed) (s .args .longs .now) (s .args .shorts .now)) (s .args .behind) (s .args .words .now) (l .at) (s .args .to) (c .before .before .before .lifetimes-test .taken) (s .pre .0 .1)
+      run-same (l .inv .2)
+          (path-passed (take (s .args .named) (s .args .names .now))
+          (sidesOf (s .args .pushed) (s .args .longs .now) (s .args .shorts .now)) (s .args .behind)
+          (s .args .words .now) (l .at) (s .args .to) (c .before .before .before .lifetimes-test .taken) (s .pre .0 .1)
           (sym (tested (c .before)) ∙ sym (c .before .is-implied .ensures) ∙ not-true _ (c .if1 .taken))),
     )
-
-push-pair-requires : tie.Need-push-pair-requires Inv-lifetimes μ-lifetimes
-push-pair-requires c κs = search needs
-
-enum-told : tie.Need-enum-told Inv-lifetimes μ-lifetimes
-enum-told c = search needs
-
-enum-told-2 : tie.Need-enum-told-2 Inv-lifetimes μ-lifetimes
-enum-told-2 c = search needs
 
 returns : tie.Need-returns Inv-lifetimes μ-lifetimes
 returns c =
@@ -118,10 +116,8 @@ returns c =
     let s = at-lifetimes .before .before .before .before .before in
     let l = at-lifetimes .lifetimes in
     let e = c .enum-told2 .given .1 in
-    run-refused (l .inv .2) _ _ (pushed-next (at-if1 .before) (at-if1 .if1 .left)) (extends-refused (c .before .before .push-pair .ensures) e (l .inv .2 .size-reach)) e
-
-position-requires-2 : tie.Need-position-requires-2 Inv-lifetimes μ-lifetimes
-position-requires-2 c κs = search needs
+    run-refused (l .inv .2) _ _ (pushed-next (at-if1 .before) (at-if1 .if1 .left))
+    (extends-refused (c .before .before .push-pair .ensures) e (l .inv .2 .size-reach)) e
 
 join-requires : tie.Need-join-requires Inv-lifetimes μ-lifetimes
 join-requires c κs =
@@ -129,16 +125,12 @@ join-requires c κs =
     let at-lifetimes = at-push-pair .before .before .before .before .before .before .before in
     let at-position = at-lifetimes .before in
     let s = at-position .before .before .before .before in
-    let sides = accepted-sides (at-push-pair .push-pair .ensures) (c .before .before .enum-told .given .1) in
-    (omega (arith, s .pre .1 .0), omega (arith, named-long s, sides, c .before .position2 .ensures), omega (arith, named-long s, sides, at-position .position .ensures), at-lifetimes .lifetimes .inv .2 .size-reach)
-
-add-count : tie.Need-add-count Inv-lifetimes μ-lifetimes
-add-count c =
-    let at-lifetimes = c .before .before .before .before .before .before .before .before .before .before .before .before in
-    omega (arith, at-lifetimes .lifetimes .inv .2 .few)
-
-lifetimes-less-2 : tie.Need-lifetimes-less-2 Inv-lifetimes μ-lifetimes
-lifetimes-less-2 c = search needs
+    let sides = accepted-sides (at-push-pair .push-pair .ensures) (c .before .before .enum-told .given .1) in (
+      omega (arith, s .pre .1 .0),
+      omega (arith, named-long s, sides, c .before .position2 .ensures),
+      omega (arith, named-long s, sides, at-position .position .ensures),
+      at-lifetimes .lifetimes .inv .2 .size-reach,
+    )
 
 lifetimes-again-2 : tie.Need-lifetimes-again-2 Inv-lifetimes μ-lifetimes
 lifetimes-again-2 c =
@@ -147,14 +139,12 @@ lifetimes-again-2 c =
     let at-lifetimes = at-if1 .before .before .before .before in
     let s = at-lifetimes .before .before .before .before .before in
     let l = at-lifetimes .lifetimes in
-    let e = c .before .before .before .enum-told .given .1 in
-    (omega arith, omega arith, run-more (l .inv .2) _ _ (pushed-next (at-if1 .before) (at-if1 .if1 .left)) (extends-one (at-push-pair .push-pair .ensures) e (joined c) (l .inv .2 .reaches)) e)
-
-returns-2 : tie.Need-returns-2 Inv-lifetimes μ-lifetimes
-returns-2 c =
-    let s = c .before .before .before .before .before .before in
-    let l = c .before .lifetimes in
-    run-end (l .inv .2) (path-end (take (s .args .named) (s .args .names .now)) (sidesOf (s .args .pushed) (s .args .longs .now) (s .args .shorts .now)) (s .args .behind) (s .args .words .now) (l .at) (s .args .to) (l .inv .1) (c .lifetimes-test .left))
+    let e = c .before .before .before .enum-told .given .1 in (
+      omega arith,
+      omega arith,
+      run-more (l .inv .2) _ _ (pushed-next (at-if1 .before) (at-if1 .if1 .left))
+          (extends-one (at-push-pair .push-pair .ensures) e (joined c) (l .inv .2 .reaches)) e,
+    )
 
 pub push-path-spec : {M : Type 1} → statement M
 push-path-spec =
@@ -162,22 +152,14 @@ push-path-spec =
     (tie.spec
     Inv-lifetimes
     μ-lifetimes
-    outlived-requires
-    position-requires
+    (λ c κs. search needs) (λ c κs. search needs)
     lifetimes-holds
-    mul-word
-    shared-slice-read-word
-    add-at
-    is-implied-requires
-    lifetimes-less
+    (λ c. search needs) (λ c. search needs) (λ c. search needs) (λ c κs. search needs) (λ c. search needs)
     lifetimes-again
-    push-pair-requires
-    enum-told
-    enum-told-2
+    (λ c κs. search needs) (λ c. search needs) (λ c. search needs)
     returns
-    position-requires-2
+    (λ c κs. search needs)
     join-requires
-    add-count
-    lifetimes-less-2
+    (λ c. search needs) (λ c. search needs)
     lifetimes-again-2
-    returns-2)
+    (λ c. search (run-end, path-end, needs)))

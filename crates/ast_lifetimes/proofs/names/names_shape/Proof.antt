@@ -5,24 +5,6 @@ use Rattle.ast_lifetimes.proofs.ShapeLaws.{names-empty, names-many, nam
 use Rattle.ast_lifetimes.proofs.names.names_shape.Statement.{statement}
 use Rattle.ast_lifetimes.proofs.names.names_shape.Tie as tie
 
-returns : tie.Need-returns
-returns c = names-empty (c .before .before .args .names .now) (c .if1 .taken)
-
-returns-2 : tie.Need-returns-2
-returns-2 c = names-many (c .before .before .before .args .names .now) (c .if2 .taken)
-
-sub-if3 : tie.Need-sub-if3
-sub-if3 c = search needs
-
-shared-slice-read-if3 : tie.Need-shared-slice-read-if3
-shared-slice-read-if3 c = search needs
-
-returns-3 : tie.Need-returns-3
-returns-3 c = names-over (c .before .before .before .before .before .args .names .now) (c .before .before .if2 .left) (c .if3 .taken)
-
-all-names-requires : tie.Need-all-names-requires
-all-names-requires c κs = search needs
-
 returns-4 : tie.Need-returns-4
 returns-4 c =
     let s = c .before .before .before .before .before .before .before in
@@ -47,11 +29,10 @@ pub names-shape-spec : {M : Type 1} → statement M
 names-shape-spec =
     tie.close
     (tie.spec
-    returns
-    returns-2
-    sub-if3
-    shared-slice-read-if3
-    returns-3
-    all-names-requires
+    (λ c. search (names-empty, needs))
+    (λ c. search (names-many, needs))
+    (λ c. search needs) (λ c. search needs)
+    (λ c. search (names-over, needs))
+    (λ c κs. search needs)
     returns-4
     returns-5)

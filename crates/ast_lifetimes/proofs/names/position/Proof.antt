@@ -1,4 +1,5 @@
--- `position` meets its contract. The loop's invariant is `Placing` of proofs/NameLaws.antt; the measure is how many names are to be read.
+-- `position` meets its contract. The loop's invariant is `Placing` of proofs/NameLaws.antt; the measure is how many
+-- names are to be read.
 use Prim.Native.Nat.{_-_}
 use native.Mathlib.Omega.{arith}
 use borrow.Author.Needs.{needs}
@@ -12,33 +13,15 @@ Inv-loop names named name i₀ i = Placing names named name i
 abbrev μ-loop : tie.MeasureT-loop
 μ-loop names named name i₀ i = named - i
 
-loop-holds : tie.Need-loop-holds Inv-loop μ-loop
-loop-holds c = placing-start _ _ _
-
-mul-if1 : tie.Need-mul-if1 Inv-loop μ-loop
-mul-if1 c = search needs
-
-element-copy-out-if1 : tie.Need-element-copy-out-if1 Inv-loop μ-loop
-element-copy-out-if1 c = search needs
-
 returns : tie.Need-returns Inv-loop μ-loop
 returns c =
     let s = c .before .before .before .before in
     placing-found (c .before .before .before .loop .inv) (omega (arith, s .pre)) (c .before .before .loop-test .taken) (c .if1 .taken)
 
-add-i : tie.Need-add-i Inv-loop μ-loop
-add-i c = search needs
-
-loop-less : tie.Need-loop-less Inv-loop μ-loop
-loop-less c = search needs
-
 loop-again : tie.Need-loop-again Inv-loop μ-loop
 loop-again c =
     let s = c .before .before .before .before in
     placing-more (c .before .before .before .loop .inv) (omega (arith, s .pre)) (c .before .before .loop-test .taken) (c .if1 .left)
-
-returns-2 : tie.Need-returns-2 Inv-loop μ-loop
-returns-2 c = placing-end (c .before .loop .inv) (c .loop-test .left)
 
 pub position-spec : {M : Type 1} → statement M
 position-spec =
@@ -46,11 +29,9 @@ position-spec =
     (tie.spec
     Inv-loop
     μ-loop
-    loop-holds
-    mul-if1
-    element-copy-out-if1
+    (λ c. search (placing-start, needs))
+    (λ c. search needs) (λ c. search needs)
     returns
-    add-i
-    loop-less
+    (λ c. search needs) (λ c. search needs)
     loop-again
-    returns-2)
+    (λ c. search (placing-end, needs)))

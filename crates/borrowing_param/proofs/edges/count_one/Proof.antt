@@ -6,15 +6,6 @@ use borrow.Author.Needs.{needs}
 use Rattle.borrowing_param.proofs.edges.count_one.Statement.{statement}
 use Rattle.borrowing_param.proofs.edges.count_one.Tie as tie
 
-first-drawn-requires : tie.Need-first-drawn-requires
-first-drawn-requires c κs = search needs
-
-enum-told : tie.Need-enum-told
-enum-told c = search needs
-
-enum-told-2 : tie.Need-enum-told-2
-enum-told-2 c = search needs
-
 returns : tie.Need-returns
 returns c = sym (ap oneIf (first-any _ 0 _ (sym (c .enum-told .given .1) ∙ c .before .before .first-drawn .ensures)))
 
@@ -22,4 +13,4 @@ returns-2 : tie.Need-returns-2
 returns-2 c = sym (ap oneIf (none-any _ 0 _ (sym (c .enum-told2 .given .1) ∙ c .before .before .first-drawn .ensures)))
 
 pub count-one-spec : {M : Type 1} → statement M
-count-one-spec = tie.close (tie.spec first-drawn-requires enum-told enum-told-2 returns returns-2)
+count-one-spec = tie.close (tie.spec (λ c κs. search needs) (λ c. search needs) (λ c. search needs) returns returns-2)

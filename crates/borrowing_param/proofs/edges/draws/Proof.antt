@@ -7,20 +7,12 @@ use borrow.Author.Needs.{needs}
 use Rattle.borrowing_param.proofs.edges.draws.Statement.{statement}
 use Rattle.borrowing_param.proofs.edges.draws.Tie as tie
 
-enum-told : tie.Need-enum-told
-enum-told c = search needs
-
-enum-known-lifetime : tie.Need-enum-known-lifetime
-enum-known-lifetime c = search needs
-
-is-in-requires : tie.Need-is-in-requires
-is-in-requires c κs = search needs
-
-returns : tie.Need-returns
-returns c = search needs
-
 returns-2 : tie.Need-returns-2
-returns-2 c = c .is-in .ensures ∙ sym (ap (λ (m : MaybeStatic). drawn (drawsIn (c .before .before .before .before .args .set)) m) (c .before .before .lifetime .given .1))
+returns-2 c =
+    c .is-in .ensures
+    ∙ sym
+    (ap (λ (m : MaybeStatic). drawn (drawsIn (c .before .before .before .before .args .set)) m)
+    (c .before .before .lifetime .given .1))
 
 pub draws-spec : {M : Type 1} → statement M
-draws-spec = tie.close (tie.spec enum-told enum-known-lifetime is-in-requires returns returns-2)
+draws-spec = tie.close (tie.spec (λ c. search needs) (λ c. search needs) (λ c κs. search needs) (λ c. search needs) returns-2)

@@ -1,4 +1,5 @@
--- `store_all` meets its contract. The loop's invariant is `Storing` of proofs/Storing.antt, over the edges that are left; the measure is how many lifetimes are to be looked at.
+-- `store_all` meets its contract. The loop's invariant is `Storing` of proofs/Storing.antt, over the edges that are
+-- left; the measure is how many lifetimes are to be looked at.
 use Prim.Native.Nat.{_+_, _-_}
 use mathlib.Core.Path.{sym, ap, _∙_}
 use borrow.Author.Tests.{not-true, not-false}
@@ -8,50 +9,34 @@ use Rattle.lifetimes.specs.Sets.{member}
 use Rattle.borrowing_param.specs.Brings.{bring}
 use Rattle.borrowing_param.specs.Visit.{drawsIn}
 use Rattle.borrowing_param.specs.Inner.{typeIn, Below, allIn}
-use Rattle.borrowing_param.proofs.Storing.{below-64, Storing, storing-start, storing-fits, storing-part, storing-none, storing-end, leftAll, all-left, all-end, all-here, all-not}
+use Rattle.borrowing_param.proofs.Storing.{below-64, Storing, storing-start, storing-fits, storing-part}
+use Rattle.borrowing_param.proofs.Storing.{storing-none, storing-end, leftAll, all-left, all-end, all-here}
+use Rattle.borrowing_param.proofs.Storing.{all-not}
 use borrow.Author.Needs.{needs}
 use Rattle.borrowing_param.proofs.edges.store_all.Statement.{statement}
 use Rattle.borrowing_param.proofs.edges.store_all.Tie as tie
 
 abbrev Inv-used : tie.InvT-used
 Inv-used used drawn words parts param edges₀ at pairs₀ limit next₀ i₀ edges pairs next i =
-    Below used limit × Storing (allIn used drawn (typeIn words parts) param) (leftAll used drawn (typeIn words parts) param i) at pairs₀ edges₀ next pairs edges
+    Below used limit
+    × Storing (allIn used drawn (typeIn words parts) param) (leftAll used drawn (typeIn words parts) param i)
+    at pairs₀ edges₀ next pairs edges
 
 abbrev μ-used : tie.MeasureT-used
 μ-used used drawn words parts param edges₀ at pairs₀ limit next₀ i₀ edges pairs next i = limit - i
-
-past-last-requires : tie.Need-past-last-requires Inv-used μ-used
-past-last-requires c κs = search needs
-
-used-holds : tie.Need-used-holds Inv-used μ-used
-used-holds c =
-    let s = c .before .before .before in
-    (c .past-last .ensures, storing-none (storing-start (allIn (s .args .used) (s .args .drawn .now) (typeIn (s .args .words .now) (s .args .parts)) (s .args .param)) (s .args .at) (s .args .pairs .now) (s .args .edges .now) (s .pre .0 .2) (s .pre .1)) (all-left (s .args .used) (s .args .drawn .now) (typeIn (s .args .words .now) (s .args .parts)) (s .args .param)))
-
-add-i : tie.Need-add-i Inv-used μ-used
-add-i c = search needs
-
-new-requires : tie.Need-new-requires Inv-used μ-used
-new-requires c κs = search needs
-
-contains-requires : tie.Need-contains-requires Inv-used μ-used
-contains-requires c κs = search needs
-
-used-less : tie.Need-used-less Inv-used μ-used
-used-less c = search needs
 
 used-again : tie.Need-used-again Inv-used μ-used
 used-again c =
     let at-used = c .before .before .before .before in
     let s = at-used .before .before .before .before in
-    let l = at-used .used in
-    (l .inv .0, storing-none (l .inv .1) (all-not (s .args .used) (s .args .drawn .now) (typeIn (s .args .words .now) (s .args .parts)) (s .args .param) (l .i) (below-64 (l .inv .0) (c .before .before .before .used-test .taken)) (sym (not-true _ (c .if1 .taken)) ∙ c .before .contains .ensures ∙ ap (λ (x : Lifetime). member (s .args .used) (x .0)) (c .before .before .new .ensures))))
-
-mul-store-for : tie.Need-mul-store-for Inv-used μ-used
-mul-store-for c = search needs
-
-element-copy-out-store-for : tie.Need-element-copy-out-store-for Inv-used μ-used
-element-copy-out-store-for c = search needs
+    let l = at-used .used in (
+      l .inv .0,
+      storing-none (l .inv .1)
+          (all-not (s .args .used) (s .args .drawn .now) (typeIn (s .args .words .now) (s .args .parts)) (s .args .param)
+          (l .i) (below-64 (l .inv .0) (c .before .before .before .used-test .taken))
+          (sym (not-true _ (c .if1 .taken)) ∙ c .before .contains .ensures
+          ∙ ap (λ (x : Lifetime). member (s .args .used) (x .0)) (c .before .before .new .ensures))),
+    )
 
 store-for-requires : tie.Need-store-for-requires Inv-used μ-used
 store-for-requires c κs =
@@ -62,11 +47,17 @@ store-for-requires c κs =
     let s = at-used .before .before .before .before in
     let l = at-used .used in
     let h = below-64 (l .inv .0) (at-used-test .used-test .taken) in
-    let split = all-here (s .args .used) (s .args .drawn .now) (typeIn (s .args .words .now) (s .args .parts)) (s .args .param) (l .i) h (sym (not-false _ (c .before .before .before .if1 .left)) ∙ at-contains .contains .ensures ∙ ap (λ (x : Lifetime). member (s .args .used) (x .0)) (at-new .new .ensures)) in
-    ((s .pre .0 .0, s .pre .0 .1, h, l .inv .1 .sets16), storing-fits (l .inv .1) (bring (drawsIn (getD (s .args .drawn .now) (l .i) 0)) (l .i) (s .args .param) (typeIn (s .args .words .now) (s .args .parts))) (leftAll (s .args .used) (s .args .drawn .now) (typeIn (s .args .words .now) (s .args .parts)) (s .args .param) (l .i + 1)) split)
-
-used-less-2 : tie.Need-used-less-2 Inv-used μ-used
-used-less-2 c = search needs
+    let split =
+    all-here (s .args .used) (s .args .drawn .now) (typeIn (s .args .words .now) (s .args .parts)) (s .args .param)
+    (l .i) h (sym (not-false _ (c .before .before .before .if1 .left)) ∙ at-contains .contains .ensures
+    ∙ ap (λ (x : Lifetime). member (s .args .used) (x .0)) (at-new .new .ensures)) in (
+      (s .pre .0 .0, s .pre .0 .1, h, l .inv .1 .sets16),
+      storing-fits (l .inv .1)
+          (bring (drawsIn (getD (s .args .drawn .now) (l .i) 0)) (l .i) (s .args .param)
+          (typeIn (s .args .words .now) (s .args .parts)))
+          (leftAll (s .args .used) (s .args .drawn .now) (typeIn (s .args .words .now) (s .args .parts)) (s .args .param)
+          (l .i + 1)) split,
+    )
 
 used-again-2 : tie.Need-used-again-2 Inv-used μ-used
 used-again-2 c =
@@ -77,17 +68,18 @@ used-again-2 c =
     let at-used = at-used-test .before in
     let s = at-used .before .before .before .before in
     let l = at-used .used in
-    let split = all-here (s .args .used) (s .args .drawn .now) (typeIn (s .args .words .now) (s .args .parts)) (s .args .param) (l .i) (below-64 (l .inv .0) (at-used-test .used-test .taken)) (sym (not-false _ (at-if1 .if1 .left)) ∙ at-contains .contains .ensures ∙ ap (λ (x : Lifetime). member (s .args .used) (x .0)) (at-new .new .ensures)) in
-    (l .inv .0, storing-part (l .inv .1) (bring (drawsIn (getD (s .args .drawn .now) (l .i) 0)) (l .i) (s .args .param) (typeIn (s .args .words .now) (s .args .parts))) (leftAll (s .args .used) (s .args .drawn .now) (typeIn (s .args .words .now) (s .args .parts)) (s .args .param) (l .i + 1)) split (c .before .before .store-for .ensures))
-
-same-length : tie.Need-same-length Inv-used μ-used
-same-length c = c .before .used .inv .1 .size
-
-returns : tie.Need-returns Inv-used μ-used
-returns c =
-    let s = c .before .before .before .before .before in
-    let l = c .before .used in
-    storing-end (l .inv .1) (all-end (s .args .used) (s .args .drawn .now) (typeIn (s .args .words .now) (s .args .parts)) (s .args .param) (l .inv .0) (l .i) (c .used-test .left))
+    let split =
+    all-here (s .args .used) (s .args .drawn .now) (typeIn (s .args .words .now) (s .args .parts)) (s .args .param)
+    (l .i) (below-64 (l .inv .0) (at-used-test .used-test .taken))
+    (sym (not-false _ (at-if1 .if1 .left)) ∙ at-contains .contains .ensures
+    ∙ ap (λ (x : Lifetime). member (s .args .used) (x .0)) (at-new .new .ensures)) in (
+      l .inv .0,
+      storing-part (l .inv .1)
+          (bring (drawsIn (getD (s .args .drawn .now) (l .i) 0)) (l .i) (s .args .param)
+          (typeIn (s .args .words .now) (s .args .parts)))
+          (leftAll (s .args .used) (s .args .drawn .now) (typeIn (s .args .words .now) (s .args .parts)) (s .args .param)
+          (l .i + 1)) split (c .before .before .store-for .ensures),
+    )
 
 pub store-all-spec : {M : Type 1} → statement M
 store-all-spec =
@@ -95,17 +87,13 @@ store-all-spec =
     (tie.spec
     Inv-used
     μ-used
-    past-last-requires
-    used-holds
-    add-i
-    new-requires
-    contains-requires
-    used-less
+    (λ c κs. search needs)
+    (λ c. search (storing-start, storing-none, all-left, needs))
+    (λ c. search needs) (λ c κs. search needs) (λ c κs. search needs) (λ c. search needs)
     used-again
-    mul-store-for
-    element-copy-out-store-for
+    (λ c. search needs) (λ c. search needs)
     store-for-requires
-    used-less-2
+    (λ c. search needs)
     used-again-2
-    same-length
-    returns)
+    (λ c. search needs)
+    (λ c. search (storing-end, all-end, needs)))

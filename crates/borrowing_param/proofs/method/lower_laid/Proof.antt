@@ -15,40 +15,24 @@ abbrev start : tie.After-record-words10 → tie.Start
 start c = c .before .before .before .before .before .before .before .before .before .before .before
 
 found : (c : tie.After-record-words10)
-    → records (c .before .before .before .before .before .before .before .before .before .record-words .result .now) (c .before .before .before .before .before .before .before .before .record-words2 .result .now) (c .before .before .before .before .before .before .before .record-words3 .result .now) (c .before .before .before .before .before .before .record-words4 .result .now) (c .before .before .before .before .before .record-words5 .result .now) (c .before .before .before .before .record-words6 .result .now) (c .before .before .before .record-words7 .result .now) (c .before .before .record-words8 .result .now) (c .before .record-words9 .result .now) (c .record-words10 .result .now)
+    → records (c .before .before .before .before .before .before .before .before .before .record-words .result .now)
+    (c .before .before .before .before .before .before .before .before .record-words2 .result .now)
+    (c .before .before .before .before .before .before .before .record-words3 .result .now)
+    (c .before .before .before .before .before .before .record-words4 .result .now)
+    (c .before .before .before .before .before .record-words5 .result .now)
+    (c .before .before .before .before .record-words6 .result .now)
+    (c .before .before .before .record-words7 .result .now) (c .before .before .record-words8 .result .now)
+    (c .before .record-words9 .result .now) (c .record-words10 .result .now)
     ≡ recordsAt (start c .args .words .now) (start c .args .ends)
 found c =
-    ten-found (start c .pre .0) (c .before .before .before .before .before .before .before .before .before .record-words .ensures) (c .before .before .before .before .before .before .before .before .record-words2 .ensures) (c .before .before .before .before .before .before .before .record-words3 .ensures) (c .before .before .before .before .before .before .record-words4 .ensures) (c .before .before .before .before .before .record-words5 .ensures) (c .before .before .before .before .record-words6 .ensures) (c .before .before .before .record-words7 .ensures) (c .before .before .record-words8 .ensures) (c .before .record-words9 .ensures) (c .record-words10 .ensures)
-
-record-words-requires : tie.Need-record-words-requires
-record-words-requires c κs = search needs
-
-record-words-requires-2 : tie.Need-record-words-requires-2
-record-words-requires-2 c κs = search needs
-
-record-words-requires-3 : tie.Need-record-words-requires-3
-record-words-requires-3 c κs = search needs
-
-record-words-requires-4 : tie.Need-record-words-requires-4
-record-words-requires-4 c κs = search needs
-
-record-words-requires-5 : tie.Need-record-words-requires-5
-record-words-requires-5 c κs = search needs
-
-record-words-requires-6 : tie.Need-record-words-requires-6
-record-words-requires-6 c κs = search needs
-
-record-words-requires-7 : tie.Need-record-words-requires-7
-record-words-requires-7 c κs = search needs
-
-record-words-requires-8 : tie.Need-record-words-requires-8
-record-words-requires-8 c κs = search needs
-
-record-words-requires-9 : tie.Need-record-words-requires-9
-record-words-requires-9 c κs = search needs
-
-record-words-requires-10 : tie.Need-record-words-requires-10
-record-words-requires-10 c κs = search needs
+    ten-found (start c .pre .0)
+    (c .before .before .before .before .before .before .before .before .before .record-words .ensures)
+    (c .before .before .before .before .before .before .before .before .record-words2 .ensures)
+    (c .before .before .before .before .before .before .before .record-words3 .ensures)
+    (c .before .before .before .before .before .before .record-words4 .ensures)
+    (c .before .before .before .before .before .record-words5 .ensures)
+    (c .before .before .before .before .record-words6 .ensures) (c .before .before .before .record-words7 .ensures)
+    (c .before .before .record-words8 .ensures) (c .before .record-words9 .ensures) (c .record-words10 .ensures)
 
 lower-records-requires : tie.Need-lower-records-requires
 lower-records-requires c κs = rw (found c) (start c .pre .1)
@@ -60,15 +44,7 @@ pub lower-laid-spec : {M : Type 1} → statement M
 lower-laid-spec =
     tie.close
     (tie.spec
-    record-words-requires
-    record-words-requires-2
-    record-words-requires-3
-    record-words-requires-4
-    record-words-requires-5
-    record-words-requires-6
-    record-words-requires-7
-    record-words-requires-8
-    record-words-requires-9
-    record-words-requires-10
+    (λ c κs. search needs) (λ c κs. search needs) (λ c κs. search needs) (λ c κs. search needs) (λ c κs. search needs)
+    (λ c κs. search needs) (λ c κs. search needs) (λ c κs. search needs) (λ c κs. search needs) (λ c κs. search needs)
     lower-records-requires
     returns)

@@ -5,9 +5,6 @@ use borrow.Author.Needs.{needs}
 use Rattle.borrowing_param.proofs.method.refused_method.Statement.{statement}
 use Rattle.borrowing_param.proofs.method.refused_method.Tie as tie
 
-refused-env-requires : tie.Need-refused-env-requires
-refused-env-requires c κs = search needs
-
 returns : tie.Need-returns
 returns c = rw (ap (λ (x : Made). x .env) (c .before .refused-env .ensures))
 
@@ -15,5 +12,5 @@ pub refused-method-spec : {M : Type 1} → statement M
 refused-method-spec =
     tie.close
     (tie.spec
-    refused-env-requires
+    (λ c κs. search needs)
     returns)

@@ -3,18 +3,6 @@ use borrow.Author.Needs.{needs}
 use Rattle.elision.proofs.lowerer.elided.Statement.{statement}
 use Rattle.elision.proofs.lowerer.elided.Tie as tie
 
-enum-told : tie.Need-enum-told
-enum-told c = search needs
-
-enum-known-source : tie.Need-enum-known-source
-enum-known-source c = search needs
-
-enum-known-source-2 : tie.Need-enum-known-source-2
-enum-known-source-2 c = search needs
-
-enum-told-2 : tie.Need-enum-told-2
-enum-told-2 c = search needs
-
 returns : tie.Need-returns
 returns c = rw (c .enum-told .given .1)
 
@@ -31,10 +19,7 @@ pub elided-spec : {M : Type 1} → statement M
 elided-spec =
     tie.close
     (tie.spec
-    enum-told
-    enum-known-source
-    enum-known-source-2
-    enum-told-2
+    (λ c. search needs) (λ c. search needs) (λ c. search needs) (λ c. search needs)
     returns
     returns-2
     returns-3

@@ -7,17 +7,8 @@ use Rattle.elision.proofs.lowerer.new_lifetime.Tie as tie
 returns : tie.Need-returns
 returns c = rw (le-leb _ _ (c .if1 .taken))
 
-add-next : tie.Need-add-next
-add-next c = search needs
-
-new-requires : tie.Need-new-requires
-new-requires c κs = search needs
-
-visited-requires : tie.Need-visited-requires
-visited-requires c κs = search needs
-
 returns-2 : tie.Need-returns-2
 returns-2 c = rw (c .visited .ensures, c .before .new .ensures, lt-leb _ _ (c .before .before .if1 .left))
 
 pub new-lifetime-spec : {M : Type 1} → statement M
-new-lifetime-spec = tie.close (tie.spec returns add-next new-requires visited-requires returns-2)
+new-lifetime-spec = tie.close (tie.spec returns (λ c. search needs) (λ c κs. search needs) (λ c κs. search needs) returns-2)

@@ -5,12 +5,9 @@ use borrow.Author.Needs.{needs}
 use Rattle.elision.proofs.lowerer.one_lifetime.Statement.{statement}
 use Rattle.elision.proofs.lowerer.one_lifetime.Tie as tie
 
-array-set-from-list : tie.Need-array-set-from-list
-array-set-from-list c = search needs
-
 returns : tie.Need-returns
 unfolding laid
 returns c = refl
 
 pub one-lifetime-spec : {M : Type 1} → statement M
-one-lifetime-spec = tie.close (tie.spec array-set-from-list returns)
+one-lifetime-spec = tie.close (tie.spec (λ c. search needs) returns)

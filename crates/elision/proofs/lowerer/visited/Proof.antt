@@ -3,18 +3,6 @@ use borrow.Author.Needs.{needs}
 use Rattle.elision.proofs.lowerer.visited.Statement.{statement}
 use Rattle.elision.proofs.lowerer.visited.Tie as tie
 
-enum-told : tie.Need-enum-told
-enum-told c = search needs
-
-visit-lifetime-requires : tie.Need-visit-lifetime-requires
-visit-lifetime-requires c κs = search needs
-
-enum-told-2 : tie.Need-enum-told-2
-enum-told-2 c = search needs
-
-enum-told-3 : tie.Need-enum-told-3
-enum-told-3 c = search needs
-
 returns : tie.Need-returns
 returns c = rw (c .visit-lifetime .ensures, c .before .enum-told .given .1)
 
@@ -28,10 +16,7 @@ pub visited-spec : {M : Type 1} → statement M
 visited-spec =
     tie.close
     (tie.spec
-    enum-told
-    visit-lifetime-requires
-    enum-told-2
-    enum-told-3
+    (λ c. search needs) (λ c κs. search needs) (λ c. search needs) (λ c. search needs)
     returns
     returns-2
     returns-3)

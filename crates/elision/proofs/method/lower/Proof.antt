@@ -1,8 +1,9 @@
 -- `lower` meets its contract: each way out is one law of proofs/EntryLaws.antt.
 use native.Mathlib.Omega.{arith}
-use mathlib.Core.Path.{_≡_}
+use mathlib.Core.Path.{_≡_, refl}
 use lib.ListN.{length, length-map}
-use Rattle.elision.proofs.EntryLaws.{Measured, measures, lower-refused, lower-shaped, lower-named, lower-own, lower-given, lower-taken, lower-all}
+use Rattle.elision.proofs.EntryLaws.{Measured, measures, lower-refused, lower-shaped, lower-named, lower-own}
+use Rattle.elision.proofs.EntryLaws.{lower-given, lower-taken, lower-all}
 use borrow.Author.Needs.{needs}
 use Rattle.elision.proofs.method.lower.Statement.{statement}
 use Rattle.elision.proofs.method.lower.Tie as tie
@@ -14,49 +15,29 @@ full c = simp length-map at (c .good .0 .1 .1 .0 .1 .0 .1)
 abbrev start : tie.After-enum-told2 → tie.Start
 start c = c .before .before .before .before .before .before .before .before .before
 
-measured : (c : tie.After-enum-told2) → let s = start c in Measured (s .args .env) (s .args .receiver .now) (s .args .steps .now) (s .args .returns .now) (c .before .before .measure .result)
+measured : (c : tie.After-enum-told2) → let s = start c in
+    Measured (s .args .env) (s .args .receiver .now) (s .args .steps .now) (s .args .returns .now)
+    (c .before .before .measure .result)
 measured c = measures _ _ _ _ (c .before .before .measure .ensures) (c .enum-told2 .given .1)
 
-measure-requires : tie.Need-measure-requires
-measure-requires c κs = search needs
-
-enum-told : tie.Need-enum-told
-enum-told c = search needs
-
 returns : tie.Need-returns
-returns c = lower-refused _ _ _ _ _ _ _ (c .before .before .measure .ensures) (c .enum-told .given .1)
-
-enum-told-2 : tie.Need-enum-told-2
-enum-told-2 c = search needs
-
-refused-lowering-requires : tie.Need-refused-lowering-requires
-refused-lowering-requires c κs = search needs
+returns c = lower-refused _ _ _ _ _ _ _ (c .before .before .measure .ensures) (c .enum-told .given .1) refl refl refl
 
 returns-2 : tie.Need-returns-2
-returns-2 c = lower-own (measured (c .before .before .before)) (c .before .if1 .taken) (c .refused-lowering .ensures)
-
-refused-lowering-requires-2 : tie.Need-refused-lowering-requires-2
-refused-lowering-requires-2 c κs = search needs
+returns-2 c = lower-own (measured (c .before .before .before)) (c .before .if1 .taken) (c .refused-lowering .ensures) refl refl refl
 
 returns-3 : tie.Need-returns-3
 returns-3 c =
     let first = c .before .before .before in
-    lower-given (measured (first .before .before)) (first .if1 .left) (c .before .if2 .taken) (c .refused-lowering2 .ensures)
-
-refused-lowering-requires-3 : tie.Need-refused-lowering-requires-3
-refused-lowering-requires-3 c κs = search needs
+    lower-given (measured (first .before .before)) (first .if1 .left) (c .before .if2 .taken)
+    (c .refused-lowering2 .ensures) refl refl refl
 
 returns-4 : tie.Need-returns-4
 returns-4 c =
     let second = c .before .before .before in
     let first = second .before .before in
-    lower-taken (measured (first .before .before)) (first .if1 .left) (second .if2 .left) (c .before .if3 .taken) (c .refused-lowering3 .ensures)
-
-sub-run : tie.Need-sub-run
-sub-run c = search needs
-
-part-run-start : tie.Need-part-run-start
-part-run-start c = search needs
+    lower-taken (measured (first .before .before)) (first .if1 .left) (second .if2 .left) (c .before .if3 .taken)
+    (c .refused-lowering3 .ensures) refl refl refl
 
 part-run-end : tie.Need-part-run-end
 part-run-end c =
@@ -64,16 +45,9 @@ part-run-end c =
     omega (arith, full (start told), lower-named (measured told))
 
 run-requires : tie.Need-run-requires
-run-requires c κs = lower-shaped (measured (c .before .before .before .before .before .before .before .before .before .before .before .before))
-
-same-length : tie.Need-same-length
-same-length c = search needs
-
-same-length-2 : tie.Need-same-length-2
-same-length-2 c = search needs
-
-same-length-3 : tie.Need-same-length-3
-same-length-3 c = search needs
+run-requires c κs =
+    lower-shaped
+    (measured (c .before .before .before .before .before .before .before .before .before .before .before .before))
 
 returns-5 : tie.Need-returns-5
 returns-5 c =
@@ -82,27 +56,22 @@ returns-5 c =
     let second = third .before .before in
     let first = second .before .before in
     let told = first .before .before in
-    lower-all (measured told) (first .if1 .left) (second .if2 .left) (third .if3 .left) (full (start told)) (ran .run .ensures)
+    lower-all (measured told) _ _ _ (first .if1 .left) (second .if2 .left) (third .if3 .left) (full (start told)) (ran .run .ensures)
 
 pub lower-spec : {M : Type 1} → statement M
 lower-spec =
     tie.close
     (tie.spec
-    measure-requires
-    enum-told
+    (λ c κs. search needs) (λ c. search needs)
     returns
-    enum-told-2
-    refused-lowering-requires
+    (λ c. search needs) (λ c κs. search needs)
     returns-2
-    refused-lowering-requires-2
+    (λ c κs. search needs)
     returns-3
-    refused-lowering-requires-3
+    (λ c κs. search needs)
     returns-4
-    sub-run
-    part-run-start
+    (λ c. search needs) (λ c. search needs)
     part-run-end
     run-requires
-    same-length
-    same-length-2
-    same-length-3
+    (λ c. search needs) (λ c. search needs) (λ c. search needs)
     returns-5)

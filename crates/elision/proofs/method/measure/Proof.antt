@@ -4,7 +4,8 @@ use mathlib.Core.Path.{_≡_, sym, _∙_}
 use lib.ListN.{length, length-map}
 use Rattle.lifetimes.proofs.RefusalLaws.{refused-first, accepted-none}
 use Rattle.ast_lifetimes.proofs.Listing.{few-names}
-use Rattle.elision.proofs.EntryLaws.{measure-shape, Shaped, shape-told, measure-shaped, measure-env, Valid, measure-refused, measure-all}
+use Rattle.elision.proofs.EntryLaws.{measure-shape, Shaped, shape-told, measure-shaped, measure-env, Valid}
+use Rattle.elision.proofs.EntryLaws.{measure-refused, measure-all}
 use borrow.Author.Needs.{needs}
 use Rattle.elision.proofs.method.measure.Statement.{statement}
 use Rattle.elision.proofs.method.measure.Tie as tie
@@ -16,53 +17,29 @@ full c = simp length-map at (c .good .0 .1 .1 .0 .1 .0 .1)
 abbrev start : tie.After-enum-told → tie.Start
 start c = c .before .before .before .before .before .before
 
-shaped : (c : tie.After-enum-told) → let s = start c in Shaped (s .args .env) (s .args .receiver .now) (s .args .steps .now) (s .args .returns .now)
+shaped : (c : tie.After-enum-told) → let s = start c in
+    Shaped (s .args .env) (s .args .receiver .now) (s .args .steps .now) (s .args .returns .now)
 shaped c = shape-told _ _ _ _ (c .before .before .shape-of .ensures) (c .enum-told .given .1)
 
 -- the same place, from the one where the environment is valid
 abbrev in-shape : tie.After-enum-told2 → tie.After-enum-told
 in-shape c = c .before .before .before
 
-valid : (c : tie.After-enum-told2) → let s = start (in-shape c) in Valid (s .args .env) (s .args .receiver .now) (s .args .steps .now) (s .args .returns .now)
-valid c = record { shaped = shaped (in-shape c); none = accepted-none _ _ (sym (c .before .before .check .ensures) ∙ c .enum-told2 .given .1) }
-
-shape-of-requires : tie.Need-shape-of-requires
-shape-of-requires c κs = search needs
-
-enum-known-shape : tie.Need-enum-known-shape
-enum-known-shape c = search needs
-
-refused-lowering-requires : tie.Need-refused-lowering-requires
-refused-lowering-requires c κs = search needs
-
-returns : tie.Need-returns
-returns c = measure-shape _ _ _ _ (c .before .before .before .before .shape-of .ensures) (c .before .before .shape .given .1) (c .refused-lowering .ensures)
-
-enum-told : tie.Need-enum-told
-enum-told c = search needs
-
-check-requires : tie.Need-check-requires
-check-requires c κs = search needs
-
-enum-known-valid : tie.Need-enum-known-valid
-enum-known-valid c = search needs
-
-refused-lowering-requires-2 : tie.Need-refused-lowering-requires-2
-refused-lowering-requires-2 c κs = search needs
+valid : (c : tie.After-enum-told2) → let s = start (in-shape c) in
+    Valid (s .args .env) (s .args .receiver .now) (s .args .steps .now) (s .args .returns .now)
+valid c =
+    record {
+      shaped = shaped (in-shape c);
+      none = accepted-none _ _ (sym (c .before .before .check .ensures)
+          ∙ c .enum-told2 .given .1);
+    }
 
 returns-2 : tie.Need-returns-2
 returns-2 c =
     let checked = c .before .before .before .before in
-    measure-env (shaped (checked .before)) (refused-first _ _ _ (sym (checked .check .ensures) ∙ c .before .before .valid .given .1)) (c .refused-lowering2 .ensures)
-
-enum-told-2 : tie.Need-enum-told-2
-enum-told-2 c = search needs
-
-sub-judge : tie.Need-sub-judge
-sub-judge c = search needs
-
-part-judge-start : tie.Need-part-judge-start
-part-judge-start c = search needs
+    measure-env (shaped (checked .before))
+    (refused-first _ _ _ (sym (checked .check .ensures) ∙ c .before .before .valid .given .1))
+    (c .refused-lowering2 .ensures)
 
 part-judge-end : tie.Need-part-judge-end
 part-judge-end c =
@@ -73,20 +50,11 @@ part-judge-end c =
 judge-requires : tie.Need-judge-requires
 judge-requires c κs = measure-shaped (shaped (c .before .before .before .before .before .before))
 
-enum-known-verdict : tie.Need-enum-known-verdict
-enum-known-verdict c = search needs
-
-refused-lowering-requires-3 : tie.Need-refused-lowering-requires-3
-refused-lowering-requires-3 c κs = search needs
-
 returns-3 : tie.Need-returns-3
 returns-3 c =
     let judged = c .before .before .before .before in
     let told = judged .before .before .before .before in
     measure-refused (valid told) (judged .judge .ensures) (c .before .before .verdict .given .1) (c .refused-lowering3 .ensures)
-
-enum-told-3 : tie.Need-enum-told-3
-enum-told-3 c = search needs
 
 returns-4 : tie.Need-returns-4
 returns-4 c =
@@ -98,22 +66,14 @@ pub measure-spec : {M : Type 1} → statement M
 measure-spec =
     tie.close
     (tie.spec
-    shape-of-requires
-    enum-known-shape
-    refused-lowering-requires
-    returns
-    enum-told
-    check-requires
-    enum-known-valid
-    refused-lowering-requires-2
+    (λ c κs. search needs) (λ c. search needs) (λ c κs. search needs)
+    (λ c. search (measure-shape, needs))
+    (λ c. search needs) (λ c κs. search needs) (λ c. search needs) (λ c κs. search needs)
     returns-2
-    enum-told-2
-    sub-judge
-    part-judge-start
+    (λ c. search needs) (λ c. search needs) (λ c. search needs)
     part-judge-end
     judge-requires
-    enum-known-verdict
-    refused-lowering-requires-3
+    (λ c. search needs) (λ c κs. search needs)
     returns-3
-    enum-told-3
+    (λ c. search needs)
     returns-4)

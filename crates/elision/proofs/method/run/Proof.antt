@@ -15,7 +15,8 @@ abbrev start : tie.After-enum-told → tie.Start
 start c = c .before .before .before .before .before .before .before .before .before .before .before .before .before
 
 one : (c : tie.After-enum-told) → let s = start c in let first = c .before .before .before .before in
-    Given (lowerSelf (s .args .names .now) (receiverOf (s .args .receiver .now))) 0 (replicate 16 0) (s .args .own .now) (first .put-receiver .last .1 .1 .0) (first .put-receiver .result)
+    Given (lowerSelf (s .args .names .now) (receiverOf (s .args .receiver .now))) 0 (replicate 16 0) (s .args .own .now)
+    (first .put-receiver .last .1 .1 .0) (first .put-receiver .result)
 one c = c .before .before .before .before .put-receiver .ensures .1 (replicate 16 0) refl .accepted (c .enum-told .given .1)
 
 -- that place, from the one where the steps are lowered
@@ -23,86 +24,40 @@ abbrev begun : tie.After-enum-told2 → tie.After-enum-told
 begun c = c .before .before .before .before .before .before .before .before
 
 two : (c : tie.After-enum-told2) → let s = start (begun c) in let second = c .before .before .before .before in
-    Given (runSteps (s .args .names .now) false (stepsOf (s .args .steps .now)) (one (begun c) .it .left)) 0 (second .put-record .last .1 .1 .1 .1 .1 .1 .0)
+    Given (runSteps (s .args .names .now) false (stepsOf (s .args .steps .now)) (one (begun c) .it .left)) 0
+    (second .put-record .last .1 .1 .1 .1 .1 .1 .0)
     (s .args .given .now) (second .put-record .last .1 .1 .1 .1 .1 .1 .1 .0) (second .put-record .result)
-two c = c .before .before .before .before .put-record .ensures .1 (one (begun c) .it .left) (one (begun c) .shows) .accepted (c .enum-told2 .given .1)
-
-put-receiver-requires : tie.Need-put-receiver-requires
-put-receiver-requires c κs = search needs
-
-enum-known-one : tie.Need-enum-known-one
-enum-known-one c = search needs
-
-refused-totals-requires : tie.Need-refused-totals-requires
-refused-totals-requires c κs = search needs
-
-same-length : tie.Need-same-length
-same-length c = search needs
-
-returns : tie.Need-returns
-returns c = all-first _ _ _ _ (c .before .before .before .before .before .before .put-receiver .ensures .1) (c .before .before .one .given .1) (c .refused-totals .ensures)
-
-enum-told : tie.Need-enum-told
-enum-told c = search needs
-
-put-record-requires : tie.Need-put-record-requires
-put-record-requires c κs = (start (c .before .before .before) .pre .0, c .before .before .before .before .before .before .before .put-receiver .ensures .0)
-
-enum-known-two : tie.Need-enum-known-two
-enum-known-two c = search needs
-
-refused-totals-requires-2 : tie.Need-refused-totals-requires-2
-refused-totals-requires-2 c κs = search needs
-
-same-length-2 : tie.Need-same-length-2
-same-length-2 c = search needs
-
-same-length-3 : tie.Need-same-length-3
-same-length-3 c = search needs
+two c = c .before .before .before .before .put-record .ensures .1 (one (begun c) .it .left)
+    (one (begun c) .shows) .accepted (c .enum-told2 .given .1)
 
 returns-2 : tie.Need-returns-2
 returns-2 c =
     let second = c .before .before .before .before .before .before in
-    all-second _ _ _ _ (one (second .before .before .before .before)) (second .put-record .ensures .1) (c .before .before .two .given .1) (c .refused-totals2 .ensures)
-
-enum-told-2 : tie.Need-enum-told-2
-enum-told-2 c = search needs
+    all-second _ _ _ _ (one (second .before .before .before .before)) (second .put-record .ensures .1)
+    (c .before .before .two .given .1) (c .refused-totals2 .ensures)
 
 put-record-requires-2 : tie.Need-put-record-requires-2
-put-record-requires-2 c κs = (start (begun (c .before .before .before)) .pre .1, c .before .before .before .before .before .before .before .put-record .ensures .0)
-
-enum-known-three : tie.Need-enum-known-three
-enum-known-three c = search needs
-
-refused-totals-requires-3 : tie.Need-refused-totals-requires-3
-refused-totals-requires-3 c κs = search needs
+put-record-requires-2 c κs = (
+  start (begun (c .before .before .before)) .pre .1,
+  c .before .before .before .before .before .before .before .put-record .ensures .0,
+)
 
 same-length-4 : tie.Need-same-length-4
-same-length-4 c = begun (c .before .before .before .before .before .before .before .before .before .before) .before .before .before .own .given
-
-same-length-5 : tie.Need-same-length-5
-same-length-5 c = search needs
-
-same-length-6 : tie.Need-same-length-6
-same-length-6 c = search needs
+same-length-4 c =
+    begun
+    (c .before .before .before .before .before .before .before .before .before .before) .before .before .before .own .given
 
 returns-3 : tie.Need-returns-3
 returns-3 c =
     let third = c .before .before .before .before .before .before in
     let told = third .before .before .before .before in
-    all-third _ _ _ _ (one (begun told)) (two told) (third .put-record2 .ensures .1) (c .before .before .three .given .1) (c .refused-totals3 .ensures)
-
-enum-told-3 : tie.Need-enum-told-3
-enum-told-3 c = search needs
+    all-third _ _ _ _ (one (begun told)) (two told) (third .put-record2 .ensures .1)
+    (c .before .before .three .given .1) (c .refused-totals3 .ensures)
 
 same-length-7 : tie.Need-same-length-7
-same-length-7 c = begun (c .before .before .before .before .before .before .before .before .before) .before .before .before .own .given
-
-same-length-8 : tie.Need-same-length-8
-same-length-8 c = search needs
-
-same-length-9 : tie.Need-same-length-9
-same-length-9 c = search needs
+same-length-7 c =
+    begun
+    (c .before .before .before .before .before .before .before .before .before) .before .before .before .own .given
 
 returns-4 : tie.Need-returns-4
 returns-4 c =
@@ -114,28 +69,18 @@ pub run-spec : {M : Type 1} → statement M
 run-spec =
     tie.close
     (tie.spec
-    put-receiver-requires
-    enum-known-one
-    refused-totals-requires
-    same-length
-    returns
-    enum-told
-    put-record-requires
-    enum-known-two
-    refused-totals-requires-2
-    same-length-2
-    same-length-3
+    (λ c κs. search needs) (λ c. search needs) (λ c κs. search needs) (λ c. search needs)
+    (λ c. search (all-first, needs))
+    (λ c. search needs) (λ c κs. search needs) (λ c. search needs) (λ c κs. search needs) (λ c. search needs)
+    (λ c. search needs)
     returns-2
-    enum-told-2
+    (λ c. search needs)
     put-record-requires-2
-    enum-known-three
-    refused-totals-requires-3
+    (λ c. search needs) (λ c κs. search needs)
     same-length-4
-    same-length-5
-    same-length-6
+    (λ c. search needs) (λ c. search needs)
     returns-3
-    enum-told-3
+    (λ c. search needs)
     same-length-7
-    same-length-8
-    same-length-9
+    (λ c. search needs) (λ c. search needs)
     returns-4)

@@ -21,35 +21,14 @@ generics c = part-generics (c .before .before .read-step .ensures) (c .step2 .gi
 self-type : (c : tie.After-step3) → let p = c .step3 .given .0 in Part (words (c .before .before)) (p .0) (p .1 .0)
 self-type c = part-self (c .before .before .read-step .ensures) (c .step3 .given .1)
 
-read-step-requires : tie.Need-read-step-requires
-read-step-requires c κs = search needs
-
-enum-known-step : tie.Need-enum-known-step
-enum-known-step c = search needs
-
 sub-from : tie.Need-sub-from
 sub-from c = lifetime (c .before) .0
 
 mul-put-given : tie.Need-mul-put-given
 mul-put-given c = let p = lifetime (c .before) .1 in omega (arith, p .starts, p .ends)
 
-sub-put-given : tie.Need-sub-put-given
-sub-put-given c = lifetime (c .before) .1 .starts
-
-part-put-given-start : tie.Need-part-put-given-start
-part-put-given-start c = lifetime (c .before) .1 .starts
-
 part-put-given-end : tie.Need-part-put-given-end
 part-put-given-end c = lifetime (c .before) .1 .ends
-
-put-given-requires : tie.Need-put-given-requires
-put-given-requires c κs =
-    let step = c .before .before .before in
-    let s = step .before .before .before .before .before .before in
-    (lifetime step .1 .few, omega arith, s .pre .0, s .pre .1)
-
-enum-known-step-2 : tie.Need-enum-known-step-2
-enum-known-step-2 c = search needs
 
 mul-put-given-2 : tie.Need-mul-put-given-2
 mul-put-given-2 c = let p = generics (c .before) .1 in omega (arith, p .starts, p .ends)
@@ -69,9 +48,6 @@ put-given-requires-2 c κs =
     let s = step .before .before .before .before .before .before in
     (generics step .1 .few, generics step .0, s .pre .0, s .pre .1)
 
-enum-known-step-3 : tie.Need-enum-known-step-3
-enum-known-step-3 c = search needs
-
 mul-put-self : tie.Need-mul-put-self
 mul-put-self c = let p = self-type (c .before) in omega (arith, p .starts, p .ends)
 
@@ -90,65 +66,43 @@ put-self-requires c κs =
     let s = step .before .before .before .before .before .before in
     (self-type step .few, s .pre .0, s .pre .1)
 
-enum-told : tie.Need-enum-told
-enum-told c = search needs
-
-same-length : tie.Need-same-length
-same-length c = search needs
-
 returns : tie.Need-returns
 returns c =
     let step = c .before .before .before .before .before .before in
-    puts-lifetime (step .before .before .read-step .ensures) _ _ _ _ _ _ _ (step .step .given .1) (c .before .before .put-given .ensures _)
-
-same-length-2 : tie.Need-same-length-2
-same-length-2 c = search needs
+    puts-lifetime (step .before .before .read-step .ensures) _ _ _ _ _ _ _ (step .step .given .1)
+    (c .before .before .put-given .ensures _)
 
 returns-2 : tie.Need-returns-2
 returns-2 c =
     let step = c .before .before .before .before .before .before in
-    puts-generics (step .before .before .read-step .ensures) _ _ _ _ _ _ _ (step .step2 .given .1) (c .before .before .put-given2 .ensures _)
-
-same-length-3 : tie.Need-same-length-3
-same-length-3 c = search needs
-
-returns-3 : tie.Need-returns-3
-returns-3 c =
-    let step = c .before .before .before .before .before .before .before in
-    puts-self (step .before .before .read-step .ensures) _ _ _ _ _ _ _ (step .step3 .given .1) (c .before .before .put-self .ensures)
-
-returns-4 : tie.Need-returns-4
-returns-4 c = puts-missing (c .before .before .read-step .ensures) _ _ _ _ _ _ _ (c .enum-told .given .1) (c .before .before .before .before .before .before .pre .0)
+    puts-generics (step .before .before .read-step .ensures) _ _ _ _ _ _ _ (step .step2 .given .1)
+    (c .before .before .put-given2 .ensures _)
 
 pub put-step-spec : {M : Type 1} → statement M
 put-step-spec =
     tie.close
     (tie.spec
-    read-step-requires
-    enum-known-step
+    (λ c κs. search needs) (λ c. search needs)
     sub-from
     mul-put-given
-    sub-put-given
-    part-put-given-start
+    (λ c. search needs) (λ c. search needs)
     part-put-given-end
-    put-given-requires
-    enum-known-step-2
+    (λ c κs. search needs) (λ c. search needs)
     mul-put-given-2
     sub-put-given-2
     part-put-given-start-2
     part-put-given-end-2
     put-given-requires-2
-    enum-known-step-3
+    (λ c. search needs)
     mul-put-self
     sub-put-self
     part-put-self-start
     part-put-self-end
     put-self-requires
-    enum-told
-    same-length
+    (λ c. search needs) (λ c. search needs)
     returns
-    same-length-2
+    (λ c. search needs)
     returns-2
-    same-length-3
-    returns-3
-    returns-4)
+    (λ c. search needs)
+    (λ c. search (puts-self, needs))
+    (λ c. search (puts-missing, needs)))

@@ -3,15 +3,6 @@ use borrow.Author.Needs.{needs}
 use Rattle.elision.proofs.put.word_of.Statement.{statement}
 use Rattle.elision.proofs.put.word_of.Tie as tie
 
-word-requires : tie.Need-word-requires
-word-requires c κs = search needs
-
-enum-known-word : tie.Need-enum-known-word
-enum-known-word c = search needs
-
-enum-told : tie.Need-enum-told
-enum-told c = search needs
-
 returns : tie.Need-returns
 returns c = rw (← c .before .before .word .ensures, c .enum-told .given .1)
 
@@ -19,4 +10,4 @@ returns-2 : tie.Need-returns-2
 returns-2 c = rw (← c .before .before .before .word .ensures, c .before .word2 .given .1)
 
 pub word-of-spec : {M : Type 1} → statement M
-word-of-spec = tie.close (tie.spec word-requires enum-known-word enum-told returns returns-2)
+word-of-spec = tie.close (tie.spec (λ c κs. search needs) (λ c. search needs) (λ c. search needs) returns returns-2)

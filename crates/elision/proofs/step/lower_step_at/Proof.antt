@@ -2,7 +2,8 @@
 use Prim.Native.Nat.{ℕ, _≤_}
 use mathlib.Core.List.{List}
 use native.Mathlib.Omega.{arith}
-use Rattle.elision.proofs.Taking.{Part, part-generics, part-self, takes-lifetime, takes-generics, takes-self, takes-missing}
+use Rattle.elision.proofs.Taking.{Part, part-generics, part-self, takes-lifetime, takes-generics, takes-self}
+use Rattle.elision.proofs.Taking.{takes-missing}
 use borrow.Author.Needs.{needs}
 use Rattle.elision.proofs.step.lower_step_at.Statement.{statement}
 use Rattle.elision.proofs.step.lower_step_at.Tie as tie
@@ -17,18 +18,6 @@ generics c = part-generics (c .before .before .read-step .ensures) (c .step2 .gi
 self-type : (c : tie.After-step3) → let p = c .step3 .given .0 in Part (words (c .before .before)) (p .0) (p .1 .0)
 self-type c = part-self (c .before .before .read-step .ensures) (c .step3 .given .1)
 
-read-step-requires : tie.Need-read-step-requires
-read-step-requires c κs = search needs
-
-enum-known-step : tie.Need-enum-known-step
-enum-known-step c = search needs
-
-lower-lifetime-requires : tie.Need-lower-lifetime-requires
-lower-lifetime-requires c κs = search needs
-
-enum-known-step-2 : tie.Need-enum-known-step-2
-enum-known-step-2 c = search needs
-
 mul-lower-generics : tie.Need-mul-lower-generics
 mul-lower-generics c = let p = generics (c .before) .1 in omega (arith, p .starts, p .ends)
 
@@ -40,12 +29,6 @@ part-lower-generics-start c = generics (c .before) .1 .starts
 
 part-lower-generics-end : tie.Need-part-lower-generics-end
 part-lower-generics-end c = generics (c .before) .1 .ends
-
-lower-generics-requires : tie.Need-lower-generics-requires
-lower-generics-requires c κs = search needs
-
-enum-known-step-3 : tie.Need-enum-known-step-3
-enum-known-step-3 c = search needs
 
 mul-is-self : tie.Need-mul-is-self
 mul-is-self c = let p = self-type (c .before) in omega (arith, p .starts, p .ends)
@@ -59,49 +42,22 @@ part-is-self-start c = self-type (c .before) .starts
 part-is-self-end : tie.Need-part-is-self-end
 part-is-self-end c = self-type (c .before) .ends
 
-is-self-requires : tie.Need-is-self-requires
-is-self-requires c κs = search needs
-
-enum-told : tie.Need-enum-told
-enum-told c = search needs
-
-refused-requires : tie.Need-refused-requires
-refused-requires c κs = search needs
-
-returns : tie.Need-returns
-returns c = takes-lifetime (c .before .before .before .before .read-step .ensures) _ _ _ (c .before .before .step .given .1) (c .lower-lifetime .ensures)
-
-returns-2 : tie.Need-returns-2
-returns-2 c = takes-generics (c .before .before .before .before .before .read-step .ensures) _ _ _ (c .before .before .before .step2 .given .1) (c .lower-generics .ensures)
-
-returns-3 : tie.Need-returns-3
-returns-3 c = takes-self (c .before .before .before .before .before .read-step .ensures) _ _ _ (c .before .before .before .step3 .given .1) (c .is-self .ensures)
-
-returns-4 : tie.Need-returns-4
-returns-4 c = takes-missing (c .before .before .before .read-step .ensures) _ _ _ (c .before .enum-told .given .1) (c .refused .ensures)
-
 pub lower-step-at-spec : {M : Type 1} → statement M
 lower-step-at-spec =
     tie.close
     (tie.spec
-    read-step-requires
-    enum-known-step
-    lower-lifetime-requires
-    enum-known-step-2
+    (λ c κs. search needs) (λ c. search needs) (λ c κs. search needs) (λ c. search needs)
     mul-lower-generics
     sub-lower-generics
     part-lower-generics-start
     part-lower-generics-end
-    lower-generics-requires
-    enum-known-step-3
+    (λ c κs. search needs) (λ c. search needs)
     mul-is-self
     sub-is-self
     part-is-self-start
     part-is-self-end
-    is-self-requires
-    enum-told
-    refused-requires
-    returns
-    returns-2
-    returns-3
-    returns-4)
+    (λ c κs. search needs) (λ c. search needs) (λ c κs. search needs)
+    (λ c. search (takes-lifetime, needs))
+    (λ c. search (takes-generics, needs))
+    (λ c. search (takes-self, needs))
+    (λ c. search (takes-missing, needs)))

@@ -4,31 +4,22 @@ use borrow.Author.Needs.{needs}
 use Rattle.exports.proofs.listed.unlisted.Statement.{statement}
 use Rattle.exports.proofs.listed.unlisted.Tie as tie
 
-slice-aggregate-listing : tie.Need-slice-aggregate-listing
-slice-aggregate-listing c = search needs
-
-listing-requires : tie.Need-listing-requires
-listing-requires c κs = search needs
-
-enum-told : tie.Need-enum-told
-enum-told c = search needs
-
-enum-known-answer : tie.Need-enum-known-answer
-enum-known-answer c = search needs
-
 returns : tie.Need-returns
-returns c = unlisted-given (c .before .before .before .before .before .before .args .sheet .now) (c .before .before .before .listing .result) _ (c .before .before .before .listing .ensures .0) (c .enum-told .given .1)
+returns c =
+    unlisted-given (c .before .before .before .before .before .before .args .sheet .now)
+    (c .before .before .before .listing .result) _ (c .before .before .before .listing .ensures .0)
+    (c .enum-told .given .1)
 
 returns-2 : tie.Need-returns-2
-returns-2 c = unlisted-refused (c .before .before .before .before .before .before .before .args .sheet .now) (c .before .before .before .before .listing .result) (c .before .answer .given .0 .0) (c .before .before .before .before .listing .ensures .0) (c .before .answer .given .1)
+returns-2 c =
+    unlisted-refused (c .before .before .before .before .before .before .before .args .sheet .now)
+    (c .before .before .before .before .listing .result) (c .before .answer .given .0 .0)
+    (c .before .before .before .before .listing .ensures .0) (c .before .answer .given .1)
 
 pub unlisted-spec : {M : Type 1} → statement M
 unlisted-spec =
     tie.close
     (tie.spec
-    slice-aggregate-listing
-    listing-requires
-    enum-told
-    enum-known-answer
+    (λ c. search needs) (λ c κs. search needs) (λ c. search needs) (λ c. search needs)
     returns
     returns-2)

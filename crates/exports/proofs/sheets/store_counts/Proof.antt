@@ -7,19 +7,11 @@ use borrow.Author.Needs.{needs}
 use Rattle.exports.proofs.sheets.store_counts.Statement.{statement}
 use Rattle.exports.proofs.sheets.store_counts.Tie as tie
 
-slice-write-counts : tie.Need-slice-write-counts
-slice-write-counts c = search needs
-
 slice-write-counts-2 : tie.Need-slice-write-counts-2
 slice-write-counts-2 c =
-    let g : 1 < length (set (c .args .counts .now) 0 (c .args .used)) = omega (arith, length-set (c .args .counts .now) 0 (c .args .used), c .pre) in
+    let g : 1 < length (set (c .args .counts .now) 0 (c .args .used)) =
+    omega (arith, length-set (c .args .counts .now) 0 (c .args .used), c .pre) in
     g
-
-slice-write-counts-3 : tie.Need-slice-write-counts-3
-slice-write-counts-3 c = search needs
-
-same-length : tie.Need-same-length
-same-length c = search needs
 
 returns : tie.Need-returns
 returns c = three-stored (c .args .used) (c .args .params) (c .args .edges) (c .args .counts .now) (c .pre)
@@ -27,4 +19,4 @@ returns c = three-stored (c .args .used) (c .args .params) (c .args .edges) (c .
 pub store-counts-spec : {M : Type 1} → statement M
 store-counts-spec =
     tie.close
-    (tie.spec slice-write-counts slice-write-counts-2 slice-write-counts-3 same-length returns)
+    (tie.spec (λ c. search needs) slice-write-counts-2 (λ c. search needs) (λ c. search needs) returns)

@@ -1,4 +1,5 @@
--- `pairs_of` meets its contract. The loop's invariant is `Pairing` of proofs/FieldLaws.antt; the measure is how many words are left.
+-- `pairs_of` meets its contract. The loop's invariant is `Pairing` of proofs/FieldLaws.antt; the measure is how many
+-- words are left.
 use Prim.Native.Nat.{_-_, _<_}
 use borrow.Author.Needs.{needs}
 use mathlib.Core.Path.{refl}
@@ -6,7 +7,8 @@ use native.Mathlib.Omega.{arith}
 use denote.Enum.Declared.{tagOf}
 use Rattle.lifetimes.proofs.linked.LinkedPair as LinkedPair
 use Rattle.lifetimes.proofs.LinkedLaws.{pair-only}
-use Rattle.hir_types.proofs.FieldLaws.{Pairing, pairing-start, Linking, linking, pairing-static, pairing-past, pairing-more, pairing-none, pairing-some}
+use Rattle.hir_types.proofs.FieldLaws.{Pairing, pairing-start, Linking, linking, pairing-static, pairing-past}
+use Rattle.hir_types.proofs.FieldLaws.{pairing-more, pairing-none, pairing-some}
 use Rattle.hir_types.proofs.fields.pairs_of.Statement.{statement}
 use Rattle.hir_types.proofs.fields.pairs_of.Tie as tie
 
@@ -29,86 +31,44 @@ linked : (c : tie.After-from-word Inv-loop μ-loop) → let s = start (looped c)
 linked c =
     let s = start (looped c) in
     let pair = c .before .before .before .before in
-    linking (s .args .path .now) (s .args .count) (s .pre .0) (looped c .loop .inv) (pair .before .loop-test .taken) (pair .linked-pair .ensures) (c .before .before .linked .given .1) (c .from-word .ensures)
+    linking (s .args .path .now) (s .args .count) (s .pre .0) (looped c .loop .inv) (pair .before .loop-test .taken)
+    (pair .linked-pair .ensures) (c .before .before .linked .given .1) (c .from-word .ensures)
 
 -- there is room for one more pair
 room : (c : tie.Else1 Inv-loop μ-loop) → looped (c .before .before .before .before .before) .loop .n < 16
 room c = let l = looped (c .before .before .before .before .before) in omega (arith, l .loop .inv .before, start l .pre .1)
 
-new-requires : tie.Need-new-requires Inv-loop μ-loop
-new-requires c κs = search needs
-
-new-requires-2 : tie.Need-new-requires-2 Inv-loop μ-loop
-new-requires-2 c κs = search needs
-
-loop-holds : tie.Need-loop-holds Inv-loop μ-loop
-loop-holds c = pairing-start _ _ (c .before .new .ensures) (c .new2 .ensures)
-
-add-i : tie.Need-add-i Inv-loop μ-loop
-add-i c = search needs
-
-linked-pair-requires : tie.Need-linked-pair-requires Inv-loop μ-loop
-linked-pair-requires c κs = search needs
-
-enum-known-linked : tie.Need-enum-known-linked Inv-loop μ-loop
-enum-known-linked c = search needs
-
-loop-less : tie.Need-loop-less Inv-loop μ-loop
-loop-less c = search needs
-
 loop-again : tie.Need-loop-again Inv-loop μ-loop
 loop-again c =
     let s = start (c .before .before .before) in
-    pair-only (s .args .path .now) (s .args .count) (s .pre .0) (c .before .before .before .loop .i) (c .before .before .loop-test .taken) (c .before .linked-pair .ensures) (tagOf LinkedPair.the-type) refl (c .match .keys2)
-
-from-word-requires : tie.Need-from-word-requires Inv-loop μ-loop
-from-word-requires c κs = search needs
-
-enum-known-lifetime : tie.Need-enum-known-lifetime Inv-loop μ-loop
-enum-known-lifetime c = search needs
-
-enum-told : tie.Need-enum-told Inv-loop μ-loop
-enum-told c = search needs
-
-loop-less-2 : tie.Need-loop-less-2 Inv-loop μ-loop
-loop-less-2 c = search needs
+    pair-only (s .args .path .now) (s .args .count) (s .pre .0) (c .before .before .before .loop .i)
+    (c .before .before .loop-test .taken) (c .before .linked-pair .ensures) (tagOf LinkedPair.the-type) refl
+    (c .match .keys2)
 
 loop-again-2 : tie.Need-loop-again-2 Inv-loop μ-loop
 loop-again-2 c = pairing-static (linked (c .before .before)) (c .enum-told .given .1)
 
-index-requires : tie.Need-index-requires Inv-loop μ-loop
-index-requires c κs = search needs
-
-loop-less-3 : tie.Need-loop-less-3 Inv-loop μ-loop
-loop-less-3 c = search needs
-
 loop-again-3 : tie.Need-loop-again-3 Inv-loop μ-loop
-loop-again-3 c = pairing-past (linked (c .before .before .before .before .before)) (c .before .before .before .lifetime .given .1) (omega (arith, c .before .index .ensures))
-
-mul-pairs : tie.Need-mul-pairs Inv-loop μ-loop
-mul-pairs c = omega (arith, room c)
-
-array-set-from-pairs : tie.Need-array-set-from-pairs Inv-loop μ-loop
-array-set-from-pairs c = omega (arith, room c)
-
-add-n : tie.Need-add-n Inv-loop μ-loop
-add-n c = omega (arith, room c)
-
-loop-less-4 : tie.Need-loop-less-4 Inv-loop μ-loop
-loop-less-4 c = search needs
+loop-again-3 c =
+    pairing-past (linked (c .before .before .before .before .before)) (c .before .before .before .lifetime .given .1)
+    (omega (arith, c .before .index .ensures))
 
 loop-again-4 : tie.Need-loop-again-4 Inv-loop μ-loop
-loop-again-4 c = pairing-more (linked (c .before .before .before .before .before)) (c .before .before .before .lifetime .given .1) (omega (arith, c .before .index .ensures))
+loop-again-4 c =
+    pairing-more (linked (c .before .before .before .before .before)) (c .before .before .before .lifetime .given .1)
+    (omega (arith, c .before .index .ensures))
 
 returns : tie.Need-returns Inv-loop μ-loop
 returns c =
     let s = start (c .before .before) in
-    pairing-none (c .before .before .loop .inv) (omega (arith, s .pre)) (omega (arith, s .pre .0, c .before .loop-test .left)) (c .if2 .taken)
+    pairing-none (c .before .before .loop .inv) (omega (arith, s .pre))
+    (omega (arith, s .pre .0, c .before .loop-test .left)) (c .if2 .taken)
 
 returns-2 : tie.Need-returns-2 Inv-loop μ-loop
 returns-2 c =
     let s = start (c .before .before) in
-    pairing-some (c .before .before .loop .inv) (omega (arith, s .pre)) (omega (arith, s .pre .0, c .before .loop-test .left)) (c .if2 .left)
+    pairing-some (c .before .before .loop .inv) (omega (arith, s .pre))
+    (omega (arith, s .pre .0, c .before .loop-test .left)) (c .if2 .left)
 
 pub pairs-of-spec : {M : Type 1} → statement M
 pairs-of-spec =
@@ -116,26 +76,15 @@ pairs-of-spec =
     (tie.spec
     Inv-loop
     μ-loop
-    new-requires
-    new-requires-2
-    loop-holds
-    add-i
-    linked-pair-requires
-    enum-known-linked
-    loop-less
+    (λ c κs. search needs) (λ c κs. search needs)
+    (λ c. search (pairing-start, needs))
+    (λ c. search needs) (λ c κs. search needs) (λ c. search needs) (λ c. search needs)
     loop-again
-    from-word-requires
-    enum-known-lifetime
-    enum-told
-    loop-less-2
+    (λ c κs. search needs) (λ c. search needs) (λ c. search needs) (λ c. search needs)
     loop-again-2
-    index-requires
-    loop-less-3
+    (λ c κs. search needs) (λ c. search needs)
     loop-again-3
-    mul-pairs
-    array-set-from-pairs
-    add-n
-    loop-less-4
+    (λ c. search needs) (λ c. search needs) (λ c. search needs) (λ c. search needs)
     loop-again-4
     returns
     returns-2)

@@ -1,4 +1,5 @@
--- `row_place` meets its contract. The loop's invariant is `Placing` of proofs/FieldLaws.antt; the measure is how many rows are left.
+-- `row_place` meets its contract. The loop's invariant is `Placing` of proofs/FieldLaws.antt; the measure is how many
+-- rows are left.
 use Prim.Native.Nat.{_-_}
 use borrow.Author.Needs.{needs}
 use native.Mathlib.Omega.{arith}
@@ -12,35 +13,11 @@ Inv-loop structs row at₀ number₀ at number = Placing structs row at number
 abbrev μ-loop : tie.MeasureT-loop
 μ-loop structs row at₀ number₀ at number = row - number
 
-loop-holds : tie.Need-loop-holds Inv-loop μ-loop
-loop-holds c = placing-start _ _ (c .before .pre .0)
-
 add-fields : tie.Need-add-fields Inv-loop μ-loop
 add-fields c = omega (arith, placing-here (c .before .loop .inv) (c .before .before .before .pre .1))
 
-mul-fields : tie.Need-mul-fields Inv-loop μ-loop
-mul-fields c = omega (arith, placing-here (c .before .loop .inv) (c .before .before .before .pre .1))
-
-shared-slice-read-fields : tie.Need-shared-slice-read-fields Inv-loop μ-loop
-shared-slice-read-fields c = placing-here (c .before .before .loop .inv) (c .before .before .before .before .pre .1)
-
 add-skip-types : tie.Need-add-skip-types Inv-loop μ-loop
 add-skip-types c = omega (arith, placing-here (c .before .before .loop .inv) (c .before .before .before .before .pre .1))
-
-skip-types-requires : tie.Need-skip-types-requires Inv-loop μ-loop
-skip-types-requires c κs = search needs
-
-add-number : tie.Need-add-number Inv-loop μ-loop
-add-number c = search needs
-
-loop-less : tie.Need-loop-less Inv-loop μ-loop
-loop-less c = search needs
-
-loop-again : tie.Need-loop-again Inv-loop μ-loop
-loop-again c = placing-more (c .before .before .before .loop .inv) (c .before .before .before .before .before .pre .1) (c .before .before .loop-test .taken) (c .skip-types .ensures)
-
-returns : tie.Need-returns Inv-loop μ-loop
-returns c = placing-end (c .before .loop .inv) (c .before .before .before .pre .1) (c .loop-test .left)
 
 pub row-place-spec : {M : Type 1} → statement M
 row-place-spec =
@@ -48,13 +25,11 @@ row-place-spec =
     (tie.spec
     Inv-loop
     μ-loop
-    loop-holds
+    (λ c. search (placing-start, needs))
     add-fields
-    mul-fields
-    shared-slice-read-fields
+    (λ c. search (placing-here, needs))
+    (λ c. search (placing-here, needs))
     add-skip-types
-    skip-types-requires
-    add-number
-    loop-less
-    loop-again
-    returns)
+    (λ c κs. search needs) (λ c. search needs) (λ c. search needs)
+    (λ c. search (placing-more, needs))
+    (λ c. search (placing-end, needs)))

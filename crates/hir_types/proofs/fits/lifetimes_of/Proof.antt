@@ -6,17 +6,8 @@ use borrow.Author.Needs.{needs}
 use Rattle.hir_types.proofs.fits.lifetimes_of.Statement.{statement}
 use Rattle.hir_types.proofs.fits.lifetimes_of.Tie as tie
 
-mul-result : tie.Need-mul-result
-mul-result c = search needs
-
-element-copy-out-result : tie.Need-element-copy-out-result
-element-copy-out-result c = search needs
-
-returns : tie.Need-returns
-returns c = search needs
-
 returns-2 : tie.Need-returns-2
 returns-2 c = sym (List·getD-eq-default (c .before .args .lifetimes .now) 0 (omega (arith, c .before .pre)))
 
 pub lifetimes-of-spec : {M : Type 1} → statement M
-lifetimes-of-spec = tie.close (tie.spec mul-result element-copy-out-result returns returns-2)
+lifetimes-of-spec = tie.close (tie.spec (λ c. search needs) (λ c. search needs) (λ c. search needs) returns-2)

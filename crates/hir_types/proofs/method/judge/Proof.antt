@@ -1,5 +1,6 @@
 -- `judge` meets its contract: each stage is one law of proofs/MethodLaws.antt.
-use Rattle.hir_types.proofs.MethodLaws.{in-shape, judge-torn, judge-lifetimes, judge-bounds, Judging, judge-place, judge-env, judge-outside, judge-all}
+use Rattle.hir_types.proofs.MethodLaws.{in-shape, judge-torn, judge-lifetimes, judge-bounds, Judging}
+use Rattle.hir_types.proofs.MethodLaws.{judge-place, judge-env, judge-outside, judge-all}
 use borrow.Author.Needs.{needs}
 use Rattle.hir_types.proofs.method.judge.Statement.{statement}
 use Rattle.hir_types.proofs.method.judge.Tie as tie
@@ -13,7 +14,8 @@ abbrev shaped : tie.After-judge-places → tie.After-method-shape
 shaped c = c .before .before .before .before .before .before
 
 judging : (c : tie.After-judge-places) → let s = start (shaped c) .args in
-    Judging (s .env) (s .structs .now) (s .params .now) (s .output .now) (s .force .now) (c .judge-places .last .1 .1 .1 .1 .1 .1 .0) (shaped c .method-shape .result) (c .judge-places .result)
+    Judging (s .env) (s .structs .now) (s .params .now) (s .output .now) (s .force .now)
+    (c .judge-places .last .1 .1 .1 .1 .1 .1 .0) (shaped c .method-shape .result) (c .judge-places .result)
 judging c =
     record {
       shape = shaped c .method-shape .ensures;
@@ -23,127 +25,59 @@ judging c =
       by-place = c .judge-places .ensures;
     }
 
-method-shape-requires : tie.Need-method-shape-requires
-method-shape-requires c κs = search needs
-
-enum-told : tie.Need-enum-told
-enum-told c = search needs
-
-enum-told-2 : tie.Need-enum-told-2
-enum-told-2 c = search needs
-
-refused-requires : tie.Need-refused-requires
-refused-requires c κs = search needs
-
 returns : tie.Need-returns
 returns c =
     let shape = c .before .before .before in
     rw (c .refused .ensures) (judge-torn (shape .method-shape .ensures) (start shape .pre) (c .before .enum-told2 .given .1))
 
-refused-requires-2 : tie.Need-refused-requires-2
-refused-requires-2 c κs = search needs
-
 returns-2 : tie.Need-returns-2
 returns-2 c =
     let told = c .before .before in
-    rw (c .refused2 .ensures) (judge-lifetimes (told .before .before .method-shape .ensures) (told .enum-told .given .1) (start (told .before .before) .pre) (c .before .if1 .taken))
-
-refused-requires-3 : tie.Need-refused-requires-3
-refused-requires-3 c κs = search needs
+    rw (c .refused2 .ensures)
+    (judge-lifetimes (told .before .before .method-shape .ensures) (told .enum-told .given .1)
+    (start (told .before .before) .pre) (c .before .if1 .taken))
 
 returns-3 : tie.Need-returns-3
 returns-3 c =
     let told = c .before .before .before in
-    rw (c .refused3 .ensures) (judge-bounds (told .before .before .method-shape .ensures) (told .enum-told .given .1) (c .before .before .if1 .left) (start (told .before .before) .pre) (c .before .if2 .taken))
-
-judge-places-requires : tie.Need-judge-places-requires
-judge-places-requires c κs =
-    let told = c .before .before .before in
-    let s = start (told .before .before) in
-    (in-shape (s .args .force .now) (told .before .before .method-shape .ensures) (told .enum-told .given .1), s .pre)
-
-enum-told-3 : tie.Need-enum-told-3
-enum-told-3 c = search needs
-
-enum-told-4 : tie.Need-enum-told-4
-enum-told-4 c = search needs
-
-refused-requires-4 : tie.Need-refused-requires-4
-refused-requires-4 c κs = search needs
+    rw (c .refused3 .ensures)
+    (judge-bounds (told .before .before .method-shape .ensures) (told .enum-told .given .1)
+    (c .before .before .if1 .left) (start (told .before .before) .pre) (c .before .if2 .taken))
 
 returns-4 : tie.Need-returns-4
 returns-4 c = rw (c .refused4 .ensures) (judge-place (judging (c .before .before .before)) (c .before .enum-told4 .given .1))
 
-check-requires : tie.Need-check-requires
-check-requires c κs = search needs
-
-enum-told-5 : tie.Need-enum-told-5
-enum-told-5 c = search needs
-
-enum-told-6 : tie.Need-enum-told-6
-enum-told-6 c = search needs
-
-refused-requires-5 : tie.Need-refused-requires-5
-refused-requires-5 c κs = search needs
-
 returns-5 : tie.Need-returns-5
 returns-5 c =
     let check = c .before .before .before in
-    rw (c .refused5 .ensures) (judge-env (judging (check .before .before .before)) (check .before .enum-told3 .given .1) (check .check .ensures) (c .before .enum-told6 .given .1))
-
-collect-types-requires : tie.Need-collect-types-requires
-collect-types-requires c κs = search needs
-
-enum-known-collected : tie.Need-enum-known-collected
-enum-known-collected c = search needs
-
-enum-told-7 : tie.Need-enum-told-7
-enum-told-7 c = search needs
-
-refused-requires-6 : tie.Need-refused-requires-6
-refused-requires-6 c κs = search needs
+    rw (c .refused5 .ensures)
+    (judge-env (judging (check .before .before .before)) (check .before .enum-told3 .given .1)
+    (check .check .ensures) (c .before .enum-told6 .given .1))
 
 returns-6 : tie.Need-returns-6
 returns-6 c =
     let collect = c .before .before .before in
     let check = collect .before .before .before in
     rw (c .refused6 .ensures)
-    (judge-outside (judging (check .before .before .before)) (check .before .enum-told3 .given .1) (check .check .ensures) (collect .before .enum-told5 .given .1) (collect .collect-types .ensures)
+    (judge-outside (judging (check .before .before .before)) (check .before .enum-told3 .given .1)
+    (check .check .ensures) (collect .before .enum-told5 .given .1) (collect .collect-types .ensures)
     (c .before .enum-told7 .given .1))
-
-returns-7 : tie.Need-returns-7
-returns-7 c =
-    let collect = c .before .before .before in
-    let check = collect .before .before .before in
-    judge-all (judging (check .before .before .before)) (check .before .enum-told3 .given .1) (check .check .ensures) (collect .before .enum-told5 .given .1) (collect .collect-types .ensures)
-    (c .before .collected .given .1)
 
 pub judge-spec : {M : Type 1} → statement M
 judge-spec =
     tie.close
     (tie.spec
-    method-shape-requires
-    enum-told
-    enum-told-2
-    refused-requires
+    (λ c κs. search needs) (λ c. search needs) (λ c. search needs) (λ c κs. search needs)
     returns
-    refused-requires-2
+    (λ c κs. search needs)
     returns-2
-    refused-requires-3
+    (λ c κs. search needs)
     returns-3
-    judge-places-requires
-    enum-told-3
-    enum-told-4
-    refused-requires-4
+    (λ c κs. search (in-shape, needs))
+    (λ c. search needs) (λ c. search needs) (λ c κs. search needs)
     returns-4
-    check-requires
-    enum-told-5
-    enum-told-6
-    refused-requires-5
+    (λ c κs. search needs) (λ c. search needs) (λ c. search needs) (λ c κs. search needs)
     returns-5
-    collect-types-requires
-    enum-known-collected
-    enum-told-7
-    refused-requires-6
+    (λ c κs. search needs) (λ c. search needs) (λ c. search needs) (λ c κs. search needs)
     returns-6
-    returns-7)
+    (λ c. search (judge-all, needs)))

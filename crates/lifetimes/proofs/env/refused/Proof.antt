@@ -4,12 +4,9 @@ use Rattle.lifetimes.specs.Env.{envOf}
 use Rattle.lifetimes.proofs.env.refused.Statement.{statement}
 use Rattle.lifetimes.proofs.env.refused.Tie as tie
 
-no-bound-requires : tie.Need-no-bound-requires
-no-bound-requires c κs = search needs
-
 returns : tie.Need-returns
 unfolding envOf
 returns c = rw (c .no-bound .ensures)
 
 pub refused-spec : {M : Type 1} → statement M
-refused-spec = tie.close (tie.spec no-bound-requires returns)
+refused-spec = tie.close (tie.spec (λ c κs. search needs) returns)

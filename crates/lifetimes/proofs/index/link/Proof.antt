@@ -8,7 +8,8 @@ use Rattle.lifetimes.specs.Env.{above, boundsOf}
 use Rattle.lifetimes.specs.Walk.{orderOf}
 use Rattle.lifetimes.specs.Index.{Fine, linkedIn, graphIn}
 use Rattle.lifetimes.proofs.ReverseLaws.{linked-length, linked-fine, linked-at, place-below}
-use Rattle.lifetimes.proofs.Linking.{Linking, linking-start, linking-end, linking-near, linking-far, linking-more}
+use Rattle.lifetimes.proofs.Linking.{Linking, linking-start, linking-end, linking-near, linking-far}
+use Rattle.lifetimes.proofs.Linking.{linking-more}
 use Rattle.lifetimes.proofs.index.link.Statement.{statement}
 use Rattle.lifetimes.proofs.index.link.Tie as tie
 
@@ -32,12 +33,20 @@ few c = omega (arith, c .pre .0 .0 .few, c .pre .0 .1)
 inside : (c : tie.After-place Inv-loop μ-loop) → c .place .result < 256
 inside c =
     let s = c .before .before .before in
-    omega (arith, few s, place-below (s .args .ast) (s .args .t1 .pushed) (c .before .before .loop .i) (c .place .result) (search needs) (c .place .ensures))
+    omega (
+      arith,
+      few s,
+      place-below (s .args .ast) (s .args .t1 .pushed) (c .before .before .loop .i) (c .place .result) (search needs)
+          (c .place .ensures),
+    )
 
-reads : (c : tie.After-place Inv-loop μ-loop) → let s = c .before .before .before in getD (linkedIn (orderOf (s .args .ast)) (boundsOf (s .args .t1))) (c .before .before .loop .i) (above 0 0) ≡ getD (s .args .t1 .bounds) (c .place .result) (above 0 0)
+reads : (c : tie.After-place Inv-loop μ-loop) → let s = c .before .before .before in
+    getD (linkedIn (orderOf (s .args .ast)) (boundsOf (s .args .t1))) (c .before .before .loop .i) (above 0 0)
+    ≡ getD (s .args .t1 .bounds) (c .place .result) (above 0 0)
 reads c =
     let s = c .before .before .before in
-    linked-at (s .args .ast) (s .args .t1) (c .before .before .loop .i) (c .place .result) (s .pre .0 .1) (search needs) (c .place .ensures)
+    linked-at (s .args .ast) (s .args .t1) (c .before .before .loop .i) (c .place .result) (s .pre .0 .1) (search needs)
+    (c .place .ensures)
 
 small : (c : tie.After-far Inv-loop μ-loop) → c .before .near .result < 64
 small c =
@@ -51,23 +60,11 @@ low c =
     let l = c .before .before .before .before .before .loop in
     rw (c .far .ensures) (linking-far (l .inv) (fine s) (all s) (search needs) (reads (c .before .before .before)))
 
-loop-holds : tie.Need-loop-holds Inv-loop μ-loop
-loop-holds c = linking-start (graphIn (orderOf (c .args .ast)) (c .args .longer) (c .args .t1)) (c .args .far .now) (c .args .before .now) (c .args .last .now) (c .pre .1 .0) (c .pre .1 .1 .0) (c .pre .1 .1 .1) (c .pre .1 .1 .2)
-
-place-requires : tie.Need-place-requires Inv-loop μ-loop
-place-requires c κs = search needs
-
 mul-b : tie.Need-mul-b Inv-loop μ-loop
 mul-b c = omega (arith, inside c)
 
 element-copy-out-b : tie.Need-element-copy-out-b Inv-loop μ-loop
 element-copy-out-b c = inside c
-
-near-requires : tie.Need-near-requires Inv-loop μ-loop
-near-requires c κs = search needs
-
-far-requires : tie.Need-far-requires Inv-loop μ-loop
-far-requires c κs = search needs
 
 mul-older : tie.Need-mul-older Inv-loop μ-loop
 mul-older c = omega (arith, small c)
@@ -78,35 +75,19 @@ element-copy-out-older c = small c
 cast-far : tie.Need-cast-far Inv-loop μ-loop
 cast-far c = omega (arith, low (c .before))
 
-element-write-far : tie.Need-element-write-far Inv-loop μ-loop
-element-write-far c = omega (arith, few (c .before .before .before .before .before .before .before))
-
-mul-before : tie.Need-mul-before Inv-loop μ-loop
-mul-before c = omega (arith, few (c .before .before .before .before .before .before .before))
-
-element-write-before : tie.Need-element-write-before Inv-loop μ-loop
-element-write-before c = omega (arith, few (c .before .before .before .before .before .before .before))
-
-add-i : tie.Need-add-i Inv-loop μ-loop
-add-i c = search needs
-
-cast-last : tie.Need-cast-last Inv-loop μ-loop
-cast-last c = omega (arith, few (c .before .before .before .before .before .before .before), c .before .before .before .before .before .loop-test .taken)
-
 mul-last : tie.Need-mul-last Inv-loop μ-loop
 mul-last c = omega (arith, small (c .before))
 
 element-write-last : tie.Need-element-write-last Inv-loop μ-loop
 element-write-last c = small (c .before)
 
-loop-less : tie.Need-loop-less Inv-loop μ-loop
-loop-less c = search needs
-
 loop-again : tie.Need-loop-again Inv-loop μ-loop
 loop-again c =
     let s = c .before .before .before .before .before .before .before in
     let l = c .before .before .before .before .before .before .loop in
-    linking-more (l .inv) (fine s) (all s) (search needs) (reads (c .before .before .before .before)) (c .before .before .near .result) (c .before .far .result) _ (c .before .before .near .ensures) (c .before .far .ensures) refl
+    linking-more (l .inv) (fine s) (all s) (search needs) (reads (c .before .before .before .before))
+    (c .before .before .near .result) (c .before .far .result) _ (c .before .before .near .ensures)
+    (c .before .far .ensures) refl
 
 returns : tie.Need-returns Inv-loop μ-loop
 returns c = linking-end (c .before .loop .inv) (fine (c .before .before)) (all (c .before .before)) (search needs)
@@ -117,22 +98,17 @@ link-spec =
     (tie.spec
     Inv-loop
     μ-loop
-    loop-holds
-    place-requires
+    (λ c. search (linking-start, needs))
+    (λ c κs. search needs)
     mul-b
     element-copy-out-b
-    near-requires
-    far-requires
+    (λ c κs. search needs) (λ c κs. search needs)
     mul-older
     element-copy-out-older
     cast-far
-    element-write-far
-    mul-before
-    element-write-before
-    add-i
-    cast-last
+    (λ c. search needs) (λ c. search needs) (λ c. search needs) (λ c. search needs) (λ c. search needs)
     mul-last
     element-write-last
-    loop-less
+    (λ c. search needs)
     loop-again
     returns)

@@ -12,15 +12,6 @@ returns : tie.Need-returns
 unfolding linkedPair unless
 returns c = rw (ne-eqb (length (c .before .before .args .words .now)) (c .before .before .args .count) (c .if1 .taken))
 
-mul-word : tie.Need-mul-word
-mul-word c = search needs
-
-shared-slice-read-word : tie.Need-shared-slice-read-word
-shared-slice-read-word c = search needs
-
-new-requires : tie.Need-new-requires
-new-requires c κs = search needs
-
 returns-2 : tie.Need-returns-2
 unfolding linkedPair unless
 returns-2 c =
@@ -37,4 +28,4 @@ returns-3 c =
 
 pub pair-of-spec : {M : Type 1} → statement M
 pair-of-spec =
-    tie.close (tie.spec returns mul-word shared-slice-read-word new-requires returns-2 returns-3)
+    tie.close (tie.spec returns (λ c. search needs) (λ c. search needs) (λ c κs. search needs) returns-2 returns-3)

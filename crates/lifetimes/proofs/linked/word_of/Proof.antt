@@ -12,15 +12,6 @@ returns : tie.Need-returns
 unfolding linkedWord unless
 returns c = rw (ne-eqb (length (c .before .before .args .words .now)) (c .before .before .args .count) (c .if1 .taken))
 
-index-requires : tie.Need-index-requires
-index-requires c κs = search needs
-
-mul-t8 : tie.Need-mul-t8
-mul-t8 c = search needs
-
-shared-slice-read-t10 : tie.Need-shared-slice-read-t10
-shared-slice-read-t10 c = search needs
-
 returns-2 : tie.Need-returns-2
 unfolding linkedWord unless
 returns-2 c =
@@ -39,4 +30,4 @@ returns-3 c =
 
 pub word-of-spec : {M : Type 1} → statement M
 word-of-spec =
-    tie.close (tie.spec returns index-requires mul-t8 shared-slice-read-t10 returns-2 returns-3)
+    tie.close (tie.spec returns (λ c κs. search needs) (λ c. search needs) (λ c. search needs) returns-2 returns-3)

@@ -1,4 +1,5 @@
--- `all_fit` meets its contract: as many words for each list as there are lifetimes are enough, and else the total is what `measure` gives.
+-- `all_fit` meets its contract: as many words for each list as there are lifetimes are enough, and else the total is
+-- what `measure` gives.
 use mathlib.Core.Path.{sym}
 use Prim.Native.Nat.{_≤_}
 use native.Mathlib.Nat.{mul-le-mul}
@@ -21,13 +22,18 @@ mul-if1 c = omega (arith, mul-le-mul few few)
 returns : tie.Need-returns
 returns c = λ g k w.
     let s = c .before in
-    record { fits = sym (le-leb (length (flatten (listsFrom g 0 (s .args .count)))) (s .args .room) (omega (arith, c .if1 .taken, lists-few g (s .args .count) (λ b i. omega (arith, w b i, s .pre)) 0 (s .args .count) (omega arith)))) }
-
-measure-requires : tie.Need-measure-requires
-measure-requires c κs = search needs
+    record {
+      fits = sym
+          (le-leb (length (flatten (listsFrom g 0 (s .args .count)))) (s .args .room)
+          (omega (
+            arith,
+            c .if1 .taken,
+            lists-few g (s .args .count) (λ b i. omega (arith, w b i, s .pre)) 0 (s .args .count) (omega arith),
+          )));
+    }
 
 returns-2 : tie.Need-returns-2
 returns-2 c = λ g k w. record { fits = rw ((c .measure .ensures g k w) .total) }
 
 pub all-fit-spec : {M : Type 1} → statement M
-all-fit-spec = tie.close (tie.spec mul-if1 returns measure-requires returns-2)
+all-fit-spec = tie.close (tie.spec mul-if1 returns (λ c κs. search needs) returns-2)

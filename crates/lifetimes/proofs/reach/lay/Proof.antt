@@ -1,6 +1,6 @@
 -- `lay` meets its contract: each turn walks from one lifetime more and lays its list behind the others.
 use Prim.Native.Nat.{_+_, _-_, _≤_}
-use mathlib.Core.Path.{_≡_, refl, sym, ap, _∙_}
+use mathlib.Core.Path.{_≡_, sym, ap, _∙_}
 use native.Mathlib.Omega.{arith}
 use borrow.Author.Needs.{needs}
 use lib.ListN.{length, take, length-set}
@@ -18,28 +18,36 @@ Inv-loop far before last declared count words₀ ends₀ reach₀ items₀ at₀
 abbrev μ-loop : tie.MeasureT-loop
 μ-loop far before last declared count words₀ ends₀ reach₀ items₀ at₀ x₀ words ends reach items at x = count - x
 
-loop-holds : tie.Need-loop-holds Inv-loop μ-loop
-loop-holds c = (refl, refl, refl, c .before .before .pre .1 .1, omega arith, λ g k w. laying-start g _ _ _ _)
-
-limit-of-requires : tie.Need-limit-of-requires Inv-loop μ-loop
-limit-of-requires c κs = (c .loop-test .taken, c .before .before .before .before .pre .0 .1)
-
 walk-requires : tie.Need-walk-requires Inv-loop μ-loop
 walk-requires c κs =
     let s = c .before .before .before .before .before .before in
-    let m = c .before .limit-of .ensures in
-    (((s .pre .0 .0 .0, s .pre .0 .0 .1, λ b i. omega (arith, s .pre .0 .0 .2 b i, m)), omega (arith, s .pre .0 .2, m), m .0), c .before .before .before .loop .inv .0)
+    let m = c .before .limit-of .ensures in (
+      (
+        (s .pre .0 .0 .0, s .pre .0 .0 .1, λ b i. omega (arith, s .pre .0 .0 .2 b i, m)),
+        omega (arith, s .pre .0 .2, m),
+        m .0,
+      ),
+      c .before .before .before .loop .inv .0,
+    )
 
 -- the next list has room
-room : (c : tie.After-walk Inv-loop μ-loop) → c .before .before .before .before .loop .at + c .walk .result .count ≤ length (c .before .before .before .before .loop .words)
+room : (c : tie.After-walk Inv-loop μ-loop) → c .before .before .before .before .loop .at + c .walk .result .count
+    ≤ length (c .before .before .before .before .loop .words)
 room c =
     let s = c .before .before .before .before .before .before .before in
     let l = c .before .before .before .before .loop in
     let w = c .walk in
     let (g, k, h, fits) = s .pre .0 .0 in
     let done = w .ensures .1 g k (λ b i. omega (arith, h b i, c .before .before .limit-of .ensures)) in
-    let n : w .result .count ≡ length (take (w .result .count) (w .last .1 .1 .1 .1 .1 .0)) = sym (length-take-le (w .result .count) _ (omega (arith, w .ensures .0))) in
-    omega (arith, l .inv .1, n, ap length (done .items), laying-room (l .inv .5 g k h) (c .before .before .before .loop-test .taken) (omega (arith, l .inv .1)))
+    let n : w .result .count ≡ length (take (w .result .count) (w .last .1 .1 .1 .1 .1 .0)) =
+    sym (length-take-le (w .result .count) _ (omega (arith, w .ensures .0))) in
+    omega (
+      arith,
+      l .inv .1,
+      n,
+      ap length (done .items),
+      laying-room (l .inv .5 g k h) (c .before .before .before .loop-test .taken) (omega (arith, l .inv .1)),
+    )
 
 copy-to-requires : tie.Need-copy-to-requires Inv-loop μ-loop
 copy-to-requires c κs =
@@ -48,26 +56,6 @@ copy-to-requires c κs =
 
 add-at : tie.Need-add-at Inv-loop μ-loop
 add-at c = omega (arith, room (c .before .before .before .before .before))
-
-slice-write-ends : tie.Need-slice-write-ends Inv-loop μ-loop
-slice-write-ends c = omega (arith, c .before .before .before .before .before .before .before .before .before .before .before .before .pre .1, c .before .before .before .before .before .before .before .before .before .loop .inv .2)
-
-mul-ends : tie.Need-mul-ends Inv-loop μ-loop
-mul-ends c = omega (arith, slice-write-ends c)
-
-element-write-reach : tie.Need-element-write-reach Inv-loop μ-loop
-element-write-reach c =
-    let s = c .before .before .before .before .before .before .before .before .before .before .before .before in
-    omega (arith, s .pre .0 .2)
-
-mul-reach : tie.Need-mul-reach Inv-loop μ-loop
-mul-reach c = omega (arith, element-write-reach c)
-
-add-x : tie.Need-add-x Inv-loop μ-loop
-add-x c = search needs
-
-loop-less : tie.Need-loop-less Inv-loop μ-loop
-loop-less c = search needs
 
 loop-again : tie.Need-loop-again Inv-loop μ-loop
 loop-again c =
@@ -93,12 +81,6 @@ loop-again c =
           (done .seen)),
     )
 
-same-length : tie.Need-same-length Inv-loop μ-loop
-same-length c = c .before .loop .inv .1
-
-same-length-2 : tie.Need-same-length-2 Inv-loop μ-loop
-same-length-2 c = c .before .loop .inv .2
-
 returns : tie.Need-returns Inv-loop μ-loop
 returns c = λ g k w. laying-end (c .before .loop .inv .5 g k w) (c .loop-test .left)
 
@@ -108,18 +90,13 @@ lay-spec =
     (tie.spec
     Inv-loop
     μ-loop
-    loop-holds
-    limit-of-requires
+    (λ c. search (laying-start, needs))
+    (λ c κs. search needs)
     walk-requires
     copy-to-requires
     add-at
-    mul-ends
-    slice-write-ends
-    mul-reach
-    element-write-reach
-    add-x
-    loop-less
+    (λ c. search needs) (λ c. search needs) (λ c. search needs) (λ c. search needs) (λ c. search needs)
+    (λ c. search needs)
     loop-again
-    same-length
-    same-length-2
+    (λ c. search needs) (λ c. search needs)
     returns)

@@ -1,4 +1,5 @@
--- `list` meets its contract: the index is that of the environment, linked in the order that is asked for, and the walk over it lists the traversal in that order.
+-- `list` meets its contract: the index is that of the environment, linked in the order that is asked for, and the walk
+-- over it lists the traversal in that order.
 use mathlib.Core.Path.{_≡_, refl, _∙_}
 use native.Mathlib.Omega.{arith}
 use lib.ListN.{length, length-map}
@@ -31,8 +32,18 @@ walk-requires c κs =
     let at-limit-of = c .before .before .before .before in
     let at-link = at-limit-of .before in
     let s = at-link .before .before .before .before in
-    let m = at-limit-of .limit-of .ensures in
-    (((graphIn (orderOf (s .args .ast)) (s .args .longer) (s .args .env), at-link .link .ensures, bounds-within (holds s) (orderOf (s .args .ast)) (s .args .longer) _ (m .2)), omega (arith, (holds s) .counted, m), m .0), s .pre .1)
+    let m = at-limit-of .limit-of .ensures in (
+      (
+        (
+          graphIn (orderOf (s .args .ast)) (s .args .longer) (s .args .env),
+          at-link .link .ensures,
+          bounds-within (holds s) (orderOf (s .args .ast)) (s .args .longer) _ (m .2),
+        ),
+        omega (arith, (holds s) .counted, m),
+        m .0,
+      ),
+      s .pre .1,
+    )
 
 returns : tie.Need-returns
 returns c =
@@ -42,7 +53,10 @@ returns c =
     let w = c .walk in (
       w .ensures .0 .0,
       w .ensures .0 .1,
-      (w .ensures .1 (graphIn (orderOf (s .args .ast)) (s .args .longer) (s .args .env)) (at-link .link .ensures) (bounds-within (holds s) (orderOf (s .args .ast)) (s .args .longer) _ (at-limit-of .limit-of .ensures .2))) .items ∙ traversal-linked (orderOf (s .args .ast)) (s .args .longer) (boundsOf (s .args .env)) (s .args .start),
+      (w .ensures .1 (graphIn (orderOf (s .args .ast)) (s .args .longer) (s .args .env)) (at-link .link .ensures)
+          (bounds-within (holds s) (orderOf (s .args .ast)) (s .args .longer)
+          _ (at-limit-of .limit-of .ensures .2))) .items ∙ traversal-linked (orderOf (s .args .ast)) (s .args .longer)
+          (boundsOf (s .args .env)) (s .args .start),
     )
 
 pub list-spec : {M : Type 1} → statement M

@@ -1,6 +1,6 @@
 -- `measure` meets its contract: each turn walks from one lifetime more.
 use Prim.Native.Nat.{_*_, _-_, _≤_}
-use mathlib.Core.Path.{_≡_, refl, sym, ap, _∙_}
+use mathlib.Core.Path.{_≡_, sym, ap, _∙_}
 use native.Mathlib.Omega.{arith}
 use borrow.Author.Needs.{needs}
 use lib.ListN.{length, length-set}
@@ -11,37 +11,24 @@ use Rattle.lifetimes.proofs.reach.measure.Statement.{statement}
 use Rattle.lifetimes.proofs.reach.measure.Tie as tie
 
 abbrev Inv-loop : tie.InvT-loop
-Inv-loop far before last declared count reach₀ items₀ total₀ x₀ reach items total x = (length items ≡ 64) × (length reach ≡ 64) × (total ≤ 64 * x) × (x ≤ count) × ((g : Graph) → Indexed g far before last → Within g declared → Measuring g count reach₀ reach x total)
+Inv-loop far before last declared count reach₀ items₀ total₀ x₀ reach items total x =
+    (length items ≡ 64) × (length reach ≡ 64) × (total ≤ 64 * x) × (x ≤ count)
+    × ((g : Graph) → Indexed g far before last → Within g declared → Measuring g count reach₀ reach x total)
 
 abbrev μ-loop : tie.MeasureT-loop
 μ-loop far before last declared count reach₀ items₀ total₀ x₀ reach items total x = count - x
 
-loop-holds : tie.Need-loop-holds Inv-loop μ-loop
-loop-holds c = (refl, c .pre .1, omega arith, omega arith, λ g k w. measuring-start g _ _)
-
-limit-of-requires : tie.Need-limit-of-requires Inv-loop μ-loop
-limit-of-requires c κs = (c .loop-test .taken, c .before .before .pre .0 .1)
-
 walk-requires : tie.Need-walk-requires Inv-loop μ-loop
 walk-requires c κs =
     let s = c .before .before .before .before in
-    let m = c .before .limit-of .ensures in
-    (((s .pre .0 .0 .0, s .pre .0 .0 .1, λ b i. omega (arith, s .pre .0 .0 .2 b i, m)), omega (arith, s .pre .0 .2, m), m .0), c .before .before .before .loop .inv .0)
-
-element-write-reach : tie.Need-element-write-reach Inv-loop μ-loop
-element-write-reach c = omega (arith, c .before .before .before .before .before .pre .0 .2)
-
-mul-reach : tie.Need-mul-reach Inv-loop μ-loop
-mul-reach c = omega (arith, element-write-reach c)
-
-add-total : tie.Need-add-total Inv-loop μ-loop
-add-total c = omega (arith, c .before .before .before .before .before .before .pre .0 .2, c .before .walk .ensures .0)
-
-add-x : tie.Need-add-x Inv-loop μ-loop
-add-x c = search needs
-
-loop-less : tie.Need-loop-less Inv-loop μ-loop
-loop-less c = search needs
+    let m = c .before .limit-of .ensures in (
+      (
+        (s .pre .0 .0 .0, s .pre .0 .0 .1, λ b i. omega (arith, s .pre .0 .0 .2 b i, m)),
+        omega (arith, s .pre .0 .2, m),
+        m .0,
+      ),
+      c .before .before .before .loop .inv .0,
+    )
 
 loop-again : tie.Need-loop-again Inv-loop μ-loop
 loop-again c =
@@ -69,13 +56,9 @@ measure-spec =
     (tie.spec
     Inv-loop
     μ-loop
-    loop-holds
-    limit-of-requires
+    (λ c. search (measuring-start, needs))
+    (λ c κs. search needs)
     walk-requires
-    mul-reach
-    element-write-reach
-    add-total
-    add-x
-    loop-less
+    (λ c. search needs) (λ c. search needs) (λ c. search needs) (λ c. search needs) (λ c. search needs)
     loop-again
     returns)

@@ -12,29 +12,22 @@ use Rattle.lifetimes.proofs.reach.traverse.Tie as tie
 
 -- no refusal of the environment is due
 none : (c : tie.After-enum-told) → NoneDue (envChecks (c .before .before .before .before .args .env))
-none c = accepted-none (c .before .before .before .before .args .env) (envChecks (c .before .before .before .before .args .env)) (sym (c .before .before .check .ensures) ∙ c .enum-told .given .1)
-
-check-requires : tie.Need-check-requires
-check-requires c κs = search needs
-
-enum-known-verdict : tie.Need-enum-known-verdict
-enum-known-verdict c = search needs
+none c = accepted-none (c .before .before .before .before .args .env)
+    (envChecks (c .before .before .before .before .args .env))
+    (sym (c .before .before .check .ensures) ∙ c .enum-told .given .1)
 
 returns : tie.Need-returns
 returns c =
     let s = c .before .before .before .before .before in
-    list-refused (orderOf (s .args .ast)) (s .args .longer) (s .args .env) (s .args .lifetime .0) (s .args .out .now) (refused-first (s .args .env) _ (envChecks (s .args .env)) (sym (c .before .before .before .check .ensures) ∙ c .before .verdict .given .1))
-
-enum-told : tie.Need-enum-told
-enum-told c = search needs
-
-index-requires : tie.Need-index-requires
-index-requires c κs = search needs
+    list-refused (orderOf (s .args .ast)) (s .args .longer) (s .args .env) (s .args .lifetime .0) (s .args .out .now)
+    (refused-first (s .args .env) _ (envChecks (s .args .env))
+    (sym (c .before .before .before .check .ensures) ∙ c .before .verdict .given .1))
 
 returns-2 : tie.Need-returns-2
 returns-2 c =
     let s = c .before .before .before .before .before .before .before in
-    list-past (orderOf (s .args .ast)) (s .args .longer) (s .args .env) (s .args .lifetime .0) (s .args .out .now) (none (c .before .before .before)) (omega (arith, c .before .before .index .ensures))
+    list-past (orderOf (s .args .ast)) (s .args .longer) (s .args .env) (s .args .lifetime .0) (s .args .out .now)
+    (none (c .before .before .before)) (omega (arith, c .before .before .index .ensures))
 
 list-requires : tie.Need-list-requires
 list-requires c κs =
@@ -46,14 +39,9 @@ returns-3 c =
     let s = at-index .before .before .before .before .before in
     let l = c .before .list in
     let i = at-index .index .ensures in
-    list-short (orderOf (s .args .ast)) (s .args .longer) (s .args .env) (s .args .lifetime .0) (s .args .out .now) (none (at-index .before)) (omega (arith, i, c .before .before .before .if1 .left)) _ (l .result)
+    list-short (orderOf (s .args .ast)) (s .args .longer) (s .args .env) (s .args .lifetime .0) (s .args .out .now)
+    (none (at-index .before)) (omega (arith, i, c .before .before .before .if1 .left)) _ (l .result)
     (omega (arith, l .ensures)) (rw i at (l .ensures .2)) (c .if2 .taken)
-
-copy-to-requires : tie.Need-copy-to-requires
-copy-to-requires c κs = search needs
-
-same-length : tie.Need-same-length
-same-length c = search needs
 
 returns-4 : tie.Need-returns-4
 returns-4 c =
@@ -64,7 +52,8 @@ returns-4 c =
     let s = at-index .before .before .before .before .before in
     let l = at-list .list in
     let i = at-index .index .ensures in
-    let a = list-given (orderOf (s .args .ast)) (s .args .longer) (s .args .env) (s .args .lifetime .0) (s .args .out .now) (none (at-index .before)) (omega (arith, i, at-if1 .if1 .left)) _ (l .result)
+    let a = list-given (orderOf (s .args .ast)) (s .args .longer) (s .args .env) (s .args .lifetime .0)
+    (s .args .out .now) (none (at-index .before)) (omega (arith, i, at-if1 .if1 .left)) _ (l .result)
     (omega (arith, l .ensures)) (rw i at (l .ensures .2)) (at-if2 .if2 .left) in
     (a .0, c .before .before .copy-to .ensures ∙ a .1)
 
@@ -72,14 +61,11 @@ pub traverse-spec : {M : Type 1} → statement M
 traverse-spec =
     tie.close
     (tie.spec
-    check-requires
-    enum-known-verdict
+    (λ c κs. search needs) (λ c. search needs)
     returns
-    enum-told
-    index-requires
+    (λ c. search needs) (λ c κs. search needs)
     returns-2
     list-requires
     returns-3
-    copy-to-requires
-    same-length
+    (λ c κs. search needs) (λ c. search needs)
     returns-4)

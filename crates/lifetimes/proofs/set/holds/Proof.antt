@@ -5,12 +5,9 @@ use Rattle.lifetimes.specs.Sets.{member}
 use Rattle.lifetimes.proofs.set.holds.Statement.{statement}
 use Rattle.lifetimes.proofs.set.holds.Tie as tie
 
-shr-result : tie.Need-shr-result
-shr-result c = search needs
-
 returns : tie.Need-returns
 unfolding member
 returns c = refl
 
 pub holds-spec : {M : Type 1} → statement M
-holds-spec = tie.close (tie.spec shr-result returns)
+holds-spec = tie.close (tie.spec (λ c. search needs) returns)

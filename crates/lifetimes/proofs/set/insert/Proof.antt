@@ -5,12 +5,6 @@ use borrow.Author.Tests.{lt-ltb, le-ltb}
 use Rattle.lifetimes.proofs.set.insert.Statement.{statement}
 use Rattle.lifetimes.proofs.set.insert.Tie as tie
 
-index-requires : tie.Need-index-requires
-index-requires c κs = search needs
-
-with-requires : tie.Need-with-requires
-with-requires c κs = search needs
-
 returns : tie.Need-returns
 returns c =
     let i = c .before .before .index .ensures in
@@ -20,4 +14,4 @@ returns-2 : tie.Need-returns-2
 returns-2 c = rw (le-ltb (c .before .before .args .lifetime .0) 64 (omega (arith, c .before .index .ensures, c .if1 .left)))
 
 pub insert-spec : {M : Type 1} → statement M
-insert-spec = tie.close (tie.spec index-requires with-requires returns returns-2)
+insert-spec = tie.close (tie.spec (λ c κs. search needs) (λ c κs. search needs) returns returns-2)

@@ -1,10 +1,11 @@
--- `set::members` meets its contract. The loop's invariant is `Listing` of proofs/MembersLoop.antt; the measure is how many lifetimes are to be looked at.
+-- `set::members` meets its contract. The loop's invariant is `Listing` of proofs/MembersLoop.antt; the measure is how
+-- many lifetimes are to be looked at.
 use Prim.Native.Nat.{_-_}
 use mathlib.Core.Logic.{⊎-elim}
 use mathlib.Core.Path.{sym, _∙_}
-use native.Mathlib.Omega.{arith}
 use borrow.Author.Needs.{needs}
-use Rattle.lifetimes.proofs.MembersLoop.{Listing, too-short, listing-start, listing-room, listing-member, listing-other, listing-end}
+use Rattle.lifetimes.proofs.MembersLoop.{Listing, too-short, listing-start, listing-room, listing-member}
+use Rattle.lifetimes.proofs.MembersLoop.{listing-other, listing-end}
 use Rattle.lifetimes.proofs.set.members.Statement.{statement}
 use Rattle.lifetimes.proofs.set.members.Tie as tie
 
@@ -14,32 +15,14 @@ Inv-loop set out₀ n at₀ x₀ out at x = Listing set out₀ out at x
 abbrev μ-loop : tie.MeasureT-loop
 μ-loop set out₀ n at₀ x₀ out at x = 64 - x
 
-count-requires : tie.Need-count-requires Inv-loop μ-loop
-count-requires c κs = search needs
-
 returns : tie.Need-returns Inv-loop μ-loop
-returns c = let s = c .before .before .before in too-short (s .args .set) (s .args .out .now) (c .before .count .ensures) (c .if1 .taken)
-
-loop-holds : tie.Need-loop-holds Inv-loop μ-loop
-loop-holds c = let s = c .before .before .before in listing-start (s .args .set) (s .args .out .now) (c .before .count .ensures) (c .if1 .left)
-
-holds-requires : tie.Need-holds-requires Inv-loop μ-loop
-holds-requires c κs = search needs
+returns c = let s = c .before .before .before in
+    too-short (s .args .set) (s .args .out .now) (c .before .count .ensures) (c .if1 .taken)
 
 slice-write-out : tie.Need-slice-write-out Inv-loop μ-loop
-slice-write-out c = listing-room (c .before .before .before .loop .inv) (c .before .before .loop-test .taken) (sym (c .before .holds .ensures) ∙ c .if2 .taken)
-
-mul-out : tie.Need-mul-out Inv-loop μ-loop
-mul-out c = omega (arith, slice-write-out c)
-
-add-at : tie.Need-add-at Inv-loop μ-loop
-add-at c = omega (arith, slice-write-out c)
-
-add-x : tie.Need-add-x Inv-loop μ-loop
-add-x c = search needs
-
-loop-less : tie.Need-loop-less Inv-loop μ-loop
-loop-less c = search needs
+slice-write-out c =
+    listing-room (c .before .before .before .loop .inv) (c .before .before .loop-test .taken)
+    (sym (c .before .holds .ensures) ∙ c .if2 .taken)
 
 loop-again : tie.Need-loop-again Inv-loop μ-loop
 loop-again c =
@@ -51,9 +34,6 @@ loop-again c =
     (λ w. rw (w .1, w .2) (listing-other (l .inv) below (told ∙ w .0 .left)))
     (c .if2 .came)
 
-same-length : tie.Need-same-length Inv-loop μ-loop
-same-length c = c .before .loop .inv .size
-
 returns-2 : tie.Need-returns-2 Inv-loop μ-loop
 returns-2 c = listing-end (c .before .loop .inv) (c .before .before .before .count .ensures) (c .loop-test .left)
 
@@ -63,15 +43,12 @@ members-spec =
     (tie.spec
     Inv-loop
     μ-loop
-    count-requires
+    (λ c κs. search needs)
     returns
-    loop-holds
-    holds-requires
-    mul-out
+    (λ c. search (listing-start, needs))
+    (λ c κs. search needs) (λ c. search needs)
     slice-write-out
-    add-at
-    add-x
-    loop-less
+    (λ c. search needs) (λ c. search needs) (λ c. search needs)
     loop-again
-    same-length
+    (λ c. search needs)
     returns-2)

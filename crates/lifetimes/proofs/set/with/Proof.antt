@@ -6,12 +6,9 @@ use Rattle.lifetimes.specs.Sets.{insert}
 use Rattle.lifetimes.proofs.set.with.Statement.{statement}
 use Rattle.lifetimes.proofs.set.with.Tie as tie
 
-shl-result : tie.Need-shl-result
-shl-result c = search needs
-
 returns : tie.Need-returns
 unfolding insert
 returns c = rw (one-mul, mod-eq-of-lt (pow-lt {j = 64} (c .pre)))
 
 pub with-spec : {M : Type 1} → statement M
-with-spec = tie.close (tie.spec shl-result returns)
+with-spec = tie.close (tie.spec (λ c. search needs) returns)

@@ -6,21 +6,25 @@ use native.Mathlib.Omega.{arith}
 use borrow.Author.Needs.{needs}
 use lib.ListN.{length, length-set}
 use Rattle.lifetimes.specs.Index.{Graph, Indexed, Within, Steps}
-use Rattle.lifetimes.proofs.Walking.{last-small, Walking, walking-start, walking-end, walking-small, walking-more, walking-held, stacked-push, stacked-same, going-full}
+use Rattle.lifetimes.proofs.Walking.{last-small, Walking, walking-start, walking-end, walking-small}
+use Rattle.lifetimes.proofs.Walking.{walking-more, walking-held, stacked-push, stacked-same, going-full}
 use Rattle.lifetimes.proofs.walk.walk.Statement.{statement}
 use Rattle.lifetimes.proofs.walk.walk.Tie as tie
 
 abbrev Inv-loop : tie.InvT-loop
 Inv-loop far before last limit start items₀ stack₀ n₀ seen₀ depth₀ at₀ items stack n seen depth at =
-    (length items ≡ 64) × (length stack ≡ 64) × (n ≤ limit) × ((g : Graph) → Indexed g far before last → Within g limit → Walking g limit start items stack n seen depth at)
+    (length items ≡ 64) × (length stack ≡ 64) × (n ≤ limit)
+    × ((g : Graph) → Indexed g far before last → Within g limit → Walking g limit start items stack n seen depth at)
 
 abbrev μ-loop : tie.MeasureT-loop
 μ-loop far before last limit start items₀ stack₀ n₀ seen₀ depth₀ at₀ items stack n seen depth at =
     limit - n
 
 -- what a step gives, for each graph that the index is of
-steps : (a : tie.After-advance Inv-loop μ-loop) → let s = a .before .before .before .before .before .before in let l = a .before .before .before .loop in
-    (g : Graph) → Indexed g (s .args .far .now) (s .args .before .now) (s .args .last .now) → Within g (s .args .limit) → Steps g (l .stack) (l .seen) (l .at) (l .depth) (a .advance .result)
+steps : (a : tie.After-advance Inv-loop μ-loop) → let s = a .before .before .before .before .before .before in let l =
+    a .before .before .before .loop in
+    (g : Graph) → Indexed g (s .args .far .now) (s .args .before .now) (s .args .last .now) → Within g (s .args .limit)
+    → Steps g (l .stack) (l .seen) (l .at) (l .depth) (a .advance .result)
 steps a g k w = a .advance .ensures g (k .chained) (a .before .before .before .loop .inv .3 g k w .ready)
 
 small : (c : tie.After-index Inv-loop μ-loop) → c .index .result < 64
@@ -29,7 +33,12 @@ small c =
     let s = a .before .before .before .before .before .before in
     let l = a .before .before .before .loop in
     let (g, k, w) = s .pre .0 .0 in
-    omega (arith, c .index .ensures, s .pre .0 .1, walking-small k w (s .pre .0 .1) (l .inv .3 g k w) (steps a g k w) (c .before .before .next .given .1))
+    omega (
+      arith,
+      c .index .ensures,
+      s .pre .0 .1,
+      walking-small k w (s .pre .0 .1) (l .inv .3 g k w) (steps a g k w) (c .before .before .next .given .1),
+    )
 
 -- there is room on the stack
 deep : (c : tie.After-index Inv-loop μ-loop) → c .before .before .before .before .advance .result .depth < 64
@@ -40,20 +49,9 @@ deep c =
     let (g, k, w) = s .pre .0 .0 in
     omega (arith, s .pre .0 .1, l .inv .2, (l .inv .3 g k w) .deep, (steps a g k w) .deep)
 
-element-write-items : tie.Need-element-write-items Inv-loop μ-loop
-element-write-items c = search needs
-
-with-requires : tie.Need-with-requires Inv-loop μ-loop
-with-requires c κs = omega (arith, c .pre .0 .1, c .pre .0 .2)
-
-mul-at : tie.Need-mul-at Inv-loop μ-loop
-mul-at c = omega (arith, c .before .pre .0 .1, c .before .pre .0 .2)
-
-element-copy-out-at : tie.Need-element-copy-out-at Inv-loop μ-loop
-element-copy-out-at c = omega (arith, c .before .pre .0 .1, c .before .pre .0 .2)
-
 cast-at : tie.Need-cast-at Inv-loop μ-loop
-cast-at c = let s = c .before .before in omega (arith, last-small (s .pre .0 .0 .1) (s .args .start) (omega (arith, s .pre .0 .1, s .pre .0 .2)))
+cast-at c = let s = c .before .before in
+    omega (arith, last-small (s .pre .0 .0 .1) (s .args .start) (omega (arith, s .pre .0 .1, s .pre .0 .2)))
 
 loop-holds : tie.Need-loop-holds Inv-loop μ-loop
 loop-holds c =
@@ -66,40 +64,23 @@ loop-holds c =
 
 advance-requires : tie.Need-advance-requires Inv-loop μ-loop
 advance-requires c κs =
-    let s = c .before .before .before .before .before in
-    (s .pre .0 .0 .0, s .pre .0 .0 .1 .chained, c .before .before .loop .inv .3 (s .pre .0 .0 .0) (s .pre .0 .0 .1) (s .pre .0 .0 .2) .ready)
-
-enum-known-next : tie.Need-enum-known-next Inv-loop μ-loop
-enum-known-next c = search needs
-
-enum-told : tie.Need-enum-told Inv-loop μ-loop
-enum-told c = search needs
+    let s = c .before .before .before .before .before in (
+      s .pre .0 .0 .0,
+      s .pre .0 .0 .1 .chained,
+      c .before .before .loop .inv .3 (s .pre .0 .0 .0) (s .pre .0 .0 .1) (s .pre .0 .0 .2) .ready,
+    )
 
 returns : tie.Need-returns Inv-loop μ-loop
 returns c =
     let a = c .before .before in
     let s = a .before .before .before .before .before .before in
-    let l = a .before .before .before .loop in
-    ((omega (arith, l .inv .2, s .pre .0 .1), l .inv .0), λ g k w. walking-end k w (s .pre .0 .1) (l .inv .3 g k w) (steps a g k w) (c .enum-told .given .1))
-
-index-requires : tie.Need-index-requires Inv-loop μ-loop
-index-requires c κs = search needs
+    let l = a .before .before .before .loop in (
+      (omega (arith, l .inv .2, s .pre .0 .1), l .inv .0),
+      λ g k w. walking-end k w (s .pre .0 .1) (l .inv .3 g k w) (steps a g k w) (c .enum-told .given .1),
+    )
 
 with-requires-2 : tie.Need-with-requires-2 Inv-loop μ-loop
 with-requires-2 c κs = small c
-
-mul-items : tie.Need-mul-items Inv-loop μ-loop
-mul-items c =
-    let s = c .before .before .before .before .before .before .before .before .before .before .before in
-    omega (arith, s .pre .0 .1)
-
-element-write-items-2 : tie.Need-element-write-items-2 Inv-loop μ-loop
-element-write-items-2 c =
-    let s = c .before .before .before .before .before .before .before .before .before .before .before in
-    omega (arith, s .pre .0 .1)
-
-add-count : tie.Need-add-count Inv-loop μ-loop
-add-count c = search needs
 
 mul-stack : tie.Need-mul-stack Inv-loop μ-loop
 mul-stack c = omega (arith, deep (c .before .before))
@@ -122,9 +103,6 @@ cast-at-2 c =
     let s = i .before .before .before .before .before .before .before .before .before .before in
     omega (arith, last-small (s .pre .0 .0 .1) (i .index .result) (small i))
 
-loop-less : tie.Need-loop-less Inv-loop μ-loop
-loop-less c = search needs
-
 loop-again : tie.Need-loop-again Inv-loop μ-loop
 loop-again c =
     let j = c .before in
@@ -144,8 +122,12 @@ loop-again c =
           (walking-more k w (s .pre .0 .1) inv st h (a .before .before .loop-test .taken) (l .inv .0)
           (⊎-elim (λ v. omega (arith, v .2)) (λ v. omega (arith, v .2)) (j .if1 .came))
           (⊎-elim
-          (λ v. rw (v .1, v .2) (stacked-push (l .stack) (r .depth) (r .at) (st .here) (walking-held k w (s .pre .0 .1) inv st h) (omega (arith, l .inv .1, deep y))))
-          (λ v. rw (v .1, v .2) (stacked-same (l .stack) (r .depth) (r .at) (st .here) (walking-held k w (s .pre .0 .1) inv st h) (v .0 .left)))
+          (λ v. rw (v .1, v .2)
+          (stacked-push (l .stack) (r .depth) (r .at) (st .here) (walking-held k w (s .pre .0 .1) inv st h)
+          (omega (arith, l .inv .1, deep y))))
+          (λ v. rw (v .1, v .2)
+          (stacked-same (l .stack) (r .depth) (r .at) (st .here) (walking-held k w (s .pre .0 .1) inv st h)
+          (v .0 .left)))
           (j .if1 .came))),
     )
 
@@ -161,27 +143,21 @@ walk-spec =
     (tie.spec
     Inv-loop
     μ-loop
-    element-write-items
-    with-requires
-    mul-at
-    element-copy-out-at
+    (λ c. search needs) (λ c κs. search needs) (λ c. search needs) (λ c. search needs)
     cast-at
     loop-holds
     advance-requires
-    enum-known-next
-    enum-told
+    (λ c. search needs) (λ c. search needs)
     returns
-    index-requires
+    (λ c κs. search needs)
     with-requires-2
-    mul-items
-    element-write-items-2
-    add-count
+    (λ c. search needs) (λ c. search needs) (λ c. search needs)
     mul-stack
     array-write-stack
     add-depth
     mul-at-2
     element-copy-out-at-2
     cast-at-2
-    loop-less
+    (λ c. search needs)
     loop-again
     returns-2)

@@ -1,4 +1,5 @@
--- `list_sized` meets its contract: what the scratch of one size says, or what is said where it is too short. A call of itself is with a larger size, 65,536 at most.
+-- `list_sized` meets its contract: what the scratch of one size says, or what is said where it is too short. A call of
+-- itself is with a larger size, 65,536 at most.
 use Prim.Native.Nat.{ℕ, _-_, _<_}
 use borrow.Author.Needs.{needs}
 use Rattle.listing.specs.InnerListing.{Ample}
@@ -24,136 +25,174 @@ list-sized-at t = and 2 list-sized-kinds.ps (is 2 list-sized-kinds.ps μ-list-si
 abbrev list-sized-below : ℕ → In 2 list-sized-kinds.ps
 list-sized-below t = and 2 list-sized-kinds.ps (falls 2 list-sized-kinds.ps _<_ μ-list-sized t) list-sized.Pre
 
-list-sized-list-256-requires : (t : ℕ) → list-sized-lts.Need-list-256-requires (list-256-reads.Asked, list-256-reads.Learnt, list-sized-below t, list-sized.Post, list-1024-reads.Asked, list-1024-reads.Learnt, list-4096-reads.Asked, list-4096-reads.Learnt, list-any-reads.Asked, list-any-reads.Learnt) (list-sized-at t) list-sized.Post
-list-sized-list-256-requires t c κs = search needs
-
-list-sized-enum-known-tried : (t : ℕ) → list-sized-lts.Need-enum-known-tried (list-256-reads.Asked, list-256-reads.Learnt, list-sized-below t, list-sized.Post, list-1024-reads.Asked, list-1024-reads.Learnt, list-4096-reads.Asked, list-4096-reads.Learnt, list-any-reads.Asked, list-any-reads.Learnt) (list-sized-at t) list-sized.Post
-list-sized-enum-known-tried t c = search needs
-
-list-sized-enum-told : (t : ℕ) → list-sized-lts.Need-enum-told (list-256-reads.Asked, list-256-reads.Learnt, list-sized-below t, list-sized.Post, list-1024-reads.Asked, list-1024-reads.Learnt, list-4096-reads.Asked, list-4096-reads.Learnt, list-any-reads.Asked, list-any-reads.Learnt) (list-sized-at t) list-sized.Post
-list-sized-enum-told t c = search needs
-
-list-sized-list-sized-requires : (t : ℕ) → list-sized-lts.Need-list-sized-requires (list-256-reads.Asked, list-256-reads.Learnt, list-sized-below t, list-sized.Post, list-1024-reads.Asked, list-1024-reads.Learnt, list-4096-reads.Asked, list-4096-reads.Learnt, list-any-reads.Asked, list-any-reads.Learnt) (list-sized-at t) list-sized.Post
-list-sized-list-sized-requires t c κs = search needs
-
-list-sized-same-length : (t : ℕ) → list-sized-lts.Need-same-length (list-256-reads.Asked, list-256-reads.Learnt, list-sized-below t, list-sized.Post, list-1024-reads.Asked, list-1024-reads.Learnt, list-4096-reads.Asked, list-4096-reads.Learnt, list-any-reads.Asked, list-any-reads.Learnt) (list-sized-at t) list-sized.Post
-list-sized-same-length t c = search needs
-
-list-sized-returns : (t : ℕ) → list-sized-lts.Need-returns (list-256-reads.Asked, list-256-reads.Learnt, list-sized-below t, list-sized.Post, list-1024-reads.Asked, list-1024-reads.Learnt, list-4096-reads.Asked, list-4096-reads.Learnt, list-any-reads.Asked, list-any-reads.Learnt) (list-sized-at t) list-sized.Post
+list-sized-returns : (t : ℕ)
+    → list-sized-lts.Need-returns (
+      list-256-reads.Asked,
+      list-256-reads.Learnt,
+      list-sized-below t,
+      list-sized.Post,
+      list-1024-reads.Asked,
+      list-1024-reads.Learnt,
+      list-4096-reads.Asked,
+      list-4096-reads.Learnt,
+      list-any-reads.Asked,
+      list-any-reads.Learnt,
+    )
+    (list-sized-at t) list-sized.Post
 list-sized-returns t c =
     let l = c .before .before .before .before .before .before .before .before in
     let s = l .before .before .before .before .before .args in
     let g = c .before .before .list-sized in
-    tried-again (s .sheet .now) (Ample 192 96 144 100) (l .list-256 .result) (g .result) (s .out .now) (l .list-256 .last .1 .0) (g .last .1 .0) (l .list-256 .ensures) (c .before .before .before .before .enum-told .given .1) (g .ensures)
+    tried-again (s .sheet .now) (Ample 192 96 144 100) (l .list-256 .result) (g .result) (s .out .now)
+    (l .list-256 .last .1 .0) (g .last .1 .0) (l .list-256 .ensures)
+    (c .before .before .before .before .enum-told .given .1) (g .ensures)
 
-list-sized-same-length-2 : (t : ℕ) → list-sized-lts.Need-same-length-2 (list-256-reads.Asked, list-256-reads.Learnt, list-sized-below t, list-sized.Post, list-1024-reads.Asked, list-1024-reads.Learnt, list-4096-reads.Asked, list-4096-reads.Learnt, list-any-reads.Asked, list-any-reads.Learnt) (list-sized-at t) list-sized.Post
-list-sized-same-length-2 t c = search needs
-
-list-sized-returns-2 : (t : ℕ) → list-sized-lts.Need-returns-2 (list-256-reads.Asked, list-256-reads.Learnt, list-sized-below t, list-sized.Post, list-1024-reads.Asked, list-1024-reads.Learnt, list-4096-reads.Asked, list-4096-reads.Learnt, list-any-reads.Asked, list-any-reads.Learnt) (list-sized-at t) list-sized.Post
+list-sized-returns-2 : (t : ℕ)
+    → list-sized-lts.Need-returns-2 (
+      list-256-reads.Asked,
+      list-256-reads.Learnt,
+      list-sized-below t,
+      list-sized.Post,
+      list-1024-reads.Asked,
+      list-1024-reads.Learnt,
+      list-4096-reads.Asked,
+      list-4096-reads.Learnt,
+      list-any-reads.Asked,
+      list-any-reads.Learnt,
+    )
+    (list-sized-at t) list-sized.Post
 list-sized-returns-2 t c =
     let l = c .before .before .before .before .before in
     let s = l .before .before .before .before .before .args in
-    tried-done (s .sheet .now) (Ample 192 96 144 100) (l .list-256 .result) _ (s .out .now) (l .list-256 .last .1 .0) (l .list-256 .ensures) (c .before .tried .given .1)
+    tried-done (s .sheet .now) (Ample 192 96 144 100) (l .list-256 .result) _ (s .out .now) (l .list-256 .last .1 .0)
+    (l .list-256 .ensures) (c .before .tried .given .1)
 
-list-sized-list-1024-requires : (t : ℕ) → list-sized-lts.Need-list-1024-requires (list-256-reads.Asked, list-256-reads.Learnt, list-sized-below t, list-sized.Post, list-1024-reads.Asked, list-1024-reads.Learnt, list-4096-reads.Asked, list-4096-reads.Learnt, list-any-reads.Asked, list-any-reads.Learnt) (list-sized-at t) list-sized.Post
-list-sized-list-1024-requires t c κs = search needs
-
-list-sized-enum-known-tried-2 : (t : ℕ) → list-sized-lts.Need-enum-known-tried-2 (list-256-reads.Asked, list-256-reads.Learnt, list-sized-below t, list-sized.Post, list-1024-reads.Asked, list-1024-reads.Learnt, list-4096-reads.Asked, list-4096-reads.Learnt, list-any-reads.Asked, list-any-reads.Learnt) (list-sized-at t) list-sized.Post
-list-sized-enum-known-tried-2 t c = search needs
-
-list-sized-enum-told-2 : (t : ℕ) → list-sized-lts.Need-enum-told-2 (list-256-reads.Asked, list-256-reads.Learnt, list-sized-below t, list-sized.Post, list-1024-reads.Asked, list-1024-reads.Learnt, list-4096-reads.Asked, list-4096-reads.Learnt, list-any-reads.Asked, list-any-reads.Learnt) (list-sized-at t) list-sized.Post
-list-sized-enum-told-2 t c = search needs
-
-list-sized-list-sized-requires-2 : (t : ℕ) → list-sized-lts.Need-list-sized-requires-2 (list-256-reads.Asked, list-256-reads.Learnt, list-sized-below t, list-sized.Post, list-1024-reads.Asked, list-1024-reads.Learnt, list-4096-reads.Asked, list-4096-reads.Learnt, list-any-reads.Asked, list-any-reads.Learnt) (list-sized-at t) list-sized.Post
-list-sized-list-sized-requires-2 t c κs = search needs
-
-list-sized-same-length-3 : (t : ℕ) → list-sized-lts.Need-same-length-3 (list-256-reads.Asked, list-256-reads.Learnt, list-sized-below t, list-sized.Post, list-1024-reads.Asked, list-1024-reads.Learnt, list-4096-reads.Asked, list-4096-reads.Learnt, list-any-reads.Asked, list-any-reads.Learnt) (list-sized-at t) list-sized.Post
-list-sized-same-length-3 t c = search needs
-
-list-sized-returns-3 : (t : ℕ) → list-sized-lts.Need-returns-3 (list-256-reads.Asked, list-256-reads.Learnt, list-sized-below t, list-sized.Post, list-1024-reads.Asked, list-1024-reads.Learnt, list-4096-reads.Asked, list-4096-reads.Learnt, list-any-reads.Asked, list-any-reads.Learnt) (list-sized-at t) list-sized.Post
+list-sized-returns-3 : (t : ℕ)
+    → list-sized-lts.Need-returns-3 (
+      list-256-reads.Asked,
+      list-256-reads.Learnt,
+      list-sized-below t,
+      list-sized.Post,
+      list-1024-reads.Asked,
+      list-1024-reads.Learnt,
+      list-4096-reads.Asked,
+      list-4096-reads.Learnt,
+      list-any-reads.Asked,
+      list-any-reads.Learnt,
+    )
+    (list-sized-at t) list-sized.Post
 list-sized-returns-3 t c =
     let l = c .before .before .before .before .before .before .before .before in
     let s = l .before .before .before .before .before .before .args in
     let g = c .before .before .list-sized2 in
-    tried-again (s .sheet .now) (Ample 512 256 1024 640) (l .list-1024 .result) (g .result) (s .out .now) (l .list-1024 .last .1 .0) (g .last .1 .0) (l .list-1024 .ensures) (c .before .before .before .before .enum-told2 .given .1) (g .ensures)
+    tried-again (s .sheet .now) (Ample 512 256 1024 640) (l .list-1024 .result) (g .result) (s .out .now)
+    (l .list-1024 .last .1 .0) (g .last .1 .0) (l .list-1024 .ensures)
+    (c .before .before .before .before .enum-told2 .given .1) (g .ensures)
 
-list-sized-same-length-4 : (t : ℕ) → list-sized-lts.Need-same-length-4 (list-256-reads.Asked, list-256-reads.Learnt, list-sized-below t, list-sized.Post, list-1024-reads.Asked, list-1024-reads.Learnt, list-4096-reads.Asked, list-4096-reads.Learnt, list-any-reads.Asked, list-any-reads.Learnt) (list-sized-at t) list-sized.Post
-list-sized-same-length-4 t c = search needs
-
-list-sized-returns-4 : (t : ℕ) → list-sized-lts.Need-returns-4 (list-256-reads.Asked, list-256-reads.Learnt, list-sized-below t, list-sized.Post, list-1024-reads.Asked, list-1024-reads.Learnt, list-4096-reads.Asked, list-4096-reads.Learnt, list-any-reads.Asked, list-any-reads.Learnt) (list-sized-at t) list-sized.Post
+list-sized-returns-4 : (t : ℕ)
+    → list-sized-lts.Need-returns-4 (
+      list-256-reads.Asked,
+      list-256-reads.Learnt,
+      list-sized-below t,
+      list-sized.Post,
+      list-1024-reads.Asked,
+      list-1024-reads.Learnt,
+      list-4096-reads.Asked,
+      list-4096-reads.Learnt,
+      list-any-reads.Asked,
+      list-any-reads.Learnt,
+    )
+    (list-sized-at t) list-sized.Post
 list-sized-returns-4 t c =
     let l = c .before .before .before .before .before in
     let s = l .before .before .before .before .before .before .args in
-    tried-done (s .sheet .now) (Ample 512 256 1024 640) (l .list-1024 .result) _ (s .out .now) (l .list-1024 .last .1 .0) (l .list-1024 .ensures) (c .before .tried2 .given .1)
+    tried-done (s .sheet .now) (Ample 512 256 1024 640) (l .list-1024 .result) _ (s .out .now)
+    (l .list-1024 .last .1 .0) (l .list-1024 .ensures) (c .before .tried2 .given .1)
 
-list-sized-list-4096-requires : (t : ℕ) → list-sized-lts.Need-list-4096-requires (list-256-reads.Asked, list-256-reads.Learnt, list-sized-below t, list-sized.Post, list-1024-reads.Asked, list-1024-reads.Learnt, list-4096-reads.Asked, list-4096-reads.Learnt, list-any-reads.Asked, list-any-reads.Learnt) (list-sized-at t) list-sized.Post
-list-sized-list-4096-requires t c κs = search needs
-
-list-sized-enum-known-tried-3 : (t : ℕ) → list-sized-lts.Need-enum-known-tried-3 (list-256-reads.Asked, list-256-reads.Learnt, list-sized-below t, list-sized.Post, list-1024-reads.Asked, list-1024-reads.Learnt, list-4096-reads.Asked, list-4096-reads.Learnt, list-any-reads.Asked, list-any-reads.Learnt) (list-sized-at t) list-sized.Post
-list-sized-enum-known-tried-3 t c = search needs
-
-list-sized-enum-told-3 : (t : ℕ) → list-sized-lts.Need-enum-told-3 (list-256-reads.Asked, list-256-reads.Learnt, list-sized-below t, list-sized.Post, list-1024-reads.Asked, list-1024-reads.Learnt, list-4096-reads.Asked, list-4096-reads.Learnt, list-any-reads.Asked, list-any-reads.Learnt) (list-sized-at t) list-sized.Post
-list-sized-enum-told-3 t c = search needs
-
-list-sized-list-sized-requires-3 : (t : ℕ) → list-sized-lts.Need-list-sized-requires-3 (list-256-reads.Asked, list-256-reads.Learnt, list-sized-below t, list-sized.Post, list-1024-reads.Asked, list-1024-reads.Learnt, list-4096-reads.Asked, list-4096-reads.Learnt, list-any-reads.Asked, list-any-reads.Learnt) (list-sized-at t) list-sized.Post
-list-sized-list-sized-requires-3 t c κs = search needs
-
-list-sized-same-length-5 : (t : ℕ) → list-sized-lts.Need-same-length-5 (list-256-reads.Asked, list-256-reads.Learnt, list-sized-below t, list-sized.Post, list-1024-reads.Asked, list-1024-reads.Learnt, list-4096-reads.Asked, list-4096-reads.Learnt, list-any-reads.Asked, list-any-reads.Learnt) (list-sized-at t) list-sized.Post
-list-sized-same-length-5 t c = search needs
-
-list-sized-returns-5 : (t : ℕ) → list-sized-lts.Need-returns-5 (list-256-reads.Asked, list-256-reads.Learnt, list-sized-below t, list-sized.Post, list-1024-reads.Asked, list-1024-reads.Learnt, list-4096-reads.Asked, list-4096-reads.Learnt, list-any-reads.Asked, list-any-reads.Learnt) (list-sized-at t) list-sized.Post
+list-sized-returns-5 : (t : ℕ)
+    → list-sized-lts.Need-returns-5 (
+      list-256-reads.Asked,
+      list-256-reads.Learnt,
+      list-sized-below t,
+      list-sized.Post,
+      list-1024-reads.Asked,
+      list-1024-reads.Learnt,
+      list-4096-reads.Asked,
+      list-4096-reads.Learnt,
+      list-any-reads.Asked,
+      list-any-reads.Learnt,
+    )
+    (list-sized-at t) list-sized.Post
 list-sized-returns-5 t c =
     let l = c .before .before .before .before .before .before .before .before in
     let s = l .before .before .before .before .before .before .before .args in
     let g = c .before .before .list-sized3 in
-    tried-again (s .sheet .now) (Ample 1024 512 4096 2560) (l .list-4096 .result) (g .result) (s .out .now) (l .list-4096 .last .1 .0) (g .last .1 .0) (l .list-4096 .ensures) (c .before .before .before .before .enum-told3 .given .1) (g .ensures)
+    tried-again (s .sheet .now) (Ample 1024 512 4096 2560) (l .list-4096 .result) (g .result) (s .out .now)
+    (l .list-4096 .last .1 .0) (g .last .1 .0) (l .list-4096 .ensures)
+    (c .before .before .before .before .enum-told3 .given .1) (g .ensures)
 
-list-sized-same-length-6 : (t : ℕ) → list-sized-lts.Need-same-length-6 (list-256-reads.Asked, list-256-reads.Learnt, list-sized-below t, list-sized.Post, list-1024-reads.Asked, list-1024-reads.Learnt, list-4096-reads.Asked, list-4096-reads.Learnt, list-any-reads.Asked, list-any-reads.Learnt) (list-sized-at t) list-sized.Post
-list-sized-same-length-6 t c = search needs
-
-list-sized-returns-6 : (t : ℕ) → list-sized-lts.Need-returns-6 (list-256-reads.Asked, list-256-reads.Learnt, list-sized-below t, list-sized.Post, list-1024-reads.Asked, list-1024-reads.Learnt, list-4096-reads.Asked, list-4096-reads.Learnt, list-any-reads.Asked, list-any-reads.Learnt) (list-sized-at t) list-sized.Post
+list-sized-returns-6 : (t : ℕ)
+    → list-sized-lts.Need-returns-6 (
+      list-256-reads.Asked,
+      list-256-reads.Learnt,
+      list-sized-below t,
+      list-sized.Post,
+      list-1024-reads.Asked,
+      list-1024-reads.Learnt,
+      list-4096-reads.Asked,
+      list-4096-reads.Learnt,
+      list-any-reads.Asked,
+      list-any-reads.Learnt,
+    )
+    (list-sized-at t) list-sized.Post
 list-sized-returns-6 t c =
     let l = c .before .before .before .before .before in
     let s = l .before .before .before .before .before .before .before .args in
-    tried-done (s .sheet .now) (Ample 1024 512 4096 2560) (l .list-4096 .result) _ (s .out .now) (l .list-4096 .last .1 .0) (l .list-4096 .ensures) (c .before .tried3 .given .1)
+    tried-done (s .sheet .now) (Ample 1024 512 4096 2560) (l .list-4096 .result) _ (s .out .now)
+    (l .list-4096 .last .1 .0) (l .list-4096 .ensures) (c .before .tried3 .given .1)
 
-list-sized-list-any-requires : (t : ℕ) → list-sized-lts.Need-list-any-requires (list-256-reads.Asked, list-256-reads.Learnt, list-sized-below t, list-sized.Post, list-1024-reads.Asked, list-1024-reads.Learnt, list-4096-reads.Asked, list-4096-reads.Learnt, list-any-reads.Asked, list-any-reads.Learnt) (list-sized-at t) list-sized.Post
-list-sized-list-any-requires t c κs = search needs
-
-list-sized-same-length-7 : (t : ℕ) → list-sized-lts.Need-same-length-7 (list-256-reads.Asked, list-256-reads.Learnt, list-sized-below t, list-sized.Post, list-1024-reads.Asked, list-1024-reads.Learnt, list-4096-reads.Asked, list-4096-reads.Learnt, list-any-reads.Asked, list-any-reads.Learnt) (list-sized-at t) list-sized.Post
-list-sized-same-length-7 t c = search needs
-
-list-sized-returns-7 : (t : ℕ) → list-sized-lts.Need-returns-7 (list-256-reads.Asked, list-256-reads.Learnt, list-sized-below t, list-sized.Post, list-1024-reads.Asked, list-1024-reads.Learnt, list-4096-reads.Asked, list-4096-reads.Learnt, list-any-reads.Asked, list-any-reads.Learnt) (list-sized-at t) list-sized.Post
+list-sized-returns-7 : (t : ℕ)
+    → list-sized-lts.Need-returns-7 (
+      list-256-reads.Asked,
+      list-256-reads.Learnt,
+      list-sized-below t,
+      list-sized.Post,
+      list-1024-reads.Asked,
+      list-1024-reads.Learnt,
+      list-4096-reads.Asked,
+      list-4096-reads.Learnt,
+      list-any-reads.Asked,
+      list-any-reads.Learnt,
+    )
+    (list-sized-at t) list-sized.Post
 list-sized-returns-7 t c = c .before .before .list-any .ensures
 
 pub +list-sized-spec : {M : Type 1} → statement M
 +list-sized-spec =
     close μ-list-sized λ t.
-    list-sized-lts.spec (list-256-reads.Asked, list-256-reads.Learnt, list-sized-below t, list-sized.Post, list-1024-reads.Asked, list-1024-reads.Learnt, list-4096-reads.Asked, list-4096-reads.Learnt, list-any-reads.Asked, list-any-reads.Learnt) (list-sized-at t) list-sized.Post
-    (list-sized-list-256-requires t)
-    (list-sized-enum-known-tried t)
-    (list-sized-enum-told t)
-    (list-sized-list-sized-requires t)
-    (list-sized-same-length t)
+    list-sized-lts.spec (
+      list-256-reads.Asked,
+      list-256-reads.Learnt,
+      list-sized-below t,
+      list-sized.Post,
+      list-1024-reads.Asked,
+      list-1024-reads.Learnt,
+      list-4096-reads.Asked,
+      list-4096-reads.Learnt,
+      list-any-reads.Asked,
+      list-any-reads.Learnt,
+    ) (list-sized-at t) list-sized.Post
+    (λ c κs. search needs) (λ c. search needs) (λ c. search needs) (λ c κs. search needs) (λ c. search needs)
     (list-sized-returns t)
-    (list-sized-same-length-2 t)
+    (λ c. search needs)
     (list-sized-returns-2 t)
-    (list-sized-list-1024-requires t)
-    (list-sized-enum-known-tried-2 t)
-    (list-sized-enum-told-2 t)
-    (list-sized-list-sized-requires-2 t)
-    (list-sized-same-length-3 t)
+    (λ c κs. search needs) (λ c. search needs) (λ c. search needs) (λ c κs. search needs) (λ c. search needs)
     (list-sized-returns-3 t)
-    (list-sized-same-length-4 t)
+    (λ c. search needs)
     (list-sized-returns-4 t)
-    (list-sized-list-4096-requires t)
-    (list-sized-enum-known-tried-3 t)
-    (list-sized-enum-told-3 t)
-    (list-sized-list-sized-requires-3 t)
-    (list-sized-same-length-5 t)
+    (λ c κs. search needs) (λ c. search needs) (λ c. search needs) (λ c κs. search needs) (λ c. search needs)
     (list-sized-returns-5 t)
-    (list-sized-same-length-6 t)
+    (λ c. search needs)
     (list-sized-returns-6 t)
-    (list-sized-list-any-requires t)
-    (list-sized-same-length-7 t)
+    (λ c κs. search needs) (λ c. search needs)
     (list-sized-returns-7 t)

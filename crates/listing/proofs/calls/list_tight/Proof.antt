@@ -5,18 +5,6 @@ use borrow.Author.Needs.{needs}
 use Rattle.listing.proofs.calls.list_tight.Statement.{statement}
 use Rattle.listing.proofs.calls.list_tight.Tie as tie
 
-slice-aggregate-list-sheet : tie.Need-slice-aggregate-list-sheet
-slice-aggregate-list-sheet c = search needs
-
-list-sheet-requires : tie.Need-list-sheet-requires
-list-sheet-requires c κs = search needs
-
-enum-known-measured : tie.Need-enum-known-measured
-enum-known-measured c = search needs
-
-enum-told : tie.Need-enum-told
-enum-told c = search needs
-
 returns : tie.Need-returns
 returns c =
     let s = c .before .before .before .before .before .before .before in
@@ -28,13 +16,8 @@ returns-2 c =
     let at-list-sheet = c .before .before .before .before .before in
     let s = at-list-sheet .before .before .before .before in
     let l = at-list-sheet .list-sheet in
-    too-long (s .args .sheet .now) (s .args .out .now) (l .result) [] (l .last .1 .0) (l .ensures) (c .before .before .measured .given .1) (c .if1 .taken)
-
-list-sheet-requires-2 : tie.Need-list-sheet-requires-2
-list-sheet-requires-2 c κs = search needs
-
-same-length : tie.Need-same-length
-same-length c = search needs
+    too-long (s .args .sheet .now) (s .args .out .now) (l .result) [] (l .last .1 .0) (l .ensures)
+    (c .before .before .measured .given .1) (c .if1 .taken)
 
 returns-3 : tie.Need-returns-3
 returns-3 c =
@@ -43,18 +26,17 @@ returns-3 c =
     let at-list-sheet = at-measured .before .before .before in
     let s = at-list-sheet .before .before .before .before in
     let l = at-list-sheet .list-sheet in
-    listed-so (s .args .sheet .now) (s .args .out .now) (c .before .before .list-sheet2 .result) (c .before .before .list-sheet2 .last .1 .0) (c .before .before .list-sheet2 .ensures) (measured-enough (s .args .sheet .now) (s .args .out .now) (l .result) [] (l .last .1 .0) (l .ensures) (at-measured .measured .given .1) (at-if1 .if1 .left))
+    listed-so (s .args .sheet .now) (s .args .out .now) (c .before .before .list-sheet2 .result)
+    (c .before .before .list-sheet2 .last .1 .0) (c .before .before .list-sheet2 .ensures)
+    (measured-enough (s .args .sheet .now) (s .args .out .now) (l .result) [] (l .last .1 .0) (l .ensures)
+    (at-measured .measured .given .1) (at-if1 .if1 .left))
 
 pub list-tight-spec : {M : Type 1} → statement M
 list-tight-spec =
     tie.close
     (tie.spec
-    slice-aggregate-list-sheet
-    list-sheet-requires
-    enum-known-measured
-    enum-told
+    (λ c. search needs) (λ c κs. search needs) (λ c. search needs) (λ c. search needs)
     returns
     returns-2
-    list-sheet-requires-2
-    same-length
+    (λ c κs. search needs) (λ c. search needs)
     returns-3)

@@ -9,29 +9,12 @@ use Rattle.listing.proofs.calls.respond.Tie as tie
 full : (c : tie.After-list-sheet-arg) → length (c .before .before .args .out .now) ≡ 131072
 full c = search needs
 
-list-sheet-requires : tie.Need-list-sheet-requires
-list-sheet-requires c κs = search needs
-
-enum-known-answer : tie.Need-enum-known-answer
-enum-known-answer c = search needs
-
-enum-known-answer-2 : tie.Need-enum-known-answer-2
-enum-known-answer-2 c = search needs
-
-number-requires : tie.Need-number-requires
-number-requires c κs = search needs
-
-slice-aggregate-put-refusal : tie.Need-slice-aggregate-put-refusal
-slice-aggregate-put-refusal c = search needs
-
-put-refusal-requires : tie.Need-put-refusal-requires
-put-refusal-requires c κs = refusal-fits (c .before .before .before .before .answer2 .given .0 .0) (c .before .before .number .ensures)
-
 returns : tie.Need-returns
 returns c =
     let s = c .before .before .before .before .before .before in
     let l = c .before .before .before .list-sheet in
-    respond-listed (s .args .sheet .now) (s .args .out .now) (l .result) (l .last .1 .0) (full (c .before .before .before .before)) (l .ensures) (c .before .answer .given .1)
+    respond-listed (s .args .sheet .now) (s .args .out .now) (l .result) (l .last .1 .0)
+    (full (c .before .before .before .before)) (l .ensures) (c .before .answer .given .1)
 
 returns-2 : tie.Need-returns-2
 returns-2 c =
@@ -39,17 +22,15 @@ returns-2 c =
     let at-list-sheet = at-answer2 .before .before in
     let s = at-list-sheet .before .before .before in
     let l = at-list-sheet .list-sheet in
-    respond-refused (at-answer2 .answer2 .given .0 .0) (c .before .before .before .number .ensures) (s .args .sheet .now) (s .args .out .now) (l .result) (l .last .1 .0) (full (at-list-sheet .before)) (l .ensures) (at-answer2 .answer2 .given .1) (c .put-refusal .ensures)
+    respond-refused (at-answer2 .answer2 .given .0 .0) (c .before .before .before .number .ensures)
+    (s .args .sheet .now) (s .args .out .now) (l .result) (l .last .1 .0) (full (at-list-sheet .before))
+    (l .ensures) (at-answer2 .answer2 .given .1) (c .put-refusal .ensures)
 
 pub respond-spec : {M : Type 1} → statement M
 respond-spec =
     tie.close
     (tie.spec
-    list-sheet-requires
-    enum-known-answer
-    enum-known-answer-2
-    number-requires
-    slice-aggregate-put-refusal
-    put-refusal-requires
+    (λ c κs. search needs) (λ c. search needs) (λ c. search needs) (λ c κs. search needs) (λ c. search needs)
+    (λ c κs. search (refusal-fits, needs))
     returns
     returns-2)

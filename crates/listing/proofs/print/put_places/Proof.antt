@@ -10,53 +10,15 @@ Inv-loop out₀ at number count left₀ i₀ out left i = Placing count number a
 abbrev μ-loop : tie.MeasureT-loop
 μ-loop out₀ at number count left₀ i₀ out left i = i
 
-loop-holds : tie.Need-loop-holds Inv-loop μ-loop
-loop-holds c = placing-start _ _ _ _
-
-sub-i : tie.Need-sub-i Inv-loop μ-loop
-sub-i c = search needs
-
-add-store : tie.Need-add-store Inv-loop μ-loop
-add-store c = search needs
-
-cast-store : tie.Need-cast-store Inv-loop μ-loop
-cast-store c = search needs
-
-add-store-2 : tie.Need-add-store-2 Inv-loop μ-loop
-add-store-2 c = search needs
-
-store-requires : tie.Need-store-requires Inv-loop μ-loop
-store-requires c κs = search needs
-
-loop-less : tie.Need-loop-less Inv-loop μ-loop
-loop-less c = search needs
-
-loop-again : tie.Need-loop-again Inv-loop μ-loop
-loop-again c = placing-more (c .before .before .before .before .before .loop .inv) (c .before .before .before .before .loop-test .taken) (c .before .before .store .ensures)
-
-add-result : tie.Need-add-result Inv-loop μ-loop
-add-result c = search needs
-
-same-length : tie.Need-same-length Inv-loop μ-loop
-same-length c = c .before .loop .inv .size
-
-returns : tie.Need-returns Inv-loop μ-loop
-returns c = placing-end (c .before .loop .inv) (c .loop-test .left)
-
 pub put-places-spec : {M : Type 1} → statement M
 put-places-spec =
     tie.close
     (tie.spec
     Inv-loop
     μ-loop
-    loop-holds
-    sub-i
-    add-store
-    cast-store
-    add-store-2
-    store-requires
-    loop-less
-    loop-again
-    add-result
-    same-length
-    returns)
+    (λ c. search (placing-start, needs))
+    (λ c. search needs) (λ c. search needs) (λ c. search needs) (λ c. search needs) (λ c κs. search needs)
+    (λ c. search needs)
+    (λ c. search (placing-more, needs))
+    (λ c. search needs) (λ c. search needs)
+    (λ c. search (placing-end, needs)))

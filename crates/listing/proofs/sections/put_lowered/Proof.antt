@@ -25,32 +25,35 @@ taken c = line (c .args .taken .now)
 abbrev Left : tie.Start → List ℕ → ℕ → List ℕ → Type 0
 Left c rest at out = Leaves (loweredHeading ++ (own c ++ (given c ++ taken c))) (c .args .at) (c .args .out .now) rest at out
 
-behind-heading : (c : tie.After-put-text) → Left (start c) (own (start c) ++ (given (start c) ++ taken (start c))) (c .put-text .result) (c .put-text .last .0)
+behind-heading : (c : tie.After-put-text)
+    → Left (start c) (own (start c) ++ (given (start c) ++ taken (start c))) (c .put-text .result)
+    (c .put-text .last .0)
 behind-heading c = leaves-rest _ (leaves-all _ _ _) (c .put-text .ensures)
 
 abbrev begun : tie.After-put-line → tie.Start
 begun c = start (c .before .before .before .before)
 
-behind-own : (c : tie.After-put-line) → Left (begun c) (given (begun c) ++ taken (begun c)) (c .put-line .result) (c .put-line .last .0)
+behind-own : (c : tie.After-put-line)
+    → Left (begun c) (given (begun c) ++ taken (begun c)) (c .put-line .result) (c .put-line .last .0)
 behind-own c = leaves-rest _ (behind-heading (c .before .before .before .before)) (c .put-line .ensures)
 
-behind-given : (c : tie.After-put-line2) → Left (begun (c .before .before .before .before)) (taken (begun (c .before .before .before .before))) (c .put-line2 .result) (c .put-line2 .last .0)
+behind-given : (c : tie.After-put-line2)
+    → Left (begun (c .before .before .before .before)) (taken (begun (c .before .before .before .before)))
+    (c .put-line2 .result) (c .put-line2 .last .0)
 behind-given c = leaves-rest _ (behind-own (c .before .before .before .before)) (c .put-line2 .ensures)
 
-put-text-requires : tie.Need-put-text-requires
-put-text-requires c κs = search needs
-
 put-line-requires : tie.Need-put-line-requires
-put-line-requires c κs = let s = start (c .before .before .before) in next-fits (s .pre) (own s) (given s ++ taken s) (behind-heading (c .before .before .before))
+put-line-requires c κs = let s = start (c .before .before .before) in
+    next-fits (s .pre) (own s) (given s ++ taken s) (behind-heading (c .before .before .before))
 
 put-line-requires-2 : tie.Need-put-line-requires-2
-put-line-requires-2 c κs = let s = begun (c .before .before .before) in next-fits (s .pre) (given s) (taken s) (behind-own (c .before .before .before))
+put-line-requires-2 c κs = let s = begun (c .before .before .before) in
+    next-fits (s .pre) (given s) (taken s) (behind-own (c .before .before .before))
 
 put-line-requires-3 : tie.Need-put-line-requires-3
-put-line-requires-3 c κs = last-fits (begun (c .before .before .before .before .before .before .before) .pre) (behind-given (c .before .before .before))
-
-same-length : tie.Need-same-length
-same-length c = search needs
+put-line-requires-3 c κs =
+    last-fits (begun (c .before .before .before .before .before .before .before) .pre)
+    (behind-given (c .before .before .before))
 
 returns : tie.Need-returns
 returns c = leaves-none (behind-given (c .before .before .before .before .before .before)) (c .before .before .put-line3 .ensures)
@@ -59,9 +62,9 @@ pub put-lowered-spec : {M : Type 1} → statement M
 put-lowered-spec =
     tie.close
     (tie.spec
-    put-text-requires
+    (λ c κs. search needs)
     put-line-requires
     put-line-requires-2
     put-line-requires-3
-    same-length
+    (λ c. search needs)
     returns)

@@ -60,45 +60,53 @@ abbrev start-4 : tie.After-put-answers → tie.Start
 start-4 c = start-3 (c .before .before .before .before)
 
 -- what is left of the whole there
-behind-counts : (c : tie.After-put-counts) → Leaves (whole (start c)) 0 (start c .args .out .now) (from-lowered (start c)) (c .put-counts .result) (c .put-counts .last .0)
+behind-counts : (c : tie.After-put-counts)
+    → Leaves (whole (start c)) 0 (start c .args .out .now) (from-lowered (start c)) (c .put-counts .result)
+    (c .put-counts .last .0)
 behind-counts c = leaves-rest _ (leaves-all _ _ _) (c .put-counts .ensures)
 
-behind-lowered : (c : tie.After-put-lowered) → Leaves (whole (start-2 c)) 0 (start-2 c .args .out .now) (from-longer (start-2 c)) (c .put-lowered .result) (c .put-lowered .last .0)
+behind-lowered : (c : tie.After-put-lowered)
+    → Leaves (whole (start-2 c)) 0 (start-2 c .args .out .now) (from-longer (start-2 c)) (c .put-lowered .result)
+    (c .put-lowered .last .0)
 behind-lowered c = leaves-rest _ (behind-counts (c .before .before .before .before)) (c .put-lowered .ensures)
 
-behind-longer : (c : tie.After-put-longer) → Leaves (whole (start-3 c)) 0 (start-3 c .args .out .now) (from-answers (start-3 c)) (c .put-longer .result) (c .put-longer .last .0)
+behind-longer : (c : tie.After-put-longer)
+    → Leaves (whole (start-3 c)) 0 (start-3 c .args .out .now) (from-answers (start-3 c)) (c .put-longer .result)
+    (c .put-longer .last .0)
 behind-longer c = leaves-rest _ (behind-lowered (c .before .before .before .before .before .before)) (c .put-longer .ensures)
 
-behind-answers : (c : tie.After-put-answers) → Leaves (whole (start-4 c)) 0 (start-4 c .args .out .now) (edges (start-4 c)) (c .put-answers .result) (c .put-answers .last .0)
+behind-answers : (c : tie.After-put-answers)
+    → Leaves (whole (start-4 c)) 0 (start-4 c .args .out .now) (edges (start-4 c)) (c .put-answers .result)
+    (c .put-answers .last .0)
 behind-answers c = leaves-rest _ (behind-longer (c .before .before .before .before)) (c .put-answers .ensures)
 
 put-counts-requires : tie.Need-put-counts-requires
-put-counts-requires c κs = let s = c .before .before .before .before .before .before .before .before .before in next-fits (small s) (counts s) (from-lowered s) (leaves-all (whole s) 0 (s .args .out .now))
+put-counts-requires c κs = let s = c .before .before .before .before .before .before .before .before .before in
+    next-fits (small s) (counts s) (from-lowered s) (leaves-all (whole s) 0 (s .args .out .now))
 
 put-lowered-requires : tie.Need-put-lowered-requires
-put-lowered-requires c κs = let s = start (c .before .before .before) in next-fits (small s) (lowered s) (from-longer s) (behind-counts (c .before .before .before))
-
-element-copy-out-put-longer : tie.Need-element-copy-out-put-longer
-element-copy-out-put-longer c = search needs
+put-lowered-requires c κs = let s = start (c .before .before .before) in
+    next-fits (small s) (lowered s) (from-longer s) (behind-counts (c .before .before .before))
 
 put-longer-requires : tie.Need-put-longer-requires
-put-longer-requires c κs = let s = start-2 (c .before .before .before .before .before) in (s .pre .1 .0, next-fits (small s) (longer s) (from-answers s) (behind-lowered (c .before .before .before .before .before)))
+put-longer-requires c κs = let s = start-2 (c .before .before .before .before .before) in (
+  s .pre .1 .0,
+  next-fits (small s) (longer s) (from-answers s) (behind-lowered (c .before .before .before .before .before)),
+)
 
 put-answers-requires : tie.Need-put-answers-requires
-put-answers-requires c κs = let s = start-3 (c .before .before .before) in next-fits (small s) (answers s) (edges s) (behind-longer (c .before .before .before))
-
-element-copy-out-put-edges : tie.Need-element-copy-out-put-edges
-element-copy-out-put-edges c = search needs
+put-answers-requires c κs = let s = start-3 (c .before .before .before) in
+    next-fits (small s) (answers s) (edges s) (behind-longer (c .before .before .before))
 
 put-edges-requires : tie.Need-put-edges-requires
-put-edges-requires c κs = let s = start-4 (c .before .before .before .before) in (s .pre .1 .1 .0, last-fits (small s) (behind-answers (c .before .before .before .before)))
-
-same-length : tie.Need-same-length
-same-length c = search needs
+put-edges-requires c κs = let s = start-4 (c .before .before .before .before) in
+    (s .pre .1 .1 .0, last-fits (small s) (behind-answers (c .before .before .before .before)))
 
 returns : tie.Need-returns
 unfolding sections
-returns c = leaves-none (behind-answers (c .before .before .before .before .before .before .before)) (c .before .before .put-edges .ensures)
+returns c =
+    leaves-none (behind-answers (c .before .before .before .before .before .before .before))
+    (c .before .before .put-edges .ensures)
 
 pub put-listing-spec : {M : Type 1} → statement M
 put-listing-spec =
@@ -106,10 +114,10 @@ put-listing-spec =
     (tie.spec
     put-counts-requires
     put-lowered-requires
-    element-copy-out-put-longer
+    (λ c. search needs)
     put-longer-requires
     put-answers-requires
-    element-copy-out-put-edges
+    (λ c. search needs)
     put-edges-requires
-    same-length
+    (λ c. search needs)
     returns)

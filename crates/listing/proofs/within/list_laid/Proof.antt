@@ -14,91 +14,53 @@ use Rattle.listing.proofs.within.list_laid.Tie as tie
 
 -- the start, and the ten slices, from where all are found
 abbrev start : tie.After-record-words10 → tie.Start
-start c = c .before .before .before .before .before .before .before .before .before .before .before .before .before .before .before .before
+start c =
+    c .before .before .before .before .before .before .before .before .before .before .before .before .before .before .before .before
 
 abbrev sheetIn : tie.After-record-words10 → Records
 sheetIn c =
-    records (c .before .before .before .before .before .before .before .before .before .record-words .result .now) (c .before .before .before .before .before .before .before .before .record-words2 .result .now) (c .before .before .before .before .before .before .before .record-words3 .result .now) (c .before .before .before .before .before .before .record-words4 .result .now) (c .before .before .before .before .before .record-words5 .result .now) (c .before .before .before .before .record-words6 .result .now) (c .before .before .before .record-words7 .result .now) (c .before .before .record-words8 .result .now) (c .before .record-words9 .result .now) (c .record-words10 .result .now)
+    records (c .before .before .before .before .before .before .before .before .before .record-words .result .now)
+    (c .before .before .before .before .before .before .before .before .record-words2 .result .now)
+    (c .before .before .before .before .before .before .before .record-words3 .result .now)
+    (c .before .before .before .before .before .before .record-words4 .result .now)
+    (c .before .before .before .before .before .record-words5 .result .now)
+    (c .before .before .before .before .record-words6 .result .now)
+    (c .before .before .before .record-words7 .result .now) (c .before .before .record-words8 .result .now)
+    (c .before .record-words9 .result .now) (c .record-words10 .result .now)
 
 found : (c : tie.After-record-words10) → sheetIn c ≡ recordsAt (start c .args .words .now) (start c .args .ends)
 found c =
-    ten-found (start c .pre .0) (c .before .before .before .before .before .before .before .before .before .record-words .ensures) (c .before .before .before .before .before .before .before .before .record-words2 .ensures) (c .before .before .before .before .before .before .before .record-words3 .ensures) (c .before .before .before .before .before .before .record-words4 .ensures) (c .before .before .before .before .before .record-words5 .ensures) (c .before .before .before .before .record-words6 .ensures) (c .before .before .before .record-words7 .ensures) (c .before .before .record-words8 .ensures) (c .before .record-words9 .ensures) (c .record-words10 .ensures)
-
-record-words-requires : tie.Need-record-words-requires
-record-words-requires c κs = search needs
-
-record-words-requires-2 : tie.Need-record-words-requires-2
-record-words-requires-2 c κs = search needs
-
-record-words-requires-3 : tie.Need-record-words-requires-3
-record-words-requires-3 c κs = search needs
-
-record-words-requires-4 : tie.Need-record-words-requires-4
-record-words-requires-4 c κs = search needs
-
-record-words-requires-5 : tie.Need-record-words-requires-5
-record-words-requires-5 c κs = search needs
-
-record-words-requires-6 : tie.Need-record-words-requires-6
-record-words-requires-6 c κs = search needs
-
-record-words-requires-7 : tie.Need-record-words-requires-7
-record-words-requires-7 c κs = search needs
-
-record-words-requires-8 : tie.Need-record-words-requires-8
-record-words-requires-8 c κs = search needs
-
-record-words-requires-9 : tie.Need-record-words-requires-9
-record-words-requires-9 c κs = search needs
-
-record-words-requires-10 : tie.Need-record-words-requires-10
-record-words-requires-10 c κs = search needs
+    ten-found (start c .pre .0)
+    (c .before .before .before .before .before .before .before .before .before .record-words .ensures)
+    (c .before .before .before .before .before .before .before .before .record-words2 .ensures)
+    (c .before .before .before .before .before .before .before .record-words3 .ensures)
+    (c .before .before .before .before .before .before .record-words4 .ensures)
+    (c .before .before .before .before .before .record-words5 .ensures)
+    (c .before .before .before .before .record-words6 .ensures) (c .before .before .before .record-words7 .ensures)
+    (c .before .before .record-words8 .ensures) (c .before .record-words9 .ensures) (c .record-words10 .ensures)
 
 list-records-requires : tie.Need-list-records-requires
 list-records-requires c κs =
     let ten = c .before .before .before .before .before in
     (subst (λ (r : Records). sheetInShape r ≡ true) (sym (found ten)) (start ten .pre .1), start ten .pre .2)
 
-same-length : tie.Need-same-length
-same-length c = search needs
-
-same-length-2 : tie.Need-same-length-2
-same-length-2 c = search needs
-
-same-length-3 : tie.Need-same-length-3
-same-length-3 c = search needs
-
-same-length-4 : tie.Need-same-length-4
-same-length-4 c = search needs
-
-same-length-5 : tie.Need-same-length-5
-same-length-5 c = search needs
-
 returns : tie.Need-returns
 returns c =
     let listed = c .before .before .before .before .before .before .before .before .before .before in
     let ten = listed .before .before .before .before .before .before in
     let s = start ten in
-    subst (λ (r : Records). ListsWithin (listedRecords r) (Ample (length (s .args .given .now)) (length (s .args .taken .now)) (length (s .args .lists .now)) (length (s .args .edges .now))) (s .args .out .now) (listed .list-records .result) (listed .list-records .last .1 .1 .1 .1 .1 .1 .1 .1 .1 .1 .1 .1 .1 .1 .0)) (found ten) (listed .list-records .ensures)
+    subst (λ (r : Records). ListsWithin (listedRecords r)
+    (Ample (length (s .args .given .now)) (length (s .args .taken .now)) (length (s .args .lists .now))
+    (length (s .args .edges .now))) (s .args .out .now) (listed .list-records .result)
+    (listed .list-records .last .1 .1 .1 .1 .1 .1 .1 .1 .1 .1 .1 .1 .1 .1 .0)) (found ten)
+    (listed .list-records .ensures)
 
 pub list-laid-spec : {M : Type 1} → statement M
 list-laid-spec =
     tie.close
     (tie.spec
-    record-words-requires
-    record-words-requires-2
-    record-words-requires-3
-    record-words-requires-4
-    record-words-requires-5
-    record-words-requires-6
-    record-words-requires-7
-    record-words-requires-8
-    record-words-requires-9
-    record-words-requires-10
+    (λ c κs. search needs) (λ c κs. search needs) (λ c κs. search needs) (λ c κs. search needs) (λ c κs. search needs)
+    (λ c κs. search needs) (λ c κs. search needs) (λ c κs. search needs) (λ c κs. search needs) (λ c κs. search needs)
     list-records-requires
-    same-length
-    same-length-2
-    same-length-3
-    same-length-4
-    same-length-5
+    (λ c. search needs) (λ c. search needs) (λ c. search needs) (λ c. search needs) (λ c. search needs)
     returns)

@@ -4,7 +4,8 @@ use native.Mathlib.Nat.{mul-le-mul}
 use native.Mathlib.Omega.{arith}
 use lib.ListN.{replicate}
 use Rattle.listing.proofs.RoomLaws.{lifetimes-few}
-use Rattle.listing.proofs.MethodListing.{AllListed, Mapped, lists-short, map-refused, params-inside, lists-ascend, edges-inside, sections-small, method-listed}
+use Rattle.listing.proofs.MethodListing.{AllListed, Mapped, lists-short, map-refused, params-inside}
+use Rattle.listing.proofs.MethodListing.{lists-ascend, edges-inside, sections-small, method-listed}
 use borrow.Author.Needs.{needs}
 use Rattle.listing.proofs.within.list_method.Statement.{statement}
 use Rattle.listing.proofs.within.list_method.Tie as tie
@@ -19,17 +20,24 @@ start-2 c = start (c .before .before .before .before)
 abbrev start-3 : tie.After-borrow-map → tie.Start
 start-3 c = start-2 (c .before .before .before .before .before .before .before)
 
-all-listed : (c : tie.After-all-lists) → AllListed (start-2 c .args .env) (start-2 c .args .lists .now) (replicate 64 0) (c .all-lists .result) (c .all-lists .last .1 .1 .0) (c .all-lists .last .1 .1 .1 .0)
+all-listed : (c : tie.After-all-lists)
+    → AllListed (start-2 c .args .env) (start-2 c .args .lists .now) (replicate 64 0) (c .all-lists .result)
+    (c .all-lists .last .1 .1 .0) (c .all-lists .last .1 .1 .1 .0)
 all-listed c =
     let a = c .all-lists .ensures in
     record { places = refl; room = c .before .before .before .if1 .left; is = a .0; wrote = a .1 .0; ended = a .1 .1 }
 
 mapped : (c : tie.After-borrow-map)
-    → Mapped (record { used = start-3 c .args .used; draws = c .before .before .before .before .before .before .before .all-lists .result .sets; stored = 0 }) (start-3 c .args .structs .now) (start-3 c .args .params .now) (replicate 16 0)
+    → Mapped (record {
+      used = start-3 c .args .used;
+      draws = c .before .before .before .before .before .before .before .all-lists .result .sets;
+      stored =
+          0;
+    }) (start-3 c .args .structs .now) (start-3 c .args .params .now) (replicate 16 0)
     (start-3 c .args .edges .now) (c .borrow-map .result) (c .borrow-map .last .1 .1 .1 .0) (c .borrow-map .last .1 .1 .1 .1 .0)
 mapped c =
     let m = c .borrow-map .ensures in
-    record { sixteen = refl; most = start-3 c .pre .1; maps = m .0; noted = m .1 .0; stored = m .1 .1 }
+    record { sixteen = refl; most = start-3 c .pre .1; maps = m .counts; noted = m .answers-filled; stored = m .edges-filled }
 
 mul-if1 : tie.Need-mul-if1
 mul-if1 c =
@@ -40,53 +48,19 @@ mul-if1 c =
 returns : tie.Need-returns
 returns c = lists-short (start (c .before) .pre .0) (start (c .before) .args .lists .now) (c .if1 .taken)
 
-slice-aggregate-all-lists : tie.Need-slice-aggregate-all-lists
-slice-aggregate-all-lists c = search needs
-
-all-lists-requires : tie.Need-all-lists-requires
-all-lists-requires c κs = search needs
-
-slice-aggregate-borrow-map : tie.Need-slice-aggregate-borrow-map
-slice-aggregate-borrow-map c = search needs
-
-borrow-map-requires : tie.Need-borrow-map-requires
-borrow-map-requires c κs = search needs
-
-enum-told : tie.Need-enum-told
-enum-told c = search needs
-
-too-many-requires : tie.Need-too-many-requires
-too-many-requires c κs = search needs
-
-same-length : tie.Need-same-length
-same-length c = search needs
-
-same-length-2 : tie.Need-same-length-2
-same-length-2 c = search needs
-
 returns-2 : tie.Need-returns-2
 returns-2 c =
     let map = c .before .before .before .before .before .before in
     let s = start-3 map in
-    map-refused (s .pre .0) (all-listed (map .before .before .before .before .before .before .before)) (mapped map) _ (s .args .out .now) (c .before .enum-told .given .1) (c .too-many .ensures)
-
-enum-told-2 : tie.Need-enum-told-2
-enum-told-2 c = search needs
-
-count-requires : tie.Need-count-requires
-count-requires c κs = search needs
-
-sub-put-listing : tie.Need-sub-put-listing
-sub-put-listing c = search needs
-
-part-put-listing-start : tie.Need-part-put-listing-start
-part-put-listing-start c = search needs
+    map-refused (s .pre .0) (all-listed (map .before .before .before .before .before .before .before)) (mapped map)
+    _ (s .args .out .now) (c .before .enum-told .given .1) (c .too-many .ensures)
 
 part-put-listing-end : tie.Need-part-put-listing-end
 part-put-listing-end c =
     let told = c .before .before .before .before .before .before in
     let map = told .before .before .before .before .before in
-    params-inside (start-3 map .pre .0) (all-listed (map .before .before .before .before .before .before .before)) (mapped map) (told .enum-told2 .given .1)
+    params-inside (start-3 map .pre .0) (all-listed (map .before .before .before .before .before .before .before))
+    (mapped map) (told .enum-told2 .given .1)
 
 put-listing-requires : tie.Need-put-listing-requires
 put-listing-requires c κs =
@@ -94,23 +68,21 @@ put-listing-requires c κs =
     let fine = counted .before .enum-told2 .given .1 in
     let map = counted .before .before .before .before .before .before in
     let can = start-3 map .pre .0 in
-    let all = all-listed (map .before .before .before .before .before .before .before) in
-    (refl, (lists-ascend can all, (edges-inside can all (mapped map) fine, sections-small can all (mapped map) fine (counted .count .ensures))))
-
-same-length-3 : tie.Need-same-length-3
-same-length-3 c = search needs
-
-same-length-4 : tie.Need-same-length-4
-same-length-4 c = search needs
-
-same-length-5 : tie.Need-same-length-5
-same-length-5 c = search needs
+    let all = all-listed (map .before .before .before .before .before .before .before) in (
+      refl,
+      (
+        lists-ascend can all,
+        (edges-inside can all (mapped map) fine, sections-small can all (mapped map) fine (counted .count .ensures)),
+      ),
+    )
 
 returns-3 : tie.Need-returns-3
 returns-3 c =
     let counted = c .before .before .before .before .before .before .before .before .before .before in
     let map = counted .before .before .before .before .before .before in
-    method-listed (start-3 map .pre .0) (all-listed (map .before .before .before .before .before .before .before)) (mapped map) (counted .before .enum-told2 .given .1) (counted .count .ensures) (c .before .before .put-listing .ensures)
+    method-listed (start-3 map .pre .0) (all-listed (map .before .before .before .before .before .before .before))
+    (mapped map) (counted .before .enum-told2 .given .1) (counted .count .ensures)
+    (c .before .before .put-listing .ensures)
 
 pub list-method-spec : {M : Type 1} → statement M
 list-method-spec =
@@ -118,22 +90,11 @@ list-method-spec =
     (tie.spec
     mul-if1
     returns
-    slice-aggregate-all-lists
-    all-lists-requires
-    slice-aggregate-borrow-map
-    borrow-map-requires
-    enum-told
-    too-many-requires
-    same-length
-    same-length-2
+    (λ c. search needs) (λ c κs. search needs) (λ c. search needs) (λ c κs. search needs) (λ c. search needs)
+    (λ c κs. search needs) (λ c. search needs) (λ c. search needs)
     returns-2
-    enum-told-2
-    count-requires
-    sub-put-listing
-    part-put-listing-start
+    (λ c. search needs) (λ c κs. search needs) (λ c. search needs) (λ c. search needs)
     part-put-listing-end
     put-listing-requires
-    same-length-3
-    same-length-4
-    same-length-5
+    (λ c. search needs) (λ c. search needs) (λ c. search needs)
     returns-3)

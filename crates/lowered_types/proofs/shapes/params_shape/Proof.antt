@@ -5,7 +5,8 @@ use lib.ListN.{length}
 use native.Mathlib.Omega.{arith}
 use Rattle.records.proofs.EndLaws.{ends-told, ends-past}
 use Rattle.lowered_types.specs.Rows.{readKnown}
-use Rattle.lowered_types.proofs.Counting.{Counting, counting-start, counting-long, counting-end, counting-missing, counting-more}
+use Rattle.lowered_types.proofs.Counting.{Counting, counting-start, counting-long, counting-end}
+use Rattle.lowered_types.proofs.Counting.{counting-missing, counting-more}
 use Rattle.lowered_types.proofs.shapes.params_shape.Statement.{statement}
 use Rattle.lowered_types.proofs.shapes.params_shape.Tie as tie
 
@@ -15,35 +16,8 @@ Inv-loop params rows at₀ count₀ at count = Counting (λ number. readKnown ro
 abbrev μ-loop : tie.MeasureT-loop
 μ-loop params rows at₀ count₀ at count = length params - at
 
-returns : tie.Need-returns Inv-loop μ-loop
-returns c = counting-long (λ number. readKnown (c .before .before .args .rows)) _ (c .if1 .taken)
-
-loop-holds : tie.Need-loop-holds Inv-loop μ-loop
-loop-holds c = counting-start (λ number. readKnown (c .before .before .args .rows)) _ (c .if1 .left)
-
-type-end-requires : tie.Need-type-end-requires Inv-loop μ-loop
-type-end-requires c κs = search needs
-
-enum-known-end : tie.Need-enum-known-end Inv-loop μ-loop
-enum-known-end c = search needs
-
-enum-told : tie.Need-enum-told Inv-loop μ-loop
-enum-told c = search needs
-
-returns-2 : tie.Need-returns-2 Inv-loop μ-loop
-returns-2 c = counting-missing (c .before .before .before .before .loop .inv) (c .before .before .before .loop-test .taken) (ends-told (c .before .before .type-end .ensures) (c .enum-told .given .1))
-
-add-count : tie.Need-add-count Inv-loop μ-loop
-add-count c = omega (arith, c .before .before .before .before .before .loop .inv .before)
-
 loop-less : tie.Need-loop-less Inv-loop μ-loop
 loop-less c = omega (arith, ends-past (ends-told (c .before .before .before .type-end .ensures) (c .before .end .given .1)))
-
-loop-again : tie.Need-loop-again Inv-loop μ-loop
-loop-again c = counting-more (c .before .before .before .before .before .loop .inv) (c .before .before .before .before .loop-test .taken) (ends-told (c .before .before .before .type-end .ensures) (c .before .end .given .1))
-
-returns-3 : tie.Need-returns-3 Inv-loop μ-loop
-returns-3 c = counting-end (c .before .loop .inv) (c .loop-test .left)
 
 pub params-shape-spec : {M : Type 1} → statement M
 params-shape-spec =
@@ -51,13 +25,11 @@ params-shape-spec =
     (tie.spec
     Inv-loop
     μ-loop
-    returns
-    loop-holds
-    type-end-requires
-    enum-known-end
-    enum-told
-    returns-2
-    add-count
+    (λ c. search (counting-long, needs))
+    (λ c. search (counting-start, needs))
+    (λ c κs. search needs) (λ c. search needs) (λ c. search needs)
+    (λ c. search (ends-told, counting-missing, needs))
+    (λ c. search needs)
     loop-less
-    loop-again
-    returns-3)
+    (λ c. search (ends-told, counting-more, needs))
+    (λ c. search (counting-end, needs)))

@@ -7,27 +7,17 @@ use borrow.Author.Needs.{needs}
 use Rattle.readings.proofs.ask.response.Statement.{statement}
 use Rattle.readings.proofs.ask.response.Tie as tie
 
-respond-requires : tie.Need-respond-requires
-respond-requires c κs = search needs
-
 array-share-prefix-out : tie.Need-array-share-prefix-out
 array-share-prefix-out c = rw (c .respond .ensures .1, length-append) (omega (arith, c .respond .ensures .0))
 
 slice-aggregate-counted : tie.Need-slice-aggregate-counted
 slice-aggregate-counted c = sym (length-take-le _ _ (omega (arith, c .before .respond .ensures .0, rw length-append at (ap length (c .before .respond .ensures .1)))))
 
-counted-requires : tie.Need-counted-requires
-counted-requires c κs = search needs
-
-returns : tie.Need-returns
-returns c = search needs
-
 pub response-spec : {M : Type 1} → statement M
 response-spec =
     tie.close
     (tie.spec
-    respond-requires
+    (λ c κs. search needs)
     array-share-prefix-out
     slice-aggregate-counted
-    counted-requires
-    returns)
+    (λ c κs. search needs) (λ c. search needs))

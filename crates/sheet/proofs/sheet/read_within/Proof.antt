@@ -7,65 +7,23 @@ use Rattle.sheet.proofs.Placing.{scanned-laid, scanned-shape, scanned-s
 use Rattle.sheet.proofs.sheet.read_within.Statement.{statement}
 use Rattle.sheet.proofs.sheet.read_within.Tie as tie
 
-scan-requires : tie.Need-scan-requires
-scan-requires c κs = search needs
-
-enum-told : tie.Need-enum-told
-enum-told c = search needs
-
-enum-told-2 : tie.Need-enum-told-2
-enum-told-2 c = search needs
-
-same-length : tie.Need-same-length
-same-length c = search needs
-
 returns : tie.Need-returns
 returns c =
     let j = c .before .before .before .before in
     let s = j .before .before .before .before .before in
     sheet-refused _ (s .args .words .now) (j .scan .result) (j .scan .ensures .0) (c .enum-told2 .given .1)
 
-laid-in-shape-requires : tie.Need-laid-in-shape-requires
-laid-in-shape-requires c κs =
-    let j = c .before .before .before .before .before .before in
-    let s = j .before .before .before .before .before in
-    scanned-laid (s .args .sheet .now) (s .args .scratch .now) (s .pre) (j .scan .ensures .0) (c .before .before .enum-told .given .1) (j .scan .ensures .1)
-
-refused-requires : tie.Need-refused-requires
-refused-requires c κs = search needs
-
-same-length-2 : tie.Need-same-length-2
-same-length-2 c = search needs
-
 returns-2 : tie.Need-returns-2
 returns-2 c =
     let j = c .before .before .before .before .before .before .before .before .before in
     let s = j .before .before .before .before .before in
     let e = c .before .before .before .before .before .enum-told .given .1 in
-    let shape = scanned-shape (s .args .sheet .now) (s .args .scratch .now) (s .pre) (j .scan .ensures .0) e (j .scan .ensures .1) (c .before .before .laid-in-shape .ensures) in
-    let a = sheet-malformed _ (s .args .words .now) (j .scan .result) (j .scan .ensures .0) e shape (not-true _ (c .before .if1 .taken)) in
+    let shape =
+    scanned-shape (s .args .sheet .now) (s .args .scratch .now) (s .pre) (j .scan .ensures .0) e
+    (j .scan .ensures .1) (c .before .before .laid-in-shape .ensures) in
+    let a = sheet-malformed _ (s .args .words .now) (j .scan .result) (j .scan .ensures .0) e shape
+    (not-true _ (c .before .if1 .taken)) in
     (c .refused .ensures ∙ a .0, a .1)
-
-array-read-copy-words : tie.Need-array-read-copy-words
-array-read-copy-words c = search needs
-
-copy-words-requires : tie.Need-copy-words-requires
-copy-words-requires c κs = search needs
-
-enum-told-3 : tie.Need-enum-told-3
-enum-told-3 c = search needs
-
-enum-told-4 : tie.Need-enum-told-4
-enum-told-4 c = search needs
-
-refused-requires-2 : tie.Need-refused-requires-2
-refused-requires-2 c κs = search needs
-
-same-length-3 : tie.Need-same-length-3
-same-length-3 c = search needs
-
-same-length-4 : tie.Need-same-length-4
-same-length-4 c = search needs
 
 returns-3 : tie.Need-returns-3
 returns-3 c =
@@ -73,15 +31,11 @@ returns-3 c =
     let i = w .before .before .before .before in
     let j = i .before .before .before .before .before .before .before in
     let s = j .before .before .before .before .before in
-    let a = scanned-short (s .args .sheet .now) (s .args .scratch .now) (s .pre) (j .scan .ensures .0) (i .before .before .before .enum-told .given .1) (j .scan .ensures .1)
-    (i .laid-in-shape .ensures) (not-false _ (w .before .before .before .if1 .left)) (s .args .words .now) (w .copy-words .ensures .1) (w .copy-words .ensures .0) (c .before .enum-told4 .given .1) in
+    let a = scanned-short (s .args .sheet .now) (s .args .scratch .now) (s .pre) (j .scan .ensures .0)
+    (i .before .before .before .enum-told .given .1) (j .scan .ensures .1)
+    (i .laid-in-shape .ensures) (not-false _ (w .before .before .before .if1 .left)) (s .args .words .now)
+    (w .copy-words .ensures .1) (w .copy-words .ensures .0) (c .before .enum-told4 .given .1) in
     (c .refused2 .ensures ∙ a .0, a .1)
-
-same-length-5 : tie.Need-same-length-5
-same-length-5 c = search needs
-
-same-length-6 : tie.Need-same-length-6
-same-length-6 c = search needs
 
 returns-4 : tie.Need-returns-4
 returns-4 c =
@@ -89,30 +43,22 @@ returns-4 c =
     let i = w .before .before .before .before in
     let j = i .before .before .before .before .before .before .before in
     let s = j .before .before .before .before .before in
-    scanned-wrote (s .args .sheet .now) (s .args .scratch .now) (s .pre) (j .scan .ensures .0) (i .before .before .before .enum-told .given .1) (j .scan .ensures .1)
-    (i .laid-in-shape .ensures) (not-false _ (w .before .before .before .if1 .left)) (s .args .words .now) (w .copy-words .ensures .1) (w .copy-words .ensures .0) (c .enum-told3 .given .1)
+    scanned-wrote (s .args .sheet .now) (s .args .scratch .now) (s .pre) (j .scan .ensures .0)
+    (i .before .before .before .enum-told .given .1) (j .scan .ensures .1)
+    (i .laid-in-shape .ensures) (not-false _ (w .before .before .before .if1 .left)) (s .args .words .now)
+    (w .copy-words .ensures .1) (w .copy-words .ensures .0) (c .enum-told3 .given .1)
 
 pub read-within-spec : {M : Type 1} → statement M
 read-within-spec =
     tie.close
     (tie.spec
-    scan-requires
-    enum-told
-    enum-told-2
-    same-length
+    (λ c κs. search needs) (λ c. search needs) (λ c. search needs) (λ c. search needs)
     returns
-    laid-in-shape-requires
-    refused-requires
-    same-length-2
+    (λ c κs. search (scanned-laid, needs))
+    (λ c κs. search needs) (λ c. search needs)
     returns-2
-    array-read-copy-words
-    copy-words-requires
-    enum-told-3
-    enum-told-4
-    refused-requires-2
-    same-length-3
-    same-length-4
+    (λ c. search needs) (λ c κs. search needs) (λ c. search needs) (λ c. search needs) (λ c κs. search needs)
+    (λ c. search needs) (λ c. search needs)
     returns-3
-    same-length-5
-    same-length-6
+    (λ c. search needs) (λ c. search needs)
     returns-4)

@@ -4,7 +4,8 @@ use mathlib.Core.Path.{_≡_, refl, _∙_}
 use native.Mathlib.Omega.{arith}
 use borrow.Author.Needs.{needs}
 use Rattle.sheet.specs.Text.{heading}
-use Rattle.sheet.proofs.Matching.{Comparing, behind-short, matching-start, comparing-here, comparing-more, comparing-end}
+use Rattle.sheet.proofs.Matching.{Comparing, behind-short, matching-start, comparing-here, comparing-more}
+use Rattle.sheet.proofs.Matching.{comparing-end}
 use Rattle.sheet.proofs.text.headed.Statement.{statement}
 use Rattle.sheet.proofs.text.headed.Tie as tie
 
@@ -13,29 +14,6 @@ Inv-loop bytes line same₀ i₀ same i = Comparing same heading bytes i × (lin
 
 abbrev μ-loop : tie.MeasureT-loop
 μ-loop bytes line same₀ i₀ same i = 66 - i
-
-returns : tie.Need-returns Inv-loop μ-loop
-returns c = behind-short heading _ (c .if1 .taken)
-
-loop-holds : tie.Need-loop-holds Inv-loop μ-loop
-loop-holds c = (matching-start heading _ (c .if1 .left), refl)
-
-shared-slice-read-both : tie.Need-shared-slice-read-both Inv-loop μ-loop
-shared-slice-read-both c =
-    let l = c .before .before .loop in
-    omega (arith, comparing-here heading (c .before .before .before .before .before .before .args .bytes .now) (l .i) (l .same) (l .inv .0) .1, c .before .loop-test .taken)
-
-element-copy-out-both : tie.Need-element-copy-out-both Inv-loop μ-loop
-element-copy-out-both c = omega arith
-
-both-requires : tie.Need-both-requires Inv-loop μ-loop
-both-requires c κs = search needs
-
-add-i : tie.Need-add-i Inv-loop μ-loop
-add-i c = search needs
-
-loop-less : tie.Need-loop-less Inv-loop μ-loop
-loop-less c = omega arith
 
 loop-again : tie.Need-loop-again Inv-loop μ-loop
 loop-again c =
@@ -57,12 +35,9 @@ headed-spec =
     (tie.spec
     Inv-loop
     μ-loop
-    returns
-    loop-holds
-    shared-slice-read-both
-    element-copy-out-both
-    both-requires
-    add-i
-    loop-less
+    (λ c. search (behind-short, needs))
+    (λ c. search (matching-start, needs))
+    (λ c. search (comparing-here, needs))
+    (λ c. search needs) (λ c κs. search needs) (λ c. search needs) (λ c. search needs)
     loop-again
     returns-2)

@@ -10,45 +10,11 @@ Inv-loop n env i₀ i = i ≤ n
 abbrev μ-loop : tie.MeasureT-loop
 μ-loop n env i₀ i = n - i
 
-loop-holds : tie.Need-loop-holds Inv-loop μ-loop
-loop-holds c = search needs
-
-mul-name : tie.Need-mul-name Inv-loop μ-loop
-mul-name c = search needs
-
-element-copy-out-name : tie.Need-element-copy-out-name Inv-loop μ-loop
-element-copy-out-name c = search needs
-
-print-list-requires : tie.Need-print-list-requires Inv-loop μ-loop
-print-list-requires c κs = search needs
-
-print-list-requires-2 : tie.Need-print-list-requires-2 Inv-loop μ-loop
-print-list-requires-2 c κs = search needs
-
-add-i : tie.Need-add-i Inv-loop μ-loop
-add-i c = search needs
-
-loop-less : tie.Need-loop-less Inv-loop μ-loop
-loop-less c = search needs
-
-loop-again : tie.Need-loop-again Inv-loop μ-loop
-loop-again c = search needs
-
-returns : tie.Need-returns Inv-loop μ-loop
-returns c = search needs
-
 pub print-lists-spec : {M : Type 1} → statement M
 print-lists-spec =
     tie.close
     (tie.spec
     Inv-loop
     μ-loop
-    loop-holds
-    mul-name
-    element-copy-out-name
-    print-list-requires
-    print-list-requires-2
-    add-i
-    loop-less
-    loop-again
-    returns)
+    (λ c. search needs) (λ c. search needs) (λ c. search needs) (λ c κs. search needs) (λ c κs. search needs)
+    (λ c. search needs) (λ c. search needs) (λ c. search needs) (λ c. search needs))

@@ -5,19 +5,10 @@ use borrow.Author.Needs.{needs}
 use Rattle.vectors.proofs.ast.print_room.Statement.{statement}
 use Rattle.vectors.proofs.ast.print_room.Tie as tie
 
-array-borrow-prefix-out : tie.Need-array-borrow-prefix-out
-array-borrow-prefix-out c = search needs
-
 slice-aggregate-print-lent : tie.Need-slice-aggregate-print-lent
 slice-aggregate-print-lent c = sym (length-take-le (c .before .args .n) _ (c .before .pre))
-
-print-lent-requires : tie.Need-print-lent-requires
-print-lent-requires c κs = search needs
-
-returns : tie.Need-returns
-returns c = search needs
 
 pub print-room-spec : {M : Type 1} → statement M
 print-room-spec =
     tie.close
-    (tie.spec array-borrow-prefix-out slice-aggregate-print-lent print-lent-requires returns)
+    (tie.spec (λ c. search needs) slice-aggregate-print-lent (λ c κs. search needs) (λ c. search needs))

@@ -1,4 +1,5 @@
--- `from_method_item` meets its contract: refused by the shape, refused at a place, or given, as proofs/Building.antt says.
+-- `from_method_item` meets its contract: refused by the shape, refused at a place, or given, as proofs/Building.antt
+-- says.
 use mathlib.Core.Path.{refl, _∙_}
 use borrow.Author.Needs.{needs}
 use Rattle.ast_lifetimes.proofs.AcceptedLaws.{built-small}
@@ -6,39 +7,20 @@ use Rattle.ast_lifetimes.proofs.Building.{shape-refused, shape-given, p
 use Rattle.ast_lifetimes.proofs.env.LifetimeEnv.from_method_item.Statement.{statement}
 use Rattle.ast_lifetimes.proofs.env.LifetimeEnv.from_method_item.Tie as tie
 
-shape-of-requires : tie.Need-shape-of-requires
-shape-of-requires c κs = search needs
-
-enum-told : tie.Need-enum-told
-enum-told c = search needs
-
-enum-told-2 : tie.Need-enum-told-2
-enum-told-2 c = search needs
-
-refused-requires : tie.Need-refused-requires
-refused-requires c κs = search needs
-
 returns : tie.Need-returns
 returns c = c .refused .ensures ∙ shape-refused _ _ _ (c .before .before .before .shape-of .ensures) (c .before .enum-told2 .given .1)
 
 build-requires : tie.Need-build-requires
-build-requires c κs = (shape-given _ _ _ (c .before .before .before .before .before .shape-of .ensures) (c .before .before .before .enum-told .given .1), (refl, refl, refl))
-
-enum-told-3 : tie.Need-enum-told-3
-enum-told-3 c = search needs
-
-enum-told-4 : tie.Need-enum-told-4
-enum-told-4 c = search needs
-
-refused-requires-2 : tie.Need-refused-requires-2
-refused-requires-2 c κs = search needs
+build-requires c κs =
+    (shape-given _ _ _ (c .before .before .before .before .before .shape-of .ensures) (c .before .before .before .enum-told .given .1), (refl, refl, refl))
 
 returns-2 : tie.Need-returns-2
 returns-2 c =
     let at-enum-told = c .before .before .before .before .before .before .before in
     let at-shape-of = at-enum-told .before .before in
     c .refused2 .ensures
-    ∙ place-refused _ _ _ (at-shape-of .shape-of .ensures) (at-enum-told .enum-told .given .1) (c .before .before .before .build .ensures) (c .before .enum-told4 .given .1)
+    ∙ place-refused _ _ _ (at-shape-of .shape-of .ensures) (at-enum-told .enum-told .given .1)
+    (c .before .before .before .build .ensures) (c .before .enum-told4 .given .1)
 
 assembled-requires : tie.Need-assembled-requires
 assembled-requires c κs =
@@ -46,27 +28,14 @@ assembled-requires c κs =
     let e = c .before .before .before .enum-told3 .given .1 in
     (b .few e, (b .sizes, built-small b e))
 
-returns-3 : tie.Need-returns-3
-returns-3 c =
-    let at-enum-told3 = c .before .before .before .before in
-    let at-build = at-enum-told3 .before .before in
-    let at-enum-told = at-build .before .before .before .before in
-    let at-shape-of = at-enum-told .before .before in
-    method-given _ _ _ (at-shape-of .shape-of .ensures) (at-enum-told .enum-told .given .1) (at-build .build .ensures) (at-enum-told3 .enum-told3 .given .1) (c .assembled .ensures)
-
 pub from-method-item-spec : {M : Type 1} → statement M
 from-method-item-spec =
     tie.close
     (tie.spec
-    shape-of-requires
-    enum-told
-    enum-told-2
-    refused-requires
+    (λ c κs. search needs) (λ c. search needs) (λ c. search needs) (λ c κs. search needs)
     returns
     build-requires
-    enum-told-3
-    enum-told-4
-    refused-requires-2
+    (λ c. search needs) (λ c. search needs) (λ c κs. search needs)
     returns-2
     assembled-requires
-    returns-3)
+    (λ c. search (method-given, needs)))

@@ -1,43 +1,22 @@
 -- `visit_param` meets its contract: each way out is a law of proofs/Visiting.antt.
-use mathlib.Core.Path.{_≡_, ap, sym, _∙_}
+use mathlib.Core.Path.{ap, sym, _∙_}
 use Rattle.lowered_types.proofs.FoundLaws.{found-told, missing-told}
 use Rattle.borrowing_param.specs.declared.visitor.Visited.{Visited}
 use Rattle.borrowing_param.specs.Visit.{outcome, state}
-use Rattle.borrowing_param.specs.Inner.{typeIn}
-use Rattle.borrowing_param.proofs.Visiting.{nowhere-refused, records-refused, records-accepted, parts-short, visit-refuses, visit-goes-on}
+use Rattle.borrowing_param.proofs.Visiting.{nowhere-refused, records-refused, records-accepted, parts-short}
+use Rattle.borrowing_param.proofs.Visiting.{visit-refuses, visit-goes-on}
 use borrow.Author.Needs.{needs}
 use Rattle.borrowing_param.proofs.visitor.BorrowingParamVisitor.visit_param.Statement.{statement}
 use Rattle.borrowing_param.proofs.visitor.BorrowingParamVisitor.visit_param.Tie as tie
-
-param-at-requires : tie.Need-param-at-requires
-param-at-requires c κs = search needs
-
-enum-known-found : tie.Need-enum-known-found
-enum-known-found c = search needs
-
-enum-told : tie.Need-enum-told
-enum-told c = search needs
-
-refused-requires : tie.Need-refused-requires
-refused-requires c κs = search needs
 
 returns : tie.Need-returns
 returns c =
     let s = c .before .before .before .before .before .before .before .args in
     let answer = ap (λ (x : Visited). outcome (x .info) (state (x .visitor) (s .edges .now))) (c .refused .ensures) in
-    answer ∙ sym (visit-refuses (s .structs .now) (s .params .now) (state (s .self) (s .edges .now)) (s .param) (nowhere-refused (s .structs .now) (s .params .now) (s .param) (missing-told (c .before .before .before .param-at .ensures .found) (c .before .enum-told .given .1))))
-
-check-structs-and-params-requires : tie.Need-check-structs-and-params-requires
-check-structs-and-params-requires c κs = search needs
-
-enum-known-verdict : tie.Need-enum-known-verdict
-enum-known-verdict c = search needs
-
-refused-requires-2 : tie.Need-refused-requires-2
-refused-requires-2 c κs = search needs
-
-enum-told-2 : tie.Need-enum-told-2
-enum-told-2 c = search needs
+    answer ∙ sym
+    (visit-refuses (s .structs .now) (s .params .now) (state (s .self) (s .edges .now)) (s .param)
+    (nowhere-refused (s .structs .now) (s .params .now) (s .param)
+    (missing-told (c .before .before .before .param-at .ensures .found) (c .before .enum-told .given .1))))
 
 visit-parts-requires : tie.Need-visit-parts-requires
 visit-parts-requires c κs =
@@ -55,10 +34,10 @@ returns-2 c =
     let s = s .args in
     let answer = ap (λ (x : Visited). outcome (x .info) (state (x .visitor) (s .edges .now))) (c .refused2 .ensures) in
     let f = found-told (at-param-at .param-at .ensures .found) (at-found .found .given .1) in
-    answer ∙ sym (visit-refuses (s .structs .now) (s .params .now) (state (s .self) (s .edges .now)) (s .param) (records-refused (s .structs .now) (s .params .now) (s .param) (f .reads) (at-check-structs-and-params .check-structs-and-params .ensures) (c .before .before .verdict .given .1)))
-
-same-length : tie.Need-same-length
-same-length c = search needs
+    answer ∙ sym
+    (visit-refuses (s .structs .now) (s .params .now) (state (s .self) (s .edges .now)) (s .param)
+    (records-refused (s .structs .now) (s .params .now) (s .param) (f .reads)
+    (at-check-structs-and-params .check-structs-and-params .ensures) (c .before .before .verdict .given .1)))
 
 returns-3 : tie.Need-returns-3
 returns-3 c =
@@ -69,23 +48,21 @@ returns-3 c =
     let s = at-param-at .before .before .before .before in
     let s = s .args in
     let f = found-told (at-param-at .param-at .ensures .found) (at-found .found .given .1) in
-    let a = records-accepted (s .structs .now) (s .params .now) (s .param) (f .reads) (at-check-structs-and-params .check-structs-and-params .ensures) (at-enum-told2 .enum-told2 .given .1) in
-    c .before .before .visit-parts .ensures ∙ sym (visit-goes-on (s .structs .now) (s .params .now) (state (s .self) (s .edges .now)) (s .param) (f .stands) (a .0) (a .1))
+    let a = records-accepted (s .structs .now) (s .params .now) (s .param) (f .reads)
+    (at-check-structs-and-params .check-structs-and-params .ensures) (at-enum-told2 .enum-told2 .given .1) in
+    c .before .before .visit-parts .ensures
+    ∙ sym
+    (visit-goes-on (s .structs .now) (s .params .now) (state (s .self) (s .edges .now)) (s .param) (f .stands)
+    (a .0) (a .1))
 
 pub visit-param-spec : {M : Type 1} → statement M
 visit-param-spec =
     tie.close
     (tie.spec
-    param-at-requires
-    enum-known-found
-    enum-told
-    refused-requires
+    (λ c κs. search needs) (λ c. search needs) (λ c. search needs) (λ c κs. search needs)
     returns
-    check-structs-and-params-requires
-    enum-known-verdict
-    refused-requires-2
-    enum-told-2
+    (λ c κs. search needs) (λ c. search needs) (λ c κs. search needs) (λ c. search needs)
     visit-parts-requires
     returns-2
-    same-length
+    (λ c. search needs)
     returns-3)

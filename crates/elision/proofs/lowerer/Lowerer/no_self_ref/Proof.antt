@@ -4,12 +4,9 @@ use borrow.Author.Needs.{needs}
 use Rattle.elision.proofs.lowerer.Lowerer.no_self_ref.Statement.{statement}
 use Rattle.elision.proofs.lowerer.Lowerer.no_self_ref.Tie as tie
 
-no-lifetimes-requires : tie.Need-no-lifetimes-requires
-no-lifetimes-requires c κs = search needs
-
 returns : tie.Need-returns
 unfolding unused
 returns c = rw (c .no-lifetimes .ensures)
 
 pub no-self-ref-spec : {M : Type 1} → statement M
-no-self-ref-spec = tie.close (tie.spec no-lifetimes-requires returns)
+no-self-ref-spec = tie.close (tie.spec (λ c κs. search needs) returns)

@@ -1,4 +1,5 @@
--- `all_lists` meets its contract: each of its answers is that of the first check that is due, or all lists as `lay` lays them.
+-- `all_lists` meets its contract: each of its answers is that of the first check that is due, or all lists as `lay`
+-- lays them.
 use mathlib.Core.Path.{_≡_, refl, sym, _∙_}
 use native.Mathlib.Omega.{arith}
 use borrow.Author.Needs.{needs}
@@ -31,31 +32,27 @@ told c = c .before .before .before .before .before
 
 -- no refusal of the environment is due
 none : (c : tie.After-enum-told) → NoneDue (envChecks (start c .args .self))
-none c = accepted-none (start c .args .self) (envChecks (start c .args .self)) (sym (c .before .before .check .ensures) ∙ c .enum-told .given .1)
+none c = accepted-none (start c .args .self) (envChecks (start c .args .self))
+    (sym (c .before .before .check .ensures) ∙ c .enum-told .given .1)
 
 holds : (c : tie.After-enum-told) → Valid (start c .args .self)
 holds c = valid (start c .args .self) (none c)
 
 -- whether the words have room
-fit : (c : tie.After-all-fit) → let s = start (told (c .before .before .before .before)) .args in Fits (graphOf (s .longer) (s .self)) (s .self .count) (length (s .words .now)) (c .all-fit .result)
+fit : (c : tie.After-all-fit) → let s = start (told (c .before .before .before .before)) .args in
+    Fits (graphOf (s .longer) (s .self)) (s .self .count) (length (s .words .now)) (c .all-fit .result)
 fit c =
     let link = c .before .before .before .before in
     let s = start (told link) .args in
-    c .all-fit .ensures (graphOf (s .longer) (s .self)) (link .link .ensures) (bounds-within (holds (told link)) LastFirst (s .longer) _ (omega arith))
-
-check-requires : tie.Need-check-requires
-check-requires c κs = search needs
-
-enum-known-verdict : tie.Need-enum-known-verdict
-enum-known-verdict c = search needs
+    c .all-fit .ensures (graphOf (s .longer) (s .self)) (link .link .ensures)
+    (bounds-within (holds (told link)) LastFirst (s .longer) _ (omega arith))
 
 returns : tie.Need-returns
 returns c =
     let s = c .before .before .before .before .before .before in
-    parts (lists-refused (s .args .longer) (s .args .self) (s .args .words .now) (s .args .ends .now) (refused-first (s .args .self) _ (envChecks (s .args .self)) (sym (c .before .before .before .check .ensures) ∙ c .before .verdict .given .1)))
-
-enum-told : tie.Need-enum-told
-enum-told c = search needs
+    parts (lists-refused (s .args .longer) (s .args .self) (s .args .words .now) (s .args .ends .now)
+    (refused-first (s .args .self) _ (envChecks (s .args .self))
+    (sym (c .before .before .before .check .ensures) ∙ c .before .verdict .given .1)))
 
 returns-2 : tie.Need-returns-2
 returns-2 c =
@@ -72,14 +69,18 @@ all-fit-requires : tie.Need-all-fit-requires
 all-fit-requires c κs =
     let link = c .before .before .before in
     let s = start (told link) .args in
-    let v = holds (told link) in
-    ((graphOf (s .longer) (s .self), link .link .ensures, bounds-within v LastFirst (s .longer) _ (omega arith)), v .declares, v .counted)
+    let v = holds (told link) in (
+      (graphOf (s .longer) (s .self), link .link .ensures, bounds-within v LastFirst (s .longer) _ (omega arith)),
+      v .declares,
+      v .counted,
+    )
 
 returns-3 : tie.Need-returns-3
 returns-3 c =
     let at = told (c .before .before .before .before .before) in
     let s = start at .args in
-    parts (lists-no-words (s .longer) (s .self) (s .words .now) (s .ends .now) (none at) (c .before .before .before .before .before .before .before .before .before .if1 .left)
+    parts (lists-no-words (s .longer) (s .self) (s .words .now) (s .ends .now) (none at)
+    (c .before .before .before .before .before .before .before .before .before .if1 .left)
     (leb-false _ _ (sym ((fit (c .before)) .fits) ∙ not-true _ (c .if2 .taken))))
 
 lay-requires : tie.Need-lay-requires
@@ -89,18 +90,17 @@ lay-requires c κs =
     let s = start (told link) .args in
     let v = holds (told link) in (
       (
-        (graphOf (s .longer) (s .self), link .link .ensures, bounds-within v LastFirst (s .longer) _ (omega arith), leb-true _ _ (sym ((fit (room .before)) .fits) ∙ not-false _ (room .if2 .left))),
+        (
+          graphOf (s .longer) (s .self),
+          link .link .ensures,
+          bounds-within v LastFirst (s .longer) _ (omega arith),
+          leb-true _ _ (sym ((fit (room .before)) .fits) ∙ not-false _ (room .if2 .left)),
+        ),
         v .declares,
         v .counted,
       ),
       (link .before .before .before .before .if1 .left, refl),
     )
-
-same-length : tie.Need-same-length
-same-length c = search needs
-
-same-length-2 : tie.Need-same-length-2
-same-length-2 c = search needs
 
 returns-4 : tie.Need-returns-4
 returns-4 c =
@@ -109,23 +109,23 @@ returns-4 c =
     let link = room .before .before .before .before .before in
     let at = told link in
     let s = start at .args in
-    parts (lists-given (s .longer) (s .self) (s .words .now) (s .ends .now) (none at) (link .before .before .before .before .if1 .left)
+    parts (lists-given (s .longer) (s .self) (s .words .now) (s .ends .now) (none at)
+    (link .before .before .before .before .if1 .left)
     (leb-true _ _ (sym ((fit (room .before)) .fits) ∙ not-false _ (room .if2 .left)))
-    (laid .lay .ensures (graphOf (s .longer) (s .self)) (link .link .ensures) (bounds-within (holds at) LastFirst (s .longer) _ (omega arith))))
+    (laid .lay .ensures (graphOf (s .longer) (s .self)) (link .link .ensures)
+    (bounds-within (holds at) LastFirst (s .longer) _ (omega arith))))
 
 pub all-lists-spec : {M : Type 1} → statement M
 all-lists-spec =
     tie.close
     (tie.spec
-    check-requires
-    enum-known-verdict
+    (λ c κs. search needs) (λ c. search needs)
     returns
-    enum-told
+    (λ c. search needs)
     returns-2
     link-requires
     all-fit-requires
     returns-3
     lay-requires
-    same-length
-    same-length-2
+    (λ c. search needs) (λ c. search needs)
     returns-4)

@@ -3,11 +3,8 @@ use borrow.Author.Needs.{needs}
 use Rattle.lifetimes.proofs.env.LifetimeEnv.get_bounds.Statement.{statement}
 use Rattle.lifetimes.proofs.env.LifetimeEnv.get_bounds.Tie as tie
 
-index-requires : tie.Need-index-requires
-index-requires c κs = search needs
-
 returns : tie.Need-returns
 returns c = rw (c .before .index .ensures)
 
 pub get-bounds-spec : {M : Type 1} → statement M
-get-bounds-spec = tie.close (tie.spec index-requires returns)
+get-bounds-spec = tie.close (tie.spec (λ c κs. search needs) returns)

@@ -1,8 +1,6 @@
 -- `LifetimeEnv::new` meets its contract: the code's tests are the checks, in their order.
-use Prim.Native.Nat.{_/_}
 use mathlib.Core.Path.{sym, _∙_}
 use native.Mathlib.Omega.{arith}
-use lib.ListN.{length}
 use borrow.Author.Needs.{needs}
 use borrow.Author.Tests.{not-true, not-false}
 use Rattle.lifetimes.specs.Env.{pairsOf}
@@ -10,54 +8,6 @@ use Rattle.lifetimes.proofs.EnvLaws.{lifetimes-due, bounds-due, declare
 use Rattle.lifetimes.proofs.PairLaws.{new-half, new-refused, new-given, below-larger}
 use Rattle.lifetimes.proofs.env.LifetimeEnv.new.Statement.{statement}
 use Rattle.lifetimes.proofs.env.LifetimeEnv.new.Tie as tie
-
-refused-requires : tie.Need-refused-requires
-refused-requires c κs = search needs
-
-returns : tie.Need-returns
-returns c = let a = c .before .before .before .args in new-half (a .declared) (a .count) (a .pairs .now) (c .before .if1 .taken) (c .refused .ensures)
-
-refused-requires-2 : tie.Need-refused-requires-2
-refused-requires-2 c κs = search needs
-
-returns-2 : tie.Need-returns-2
-returns-2 c =
-    let a = c .before .before .before .before .args in
-    new-refused
-    (a .declared)
-    (a .count)
-    (a .pairs .now)
-    (c .before .before .if1 .left)
-    (lifetimes-due (a .declared) (a .count) (length (a .pairs .now) / 2) (pairsOf (a .pairs .now)) (c .before .if2 .taken))
-    (c .refused2 .ensures)
-
-refused-requires-3 : tie.Need-refused-requires-3
-refused-requires-3 c κs = search needs
-
-returns-3 : tie.Need-returns-3
-returns-3 c =
-    let a = c .before .before .before .before .before .args in
-    new-refused (a .declared) (a .count) (a .pairs .now) (c .before .before .before .if1 .left) (bounds-due _ _ _ _ (c .before .before .if2 .left) (c .before .if3 .taken)) (c .refused3 .ensures)
-
-refused-requires-4 : tie.Need-refused-requires-4
-refused-requires-4 c κs = search needs
-
-returns-4 : tie.Need-returns-4
-returns-4 c =
-    let a = c .before .before .before .before .before .before .args in
-    new-refused
-    (a .declared)
-    (a .count)
-    (a .pairs .now)
-    (c .before .before .before .before .if1 .left)
-    (declared-due _ _ _ _ (c .before .before .before .if2 .left) (c .before .before .if3 .left) (c .before .if4 .taken))
-    (c .refused4 .ensures)
-
-pairs-below-requires : tie.Need-pairs-below-requires
-pairs-below-requires c κs = search needs
-
-refused-requires-5 : tie.Need-refused-requires-5
-refused-requires-5 c κs = search needs
 
 returns-5 : tie.Need-returns-5
 returns-5 c =
@@ -101,16 +51,15 @@ pub new-spec : {M : Type 1} → statement M
 new-spec =
     tie.close
     (tie.spec
-    refused-requires
-    returns
-    refused-requires-2
-    returns-2
-    refused-requires-3
-    returns-3
-    refused-requires-4
-    returns-4
-    pairs-below-requires
-    refused-requires-5
+    (λ c κs. search needs)
+    (λ c. search (new-half, needs))
+    (λ c κs. search needs)
+    (λ c. search (lifetimes-due, new-refused, needs))
+    (λ c κs. search needs)
+    (λ c. search (bounds-due, new-refused, needs))
+    (λ c κs. search needs)
+    (λ c. search (declared-due, new-refused, needs))
+    (λ c κs. search needs) (λ c κs. search needs)
     returns-5
     filled-requires
     returns-6)

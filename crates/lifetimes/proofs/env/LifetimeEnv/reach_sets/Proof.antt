@@ -26,25 +26,18 @@ told c = c .before .before .before .before
 
 -- no refusal of the environment is due
 none : (c : tie.After-enum-told) → NoneDue (envChecks (start c .args .self))
-none c = accepted-none (start c .args .self) (envChecks (start c .args .self)) (sym (c .before .before .check .ensures) ∙ c .enum-told .given .1)
+none c = accepted-none (start c .args .self) (envChecks (start c .args .self))
+    (sym (c .before .before .check .ensures) ∙ c .enum-told .given .1)
 
 holds : (c : tie.After-enum-told) → Valid (start c .args .self)
 holds c = valid (start c .args .self) (none c)
-
-check-requires : tie.Need-check-requires
-check-requires c κs = search needs
-
-enum-told : tie.Need-enum-told
-enum-told c = search needs
-
-enum-told-2 : tie.Need-enum-told-2
-enum-told-2 c = search needs
 
 returns : tie.Need-returns
 returns c =
     let s = c .before .before .before in
     let told = c .enum-told2 .given .1 in
-    rw told (sets-refused (s .args .longer) (s .args .self) (refused-first (s .args .self) _ (envChecks (s .args .self)) (sym (c .before .before .check .ensures) ∙ told)))
+    rw told (sets-refused (s .args .longer) (s .args .self)
+    (refused-first (s .args .self) _ (envChecks (s .args .self)) (sym (c .before .before .check .ensures) ∙ told)))
 
 link-requires : tie.Need-link-requires
 link-requires c κs =
@@ -56,23 +49,29 @@ measure-requires : tie.Need-measure-requires
 measure-requires c κs =
     let link = c .before .before .before .before in
     let s = start (told link) .args in
-    let v = holds (told link) in
-    (((graphOf (s .longer) (s .self), link .link .ensures, bounds-within v LastFirst (s .longer) _ (omega arith)), v .declares, v .counted), refl)
+    let v = holds (told link) in (
+      (
+        (graphOf (s .longer) (s .self), link .link .ensures, bounds-within v LastFirst (s .longer) _ (omega arith)),
+        v .declares,
+        v .counted,
+      ),
+      refl,
+    )
 
 returns-2 : tie.Need-returns-2
 returns-2 c =
     let link = c .before .before .before .before .before in
     let at = told link in
     let s = start at .args in
-    sets-given (s .longer) (s .self) (none at) (c .measure .ensures (graphOf (s .longer) (s .self)) (link .link .ensures) (bounds-within (holds at) LastFirst (s .longer) _ (omega arith)))
+    sets-given (s .longer) (s .self) (none at)
+    (c .measure .ensures (graphOf (s .longer) (s .self)) (link .link .ensures)
+    (bounds-within (holds at) LastFirst (s .longer) _ (omega arith)))
 
 pub reach-sets-spec : {M : Type 1} → statement M
 reach-sets-spec =
     tie.close
     (tie.spec
-    check-requires
-    enum-told
-    enum-told-2
+    (λ c κs. search needs) (λ c. search needs) (λ c. search needs)
     returns
     link-requires
     measure-requires

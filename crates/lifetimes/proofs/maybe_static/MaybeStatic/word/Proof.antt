@@ -4,18 +4,6 @@ use Rattle.lifetimes.proofs.WordLaws.{word-above}
 use Rattle.lifetimes.proofs.maybe_static.MaybeStatic.word.Statement.{statement}
 use Rattle.lifetimes.proofs.maybe_static.MaybeStatic.word.Tie as tie
 
-enum-told : tie.Need-enum-told
-enum-told c = search needs
-
-enum-known-self : tie.Need-enum-known-self
-enum-known-self c = search needs
-
-index-requires : tie.Need-index-requires
-index-requires c κs = search needs
-
-word-after-requires : tie.Need-word-after-requires
-word-after-requires c κs = search needs
-
 returns : tie.Need-returns
 returns c = rw (c .enum-told .given .1)
 
@@ -25,4 +13,4 @@ returns-2 c = rw (c .before .before .before .self .given .1) (word-above (c .wor
 pub word-spec : {M : Type 1} → statement M
 word-spec =
     tie.close
-    (tie.spec enum-told enum-known-self index-requires word-after-requires returns returns-2)
+    (tie.spec (λ c. search needs) (λ c. search needs) (λ c κs. search needs) (λ c κs. search needs) returns returns-2)

@@ -6,17 +6,8 @@ use Rattle.lifetimes.proofs.WordLaws.{word-before}
 use Rattle.lifetimes.proofs.maybe_static.MaybeStaticDef.from_word.Statement.{statement}
 use Rattle.lifetimes.proofs.maybe_static.MaybeStaticDef.from_word.Tie as tie
 
-returns : tie.Need-returns
-returns c = search needs
-
-sub-new : tie.Need-sub-new
-sub-new c = search needs
-
-new-requires : tie.Need-new-requires
-new-requires c κs = search needs
-
 returns-2 : tie.Need-returns-2
 returns-2 c = rw (c .new .ensures) (ap defFromWord (word-before (c .before .before .args .word) (c .before .if1 .left)))
 
 pub from-word-spec : {M : Type 1} → statement M
-from-word-spec = tie.close (tie.spec returns sub-new new-requires returns-2)
+from-word-spec = tie.close (tie.spec (λ c. search needs) (λ c. search needs) (λ c κs. search needs) returns-2)
