@@ -72,6 +72,8 @@ def listing_of(method, wrong=""):
     answers = [answer_number(t, es) for t, es in zip(found, visits)]
     if wrong == "nothing used, nothing borrowed":
         answers = [a if used else 0 for a in answers]
+    if wrong == "edges counted into the answer":
+        answers = [{1: 4 * len(es), 3: 1 + len(es)}.get(t.code, a) for t, es, a in zip(found, visits, answers)]
     edges = in_listing_order(flat(visits))
     if wrong == "edges by parameter":
         edges.sort(key=lambda e: e[1])
@@ -133,6 +135,7 @@ WRONG_LISTINGS = [
     "a struct's first edge only",
     "an option is one for every kind",
     "nothing used, nothing borrowed",
+    "edges counted into the answer",
     "edges by parameter",
     "4,096 edges are too many",
     "4,097 edges are listed",

@@ -1,5 +1,6 @@
 -- A visit of one parameter: finding it, the answers of `visit_parts` and of `visit_param`.
--- In order: the type with a number; its path is short; the records of a method and the parameter; room; the answers.
+-- In order: the type with a number; its path is short; the records of a method and the parameter; what stands there; the
+-- answer's number; room and the answers.
 use Prim.Native.Nat.{ℕ, zero, suc, _+_, _-_, _*_, _/_, _≤_, _<_}
 use mathlib.Core.Bool.{Bool, true, false, cond, _&&_, not, true≢false, and-eq-true-iff}
 use mathlib.Core.Path.{_≡_, refl, sym, ap, _∙_}
@@ -8,9 +9,10 @@ use native.Mathlib.Nat.{sub-zero, add-zero}
 use native.Mathlib.Nat.{div-add-mod', mod-lt}
 use native.Mathlib.Decide.{decLt}
 use native.Mathlib.Omega.{arith}
-use borrow.Author.Tests.{lt-leb, leb-true, leb-false, not-false, ne-eqb}
+use mir.Val.{boolByte}
+use borrow.Author.Tests.{lt-leb, leb-true, leb-false, not-false, eq-eqb, ne-eqb}
 use lib.Dec.{eqb, leb}
-use lib.ListN.{length, take, drop}
+use lib.ListN.{length, getD, take, drop}
 use lib.Seq.{length-take-le}
 use Rattle.lifetimes.specs.declared.answer.Refusal.{Refusal}
 use Rattle.lifetimes.specs.declared.answer.Refusal.the-variants.{Malformed, NoRoom}
@@ -34,9 +36,9 @@ use Rattle.lowered_types.specs.declared.types.Located.the-variants.{At, Missing
 use Rattle.lowered_types.specs.LoweredTypes.{LoweredType, readFlag, readOwner, readOpaque, readStruct, readSlice}
 use Rattle.lowered_types.specs.LoweredTypes.{readBare, readLowered, knows, located}
 use Rattle.lowered_types.specs.Rows.{rowsOf, readKnown, typesOf, paramsInShape, structsInShape}
-use Rattle.lowered_types.specs.Places.{Stands, nowhere}
-use Rattle.lowered_types.proofs.LocatedLaws.{type-located}
-use Rattle.lowered_types.proofs.FoundLaws.{Found, found-told, missing-told, path-inside}
+use Rattle.lowered_types.specs.Places.{Stands, nowhere, codeOf, Coded}
+use Rattle.lowered_types.proofs.LocatedLaws.{type-located, type-coded}
+use Rattle.lowered_types.proofs.FoundLaws.{found-told, missing-told, code-told, path-inside}
 use Rattle.hir_types.specs.Method.{typesIn, structsAndParamsChecks, structsAndParamsVerdict}
 use Rattle.borrowing_param.specs.declared.visitor.LifetimeEdge.{LifetimeEdge}
 use Rattle.borrowing_param.specs.declared.visitor.BorrowingParamVisitor.{BorrowingParamVisitor}
@@ -63,7 +65,7 @@ module _ {words : List ℕ} {n at i : ℕ} (inv : Finding words n at i) where
   finding-end h l =
       let e : n - i ≡ 0 = omega arith in
       let same : nthType n words ≡ readLowered (drop at words) = rw e at (inv .left) in
-      record { at = at; found = rw same (type-located words at l) }
+      record { at = at; found = rw same (type-located words at l); coded = type-coded words at l }
 
   module _ (h : i < n) {r : Located} (l : r ≡ located at (length words) (readLowered (drop at words))) where
     one-on : nthType n words ≡ onward (readLowered (drop at words)) (λ t rest. nthType (n - (i + 1)) rest)
@@ -73,7 +75,7 @@ module _ {words : List ℕ} {n at i : ℕ} (inv : Finding words n at i) where
     pub finding-missing : r ≡ Missing → FoundAt words n Missing
     finding-missing e =
         let none : nthType n words ≡ Fails = one-on ∙ rw (missing-told (type-located words at l) e) in
-        record { at = at; found = rw none nowhere }
+        record { at = at; found = rw none nowhere; coded = tt }
 
     pub finding-more : {p : Parts} → r ≡ At p → Finding words n (p .next) (i + 1)
     finding-more {p} e =
@@ -264,18 +266,22 @@ module _ (structs params : List ℕ) (n : ℕ) where
         let k = there e in
         (next (lt-leb (length Types) n (k .0)) none, k .1)
 
--- ---- what stands there, and room
+-- ---- what stands there
 
 pub parts-type : {words : List ℕ} {at : ℕ} {t : LoweredType} {rest : List ℕ} {p : Parts} → Stands words at t rest p
     → typeIn words p ≡ t
 parts-type s = rw (s .option, s .kind, s .path, s .own)
 
-pub parts-short : (n : ℕ) {words : List ℕ} {at : ℕ} {p : Parts} → (f : Found words at (nthType n words) p)
-    → Inside words (p .from) (p .count) × (p .count ≤ 16)
-parts-short n {words} {at} {p} f =
-    let few : length (f .type .path) ≤ 16 = holds-read Short (f .type) (f .rest) (rw (f .reads) at (short-nth n words)) in
-    (path-inside (f .stands), omega (arith, f .stands .count))
+-- the parameter that was found: its path words are there and not many, and so is its code
+pub parts-there : {n : ℕ} {words : List ℕ} {r : Located} {p : Parts} → FoundAt words n r → r ≡ At p
+    → Inside words (p .from) (p .count) × (p .count ≤ 16) × Coded words p
+parts-there f e =
+    let s = found-told (f .found) e .stands in
+    (path-inside s, s .few, code-told (f .coded) e)
 
+-- ---- the answer's number
+
+-- by how many edges there are, and by the edges
 pub number-is : (k : Kind) (es : List LifetimeEdge) → numberBy k (length es) ≡ numberOf k es
 number-is Plain es = refl
 number-is Opaque [] = refl
@@ -284,6 +290,62 @@ number-is Slice [] = refl
 number-is Slice (e ∷ es) = rw (ne-eqb (suc (length es)) 0 (λ z. omega arith))
 number-is (Struct row) [] = refl
 number-is (Struct row) (e ∷ es) = rw (ne-eqb (suc (length es)) 0 (λ z. omega arith))
+
+-- by the code in place of the kind, as `number_of` goes: plain types, structs, then the two facts
+abbrev numberFor : ℕ → ℕ → ℕ
+numberFor code n =
+    cond (eqb code 0) 0
+    (cond (eqb code 2) (cond (eqb n 0) 0 3)
+    (cond (eqb code 3) (cond (not (eqb n 0)) 2 1) (cond (not (eqb n 0)) 4 0)))
+
+cond-not : (t : Bool) (m n : ℕ) → cond (not t) m n ≡ cond t n m
+cond-not true m n = refl
+cond-not false m n = refl
+
+number-for : (k : Kind) (n : ℕ) → numberFor (codeOf k) n ≡ numberBy k n
+number-for Plain n = refl
+number-for (Struct row) n = refl
+number-for Opaque n = cond-not (eqb n 0) 4 0
+number-for Slice n = cond-not (eqb n 0) 2 1
+
+-- the code of a type that stands there
+abbrev pub codeIn : List ℕ → Parts → ℕ
+codeIn words p = getD words (p .from - 3) 0
+
+module _ {words : List ℕ} {p : Parts} (h : Coded words p) (n : ℕ) where
+  number-told : numberFor (codeIn words p) n ≡ numberBy (p .kind) n
+  number-told = ap (λ (code : ℕ). numberFor code n) (h .code) ∙ number-for (p .kind) n
+
+  pub number-plain : codeIn words p ≡ 0 → 0 ≡ numberBy (p .kind) n
+  number-plain e = rw (eq-eqb (codeIn words p) 0 e) at number-told
+
+  module _ (some : codeIn words p ≡ 0 → ⊥) {number : ℕ} where
+    pub number-struct : codeIn words p ≡ 2 → number ≡ cond (eqb n 0) 0 3 → number ≡ numberBy (p .kind) n
+    number-struct e r = r ∙ (rw (ne-eqb (codeIn words p) 0 some, eq-eqb (codeIn words p) 2 e) at number-told)
+
+    pub number-facts : (codeIn words p ≡ 2 → ⊥)
+        → number ≡ cond (eqb (codeIn words p) 3) (cond (not (eqb n 0)) 2 1) (cond (not (eqb n 0)) 4 0)
+        → number ≡ numberBy (p .kind) n
+    number-facts other r = r ∙ (rw (ne-eqb (codeIn words p) 0 some, ne-eqb (codeIn words p) 2 other) at number-told)
+
+-- the two facts as numbers: a fact is at most 1, both together at most either; and what the sums and products leave
+pub fact-few : (t : Bool) → boolByte t ≤ 1
+fact-few true = omega arith
+fact-few false = omega arith
+
+pub both-fewer : (slice borrowed : Bool) → boolByte slice * boolByte borrowed ≤ boolByte borrowed
+both-fewer true borrowed = omega arith
+both-fewer false borrowed = omega arith
+
+pub number-worked : (slice borrowed : Bool)
+    → boolByte slice + 4 * boolByte borrowed - 3 * (boolByte slice * boolByte borrowed)
+    ≡ cond slice (cond borrowed 2 1) (cond borrowed 4 0)
+number-worked true true = refl
+number-worked true false = refl
+number-worked false true = refl
+number-worked false false = refl
+
+-- ---- the answers
 
 -- a visit that brings nothing leaves all as it was
 stays : (v : BorrowingParamVisitor) (words : List ℕ) (k : Kind) (l : List LifetimeEdge) → length l ≡ 0

@@ -17,7 +17,7 @@ use Rattle.lowered_types.specs.declared.types.Kind.the-variants.{Plain, Opaque,
 use Rattle.lowered_types.specs.declared.types.Parts.{Parts}
 use Rattle.lowered_types.specs.declared.types.Located.{Located}
 use Rattle.lowered_types.specs.LoweredTypes.{LoweredType, ownLifetimes, readLowered}
-use Rattle.lowered_types.specs.Places.{Locates}
+use Rattle.lowered_types.specs.Places.{Locates, CodedAt}
 use Rattle.borrowing_param.specs.declared.edges.First.{First}
 use Rattle.borrowing_param.specs.declared.edges.First.the-variants.{At, Absent}
 use Rattle.borrowing_param.specs.declared.visitor.LifetimeEdge.{LifetimeEdge}
@@ -89,6 +89,7 @@ nthType (suc n) words = onward (readLowered words) (λ t rest. nthType n rest)
 pub record FoundAt (words : List ℕ) (n : ℕ) (r : Located) : Type 0 where
   pub at : ℕ
   pub found : Locates words at (nthType n words) r
+  pub coded : CodedAt words r
 
 -- the answer's number by the kind and by how many edges there are
 abbrev pub numberBy : Kind → ℕ → ℕ

@@ -124,8 +124,7 @@ fn count_params(
             };
         };
         let brought = count_all(used, drawn, params, parts);
-        let kind = parts.kind;
-        numbers[param] = number_of(kind, brought);
+        numbers[param] = number_of(params, parts, brought);
         total += brought;
         param += 1;
         at = parts.next;

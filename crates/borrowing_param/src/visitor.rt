@@ -9,6 +9,7 @@ ghost use Rattle.borrowing_param.specs.Visit.{state, outcome, visit};
 ghost use Rattle.borrowing_param.specs.VisitParam.{visitParam};
 ghost use Rattle.borrowing_param.specs.New.{created};
 ghost use Rattle.borrowing_param.specs.Inner.{Inside, typeIn, FoundAt, numberBy, keptOf};
+ghost use Rattle.lowered_types.specs.Places.{Coded};
 ghost use Rattle.lifetimes.specs.Lent.{held, left};
 use super::edges::count_all;
 use super::edges::store_all;
@@ -186,7 +187,8 @@ fn visit_parts(
     param: usize,
     edges: &mut [usize],
 ) -> Visited
-    requires { ⌜ Inside (now params) (parts .from) (parts .count) × (parts .count ≤ 16) ⌝ }
+    requires { ⌜ Inside (now params) (parts .from) (parts .count) × (parts .count ≤ 16)
+        × Coded (now params) parts ⌝ }
     ensures { λ r. ⌜ outcome (r .info) (state (r .visitor) (left edges))
         ≡ visit (state visitor (held edges)) (typeIn (held params) parts) param ⌝ }
 {
@@ -194,8 +196,7 @@ fn visit_parts(
     let draws = visitor.draws;
     let stored = visitor.stored;
     let brought = count_all(used, &draws, params, parts);
-    let kind = parts.kind;
-    let number = number_of(kind, brought);
+    let number = number_of(params, parts, brought);
     let mut pairs = [0u64; 16];
     if brought == 0 {
         return Visited {
@@ -238,25 +239,40 @@ fn visit_parts(
     }
 }
 
-// The answer's number, by the kind of the parameter and by how many edges it brings: 0 the Rust's `NotBorrowed`, 1
-// `TemporarySlice`, 2 `BorrowedSlice`, 3 `Struct`, 4 `BorrowedOpaque`.
-pub(crate) fn number_of(kind: Kind, brought: usize) -> usize
-    ensures { λ r. ⌜ r ≡ numberBy kind brought ⌝ }
+// The answer's number for the type that `parts` found in `words`, by its kind and by how many edges it has `brought`: 0
+// the Rust's `NotBorrowed`, 1 `TemporarySlice`, 2 `BorrowedSlice`, 3 `Struct`, 4 `BorrowedOpaque`. The kind is told by
+// its code in `words`, a number, since a slice is to be told from an opaque without a branch and a `match` is one.
+pub(crate) fn number_of(words: &[usize], parts: Parts, brought: usize) -> usize
+    requires { ⌜ Coded (now words) parts ⌝ }
+    ensures { λ r. ⌜ r ≡ numberBy (parts .kind) brought ⌝ }
 {
-    match kind {
-        Kind::Plain => 0,
-        Kind::Opaque => if_any(brought, 0, 4),
-        Kind::Struct(_) => if_any(brought, 0, 3),
-        Kind::Slice => if_any(brought, 1, 2),
+    let from = parts.from;
+    let code = words[from - Parts::PATH_PLACE];
+    if code == Kind::PLAIN {
+        return 0;
     }
+    if code == Kind::STRUCT {
+        return number_of_struct(brought);
+    }
+    number_by(code == Kind::SLICE, brought != 0)
 }
 
-// One number where there are none, another where there are some.
-fn if_any(brought: usize, none: usize, some: usize) -> usize
-    ensures { λ r. ⌜ r ≡ cond (eqb brought 0) none some ⌝ }
+// The number of a struct, by how many edges it has `brought`.
+fn number_of_struct(brought: usize) -> usize
+    ensures { λ r. ⌜ r ≡ cond (eqb brought 0) 0 3 ⌝ }
 {
     if brought == 0 {
-        return none;
+        return 0;
     }
-    some
+    3
+}
+
+// The number of a slice or an opaque, by the two facts `slice` and `borrowed`: worked out and not chosen, since neither
+// can be foreseen from one parameter to the next.
+fn number_by(slice: bool, borrowed: bool) -> usize
+    ensures { λ r. ⌜ r ≡ cond slice (cond borrowed 2 1) (cond borrowed 4 0) ⌝ }
+{
+    let s = slice as usize;
+    let b = borrowed as usize;
+    s + 4 * b - 3 * (s * b)
 }

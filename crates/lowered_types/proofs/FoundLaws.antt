@@ -10,7 +10,7 @@ use Rattle.lowered_types.specs.declared.types.Parts.{Parts}
 use Rattle.lowered_types.specs.declared.types.Located.{Located}
 use Rattle.lowered_types.specs.declared.types.Located.the-variants.{At, Missing}
 use Rattle.lowered_types.specs.LoweredTypes.{LoweredType}
-use Rattle.lowered_types.specs.Places.{Stands, Locates, locates, nowhere}
+use Rattle.lowered_types.specs.Places.{Stands, Locates, locates, nowhere, Coded, CodedAt}
 
 pub record Found (words : List ℕ) (at : ℕ) (reading : Reading LoweredType) (p : Parts) : Type 0 where
   pub type : LoweredType
@@ -30,6 +30,10 @@ module _ {words : List ℕ} {at : ℕ} {reading : Reading LoweredType} {r : Loca
     where
       go : {reading : Reading LoweredType} → Locates words at reading Missing → reading ≡ Fails
       go nowhere = refl
+
+-- its code
+pub code-told : {words : List ℕ} {r : Located} {p : Parts} → CodedAt words r → r ≡ At p → Coded words p
+code-told {words} h e = subst (CodedAt words) e h
 
 -- the path words are there to be read
 module _ {words rest : List ℕ} {at : ℕ} {t : LoweredType} {p : Parts} (s : Stands words at t rest p) (i : ℕ) (h : i < p .count) where

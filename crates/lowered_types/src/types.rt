@@ -23,6 +23,18 @@ pub enum Kind {
 }
 
 impl Kind {
+    // The code with which a type without lifetimes begins.
+    pub const PLAIN: usize = 0;
+
+    // The code with which an opaque begins.
+    pub const OPAQUE: usize = 1;
+
+    // The code with which a struct begins.
+    pub const STRUCT: usize = 2;
+
+    // The code with which a slice begins.
+    pub const SLICE: usize = 3;
+
     // Whether the row of a struct is among so many rows; what is no struct names none.
     pub(crate) fn known(self, rows: usize) -> bool
         ensures { λ r. ⌜ r ≡ knows rows self ⌝ }
@@ -74,6 +86,11 @@ pub struct Parts {
     pub count: usize,
     pub own: Own,
     pub next: usize,
+}
+
+impl Parts {
+    // How many places behind the code of a type its path words start, or would start.
+    pub const PATH_PLACE: usize = 3;
 }
 
 // The type at a place. Missing where the words do not make one.
@@ -164,8 +181,8 @@ fn bare_at(words: &[usize], at: usize, option: bool) -> Located
         return Located::Missing;
     }
     let code = words[at];
-    if code == 0 {
-        let from = at + 3;
+    if code == Kind::PLAIN {
+        let from = at + Parts::PATH_PLACE;
         let next = at + 1;
         return Located::At(Parts {
             option,
@@ -176,13 +193,13 @@ fn bare_at(words: &[usize], at: usize, option: bool) -> Located
             next,
         });
     }
-    if code == 1 {
+    if code == Kind::OPAQUE {
         return opaque_at(words, at, option);
     }
-    if code == 2 {
+    if code == Kind::STRUCT {
         return struct_at(words, at, option);
     }
-    if code == 3 {
+    if code == Kind::SLICE {
         return slice_at(words, at, option);
     }
     Located::Missing
@@ -200,7 +217,7 @@ fn opaque_at(words: &[usize], at: usize, option: bool) -> Located
     if 1 < words[at + 1] {
         return Located::Missing;
     }
-    let from = at + 3;
+    let from = at + Parts::PATH_PLACE;
     let path = lifetimes_end(words, at + 2);
     let End::At(owner) = path else {
         return Located::Missing;
@@ -248,7 +265,7 @@ fn struct_at(words: &[usize], at: usize, option: bool) -> Located
     if n <= at + 1 {
         return Located::Missing;
     }
-    let from = at + 3;
+    let from = at + Parts::PATH_PLACE;
     let path = lifetimes_end(words, at + 2);
     let End::At(next) = path else {
         return Located::Missing;
@@ -274,7 +291,7 @@ fn slice_at(words: &[usize], at: usize, option: bool) -> Located
     if n <= at + 1 {
         return Located::Missing;
     }
-    let from = at + 3;
+    let from = at + Parts::PATH_PLACE;
     let inner = at + 2;
     let code = words[at + 1];
     if code == 0 {

@@ -3,6 +3,8 @@
 use Prim.Native.Nat.{_-_}
 use native.Mathlib.Omega.{arith}
 use lib.ListN.{length}
+use Rattle.lowered_types.proofs.LocatedLaws.{type-coded}
+use Rattle.lowered_types.proofs.FoundLaws.{code-told}
 use Rattle.borrowing_param.specs.InnerMap.{paramTypes}
 use Rattle.borrowing_param.proofs.Listing.{CountingParams, params-start, params-end, params-more, one-more}
 use Rattle.borrowing_param.proofs.Listing.{brought-few, passing-missing, passing-next}
@@ -69,7 +71,7 @@ count-params-spec =
     (λ c κs. search needs) (λ c. search needs) (λ c. search needs)
     (λ c. search (passing-missing, needs))
     count-all-requires
-    (λ c κs. search needs)
+    (λ c κs. search (code-told, type-coded, needs))
     (λ c. search (one-more, passing-next, needs))
     element-write-numbers
     add-total

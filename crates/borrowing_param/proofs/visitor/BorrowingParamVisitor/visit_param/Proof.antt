@@ -3,7 +3,7 @@ use mathlib.Core.Path.{ap, sym, _∙_}
 use Rattle.lowered_types.proofs.FoundLaws.{found-told, missing-told}
 use Rattle.borrowing_param.specs.declared.visitor.Visited.{Visited}
 use Rattle.borrowing_param.specs.Visit.{outcome, state}
-use Rattle.borrowing_param.proofs.Visiting.{nowhere-refused, records-refused, records-accepted, parts-short}
+use Rattle.borrowing_param.proofs.Visiting.{nowhere-refused, records-refused, records-accepted, parts-there}
 use Rattle.borrowing_param.proofs.Visiting.{visit-refuses, visit-goes-on}
 use borrow.Author.Needs.{needs}
 use Rattle.borrowing_param.proofs.visitor.BorrowingParamVisitor.visit_param.Statement.{statement}
@@ -21,9 +21,7 @@ returns c =
 visit-parts-requires : tie.Need-visit-parts-requires
 visit-parts-requires c κs =
     let at-found = c .before .before .before .before .before in
-    let at-param-at = at-found .before .before in
-    let s = at-param-at .before .before .before .before in
-    parts-short (s .args .param) (found-told (at-param-at .param-at .ensures .found) (at-found .found .given .1))
+    parts-there (at-found .before .before .param-at .ensures) (at-found .found .given .1)
 
 returns-2 : tie.Need-returns-2
 returns-2 c =
