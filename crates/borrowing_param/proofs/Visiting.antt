@@ -12,8 +12,7 @@ use native.Mathlib.Omega.{arith}
 use mir.Val.{boolByte}
 use borrow.Author.Tests.{lt-leb, leb-true, leb-false, not-false, eq-eqb, ne-eqb}
 use lib.Dec.{eqb, leb}
-use lib.ListN.{length, getD, take, drop}
-use lib.Seq.{length-take-le}
+use lib.ListN.{length, drop}
 use Rattle.lifetimes.specs.declared.answer.Refusal.{Refusal}
 use Rattle.lifetimes.specs.declared.answer.Refusal.the-variants.{Malformed, NoRoom}
 use Rattle.lifetimes.specs.declared.answer.Verdict.{Verdict}
@@ -24,20 +23,17 @@ use Rattle.lifetimes.specs.Env.{envOf, pairsOf, newEnv, made}
 use Rattle.lifetimes.specs.Refusals as refusals
 use Rattle.lifetimes.specs.Refusals.{check, unless, FirstDue, here, later, NoneDue, next}
 use Rattle.lifetimes.proofs.RefusalLaws.{due-given, due-refused, refused-first, accepted-none, none-first}
-use Rattle.records.specs.Reading.{Reading, Read, Fails, onward, readWord, readLifetimes, readAll, fewWords, inShape}
-use Rattle.records.specs.Reading.{itemsOf}
-use Rattle.records.proofs.ReadingLaws.{Holds, read, fails, holds-read, holds-cond, holds-onward, holds-or, passed, fails-read}
+use Rattle.records.specs.Reading.{Reading, Read, Fails, onward, readAll, fewWords, inShape, itemsOf}
+use Rattle.records.proofs.ReadingLaws.{Holds, read, fails, holds-read, holds-cond, holds-onward, holds-or, fails-read}
 use Rattle.lowered_types.specs.declared.types.Kind.{Kind}
 use Rattle.lowered_types.specs.declared.types.Kind.the-variants.{Plain, Opaque, Struct, Slice}
-use Rattle.lowered_types.specs.declared.types.Own.{Own}
 use Rattle.lowered_types.specs.declared.types.Parts.{Parts}
 use Rattle.lowered_types.specs.declared.types.Located.{Located}
 use Rattle.lowered_types.specs.declared.types.Located.the-variants.{At, Missing}
-use Rattle.lowered_types.specs.LoweredTypes.{LoweredType, readFlag, readOwner, readOpaque, readStruct, readSlice}
-use Rattle.lowered_types.specs.LoweredTypes.{readBare, readLowered, knows, located}
+use Rattle.lowered_types.specs.LoweredTypes.{LoweredType, readLowered, knows, located}
 use Rattle.lowered_types.specs.Rows.{rowsOf, readKnown, typesOf, paramsInShape, structsInShape}
-use Rattle.lowered_types.specs.Places.{Stands, nowhere, codeOf, Coded}
-use Rattle.lowered_types.proofs.LocatedLaws.{type-located, type-coded}
+use Rattle.lowered_types.specs.Places.{Stands, nowhere, codeOf, codeIn, Coded}
+use Rattle.lowered_types.proofs.LocatedLaws.{type-few, type-located, type-coded}
 use Rattle.lowered_types.proofs.FoundLaws.{found-told, missing-told, code-told, path-inside}
 use Rattle.hir_types.specs.Method.{typesIn, structsAndParamsChecks, structsAndParamsVerdict}
 use Rattle.borrowing_param.specs.declared.visitor.LifetimeEdge.{LifetimeEdge}
@@ -83,75 +79,15 @@ module _ {words : List ℕ} {n at i : ℕ} (inv : Finding words n at i) where
         let same : nthType n words ≡ nthType (n - (i + 1)) (drop (p .next) words) = one-on ∙ rw (f .reads, f .stands .left) in
         record { here = omega arith; left = same }
 
--- ---- a path is short: what is read has at most 16 path words
+-- ---- its path is short
 
 abbrev Short : LoweredType → List ℕ → Type 0
 Short t rest = length (t .path) ≤ 16
 
-abbrev Few : List ℕ → List ℕ → Type 0
-Few ls rest = length ls ≤ 16
-
-abbrev Any : {A : Type 0} → A → List ℕ → Type 0
-Any a rest = Unit {0}
-
-any : {A : Type 0} (r : Reading A) → Holds {A = A} Any r
-any (Read a rest) = read tt
-any Fails = fails
-
-few : (words : List ℕ) → Holds Few (readLifetimes words)
-few [] = fails
-few (n ∷ words) = holds-cond Few (leb n 16 && leb n (length words)) (λ e. read (small (leb n 16) refl e)) fails
-  where
-    small : (t : Bool) → leb n 16 ≡ t → (t && leb n (length words)) ≡ true → length (take n words) ≤ 16
-    small true a e = rw (length-take-le n words (leb-true n (length words) e)) (leb-true n 16 a)
-    small false a e = passed e
-
-module _ (option : Bool) where
-  short-opaque : (words : List ℕ) → Holds Short (readOpaque option words)
-  unfolding readOpaque
-  short-opaque words =
-      holds-onward {A = Bool} Any Short (any (readFlag words)) (λ o rest u.
-      holds-onward Few Short (few rest) (λ path behind h.
-      holds-onward {A = Bool} Any Short (any (readFlag behind)) (λ borrowed owner v.
-      holds-onward {A = Own} Any Short (any (readOwner borrowed owner)) (λ own end w. read h))))
-
-  short-struct : (words : List ℕ) → Holds Short (readStruct option words)
-  unfolding readStruct
-  short-struct words =
-      holds-onward {A = ℕ} Any Short (any (readWord words))
-      (λ row rest u. holds-onward Few Short (few rest) (λ path end h. read h))
-
-  short-slice : (words : List ℕ) → Holds Short (readSlice option words)
-  unfolding readSlice
-  short-slice [] = fails
-  short-slice (code ∷ words) =
-      holds-cond Short (eqb code 0) (λ e. read (omega arith))
-      (holds-cond Short (eqb code 1) (λ e. holds-onward {A = ℕ} Any Short (any (readWord words)) (λ w end u. read (omega arith)))
-      (holds-cond Short (eqb code 2) (λ e. read (omega arith))
-      (holds-cond Short (eqb code 3)
-      (λ e. holds-onward Few Short (few words)
-      (λ path rest h. holds-onward {A = ℕ} Any Short (any (readWord rest)) (λ w end u. read h)))
-      fails)))
-
-  short-bare : (words : List ℕ) → Holds Short (readBare option words)
-  unfolding readBare
-  short-bare [] = fails
-  short-bare (code ∷ words) =
-      holds-cond Short (eqb code 0) (λ e. read (omega arith))
-      (holds-cond Short (eqb code 1) (λ e. short-opaque words)
-      (holds-cond Short (eqb code 2) (λ e. short-struct words)
-      (holds-cond Short (eqb code 3) (λ e. short-slice words)
-      fails)))
-
-short-type : (words : List ℕ) → Holds Short (readLowered words)
-unfolding readLowered
-short-type [] = fails
-short-type (code ∷ words) = holds-cond Short (eqb code 4) (λ e. short-bare true words) (short-bare false (code ∷ words))
-
 short-nth : (n : ℕ) (words : List ℕ) → Holds Short (nthType n words)
 unfolding nthType
-short-nth zero words = short-type words
-short-nth (suc n) words = holds-onward {A = LoweredType} Any Short (any (readLowered words)) (λ t rest u. short-nth n rest)
+short-nth zero words = type-few words
+short-nth (suc n) words = holds-onward Short Short (type-few words) (λ t rest h. short-nth n rest)
 
 -- ---- the type with a number is the parameter's
 
@@ -308,10 +244,6 @@ number-for (Struct row) n = refl
 number-for Opaque n = cond-not (eqb n 0) 4 0
 number-for Slice n = cond-not (eqb n 0) 2 1
 
--- the code of a type that stands there
-abbrev pub codeIn : List ℕ → Parts → ℕ
-codeIn words p = getD words (p .from - 3) 0
-
 module _ {words : List ℕ} {p : Parts} (h : Coded words p) (n : ℕ) where
   number-told : numberFor (codeIn words p) n ≡ numberBy (p .kind) n
   number-told = ap (λ (code : ℕ). numberFor code n) (h .code) ∙ number-for (p .kind) n
@@ -328,7 +260,7 @@ module _ {words : List ℕ} {p : Parts} (h : Coded words p) (n : ℕ) where
         → number ≡ numberBy (p .kind) n
     number-facts other r = r ∙ (rw (ne-eqb (codeIn words p) 0 some, ne-eqb (codeIn words p) 2 other) at number-told)
 
--- the two facts as numbers: a fact is at most 1, both together at most either; and what the sums and products leave
+-- the two facts as numbers: a fact is at most 1, and both together are at most the second
 pub fact-few : (t : Bool) → boolByte t ≤ 1
 fact-few true = omega arith
 fact-few false = omega arith
@@ -337,13 +269,15 @@ pub both-fewer : (slice borrowed : Bool) → boolByte slice * boolByte borrowed 
 both-fewer true borrowed = omega arith
 both-fewer false borrowed = omega arith
 
-pub number-worked : (slice borrowed : Bool)
-    → boolByte slice + 4 * boolByte borrowed - 3 * (boolByte slice * boolByte borrowed)
+-- the number worked out with any two factors, `f` of borrowed and `g` of both: it is right in its four cases if it is in
+-- the two in which a factor counts, a borrowed slice and a borrowed opaque
+pub number-worked : (f g : ℕ) → 1 + f - g ≡ 2 → f ≡ 4 → (slice borrowed : Bool)
+    → boolByte slice + f * boolByte borrowed - g * (boolByte slice * boolByte borrowed)
     ≡ cond slice (cond borrowed 2 1) (cond borrowed 4 0)
-number-worked true true = refl
-number-worked true false = refl
-number-worked false true = refl
-number-worked false false = refl
+number-worked f g borrowed-slice borrowed-opaque true true = omega (arith, borrowed-slice)
+number-worked f g borrowed-slice borrowed-opaque true false = omega arith
+number-worked f g borrowed-slice borrowed-opaque false true = omega (arith, borrowed-opaque)
+number-worked f g borrowed-slice borrowed-opaque false false = omega arith
 
 -- ---- the answers
 

@@ -162,6 +162,10 @@ type-laid (code ∷ words) =
     (λ t rest b. subst (λ (o : Bool). Laid (cond o 4 3) (code ∷ words) t rest) (sym (b .0)) (b .1))
     (bare-laid false (code ∷ words)))
 
+-- the path words are at most 16
+pub type-few : (words : List ℕ) → Holds (λ t rest. length (t .path) ≤ 16) (readLowered words)
+type-few words = holds-more (λ t rest h. h .few) (type-laid words)
+
 -- ---- where they stand
 
 -- the parts of a type that was read at a place
@@ -181,11 +185,14 @@ module _ (words : List ℕ) (at : ℕ) where
   path-there true path p = rw (← drop-drop 4 at words) p
   path-there false path p = rw (← drop-drop 3 at words) p
 
+  laid-size : {t : LoweredType} {rest : List ℕ} (h : Any (drop at words) t rest)
+      → length (h .own) + length rest ≡ length words - at
+  laid-size {rest = rest} h = sym (length-append (h .own) rest) ∙ ap length (h .whole) ∙ length-drop at words
+
   laid-stands : (t : LoweredType) (rest : List ℕ) → Any (drop at words) t rest
       → Stands words at t rest (partsOf at (length words) t rest)
   laid-stands t rest h =
-      let size : length (h .own) + length rest ≡ length words - at =
-      sym (length-append (h .own) rest) ∙ ap length (h .whole) ∙ length-drop at words in
+      let size = laid-size h in
       let next : length words - length rest ≡ at + length (h .own) = omega (arith, h .front) in
       record {
         option = refl;
@@ -222,11 +229,9 @@ module _ (words : List ℕ) (at : ℕ) where
   laid-coded : (t : LoweredType) (rest : List ℕ) → Any (drop at words) t rest
       → Coded words (partsOf at (length words) t rest)
   laid-coded t rest h =
-      let size : length (h .own) + length rest ≡ length words - at =
-      sym (length-append (h .own) rest) ∙ ap length (h .whole) ∙ length-drop at words in
       record {
         behind = code-behind (t .option);
-        inside = rw (code-place (t .option)) (omega (arith, h .front));
+        inside = rw (code-place (t .option)) (omega (arith, h .front, laid-size h));
         code = rw (code-place (t .option), ← getD-drop at words (cond (t .option) 4 3 - 3) 0) (h .code);
       }
 

@@ -37,10 +37,13 @@ codeOf (Struct row) = 2
 codeOf Slice = 3
 
 -- it stands three places before the path words, under an option or not
+abbrev pub codeIn : List ℕ → Parts → ℕ
+codeIn words p = getD words (p .from - 3) 0
+
 pub record Coded (words : List ℕ) (p : Parts) : Type 0 where
   pub behind : 3 ≤ p .from
   pub inside : p .from - 3 < length words
-  pub code : getD words (p .from - 3) 0 ≡ codeOf (p .kind)
+  pub code : codeIn words p ≡ codeOf (p .kind)
 
 abbrev pub CodedAt : List ℕ → Located → Type 0
 CodedAt words (At p) = Coded words p

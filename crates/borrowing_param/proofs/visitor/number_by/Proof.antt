@@ -1,5 +1,6 @@
 -- `number_by` meets its contract: no sum or product is large, what is taken away is there, and what is left is the
 -- number in each of the four cases.
+use mathlib.Core.Path.{refl}
 use native.Mathlib.Omega.{arith}
 use Rattle.borrowing_param.proofs.Visiting.{fact-few, both-fewer, number-worked}
 use borrow.Author.Needs.{needs}
@@ -16,4 +17,4 @@ number-by-spec =
     (λ c. omega (arith, fact-few (c .args .borrowed), both-fewer (c .args .slice) (c .args .borrowed)))
     (λ c. omega (arith, fact-few (c .args .borrowed), both-fewer (c .args .slice) (c .args .borrowed)))
     (λ c. omega (arith, both-fewer (c .args .slice) (c .args .borrowed)))
-    (λ c. number-worked (c .args .slice) (c .args .borrowed)))
+    (λ c. number-worked _ _ refl refl (c .args .slice) (c .args .borrowed)))
