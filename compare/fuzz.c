@@ -8,7 +8,8 @@
  * BORROWS_STACK bytes of stack, with a guard below.
  *
  * Held of each sheet:
- *   - no fault, no call of a second or more, a status from 0 to 10, the same each time; the sheet's bytes stay as they are;
+ *   - no fault, no call of a second or more, a status that has a name, the same each time; the sheet's bytes stay as they are;
+ *   - the tenth line of an accepted sheet is 0, that of one refused by 13 is 1;
  *   - refused: nothing is written, and the same refusal comes with any room;
  *   - accepted: the first n bytes are written and no others; with room for exactly n the same bytes; with a byte less, or no word for n, 9 and nothing written;
  *   - borrows_sheet (every fourth sheet): refused as the listing is, but for a listing's 9, which only edges can be; what it gives is what the listing ends with; exact room does, a word less anywhere is 9.
@@ -61,8 +62,10 @@ static const char *report;
 static volatile uint64_t runs, calls;
 static volatile sig_atomic_t stopped;
 
-static uint64_t by_status[11], accepted_inputs, accepted_listings, listed_bytes, sheet_calls, many_edges, longest_ns;
+static uint64_t by_status[BORROWS_RETIRED + 1], accepted_inputs, accepted_listings, listed_bytes, sheet_calls, many_edges, longest_ns;
 static size_t stack_left, largest_listing, most_edges;
+
+static int named(size_t status) { return status <= BORROWS_UNREADABLE || status == BORROWS_RETIRED; }
 
 /* Say what went wrong, leave the sheet in a file, and end. Only calls that a handler may use. */
 static void fail(const char *what)
@@ -170,6 +173,22 @@ static void *put_sheet(unsigned places)
     return sheet;
 }
 
+/* Whether the sheet's last line is a word of one digit. */
+static int last_line(char word)
+{
+    return length > 2 && input[length - 3] == '\n' && input[length - 2] == word && input[length - 1] == '\n';
+}
+
+static void told(size_t status)
+{
+    if (!named(status))
+        fail("a status that has no name");
+    if (status == BORROWS_OK && !last_line('0'))
+        fail("accepted, and `force` is not 0");
+    if (status == BORROWS_RETIRED && !last_line('1'))
+        fail("refused by 13, and `force` is not 1");
+}
+
 /* The listing into `to`, with so much room; how many bytes it has into `count`. */
 static size_t ask_listing(size_t bytes, size_t words, uint8_t *to, size_t *count)
 {
@@ -181,8 +200,7 @@ static size_t ask_listing(size_t bytes, size_t words, uint8_t *to, size_t *count
     called(start);
     if (memcmp(sheet, input, length))
         fail("the sheet was written");
-    if (status > 10)
-        fail("a status above 10");
+    told(status);
     if (status == 0 && words == 0)
         fail("accepted without a word for the length");
     *count = status ? 0 : written[0];
@@ -224,8 +242,7 @@ static size_t ask_sheet(size_t used_len, size_t answers_len, size_t edges_len, s
     sheet_calls++;
     if (memcmp(sheet, input, length))
         fail("the sheet was written");
-    if (status > 10)
-        fail("a status above 10");
+    told(status);
     if (status == 0
         && (counts_len < 3 || counts[0] > used_len || counts[1] > answers_len
             || counts[2] > edges_len / BORROWS_WORDS_PER_EDGE))
@@ -702,8 +719,9 @@ int main(int argc, char **argv)
     printf("%llu seconds, seed %s, %zu sheets to begin with, %zu drawn from at the end\n", (unsigned long long)((now() - begun) / 1000000000), argv[3], seed_count, kept_count);
     printf("%14llu sheets\n%14llu calls, %llu of them of borrows_sheet\n", (unsigned long long)runs, (unsigned long long)calls, (unsigned long long)sheet_calls);
     printf("%14llu accepted\n", (unsigned long long)by_status[0]);
-    for (int k = 1; k <= 10; k++)
-        printf("%14llu refused by %d\n", (unsigned long long)by_status[k], k);
+    for (int k = 1; k <= BORROWS_RETIRED; k++)
+        if (named(k))
+            printf("%14llu refused by %d\n", (unsigned long long)by_status[k], k);
     printf("%14llu different sheets accepted, at least\n%14llu different listings, at least\n", (unsigned long long)accepted_inputs, (unsigned long long)accepted_listings);
     printf("%14llu bytes listed, %zu in the longest listing\n", (unsigned long long)listed_bytes, largest_listing);
     printf("%14zu edges at most; %llu sheets with more than 4,096 were given by borrows_sheet\n", most_edges, (unsigned long long)many_edges);

@@ -34,11 +34,13 @@
  * program: take header and library from one tree, and compile anew what was compiled with an older header. A program
  * that counts on one version can say so:
  *
- *     #if BORROWS_VERSION != 1
- *     #error "written for version 1 of borrows.h"
+ *     #if BORROWS_VERSION != 2
+ *     #error "written for version 2 of borrows.h"
  *     #endif
+ *
+ * Version 2: a sheet with 1 in `force` is refused (13); less memory is enough for used lifetimes and edges.
  */
-#define BORROWS_VERSION 1
+#define BORROWS_VERSION 2
 
 #ifdef __cplusplus
 extern "C" {
@@ -58,7 +60,8 @@ enum {
     BORROWS_MISMATCH = 7,     /* not as many lifetimes as the struct has */
     BORROWS_OUT_OF_RANGE = 8, /* a lifetime past those that there are */
     BORROWS_NO_ROOM = 9,      /* lent memory too short, or, for a listing, more than 4,096 edges */
-    BORROWS_UNREADABLE = 10   /* bytes that are not the text of a sheet */
+    BORROWS_UNREADABLE = 10,  /* bytes that are not the text of a sheet */
+    BORROWS_RETIRED = 13      /* 1 in `force`, which is no longer taken */
 };
 
 /* An edge's words: the place of each, and how many there are. Edge e begins at word e * BORROWS_WORDS_PER_EDGE. */
@@ -81,10 +84,10 @@ enum {
      */
     BORROWS_LISTING_BYTES = 131072,
     BORROWS_LISTING_WORDS = 1,
-    BORROWS_USED = 64,
+    BORROWS_USED = 34,
     BORROWS_ANSWERS = 16,
-    BORROWS_EDGES = 16384,
-    BORROWS_EDGE_WORDS = BORROWS_EDGES * BORROWS_WORDS_PER_EDGE, /* 81,920 */
+    BORROWS_EDGES = 8704,
+    BORROWS_EDGE_WORDS = BORROWS_EDGES * BORROWS_WORDS_PER_EDGE, /* 43,520 */
     BORROWS_COUNTS = 3,
 
     /* Stack for a call, in bytes: measured, not proved, with room to spare. */

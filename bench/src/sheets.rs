@@ -140,23 +140,6 @@ pub fn types(words: usize) -> Vec<u8> {
     r.bytes()
 }
 
-/// Rows each of which has the row before as its only field, and slices at the bottom, searched under force.
-fn forced() -> Vec<u8> {
-    let mut r = declared(32);
-    r.bounds = along(32, 31, false);
-    r.structs = vec![1, 1, 3, 1, 1];
-    for row in 1..32 {
-        r.structs.extend([1, 1]);
-        r.structs.extend(record(row - 1, [1]));
-    }
-    for p in 0..16 {
-        r.params.extend(record(31, [1 + p]));
-    }
-    r.output = opaque([1]);
-    r.force = vec![1];
-    r.bytes()
-}
-
 /// The longest listing: 101,353 bytes.
 fn longest() -> Vec<u8> {
     let mut r = declared(32);
@@ -236,7 +219,6 @@ fn largest() -> Vec<u8> {
     }
     r.output = opaque(1..9);
     r.output.extend(opaque(33..41));
-    r.force = vec![1];
     r.bytes()
 }
 
@@ -255,7 +237,6 @@ pub fn named() -> Vec<(&'static str, Vec<u8>)> {
         ("dense-64-256", sixty_four(dense(32, 256))),
         ("edges-4096", edges(16, 16)),
         ("types-1024-words", types(1024)),
-        ("force-32-rows", forced()),
         ("longest-listing", longest()),
         ("largest-records", largest()),
     ]
@@ -443,6 +424,6 @@ pub fn random(random: &mut Random) -> Vec<u8> {
     for _ in 0..random.below(3) {
         lowered(random, &rows, count, true, &mut r.output);
     }
-    r.force.push(usize::from(random.one_in(3)));
+    r.force.push(0);
     r.bytes()
 }

@@ -22,16 +22,16 @@
 use std::fmt;
 
 /// The version of include/borrows.h that this crate is written for.
-pub const VERSION: usize = 1;
+pub const VERSION: usize = 2;
 /// So many bytes take any listing, and so many words its length.
 pub const LISTING_BYTES: usize = 131_072;
 pub const LISTING_WORDS: usize = 1;
 /// So many words take the used lifetimes of any sheet,
-pub const USED: usize = 64;
+pub const USED: usize = 34;
 /// the answers of its parameters,
 pub const ANSWERS: usize = 16;
 /// and its edges: so many, of so many words each, and all their words.
-pub const EDGES: usize = 16_384;
+pub const EDGES: usize = 8_704;
 pub const WORDS_PER_EDGE: usize = 5;
 pub const EDGE_WORDS: usize = EDGES * WORDS_PER_EDGE;
 /// Used lifetimes, parameters, edges.
@@ -63,7 +63,7 @@ extern "C" {
     ) -> usize;
 }
 
-/// Why a sheet is refused. The numbers are those of the scope paper; there may be further ones some day.
+/// Why a sheet is refused. The numbers are those of the papers; there may be further ones some day.
 #[derive(Clone, Copy, Debug, PartialEq, Eq, Hash, PartialOrd, Ord)]
 #[non_exhaustive]
 pub enum Refusal {
@@ -87,6 +87,8 @@ pub enum Refusal {
     NoRoom,
     /// 10: bytes that are not the text of a sheet
     Unreadable,
+    /// 13: 1 in `force`, which is no longer taken
+    Retired,
     /// A refusal of a later library, which has no name here; `number` tells which. Matched as `Unknown { .. }`. Only
     /// this crate makes one, so it never stands for a number that has a name:
     ///
@@ -110,6 +112,7 @@ impl Refusal {
             Refusal::OutOfRange => 8,
             Refusal::NoRoom => 9,
             Refusal::Unreadable => 10,
+            Refusal::Retired => 13,
             Refusal::Unknown(number) => number,
         }
     }
@@ -128,6 +131,7 @@ impl Refusal {
             8 => Refusal::OutOfRange,
             9 => Refusal::NoRoom,
             10 => Refusal::Unreadable,
+            13 => Refusal::Retired,
             number => Refusal::Unknown(number),
         })
     }
@@ -147,6 +151,7 @@ impl fmt::Display for Refusal {
             Refusal::OutOfRange => "a lifetime is past those that there are",
             Refusal::NoRoom => "more answers than fit",
             Refusal::Unreadable => "not the text of a sheet",
+            Refusal::Retired => "force is 1, which is no longer taken",
             Refusal::Unknown(_) => "a number that has no name here",
         })
     }
@@ -308,7 +313,8 @@ mod tests {
         for status in (1..=1000).chain([11 + 256 * 4096, usize::MAX]) {
             let refusal = Refusal::of(status).unwrap_err();
             assert_eq!(refusal.number(), status);
-            assert_eq!(matches!(refusal, Refusal::Unknown(_)), status > 10);
+            let named = matches!(status, 1..=10 | 13);
+            assert_eq!(matches!(refusal, Refusal::Unknown(_)), !named);
             assert!(refusal
                 .to_string()
                 .starts_with(&format!("refusal {status}: ")));
@@ -318,7 +324,9 @@ mod tests {
     /// By number, those without a name last.
     #[test]
     fn refusals_are_ordered_by_their_numbers() {
-        let refusals: Vec<Refusal> = (1..20)
+        let refusals: Vec<Refusal> = (1..=10)
+            .chain([13, 11, 12])
+            .chain(14..20)
             .map(|status| Refusal::of(status).unwrap_err())
             .collect();
         assert!(refusals.windows(2).all(|pair| pair[0] < pair[1]));

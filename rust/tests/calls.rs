@@ -1,7 +1,7 @@
 //! Both calls on sheets: 01's example, the README's, a refusal of each number, and what a refusal leaves.
 
 use dovrelka::{
-    borrows, borrows_into, listing, listing_into, Answer, Edge, Kind, Refusal, STACK,
+    borrows, borrows_into, listing, listing_into, Answer, Edge, Kind, Refusal, EDGES, STACK, USED,
     WORDS_PER_EDGE,
 };
 
@@ -144,6 +144,19 @@ fn each_refusal() {
         ),
         (Refusal::Unreadable, Vec::new()),
         (Refusal::Unreadable, b"names\n".to_vec()),
+        // retired before a name declared again, and behind a record that is not in its shape
+        (
+            Refusal::Retired,
+            sheet(["0 7 7", "0", "", "", "", "", "", "", "", "1"]),
+        ),
+        (
+            Refusal::Malformed,
+            sheet(["0 1", "0", "", "", "", "", "", "", "", "1"]),
+        ),
+        (
+            Refusal::Malformed,
+            sheet(["0 7", "0", "", "", "", "", "", "", "", "2"]),
+        ),
     ];
     for (refusal, bytes) in cases {
         assert_eq!(listing(&bytes), Err(refusal));
@@ -160,6 +173,29 @@ fn a_listing_has_4096_edges_at_most() {
     assert_eq!(borrows(&circle(9)).unwrap().edges.len(), 4608);
     assert_eq!(listing(&circle(9)), Err(Refusal::NoRoom));
     assert_eq!(borrows(&circle(16)).unwrap().edges.len(), 8192);
+}
+
+/// 64 lifetimes of which two output types use as many as they can, with the parameters that `circle` has.
+#[test]
+fn a_sheet_uses_34_lifetimes_at_most() {
+    let mut lines: Vec<String> = String::from_utf8(circle(16))
+        .unwrap()
+        .lines()
+        .map(str::to_string)
+        .collect();
+    let words: Vec<String> = (1..=34).map(|n| n.to_string()).collect();
+    lines[5] = "1 16 0 1 16 0".to_string(); // steps: 32 elided lifetimes
+    lines[9] = format!(
+        "3 3 16 {} 3 3 16 {}",
+        words[..17].join(" "),
+        words[17..].join(" ")
+    );
+    let bytes = (lines.join("\n") + "\n").into_bytes();
+    let found = borrows(&bytes).unwrap();
+    assert_eq!(found.used, (0..34).collect::<Vec<_>>());
+    assert_eq!(found.used.len(), USED);
+    assert_eq!(found.edges.len(), 8192);
+    assert!(found.edges.len() <= EDGES);
 }
 
 #[test]

@@ -48,7 +48,7 @@ fn sizes_and_version_are_those_of_the_header() {
     ] {
         assert_eq!(header[&format!("BORROWS_{name}")], value, "{name}");
     }
-    assert_eq!(header["BORROWS_EDGE_WORDS"], 81_920);
+    assert_eq!(header["BORROWS_EDGE_WORDS"], 43_520);
 }
 
 #[test]
@@ -66,6 +66,7 @@ fn refusals_are_those_of_the_header() {
         ("OUT_OF_RANGE", OutOfRange),
         ("NO_ROOM", NoRoom),
         ("UNREADABLE", Unreadable),
+        ("RETIRED", Retired),
     ] {
         assert_eq!(
             header[&format!("BORROWS_{name}")],

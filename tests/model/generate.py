@@ -147,7 +147,7 @@ def ordinary(rng, large=False):
         "structs": rows_words,
         "params": flat(lowered(rng, rows, rng.choice([used, few])) for _ in range(rng.choice([0, 1, 2, 3, 4, 6, 16 if large else 5]))),
         "output": output(rng, rows, len(names) + rng.choice([0, 0, 1])),
-        "force": [rng.choice([0, 1])],
+        "force": [int(rng.random() < 0.04)],
     }
 
 
@@ -275,7 +275,7 @@ def long_record(record):
 
     def make(rng, sheet, more):
         n = 1024 + more
-        return changed(EMPTY, names=[0, 7], self=[rng.choice([0, 7])], force=[rng.choice([0, 1])]) | {record: LONG[record](n) if record in LONG else [0] * n}
+        return changed(EMPTY, names=[0, 7], self=[rng.choice([0, 7])]) | {record: LONG[record](n) if record in LONG else [0] * n}
 
     return make
 
@@ -523,6 +523,20 @@ def long_and_unreadable(rng, sheet, count):
     return b"\n".join(lines)
 
 
+def beside_force(numbers):
+    """A fault that has one of some numbers, with force 1 beside it."""
+
+    def make(rng, sheet, count):
+        name, fault, _ = rng.choice([entry for entry in FAULTS if entry[2] in numbers and "force" not in entry[0]])
+        made = fault(rng, sheet, count)
+        return made and changed(made, force=[1])
+
+    return make
+
+
+torn_and_retired = beside_force([1])
+late_and_retired = beside_force([2, 3, 4, 5, 6, 7, 8, 9])
+
 # what is wrong; the maker; the number
 FAULTS = [
     ("a word that is none", bad_word, 10),
@@ -548,6 +562,9 @@ FAULTS = [
     ("a step that ends too early", lambda rng, sheet, count: changed(sheet, returns=sheet["returns"] + rng.choice([[0], [1, 0], [1, 0, 1], [2], [2, 2, 0]])), 1),
     ("a param that ends too early", lambda rng, sheet, count: changed(sheet, params=sheet["params"] + rng.choice([[1], [1, 0], [1, 0, 1, 1], [1, 0, 0, 1], [2], [2, 0], [3], [3, 1], [3, 3, 0], [4]])), 1),
     ("a row that ends too early", lambda rng, sheet, count: changed(sheet, structs=sheet["structs"] + rng.choice([[1], [1, 1], [0, 2, 0]])), 1),
+    ("force 1", replaced("force", [1]), 13),
+    ("force 1 beside a torn record", torn_and_retired, 1),
+    ("force 1 beside a later refusal", late_and_retired, 13),
     ("a name declared twice", twice, 2),
     ("a stranger in bounds", strange_bound, 3),
     ("a stranger in an impl's bounds", strange_impl_bound, 3),
@@ -581,10 +598,10 @@ def harmless_types(rng, sheet, count):
 
 
 def rows_of_rows(rng, sheet, count):
-    """Rows that name the row before several times: the search under force has up to ten to the 31st ways down."""
+    """Rows that name the row before several times: up to ten to the 31st ways down."""
     several = rng.choice([2, 3, 10])
     rows = [[0, several] + [3, 1, 1] * several] + [[0, several] + [2, row, 0] * several for row in range(rng.randint(1, 31))]
-    return changed(sheet, structs=flat(rows), params=[2, len(rows) - 1, 0], output=[], force=[1])
+    return changed(sheet, structs=flat(rows), params=[2, len(rows) - 1, 0], output=[])
 
 
 def many_words(rng, sheet, count):
@@ -592,26 +609,27 @@ def many_words(rng, sheet, count):
     return changed(sheet, names=[0], bounds=[0], types=[], self=[1], steps=[2, 16] + [1] * 16 + [2, 0] * 503, returns=[2, 0] * 512, output=[3, 1, 17], params=[3, 1, 17])
 
 
-def all_used(rng, sheet, count):
-    """Every lifetime of 64 used, the declared ones through slices under force."""
+def most_used(rng, sheet, count):
+    """As many lifetimes used as two output types have: 34 of 64."""
     names = fresh(rng, [], 32)
     kinds = flat([[3, 1, k + 1] for k in range(0, 32, 2)])
-    used = [1, 0, 16] + list(range(33, 49)) + [0, 1, 0, 16] + list(range(49, 65)) + [0]
-    return changed(sheet, names=[0] + names, bounds=[0] + bound_words(rng, names, 40), types=[], self=[], steps=[1, 16, 0] * 2, returns=[], structs=[], params=kinds, output=used, force=[1])
+    used = rng.sample(range(1, 65), 34)
+    output = [3, 3, 16] + used[:17] + [3, 3, 16] + used[17:]
+    return changed(sheet, names=[0] + names, bounds=[0] + bound_words(rng, names, 40), types=[], self=[], steps=[1, 16, 0] * 2, returns=[], structs=[], params=kinds, output=output)
 
 
 SPECIAL = [
     ("strangers in a later kind 2", later_kind_2),
     ("strangers in types that imply nothing", harmless_types),
-    ("rows of rows under force", rows_of_rows),
+    ("rows of rows", rows_of_rows),
     ("the longest lowered records", many_words),
-    ("48 lifetimes used", all_used),
+    ("34 lifetimes used", most_used),
 ]
 
 
 # ---- sheets with two faults, of which the first one due counts
 
-FAULTY = [make for _, make, number in FAULTS if 1 < number < 10] + [lambda rng, sheet, count, make=make: make(rng, sheet, 1) for _, make, _, past in LIMITS if past in (4, 9)]
+FAULTY = [make for _, make, number in FAULTS if number not in (1, 10)] + [lambda rng, sheet, count, make=make: make(rng, sheet, 1) for _, make, _, past in LIMITS if past in (4, 9)]
 
 
 def two_faults(rng, sheet, count):
@@ -665,7 +683,7 @@ def drawn(rng, pool):
     base, count = rng.choice(pool)
     form = rng.random()
     if form < 0.37:
-        wanted = rng.choice([1, 2, 3, 5, 6, 7, 8, 9, 10])
+        wanted = rng.choice([1, 2, 3, 5, 6, 7, 8, 9, 10, 13])
         name, make, number = rng.choice([fault for fault in FAULTS if fault[2] == wanted])
         return "fault: " + name, number, make(rng, base, count)
     if form < 0.65:

@@ -5,7 +5,7 @@
 from .base import Refusal, flat, line, refuse, words
 from .elision import lower_records
 from .environment import Env, from_method_item, last_first, than
-from .methods import read_method, used_lifetimes, ways
+from .methods import read_method, used_lifetimes
 from .text import read_sheet
 from .visits import EDGE, answer_number, edges_of, in_listing_order
 
@@ -60,10 +60,8 @@ def by_model(data, wrong=""):
 
 def listing_of(method, wrong=""):
     """The same from a sheet's method."""
-    lowered, env, (*_, force), (rows, found, outputs) = method
-    if wrong == "no search under force":
-        force = [0]
-    used = used_lifetimes(env, rows, found, outputs, force[0])
+    lowered, env, _, (_, found, outputs) = method
+    used = used_lifetimes(outputs)
     visits = [edges_of(env, used, number, t) for number, t in enumerate(found)]
     if wrong == "a struct's first edge only":
         visits = [[e for at, e in enumerate(es) if e[2] != 3 or e[0] not in [d[0] for d in es[:at]]] for es in visits]
@@ -109,16 +107,15 @@ def refusal_text(number):
 
 class Answer:
     """The refusal's number or 0, and the program's response. Of an accepted sheet also: `records`, all ten; `env`, the environment; `rows`, `params`, `outputs`;
-    `used`. `ways` is how often the Rust's search under force enters a row."""
+    `used`."""
 
     def __init__(self, data):
-        self.refusal, self.count, self.ways = 0, 0, 0
+        self.refusal, self.count = 0, 0
         try:
             self.records = read_sheet(data)
             method = method_of(self.records)
-            _, self.env, four, (self.rows, self.params, self.outputs) = method
+            _, self.env, _, (self.rows, self.params, self.outputs) = method
             self.count = self.env.count
-            self.ways = ways(self.rows, self.params) if four[-1] == [1] else 0
             _, self.used, self.response = listing_of(method)
         except Refusal as refusal:
             self.refusal = refusal.number
@@ -131,7 +128,6 @@ class Answer:
 
 WRONG_LISTINGS = [
     "one order for both traversals",
-    "no search under force",
     "a struct's first edge only",
     "an option is one for every kind",
     "nothing used, nothing borrowed",

@@ -3,7 +3,6 @@ from .base import LARGEST, refuse
 from .environment import MAX_LIST, MAX_WORDS, limits, ranges
 
 MAX_ROWS, MAX_PARAMS, MAX_OUTPUTS = 32, 16, 2
-MOST_WAYS = 100000  # how often the Rust's search under force may enter a row where it is asked
 
 class Lowered:
     """A lowered type: code without option, option, row, path words, own word (None for none, "strs")."""
@@ -91,6 +90,11 @@ def force_shape(ws):
     refuse(len(ws) != 1 or ws[0] > 1, 1)
 
 
+def retired(force):
+    """13 for `force` 1 (02, W-211); asked once all records are in shape."""
+    refuse(force == [1], 13)
+
+
 # ---- a method
 
 
@@ -110,6 +114,7 @@ def read_method(env, structs, params, output, force):
     types = read_types(params, len(rows))
     outputs = output_shape(output, len(rows))
     force_shape(force)
+    retired(force)
     limits(env)
     fit_rows(rows)
     for k, found in enumerate(types):
@@ -121,27 +126,9 @@ def read_method(env, structs, params, output, force):
     return rows, types, outputs
 
 
-def used_lifetimes(env, rows, types, outputs, force):
-    """Those of the output and, under force, those that the search of the params' slices finds; ascending."""
-    used = {word - 1 for t in outputs for word in t.lifetimes() if word}
-    own = []  # for each row what the search of its fields finds
-
-    def search(t):
-        if t.code == 2:
-            return own[t.row]
-        return {t.own - 1} if t.code == 3 and isinstance(t.own, int) and 1 <= t.own <= env.declared else set()
-
-    for _, fields in rows:
-        own.append(set().union(*map(search, fields)))
-    return sorted(used.union(*map(search, types)) if force else used)
-
-
-def ways(rows, params):
-    """How often the Rust's search under force enters a row: it searches a row anew at each use."""
-    own = []
-    for _, fields in rows:
-        own.append(1 + sum(own[t.row] for t in fields if t.code == 2))
-    return sum(own[t.row] for t in params if t.code == 2)
+def used_lifetimes(outputs):
+    """Those of the output that are not static; ascending."""
+    return sorted({word - 1 for t in outputs for word in t.lifetimes() if word})
 
 
 # ---- a field, and a single type

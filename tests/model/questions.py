@@ -305,7 +305,7 @@ def used(found):
 
 def used_answer(env, *four):
     found = answered(methods.read_method, env, *four)
-    return used(found if isinstance(found, int) else methods.used_lifetimes(env, *found, four[-1][0]))
+    return used(found if isinstance(found, int) else methods.used_lifetimes(found[2]))
 
 
 def field_question(structs, row, field):

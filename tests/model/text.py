@@ -114,7 +114,11 @@ def in_shape(rs, wrong=""):
 
 def read_sheet(data, wrong=""):
     rs = read_text(data, wrong)
+    if wrong == "13 is given before 1":
+        methods.retired(rs[-1])
     in_shape(rs, wrong)
+    if wrong != "force 1 passes":
+        methods.retired(rs[-1])
     return rs
 
 
@@ -124,6 +128,8 @@ def answer_of(call, data, room, wrong=""):
     try:
         if wrong == "9 is given before 1":
             refuse(sum(map(len, read_text(data))) > room, 9)
+        if wrong == "9 is given before 13":
+            refuse(len(flat(call(data, "force 1 passes"))) > room, 9)
         rs = call(data, wrong)
         if wrong == "words are stored before a refusal":
             left = flat(rs)[:room]
@@ -186,7 +192,10 @@ WRONG = [
     "returns are not looked at",
     "output is not looked at",
     "rows from the 33rd on are unknown",
+    "13 is given before 1",
+    "force 1 passes",
     "9 is given before 1",
+    "9 is given before 13",
     "words are stored before a refusal",
     "9 although the words just fit",
 ]

@@ -39,7 +39,7 @@ class Visits:
 
     def __init__(self, env, *four):
         rows, self.params, outputs = read_method(env, *four)
-        self.env, self.used, self.stored = env, used_lifetimes(env, rows, self.params, outputs, four[-1][0]), []
+        self.env, self.used, self.stored = env, used_lifetimes(outputs), []
 
     def edges(self, number):
         return edges_of(self.env, self.used, number, self.params[number])

@@ -17,12 +17,13 @@ use Rattle.lifetimes.specs.Lent.{Slice, left, room, Fills, Stays, verdictOf, ro
 use Rattle.lifetimes.specs.Env.{boundsOf}
 use Rattle.lifetimes.specs.Sets as sets
 use Rattle.lifetimes.proofs.RefusalLaws.{due-given, due-refused, none-split, first-more, first-behind, refused-first}
-use Rattle.lifetimes.proofs.RefusalLaws.{accepted-none}
+use Rattle.lifetimes.proofs.RefusalLaws.{accepted-none, given-due}
 use Rattle.records.proofs.VerdictLaws.{unless-after}
 use Rattle.hir_types.specs.Method.{typesIn, structsAndParamsChecks, methodChecks}
-use Rattle.hir_types.specs.Used.{usedSet, usedNumbers}
+use Rattle.hir_types.specs.Used.{usedSet, outputNumbers, mostUsed}
 use Rattle.sheet.specs.Text.{Records, lists}
-use Rattle.sheet.specs.Reading.{sheetOf, textChecks}
+use Rattle.sheet.specs.Reading.{sheetOf}
+use Rattle.sheet.specs.Shape.{sheetChecks}
 use Rattle.sheet.specs.Answer.{recordWords}
 use Rattle.sheet.specs.Inner.{Laid}
 use Rattle.sheet.proofs.Placing.{laid-words, laid-record}
@@ -35,15 +36,17 @@ use Rattle.borrowing_param.specs.Edges.{edgesIn}
 use Rattle.borrowing_param.specs.New.{createdBy, created}
 use Rattle.borrowing_param.specs.BorrowMap as map
 use Rattle.borrowing_param.specs.Consistent.{Consistent}
-use Rattle.borrowing_param.specs.SheetMethod.{envOfSheet, recordsChecks, sheetRefusals, methodAnswer}
+use Rattle.borrowing_param.specs.SheetMethod.{envOfSheet, loweringChecks, sheetRefusals, methodAnswer}
 use Rattle.borrowing_param.specs.Borrows.{Borrows, borrowsBy, borrowsOf, sheetBorrows, roomChecks, borrowMethod}
 use Rattle.borrowing_param.specs.Borrows.{borrowSheet, borrowsAnswer, usedWords, answerWords, edgesWords}
-use Rattle.borrowing_param.specs.Borrows.{BorrowsTo}
+use Rattle.borrowing_param.specs.Borrows.{BorrowsTo, mostListed}
 use Rattle.borrowing_param.specs.InnerSheet.{Judges, borrowBy, OfMethod}
 use Rattle.borrowing_param.proofs.Joining.{words-read}
 use Rattle.borrowing_param.proofs.Forcing.{params-none}
 use Rattle.borrowing_param.proofs.Ordering.{listing-consistent}
+use Rattle.borrowing_param.proofs.Sizing.{method-small}
 use Rattle.borrowing_param.proofs.MethodLaws.{accepted-method}
+use Rattle.borrowing_param.proofs.SheetLaws.{read-parts}
 
 -- a refusal leaves the slices
 left-alone : {o : Outcome Borrows} {k : Refusal} {r : answer.Borrows} {used answers edges : Slice}
@@ -166,7 +169,7 @@ module _ (env : LifetimeEnv) (structs params output force : List ℕ) {c : Creat
       → BorrowsTo (outcome (room used) (room answers) (room edges)) r used answers edges
   unfolding usedSet borrowMethod
   method-unborrowed {k} w h =
-      let f = refused-first (sets.setOf (usedNumbers env structs params output force)) k
+      let f = refused-first (sets.setOf (outputNumbers structs output)) k
       (methodChecks env structs params output force) (sym created-verdict ∙ w) in
       left-alone (due-refused whole (first-more _ f)) h
 
@@ -174,7 +177,7 @@ module _ (env : LifetimeEnv) (structs params output force : List ℕ) {c : Creat
     method-none : NoneDue (methodChecks env structs params output force)
     unfolding usedSet
     method-none =
-        accepted-none (sets.setOf (usedNumbers env structs params output force))
+        accepted-none (sets.setOf (outputNumbers structs output))
         (methodChecks env structs params output force) (sym created-verdict ∙ fine)
 
     pub method-of : OfMethod structs params
@@ -204,7 +207,9 @@ pub sheet-method : (bytes : List ℕ) → NoneDue (sheetRefusals bytes)
     (methodChecks (envOfSheet (sheetOf bytes)) (sheetOf bytes .structs) (sheetOf bytes .params)
     (sheetOf bytes .output) (sheetOf bytes .force))
 unfolding sheetRefusals
-sheet-method bytes n = accepted-method (sheetOf bytes) (none-split (textChecks bytes) (recordsChecks (sheetOf bytes)) n .1)
+sheet-method bytes n =
+    let p = none-split (sheetChecks bytes) (loweringChecks (sheetOf bytes)) n in
+    accepted-method (sheetOf bytes) (read-parts bytes (p .0) .1) (p .1)
 
 module _ (bytes : List ℕ) (used answers edges : Slice) where
   abbrev sheet : Records
@@ -287,10 +292,24 @@ module _ (bytes : List ℕ) (used answers edges : Slice) where
       verdict-of (Gives x) = refl
       verdict-of (Refuses k) = refl
 
+  few : {r : answer.Borrows} → r ≡ borrowsAnswer borrowed → (r .used ≤ mostUsed) × (r .edges ≤ mostListed)
+  unfolding borrowSheet
+  few {r} q = rw q (go borrowed refl)
+    where
+      go : (o : Outcome Borrows) → borrowed ≡ o → (borrowsAnswer o .used ≤ mostUsed) × (borrowsAnswer o .edges ≤ mostListed)
+      go (Gives b) e =
+          let whole = sheetBorrows sheet in
+          let n = given-due whole b (sheetRefusals bytes ++ roomChecks whole (room used) (room answers) (room edges)) e in
+          let s = method-small (envOfSheet sheet) (sheet .structs) (sheet .params) (sheet .output) (sheet .force)
+          (sheet-method bytes (none-split (sheetRefusals bytes) _ (n .0) .0)) in
+          rw (← n .1) (s .few-used, s .few-edges)
+      go (Refuses k) e = (omega arith, omega arith)
+
   pub sheet-says : {r : answer.Borrows} → r ≡ borrowsAnswer borrowed → Fills (usedWords borrowed) used
       → Fills (answerWords borrowed) answers → Fills (edgesWords borrowed) edges
       → BorrowsTo borrowed r used answers edges
-      × (r .verdict ≡ verdict.Accepted
+      × ((r .verdict ≡ verdict.Accepted
       → Consistent (take (r .used) (left used)) (take (r .params) (left answers)) (edgesIn (r .edges) (left edges)))
+      × ((r .used ≤ mostUsed) × (r .edges ≤ mostListed)))
   sheet-says q u a w =
-      (record { counts = q; used-filled = u; answers-filled = a; edges-filled = w }, consistent q u a w)
+      (record { counts = q; used-filled = u; answers-filled = a; edges-filled = w }, (consistent q u a w, few q))

@@ -113,7 +113,7 @@ module _ (env : LifetimeEnv) (structs params output force : List ℕ)
       × NoneDue (placeChecks structs params output ++ (drop 2 (envChecks env) ++ (past ∷ [])))
   after-first =
       none-split (take 2 (envChecks env)) (placeChecks structs params output ++ (drop 2 (envChecks env) ++ (past ∷ [])))
-      (none-rest none)
+      (none-rest (none-rest none))
 
   after-places : NoneDue (placeChecks structs params output) × NoneDue (drop 2 (envChecks env) ++ (past ∷ []))
   after-places = none-split (placeChecks structs params output) (drop 2 (envChecks env) ++ (past ∷ [])) (after-first .1)
@@ -132,10 +132,8 @@ module _ (env : LifetimeEnv) (structs params output force : List ℕ)
 
   pub used-below : (set : ℕ) → usedSet env structs params output force ≡ Gives set → (k : ℕ) → member set k ≡ true → k < env .count
   used-below set e k m =
-      ⊎-elim
-      (λ o. not-past (env .count) (outputLifetimes structs output) (none-first (after-env .1)) k o)
-      (λ f. omega (arith, f .declared, ltb-false (env .count) (env .declared) (none-first (after-env .0))))
-      ((used-lifetimes-are env structs params output force set e k) .0 m)
+      not-past (env .count) (outputLifetimes structs output) (none-first (after-env .1)) k
+      ((used-lifetimes-are env structs params output force set e .members-are k) .0 m)
 
 -- ---- the answers of `new`
 

@@ -27,7 +27,7 @@ use Rattle.lowered_types.specs.declared.types.Kind.the-variants.{Plain, Opaque,
 use Rattle.lowered_types.specs.LoweredTypes.{LoweredType}
 use Rattle.lowered_types.specs.Rows.{rowsOf, structsInShape, paramsInShape, methodInShape}
 use Rattle.hir_types.specs.Method.{typesIn, typeChecks, rowChecks, paramChecks, structsAndParamsChecks, methodChecks}
-use Rattle.hir_types.specs.Used.{usedSet, usedNumbers}
+use Rattle.hir_types.specs.Used.{usedSet, outputNumbers}
 use Rattle.borrowing_param.specs.declared.visitor.LifetimeEdge.{LifetimeEdge}
 use Rattle.borrowing_param.specs.declared.visitor.BorrowingParamVisitor.{BorrowingParamVisitor}
 use Rattle.borrowing_param.specs.declared.visitor.Created.{Created}
@@ -155,7 +155,7 @@ module _ (env : LifetimeEnv) (structs params output force : List ℕ)
   visit-none p h = next (lt-leb (length (typesIn structs params)) p h) params-none
 
   abbrev used : ℕ
-  used = setOf (usedNumbers env structs params output force)
+  used = setOf (outputNumbers structs output)
 
   used-given : usedSet env structs params output force ≡ Gives used
   unfolding usedSet
@@ -184,6 +184,9 @@ module _ (env : LifetimeEnv) (structs params output force : List ℕ)
         draws-none = λ l out. draws-nothing env valid few used below l out;
         stored = refl;
       }
+
+  pub created-new : IsNew env structs params output force (created env structs params output force)
+  created-new = subst (λ (c : Created). IsNew env structs params output force c) (sym created-is) made-new
 
   abbrev type : ℕ → LoweredType
   type p = typeAt (typesIn structs params) p

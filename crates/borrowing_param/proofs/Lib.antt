@@ -1,5 +1,5 @@
 -- Laws: joined lists and words of edges; a run of visits; what a parameter brings; which lifetimes draw; storing edges;
--- a visit; a new visitor; the numberings; the listing, its order, and the visits that give it.
+-- a visit; a new visitor; the numberings; the listing, its order, its size, and the visits that give it.
 pub mod Joining
 pub mod Running
 pub mod Bringing
@@ -10,6 +10,7 @@ pub mod Creating
 pub mod Forcing
 pub mod Listing
 pub mod Ordering
+pub mod Sizing
 pub mod InTurn
 -- A sheet's method:
 pub mod MethodLaws

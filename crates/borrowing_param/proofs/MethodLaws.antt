@@ -1,5 +1,5 @@
--- A sheet's method: the first refusal due on ten records in shape is that of the stage which refuses them; if none is
--- due, the method is accepted.
+-- A sheet's method: the first refusal due on ten records that were read is that of the stage which refuses them; if
+-- none is due, the method is accepted.
 use Prim.Native.Nat.{ℕ, _≤_}
 use mathlib.Core.Bool.{true, false, _&&_, not, and-eq-true-iff}
 use mathlib.Core.Path.{_≡_, refl, sym, ap, _∙_}
@@ -8,7 +8,7 @@ use native.Mathlib.Omega.{arith}
 use borrow.Author.Tests.{le-ltb, not-false}
 use lib.ListN.{length, take, drop}
 use Rattle.lifetimes.specs.declared.answer.Refusal.{Refusal}
-use Rattle.lifetimes.specs.declared.answer.Refusal.the-variants.{Malformed, OutOfRange}
+use Rattle.lifetimes.specs.declared.answer.Refusal.the-variants.{OutOfRange}
 use Rattle.lifetimes.specs.declared.answer.Verdict.{Verdict}
 use Rattle.lifetimes.specs.declared.answer.Verdict.the-variants as verdict
 use Rattle.lifetimes.specs.declared.env.LifetimeEnv.{LifetimeEnv}
@@ -29,11 +29,11 @@ use Rattle.elision.specs.Steps.{receiverOf, stepsOf}
 use Rattle.elision.specs.Rfc as rfc
 use Rattle.elision.specs.Lowering.{inShapeAll, recordsOf, measureChecks, measureRecords, answered}
 use Rattle.elision.proofs.Theorems.{rfc141-says}
-use Rattle.lowered_types.specs.Rows.{methodInShape}
+use Rattle.lowered_types.specs.Rows.{methodInShape, shapeChecks}
 use Rattle.hir_types.specs.Method.{placeChecks, outputLifetimes, anyPast, methodChecks, methodVerdict}
 use Rattle.sheet.specs.Text.{Records}
-use Rattle.sheet.specs.Shape.{sheetInShape}
-use Rattle.borrowing_param.specs.SheetMethod.{loweredOf, astEnvOf, envOfSheet, recordsChecks}
+use Rattle.sheet.specs.Shape.{sheetInShape, recordsChecks}
+use Rattle.borrowing_param.specs.SheetMethod.{loweredOf, astEnvOf, envOfSheet, loweringChecks}
 use Rattle.borrowing_param.specs.InnerSheet.{methodOf}
 
 -- checks in the middle of which none is due
@@ -85,10 +85,10 @@ module _ (r : Records) where
     limits : NoneDue (take 2 (envChecks (envOfSheet r))) × NoneDue (drop 2 (envChecks (envOfSheet r)))
     limits = none-split (take 2 (envChecks (envOfSheet r))) (drop 2 (envChecks (envOfSheet r))) env-valid
 
-  -- what the shape of all ten says of each part
-  module _ (shape : sheetInShape r ≡ true) where
-    shape-not : not (sheetInShape r) ≡ false
-    shape-not = rw shape
+  -- what the first checks of all ten say of each part
+  module _ (first : NoneDue (recordsChecks r)) where
+    shape : sheetInShape r ≡ true
+    shape = not-false (sheetInShape r) (none-first first)
 
     shapes : (namesInShape (r .names) && (boundsInShape (r .bounds) && typesInShape (r .types)) ≡ true)
         × (inShapeAll (r .self) (r .steps) (r .returns) ≡ true)
@@ -99,21 +99,24 @@ module _ (r : Records) where
         let q = (and-eq-true-iff (inShapeAll (r .self) (r .steps) (r .returns)) _) .0 (p .1) in
         (p .0, q .0, q .1)
 
+    of-method : NoneDue (shapeChecks (methodInShape (r .structs) (r .params) (r .output) (r .force)) (r .force))
+    of-method = next (ap not (shapes .2)) (none-rest first)
+
     -- refused somewhere
-    refuses : {k : Refusal} {m : Made} → FirstDue k (recordsChecks r) → m ≡ made (envOf 0 0 []) (Refuses k)
+    refuses : {k : Refusal} {m : Made} → FirstDue k (loweringChecks r) → m ≡ made (envOf 0 0 []) (Refuses k)
         → m ≡ made (envOf 0 0 []) (methodOf r)
     unfolding methodOf
     refuses f h = rw (due-refused (envOfSheet r) f) h
 
     -- names, bounds and types
     module _ {a : ast-made.Made} (is : a ≡ ast.made (ast.envOf [] []) (ast.fromMethodItem (r .names) (r .bounds) (r .types))) where
-      pub names-first : {k : Refusal} → a .verdict ≡ verdict.Refused k → FirstDue k (recordsChecks r)
-      unfolding recordsChecks ast.fromMethodItem
+      pub names-first : {k : Refusal} → a .verdict ≡ verdict.Refused k → FirstDue k (loweringChecks r)
+      unfolding loweringChecks ast.fromMethodItem
       names-first {k} v =
           let d = refused-first (astEnvOf r) k (ast.methodChecks (r .names) (r .bounds) (r .types))
           (sym (ap (λ (x : ast-made.Made). x .verdict) is) ∙ v) in
           let s : not (namesInShape (r .names) && (boundsInShape (r .bounds) && typesInShape (r .types))) ≡ false = rw (shapes .0) in
-          later shape-not (first-more _ (first-behind (next s end) d))
+          first-more _ (first-behind (next s end) d)
 
       pub names-refused : {k : Refusal} {m : Made} → a .verdict ≡ verdict.Refused k
           → m ≡ made (envOf 0 0 []) (Refuses k) → m ≡ made (envOf 0 0 []) (methodOf r)
@@ -151,8 +154,8 @@ module _ (r : Records) where
           in-shape-not : not (inShapeAll (r .self) (r .steps) (r .returns)) ≡ false
           in-shape-not = rw (shapes .1)
 
-          pub steps-first : {k : Refusal} → l .verdict ≡ verdict.Refused k → FirstDue k (recordsChecks r)
-          unfolding recordsChecks measureRecords
+          pub steps-first : {k : Refusal} → l .verdict ≡ verdict.Refused k → FirstDue k (loweringChecks r)
+          unfolding loweringChecks measureRecords
           steps-first {k} v =
               let e = astEnvOf r in
               let d = refused-first (recordsOf e (r .self) (r .steps) (r .returns)) k
@@ -160,7 +163,7 @@ module _ (r : Records) where
               let f = first-behind (accepted-valid (r .names) (r .bounds) (r .types) placed)
               (first-behind (next in-shape-not end) d) in
               let g : FirstDue k elisionChecks = rw names-are at f in
-              later shape-not (first-after placed (first-more _ g))
+              first-after placed (first-more _ g)
 
           pub steps-refused : {k : Refusal} {m : Made} → l .verdict ≡ verdict.Refused k
               → m ≡ made (envOf 0 0 []) (Refuses k) → m ≡ made (envOf 0 0 []) (methodOf r)
@@ -186,29 +189,26 @@ module _ (r : Records) where
                 (due-given (recordsOf (astEnvOf r) (r .self) (r .steps) (r .returns)) measure-none)
                 ∙ rw names-are
 
-            method-shape-not : not (methodInShape (r .structs) (r .params) (r .output) (r .force)) ≡ false
-            method-shape-not = rw (shapes .2)
-
             -- structs, params, output and force
             pub method-first : {k : Refusal}
                 → FirstDue k (methodChecks (l .env) (r .structs) (r .params) (r .output) (r .force))
-                → FirstDue k (recordsChecks r)
-            unfolding recordsChecks
-            method-first {k} first =
-                let d : FirstDue k hirChecks = rw env-is at first in
-                let f = first-behind (limits placed elided .0) (first-behind (next method-shape-not end) d) in
+                → FirstDue k (loweringChecks r)
+            unfolding loweringChecks
+            method-first {k} due =
+                let d : FirstDue k hirChecks = rw env-is at due in
+                let f = first-behind (limits placed elided .0) (first-behind of-method d) in
                 let g = first-without hirPlaces (past ∷ []) (limits placed elided .1) f in
-                later shape-not (first-after placed (first-after elided g))
+                first-after placed (first-after elided g)
 
             pub method-none : NoneDue (methodChecks (l .env) (r .structs) (r .params) (r .output) (r .force))
-                → NoneDue (recordsChecks r)
-            unfolding recordsChecks
+                → NoneDue (loweringChecks r)
+            unfolding loweringChecks
             method-none none =
                 let n : NoneDue hirChecks = rw env-is at none in
-                let p = none-split (take 2 (envChecks (envOfSheet r))) _ (none-rest n) in
+                let p = none-split (take 2 (envChecks (envOfSheet r))) _ (none-rest (none-rest n)) in
                 let q = none-split hirPlaces _ (p .1) in
                 let s = none-split (drop 2 (envChecks (envOfSheet r))) (past ∷ []) (q .1) in
-                next shape-not (none-more placed (none-more elided (none-more (q .0) (s .1))))
+                none-more placed (none-more elided (none-more (q .0) (s .1)))
 
             module _ {v : Verdict} (judges : v ≡ methodVerdict (l .env) (r .structs) (r .params) (r .output) (r .force)) where
               pub method-refused : {k : Refusal} {m : Made} → v ≡ verdict.Refused k
@@ -230,13 +230,11 @@ module _ (r : Records) where
                   rw (due-given (envOfSheet r) due, env-is)
 
   -- T-12b: a method from a sheet is accepted
-  pub accepted-method : NoneDue (recordsChecks r) → NoneDue hirChecks
-  unfolding recordsChecks
-  accepted-method n =
-      let p = none-split astPlaces _ (none-rest n) in
+  pub accepted-method : NoneDue (recordsChecks r) → NoneDue (loweringChecks r) → NoneDue hirChecks
+  unfolding loweringChecks
+  accepted-method first n =
+      let p = none-split astPlaces _ n in
       let q = none-split elisionChecks _ (p .1) in
       let s = none-split hirPlaces (past ∷ []) (q .1) in
       let l = limits (p .0) (q .0) in
-      let shape = shapes (not-false (sheetInShape r) (none-first n)) in
-      next {c = check (not (methodInShape (r .structs) (r .params) (r .output) (r .force))) Malformed} (rw (shape .2))
-      (none-more (l .0) (none-more (s .0) (none-more (l .1) (s .1))))
+      none-more (of-method first) (none-more (l .0) (none-more (s .0) (none-more (l .1) (s .1))))

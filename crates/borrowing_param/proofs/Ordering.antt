@@ -292,14 +292,10 @@ to-few v param (t ∷ ts) used h =
       to-few v (suc param) ts used (λ n k. h (suc n) (omega arith)),
     ))
 
-edges-few : (v : BorrowingParamVisitor) (ts : List LoweredType) → length ts ≤ 16 → AllShort ts → length (listedEdges v ts) ≤ 16384
+pub edges-few : (v : BorrowingParamVisitor) (ts : List LoweredType) → length ts ≤ 16 → AllShort ts
+    → length (listedEdges v ts) ≤ 256 * length (usedOf v)
 unfolding listedEdges
-edges-few v ts few h =
-    omega (
-      arith,
-      join-few (listedTo v 0 ts) 256 (λ x. omega (arith, to-few v 0 ts x h)) (usedOf v),
-      members-few (v .used),
-    )
+edges-few v ts few h = join-few (listedTo v 0 ts) 256 (λ x. omega (arith, to-few v 0 ts x h)) (usedOf v)
 
 -- ---- together
 
@@ -335,7 +331,7 @@ consistent v ts few short = record {
   used-below = λ l m. (members-has (v .used) l) .0 m .0;
   few-used = members-few (v .used);
   few-params = rw (answers-many v 0 ts) few;
-  few-edges = edges-few v ts few short;
+  few-edges = omega (arith, edges-few v ts few short, members-few (v .used));
 }
   where
     flag-most : (b : Bool) → optionOf b ≤ 1

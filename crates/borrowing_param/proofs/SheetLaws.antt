@@ -1,25 +1,25 @@
 -- A sheet judged in scratch: what reading it says, where its records are found, and what the call answers and writes.
 use Prim.Native.Nat.{ℕ, _≤_}
-use mathlib.Core.Bool.{true, false, not}
+use mathlib.Core.Bool.{false}
 use mathlib.Core.Logic.{_⊎_, inl, inr}
-use mathlib.Core.Path.{_≡_, refl, sym, ap, _∙_}
+use mathlib.Core.Path.{_≡_, refl, sym, ap, subst, _∙_}
 use mathlib.Core.List.{List, [], _∷_, _++_}
 use native.Mathlib.Omega.{arith}
-use borrow.Author.Tests.{le-ltb, lt-ltb, not-false}
+use borrow.Author.Tests.{le-ltb, lt-ltb}
 use lib.ListN.{length, getD, take, drop, length-append}
 use lib.Seq.{sets, take-append-seam}
 use Rattle.lifetimes.specs.declared.answer.Refusal.{Refusal}
-use Rattle.lifetimes.specs.declared.answer.Refusal.the-variants.{Malformed, NoRoom}
+use Rattle.lifetimes.specs.declared.answer.Refusal.the-variants.{NoRoom}
 use Rattle.lifetimes.specs.declared.answer.Verdict.the-variants as verdict
 use Rattle.lifetimes.specs.declared.answer.Listed.{Listed}
 use Rattle.lifetimes.specs.declared.answer.Listed.the-variants.{Count, Refused}
 use Rattle.lifetimes.specs.declared.env.Made.{Made}
-use Rattle.lifetimes.specs.Refusals.{Check, check, Outcome, Gives, Refuses, unless, FirstDue, here, later, NoneDue}
+use Rattle.lifetimes.specs.Refusals.{Check, Outcome, Gives, Refuses, unless, FirstDue, here, later, NoneDue}
 use Rattle.lifetimes.specs.Refusals.{next, end}
 use Rattle.lifetimes.specs.Lent.{counted, verdictOf, resultOr, roomCheck, written}
 use Rattle.lifetimes.specs.Env.{envOf, made}
 use Rattle.lifetimes.proofs.Copying.{sets-front}
-use Rattle.lifetimes.proofs.RefusalLaws.{due-given, due-refused, none-first, none-split, none-more, first-more}
+use Rattle.lifetimes.proofs.RefusalLaws.{due-given, due-refused, none-split, none-more, first-more}
 use Rattle.lifetimes.proofs.RefusalLaws.{first-after, refused-first, accepted-none}
 use Rattle.records.specs.Copied.{copied}
 use Rattle.records.proofs.CopyLaws.{copied-stores, copied-all, copied-none}
@@ -30,12 +30,12 @@ use Rattle.sheet.specs.Reading.{sheetOf, textChecks}
 use Rattle.lifetimes.specs.Reach.{endsFrom}
 use Rattle.sheet.specs.Answer.{recordWords}
 use Rattle.sheet.specs.Shape as shape
-use Rattle.sheet.specs.Shape.{sheetInShape, sheetAnswer, sheetEnds, callChecks}
+use Rattle.sheet.specs.Shape.{sheetAnswer, sheetEnds, callChecks}
 use Rattle.sheet.specs.Inner.{recordsAt, Laid, Roomy}
 use Rattle.sheet.proofs.Answers.{last-end}
 use Rattle.sheet.proofs.Placing.{laid-words, laid-records, roomy-fits}
 use Rattle.borrowing_param.specs.declared.method.SheetMethod.{SheetMethod}
-use Rattle.borrowing_param.specs.SheetMethod.{envOfSheet, recordsChecks, sheetRefusals, lowerSheet, methodAnswer}
+use Rattle.borrowing_param.specs.SheetMethod.{envOfSheet, loweringChecks, sheetRefusals, lowerSheet, methodAnswer}
 use Rattle.borrowing_param.specs.SheetMethod.{methodWords}
 use Rattle.borrowing_param.specs.InnerSheet.{records, methodOf, Judges}
 
@@ -71,28 +71,14 @@ ten-found l pa pb pc pd pe pf pg ph pi pj =
       pj ∙ laid-words l 9 (omega arith),
     )
 
--- the shape is the last check of the reading and the first of the records
 module _ (bytes : List ℕ) where
   abbrev sheet : Records
   sheet = sheetOf bytes
 
-  abbrev shapeCheck : Check
-  shapeCheck = check (not (sheetInShape sheet)) Malformed
-
-  read-refused : {k : Refusal} → FirstDue k (shape.sheetChecks bytes) → FirstDue k (sheetRefusals bytes)
-  unfolding shape.sheetChecks sheetRefusals recordsChecks
-  read-refused {k} f = go (first-either (textChecks bytes) (shapeCheck ∷ []) f)
-    where
-      go : FirstDue k (textChecks bytes) ⊎ (NoneDue (textChecks bytes) × FirstDue k (shapeCheck ∷ []))
-          → FirstDue k (textChecks bytes ++ recordsChecks sheet)
-      go (inl g) = first-more _ g
-      go (inr (n, g)) = first-after n (first-more _ g)
-
-  read-none : NoneDue (shape.sheetChecks bytes) → NoneDue (textChecks bytes) × (sheetInShape sheet ≡ true)
+  -- what the reader's checks are of: the text, and the ten records
+  pub read-parts : NoneDue (shape.sheetChecks bytes) → NoneDue (textChecks bytes) × NoneDue (shape.recordsChecks sheet)
   unfolding shape.sheetChecks
-  read-none n =
-      let p = none-split (textChecks bytes) (shapeCheck ∷ []) n in
-      (p .0, not-false (sheetInShape sheet) (none-first (p .1)))
+  read-parts n = none-split (textChecks bytes) (shape.recordsChecks sheet) n
 
   module _ (scratch : List ℕ) (roomy : Roomy bytes (length scratch)) {t : Text}
       (read : t ≡ sheetAnswer bytes (length scratch)) {scratch₁ : List ℕ}
@@ -105,7 +91,7 @@ module _ (bytes : List ℕ) where
     verdict-is = ap (λ (x : Text). x .verdict) read
 
     pub text-first : {k : Refusal} → t .verdict ≡ verdict.Refused k → FirstDue k (sheetRefusals bytes)
-    unfolding sheetEnds
+    unfolding sheetEnds sheetRefusals
     text-first {k} v =
         go
         (first-either (shape.sheetChecks bytes) (roomCheck (length scratch) (wordsOf sheet) ∷ [])
@@ -118,10 +104,10 @@ module _ (bytes : List ℕ) where
         go : FirstDue k (shape.sheetChecks bytes)
             ⊎ (NoneDue (shape.sheetChecks bytes) × FirstDue k (roomCheck (length scratch) (wordsOf sheet) ∷ []))
             → FirstDue k (sheetRefusals bytes)
-        go (inl f) = read-refused f
+        go (inl f) = first-more _ f
         go (inr (n, f)) =
             absurd
-            (none-of f (le-ltb (length scratch) (length (wordsOf sheet)) (roomy-fits bytes roomy (read-none n .0))))
+            (none-of f (le-ltb (length scratch) (length (wordsOf sheet)) (roomy-fits bytes roomy (read-parts n .0))))
 
     pub judge-text : {k : Refusal} {m : SheetMethod} → t .verdict ≡ verdict.Refused k → m ≡ methodAnswer (Refuses k)
         → Judges bytes m scratch₁
@@ -135,8 +121,8 @@ module _ (bytes : List ℕ) where
       unfolding sheetEnds
       call-none = accepted-none _ (callChecks bytes (length scratch)) (sym verdict-is ∙ fine)
 
-      pub text-none : NoneDue (textChecks bytes) × (sheetInShape sheet ≡ true)
-      text-none = read-none (none-split (shape.sheetChecks bytes) _ call-none .0)
+      pub read-none : NoneDue (shape.sheetChecks bytes)
+      read-none = none-split (shape.sheetChecks bytes) _ call-none .0
 
       ends-are : t .ends ≡ endsFrom 0 (lists sheet)
       unfolding sheetAnswer sheetEnds
@@ -155,8 +141,9 @@ module _ (bytes : List ℕ) where
       unfolding read-laid
       found = laid-records read-laid
 
-      pub judge-shape : Laid scratch₁ (t .ends) × (sheetInShape (recordsAt scratch₁ (t .ends)) ≡ true)
-      judge-shape = (read-laid, rw found (text-none .1))
+      pub judge-shape : Laid scratch₁ (t .ends) × NoneDue (shape.recordsChecks (recordsAt scratch₁ (t .ends)))
+      judge-shape =
+          (read-laid, subst (λ (r : Records). NoneDue (shape.recordsChecks r)) (sym found) (read-parts read-none .1))
 
       module _ {a : Made} (judged : a ≡ made (envOf 0 0 []) (methodOf (recordsAt scratch₁ (t .ends)))) where
         at-sheet : a ≡ made (envOf 0 0 []) (methodOf sheet)
@@ -169,8 +156,8 @@ module _ (bytes : List ℕ) where
             → m ≡ methodAnswer (Refuses k) → Judges bytes m scratch₁
         unfolding methodOf sheetRefusals
         judge-refused {k} {m} v h =
-            let f = refused-first (envOfSheet sheet) k (recordsChecks sheet) (sym verdict-of ∙ v) in
-            let g : FirstDue k (sheetRefusals bytes) = first-after (text-none .0) f in
+            let f = refused-first (envOfSheet sheet) k (loweringChecks sheet) (sym verdict-of ∙ v) in
+            let g : FirstDue k (sheetRefusals bytes) = first-after read-none f in
             record {
               answers = rw (due-refused sheet g) h;
               leaves = λ x. refused-accepted (sym (ap (λ (x : SheetMethod). x .verdict) h) ∙ x);
@@ -180,10 +167,10 @@ module _ (bytes : List ℕ) where
             → Judges bytes (record { verdict = verdict.Accepted; ends = t .ends; env = a .env }) scratch₁
         unfolding methodOf sheetRefusals read-laid
         judge-given v =
-            let n = accepted-none (envOfSheet sheet) (recordsChecks sheet) (sym verdict-of ∙ v) in
+            let n = accepted-none (envOfSheet sheet) (loweringChecks sheet) (sym verdict-of ∙ v) in
             let e : a .env ≡ envOfSheet sheet =
             ap (λ (x : Made). x .env) at-sheet ∙ ap (resultOr (envOf 0 0 [])) (due-given (envOfSheet sheet) n) in
-            let g : NoneDue (sheetRefusals bytes) = none-more (text-none .0) n in
+            let g : NoneDue (sheetRefusals bytes) = none-more read-none n in
             record {
               answers = rw (due-given sheet g, ends-are, e);
               leaves = λ x. (drop (length (wordsOf sheet)) scratch, read-laid .stored);

@@ -26,11 +26,12 @@ use Rattle.borrowing_param.specs.VisitParam as visit-param
 use Rattle.borrowing_param.specs.New as new
 use Rattle.borrowing_param.specs.BorrowMap as map
 use Rattle.borrowing_param.specs.SheetMethod as sheets
-use Rattle.borrowing_param.specs.Theorems.{EdgesByPlace, Condition3, ListingInOrder, ListingIsVisits, SheetsGiveMethods}
-use Rattle.borrowing_param.specs.Theorems.{ExamplesHold}
+use Rattle.borrowing_param.specs.Theorems.{EdgesByPlace, Condition3, ListingInOrder, MethodsAreSmall, ListingIsVisits}
+use Rattle.borrowing_param.specs.Theorems.{SheetsGiveMethods, ExamplesHold}
 use Rattle.borrowing_param.proofs.Joining.{edge-by-place}
 use Rattle.borrowing_param.proofs.Forcing.{all-visits}
 use Rattle.borrowing_param.proofs.Ordering.{listing-consistent}
+use Rattle.borrowing_param.proofs.Sizing.{method-small}
 use Rattle.borrowing_param.proofs.InTurn.{as-visited}
 use Rattle.borrowing_param.proofs.BorrowLaws.{sheet-method}
 
@@ -39,6 +40,9 @@ condition3 env structs params output force none words ps within = all-visits env
 
 pub listing-in-order : ListingInOrder
 listing-in-order v structs params none = listing-consistent v structs params none
+
+pub methods-are-small : MethodsAreSmall
+methods-are-small env structs params output force none = method-small env structs params output force none
 
 pub listing-is-visits : ListingIsVisits
 listing-is-visits env structs params output force none words = as-visited env structs params output force none words
@@ -52,63 +56,15 @@ sheets-give-methods bytes none = sheet-method bytes none
 pub examples-hold : ExamplesHold
 unfolding new.created new.newVisitor map.listedTo map.listedEdges map.answersFrom map.borrowMap visit-param.visitParam
     visit.visit visit.afterVisits brings.bring brings.anyDrawn brings.structEdges brings.notes used.usedSet
-    used.numbersOf used.inTypes used.inRows method.typeChecks method.rowChecks method.paramChecks method.anyPast
+    used.numbersOf method.typeChecks method.rowChecks method.paramChecks method.anyPast
     rows.readKnown rows.readTypes rows.readRow rows.methodInShape types.readOpaque types.readStruct types.readSlice
     types.readBare types.readLowered reading.readAll reading.inShape reading.itemsOf refusals.unless env.envOf
     env.allBelow ranges.ascending ranges.select walk.reachSet walk.traversal walk.walk walk.walkFor walk.unpushed
     walk.neighbours sets.member sets.insert sets.insertAll sets.members flatMap
-    sheets.lowerSheet sheets.sheetRefusals sheets.recordsChecks read.textChecks read.sheetOf read.sheetIn
+    sheets.lowerSheet sheets.sheetRefusals sheets.loweringChecks shape.sheetChecks read.textChecks read.sheetOf read.sheetIn
     read.linesBehind read.ten read.readLines read.behind read.allShort flatten text.text text.line text.following
     text.digits text.digitsFor
     shape.sheetInShape shapes.namesInShape shapes.allNames shapes.boundsInShape shapes.pairsOf ast-types.readType
     steps.readStep ast.nameChecks ast.allPairChecks ast.has ast.implied ast.allImplied ast.envOf ast.place
     rfc.throughout rfc.anonymous rfc.hasSelfType rfc.ownFrom
-examples-hold = (
-  (refl, (refl, tt)),
-  (
-    refl,
-    (
-      refl,
-      (
-        refl,
-        (
-          refl,
-          (
-            refl,
-            (
-              refl,
-              (
-                refl,
-                (
-                  refl,
-                  (
-                    refl,
-                    (
-                      refl,
-                      (
-                        refl,
-                        (
-                          refl,
-                          (
-                            refl,
-                            (
-                              refl,
-                              (
-                                refl,
-                                (refl, (refl, (refl, (refl, (refl, (refl, (refl, (refl, (refl, (refl, (refl, (refl, tt)))))))))))),
-                              ),
-                            ),
-                          ),
-                        ),
-                      ),
-                    ),
-                  ),
-                ),
-              ),
-            ),
-          ),
-        ),
-      ),
-    ),
-  ),
-)
+examples-hold = ((refl, (refl, tt)), (refl, (refl, (refl, (refl, (refl, (refl, (refl, (refl, (refl, (refl, (refl, (refl, (refl, (refl, (refl, (refl, (refl, (refl, (refl, (refl, (refl, (refl, (refl, (refl, (refl, (refl, (refl, (refl, (refl, (refl, (refl, tt))))))))))))))))))))))))))))))))

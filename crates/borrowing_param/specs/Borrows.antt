@@ -1,5 +1,5 @@
 -- A whole method, and a whole sheet: the used lifetimes, the answers by parameter, and the edges in listing order.
-use Prim.Native.Nat.{ℕ}
+use Prim.Native.Nat.{ℕ, _*_}
 use mathlib.Core.Path.{_≡_}
 use mathlib.Core.List.{List, [], _∷_, _++_, flatMap}
 use lib.ListN.{length}
@@ -8,6 +8,7 @@ use Rattle.lifetimes.specs.declared.env.LifetimeEnv.{LifetimeEnv}
 use Rattle.lifetimes.specs.Refusals.{Check, Outcome, Gives, Refuses, unless, over}
 use Rattle.lifetimes.specs.Lent.{Slice, Fills, roomCheck}
 use Rattle.hir_types.specs.Method.{typesIn, methodChecks}
+use Rattle.hir_types.specs.Used.{mostUsed}
 use Rattle.sheet.specs.Text.{Records}
 use Rattle.sheet.specs.Reading.{sheetOf}
 use Rattle.borrowing_param.specs.declared.borrows.Borrows as answer
@@ -40,12 +41,16 @@ borrowsOf env structs params output force = borrowsBy (created env structs param
 abbrev pub sheetBorrows : Records → Borrows
 sheetBorrows r = borrowsOf (envOfSheet r) (r .structs) (r .params) (r .output) (r .force)
 
+-- how many edges a method has at most: to each of its used lifetimes one from each of 16 words of 16 parameters
+abbrev pub mostListed : ℕ
+mostListed = mostUsed * (16 * 16)
+
 -- a slice too short (9)
 abbrev pub roomChecks : Borrows → ℕ → ℕ → ℕ → List Check
 roomChecks b used answers edges =
     roomCheck used (b .used) ∷ roomCheck answers (b .answers) ∷ roomCheck edges (flatMap edgeWords (b .edges)) ∷ []
 
--- `borrow_method`: refused as the method is (1, 4, 7, 8), then by 9
+-- `borrow_method`: refused as the method is (1, 13, 4, 7, 8), then by 9
 unfoldable pub borrowMethod : LifetimeEnv → List ℕ → List ℕ → List ℕ → List ℕ → ℕ → ℕ → ℕ → Outcome Borrows
 borrowMethod env structs params output force used answers edges =
     unless
@@ -53,7 +58,7 @@ borrowMethod env structs params output force used answers edges =
     ++ roomChecks (borrowsOf env structs params output force) used answers edges)
     (borrowsOf env structs params output force)
 
--- `borrow_sheet`: refused as the sheet is (10, 1, then 2 to 7 by place, 8), then by 9
+-- `borrow_sheet`: refused as the sheet is (10, 1, 13, then 2 to 7 by place, 8), then by 9
 unfoldable pub borrowSheet : List ℕ → ℕ → ℕ → ℕ → Outcome Borrows
 borrowSheet bytes used answers edges =
     unless (sheetRefusals bytes ++ roomChecks (sheetBorrows (sheetOf bytes)) used answers edges)

@@ -12,7 +12,7 @@ use Rattle.sheet.specs.Reading.{sheetOf}
 use Rattle.borrowing_param.specs.declared.method.SheetMethod.{SheetMethod}
 use Rattle.borrowing_param.specs.declared.visitor.BorrowingParamVisitor.{BorrowingParamVisitor}
 use Rattle.borrowing_param.specs.Borrows.{Borrows, borrowsBy, roomChecks}
-use Rattle.borrowing_param.specs.SheetMethod.{envOfSheet, recordsChecks, sheetRefusals, methodAnswer}
+use Rattle.borrowing_param.specs.SheetMethod.{envOfSheet, loweringChecks, sheetRefusals, methodAnswer}
 
 abbrev pub records : List ℕ → List ℕ → List ℕ → List ℕ → List ℕ → List ℕ → List ℕ → List ℕ → List ℕ → List ℕ → Records
 records names bounds types self steps returns structs params output force =
@@ -29,9 +29,9 @@ records names bounds types self steps returns structs params output force =
       force = force;
     }
 
--- the environment of ten records
+-- the environment of ten records that were read
 unfoldable pub methodOf : Records → Outcome LifetimeEnv
-methodOf r = unless (recordsChecks r) (envOfSheet r)
+methodOf r = unless (loweringChecks r) (envOfSheet r)
 
 -- the answer is the method's or its refusal; with it the words of the records stand in front of the scratch
 pub record Judges (bytes : List ℕ) (m : SheetMethod) (scratch : List ℕ) : Type 0 where

@@ -1,10 +1,9 @@
 -- A sheet's *method* (01's word): its environment beside the records structs, params, output and force; and the
--- refusals of a sheet, one list in 01's order.
+-- refusals of a sheet, one list in the papers' order.
 use Prim.Native.Nat.{ℕ}
-use mathlib.Core.Bool.{not}
 use mathlib.Core.List.{List, [], _∷_, _++_}
 use lib.ListN.{replicate}
-use Rattle.lifetimes.specs.declared.answer.Refusal.the-variants.{Malformed, OutOfRange}
+use Rattle.lifetimes.specs.declared.answer.Refusal.the-variants.{OutOfRange}
 use Rattle.lifetimes.specs.declared.answer.Verdict.the-variants as verdict
 use Rattle.lifetimes.specs.declared.env.LifetimeEnv.{LifetimeEnv}
 use Rattle.lifetimes.specs.Refusals.{Check, check, Outcome, Gives, Refuses, unless, over}
@@ -16,10 +15,10 @@ use Rattle.elision.specs.Rfc as rfc
 use Rattle.elision.specs.Lowering.{finished}
 use Rattle.hir_types.specs.Method.{placeChecks, outputLifetimes, anyPast}
 use Rattle.sheet.specs.Text.{Records, lists, wordsOf}
-use Rattle.sheet.specs.Reading.{sheetOf, textChecks}
+use Rattle.sheet.specs.Reading.{sheetOf}
 use Rattle.lifetimes.specs.Reach.{endsFrom}
 use Rattle.sheet.specs.Answer.{withRoom}
-use Rattle.sheet.specs.Shape.{sheetInShape}
+use Rattle.sheet.specs.Shape.{sheetChecks}
 use Rattle.borrowing_param.specs.declared.method.SheetMethod.{SheetMethod}
 
 -- what RFC 141 says of the records self, steps and returns
@@ -34,19 +33,18 @@ astEnvOf r = ast.envOf (ast.allNamesOf (r .names)) (ast.methodBounds (r .names) 
 abbrev pub envOfSheet : Records → LifetimeEnv
 envOfSheet r = finished (astEnvOf r) (loweredOf r .count)
 
--- 1 over all ten records; then by place: names, bounds and types (2, 3, 4); self, steps and returns (3, 4, 5, 6);
+-- Of records that were read, by place: names, bounds and types (2, 3, 4); self, steps and returns (3, 4, 5, 6);
 -- structs, params and output (4, 7); then a lifetime of the output that there is not (8)
-unfoldable pub recordsChecks : Records → List Check
-recordsChecks r =
-    check (not (sheetInShape r)) Malformed
-    ∷ (ast.placeChecks (r .names) (r .bounds) (r .types)
+unfoldable pub loweringChecks : Records → List Check
+loweringChecks r =
+    ast.placeChecks (r .names) (r .bounds) (r .types)
     ++ (rfc.methodChecks (ast.allNamesOf (r .names)) (receiverOf (r .self)) (stepsOf (r .steps)) (stepsOf (r .returns))
     ++ (placeChecks (r .structs) (r .params) (r .output)
-    ++ (check (anyPast (loweredOf r .count) (outputLifetimes (r .structs) (r .output))) OutOfRange ∷ []))))
+    ++ (check (anyPast (loweredOf r .count) (outputLifetimes (r .structs) (r .output))) OutOfRange ∷ [])))
 
--- before them the text: 10, then 1 for a record above 1,024 words
+-- before them the reader's: 10, 1 over all records, 13
 unfoldable pub sheetRefusals : List ℕ → List Check
-sheetRefusals bytes = textChecks bytes ++ recordsChecks (sheetOf bytes)
+sheetRefusals bytes = sheetChecks bytes ++ loweringChecks (sheetOf bytes)
 
 -- `lower_sheet`: last 9, a slice too short for the words of the records
 unfoldable pub lowerSheet : List ℕ → ℕ → Outcome Records

@@ -14,7 +14,7 @@ use Rattle.lifetimes.specs.Refusals.{Gives, NoneDue}
 use Rattle.lifetimes.specs.Sets.{empty}
 use Rattle.lifetimes.specs.Env.{boundsOf}
 use Rattle.hir_types.specs.Method.{typesIn, structsAndParamsChecks, methodChecks}
-use Rattle.hir_types.specs.Used.{usedSet}
+use Rattle.hir_types.specs.Used.{usedSet, mostUsed}
 use Rattle.sheet.specs.Reading.{sheetOf}
 use Rattle.borrowing_param.specs.declared.edges.EdgeAt.the-variants.{Edge}
 use Rattle.borrowing_param.specs.declared.visitor.ParamBorrowInfo.{ParamBorrowInfo}
@@ -27,6 +27,7 @@ use Rattle.borrowing_param.specs.VisitParam.{typeAt, visitParam}
 use Rattle.borrowing_param.specs.Visits.{Visits}
 use Rattle.borrowing_param.specs.New.{created}
 use Rattle.borrowing_param.specs.BorrowMap.{listedTo, listedEdges, answersFrom}
+use Rattle.borrowing_param.specs.Borrows.{Borrows, borrowsOf, mostListed}
 use Rattle.borrowing_param.specs.Consistent.{Consistent}
 use Rattle.borrowing_param.specs.Condition3.{Above, Param}
 use Rattle.borrowing_param.specs.SheetMethod.{envOfSheet, sheetRefusals}
@@ -75,6 +76,16 @@ Condition3 =
 abbrev pub ListingInOrder : Type 0
 ListingInOrder = (v : BorrowingParamVisitor) (structs params : List ℕ) → NoneDue (structsAndParamsChecks structs params)
     → Consistent (usedOf v) (answersFrom v 0 (typesIn structs params)) (listedEdges v (typesIn structs params))
+
+-- and small, of every method on which no refusal is due, so that memory can be sized by it: `Consistent`, which holds
+-- of any visitor, allows 64 used lifetimes and 16,384 edges
+pub record Small (b : Borrows) : Type 0 where
+  pub few-used : length (b .used) ≤ mostUsed
+  pub few-edges : length (b .edges) ≤ mostListed
+
+abbrev pub MethodsAreSmall : Type 0
+MethodsAreSmall = (env : LifetimeEnv) (structs params output force : List ℕ)
+    → NoneDue (methodChecks env structs params output force) → Small (borrowsOf env structs params output force)
 
 -- The listing and the visits. For every method on which no refusal is due, with its new visitor v: a visit to each
 -- parameter, one after another, gives what `borrow_map` lists

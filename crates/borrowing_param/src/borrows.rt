@@ -7,7 +7,9 @@ ghost use Rattle.lifetimes.specs.Refusals.{Refuses};
 ghost use Rattle.lifetimes.specs.Lent.{held, room, left};
 ghost use Rattle.sheet.specs.Inner.{Roomy};
 ghost use Rattle.borrowing_param.specs.Edges.{edgesIn};
+ghost use Rattle.hir_types.specs.Used.{mostUsed};
 ghost use Rattle.borrowing_param.specs.Borrows.{borrowMethod, borrowSheet, borrowsAnswer, BorrowsTo};
+ghost use Rattle.borrowing_param.specs.Borrows.{mostListed};
 ghost use Rattle.borrowing_param.specs.Consistent.{Consistent};
 ghost use Rattle.borrowing_param.specs.InnerSheet.{OfMethod, borrowBy};
 use super::method::judge_sheet;
@@ -27,9 +29,9 @@ pub struct Borrows {
 }
 
 // What a sheet's wrapper has to hold on to: the used lifetimes, ascending, to the first slice; the number of each
-// parameter's answer to the second; the edges, in listing order, to the third. Refused in the scope paper's order: 10;
-// 1 over all records; 2 to 7 at the first bad place; 8; then 9 where a slice is too short. 64, 16 and 81,920 words are
-// always enough.
+// parameter's answer to the second; the edges, in listing order, to the third. Refused in the papers' order: 10; 1 over
+// all records; 13 for 1 in `force`; 2 to 7 at the first bad place; 8; then 9 where a slice is too short. 34, 16 and
+// 43,520 words are always enough.
 pub fn borrow_sheet(
     sheet: &[u8],
     used: &mut [usize],
@@ -40,6 +42,7 @@ pub fn borrow_sheet(
         r used answers edges ⌝ }
     ensures consistent { λ r. ⌜ (r .verdict ≡ Verdict.Accepted → Consistent (take (r .used) (left used))
         (take (r .params) (left answers)) (edgesIn (r .edges) (left edges))) ⌝ }
+    ensures few { λ r. ⌜ (r .used ≤ mostUsed) × (r .edges ≤ mostListed) ⌝ }
 {
     if sheet.len() <= 1024 {
         return borrow_small(sheet, used, answers, edges);
@@ -106,8 +109,8 @@ fn borrow_within(
     )
 }
 
-// The same of a method made by hand, from its environment and its records. Refused as the method is (1, 4, 7, 8), then
-// by 9.
+// The same of a method made by hand, from its environment and its records. Refused as the method is (1, 13, 4, 7, 8),
+// then by 9.
 pub fn borrow_method(
     env: LifetimeEnv,
     structs: &[usize],

@@ -1,16 +1,15 @@
-// A sheet's method: bytes to an environment and ten records, refused in the scope paper's order.
+// A sheet's method: bytes to an environment and ten records, refused in the papers' order.
 //
 // A refused call writes nothing, so the words are judged in scratch. It has two sizes, so that a small sheet does not
 // pay for a large one.
 ghost use Prim.Native.Nat.{_≤_};
-ghost use mathlib.Core.Bool.{true};
 ghost use mathlib.Core.Path.{_≡_};
 ghost use mathlib.Core.List.{[]};
 ghost use lib.ListN.{length};
-ghost use Rattle.lifetimes.specs.Refusals.{Refuses};
+ghost use Rattle.lifetimes.specs.Refusals.{Refuses, NoneDue};
 ghost use Rattle.lifetimes.specs.Lent.{held, room, left, Fills};
 ghost use Rattle.lifetimes.specs.Env.{envOf, made};
-ghost use Rattle.sheet.specs.Shape.{sheetInShape};
+ghost use Rattle.sheet.specs.Shape.{recordsChecks};
 ghost use Rattle.sheet.specs.Inner.{Laid, recordsAt, Roomy};
 ghost use Rattle.borrowing_param.specs.SheetMethod.{lowerSheet, methodAnswer, methodWords};
 ghost use Rattle.borrowing_param.specs.InnerSheet.{records, methodOf, Judges};
@@ -34,8 +33,8 @@ pub struct SheetMethod {
 }
 
 // Read a sheet, lower its lifetimes and judge its method. The words of its ten records are written to a slice, one
-// record after another (`sheet::record_words` finds each). Refused in the scope paper's order: 10; 1 over all records;
-// 2 to 7 at the first bad place; 8; then 9 where the slice is too short. 10,240 words are always enough.
+// record after another (`sheet::record_words` finds each). Refused in the papers' order: 10; 1 over all records; 13 for
+// 1 in `force`; 2 to 7 at the first bad place; 8; then 9 where the slice is too short. 10,240 words are always enough.
 pub fn lower_sheet(sheet: &[u8], words: &mut [usize]) -> SheetMethod
     ensures answer { λ r. ⌜ r ≡ methodAnswer (lowerSheet (held sheet) (room words)) ⌝ }
     ensures stored { λ _. ⌜ Fills (methodWords (lowerSheet (held sheet) (room words))) words ⌝ }
@@ -106,9 +105,10 @@ pub(crate) fn judge_sheet(sheet: &[u8], scratch: &mut [usize]) -> SheetMethod
     }
 }
 
-// The environment of records in shape whose words stand one record after another, or the first refusal due on them.
+// The environment of records that were read, whose words stand one record after another, or the first refusal due on
+// them.
 fn lower_laid(words: &[usize], ends: [usize; 10]) -> Made
-    requires { ⌜ Laid (now words) ends × (sheetInShape (recordsAt (now words) ends) ≡ true) ⌝ }
+    requires { ⌜ Laid (now words) ends × NoneDue (recordsChecks (recordsAt (now words) ends)) ⌝ }
     ensures { λ r. ⌜ r ≡ made (envOf 0 0 []) (methodOf (recordsAt (held words) ends)) ⌝ }
 {
     lower_records(
@@ -138,9 +138,9 @@ fn lower_records(
     output: &[usize],
     force: &[usize],
 ) -> Made
-    requires { ⌜ sheetInShape
+    requires { ⌜ NoneDue (recordsChecks
         (records (now names) (now bounds) (now types) (now receiver) (now steps) (now returns) (now structs)
-        (now params) (now output) (now force)) ≡ true ⌝ }
+        (now params) (now output) (now force))) ⌝ }
     ensures { λ r. ⌜ r
         ≡ made (envOf 0 0 [])
         (methodOf

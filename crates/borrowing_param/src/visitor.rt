@@ -69,7 +69,7 @@ impl BorrowingParamVisitor {
     pub const EDGE_WORDS: usize = 5;
 
     // A visitor of a method, from its environment and its records: its used lifetimes, what draws an edge to each of
-    // them, and no edges. Refused as the method is (1, 4, 7, 8).
+    // them, and no edges. Refused as the method is (1, 13, 4, 7, 8).
     pub fn new(
         env: LifetimeEnv,
         structs: &[usize],

@@ -13,11 +13,12 @@ use Rattle.sheet.specs.Reading.{sheetOf}
 use Rattle.borrowing_param.specs.Edges.{edgeWords}
 use Rattle.borrowing_param.specs.New.{created}
 use Rattle.borrowing_param.specs.Consistent.{Consistent}
+use Rattle.borrowing_param.specs.Theorems.{Small}
 use Rattle.borrowing_param.specs.SheetMethod.{envOfSheet, sheetRefusals}
 use Rattle.borrowing_param.specs.Borrows.{Borrows, sheetBorrows, roomChecks}
 use Rattle.borrowing_param.proofs.Joining.{words-many}
 use Rattle.borrowing_param.proofs.Forcing.{params-none}
-use Rattle.borrowing_param.proofs.Theorems.{listing-in-order, sheets-give-methods}
+use Rattle.borrowing_param.proofs.Theorems.{listing-in-order, methods-are-small, sheets-give-methods}
 use Rattle.exports.specs.Calls.{countWords}
 
 -- further checks of which none is due, if none of the first is
@@ -43,12 +44,17 @@ module _ (bytes : List ℕ) where
       (sheet .structs) (sheet .params)
       (params-none (envOfSheet sheet) (sheet .structs) (sheet .params) (sheet .output) (sheet .force) (sheets-give-methods bytes n))
 
-  pub room : (used answers edges counts : ℕ) → 64 ≤ used → 16 ≤ answers → 81920 ≤ edges → 3 ≤ counts → NoneDue (sheetRefusals bytes)
+  small : NoneDue (sheetRefusals bytes) → Small all
+  small n =
+      methods-are-small (envOfSheet sheet) (sheet .structs) (sheet .params) (sheet .output) (sheet .force)
+      (sheets-give-methods bytes n)
+
+  pub room : (used answers edges counts : ℕ) → 34 ≤ used → 16 ≤ answers → 43520 ≤ edges → 3 ≤ counts → NoneDue (sheetRefusals bytes)
       → NoneDue (roomChecks all used answers edges ++ (roomCheck counts (countWords all) ∷ []))
   room used answers edges counts a b c d n =
-      let k = consistent n in
+      let k = small n in
       let u : length (all .used) ≤ used = omega (arith, k .few-used, a) in
-      let p : length (all .answers) ≤ answers = omega (arith, k .few-params, b) in
+      let p : length (all .answers) ≤ answers = omega (arith, consistent n .few-params, b) in
       let e : length (flatMap edgeWords (all .edges)) ≤ edges = omega (arith, k .few-edges, words-many (all .edges), c) in
       next (le-ltb used (length (all .used)) u)
       (next (le-ltb answers (length (all .answers)) p)

@@ -6,7 +6,7 @@ use native.Mathlib.Omega.{arith}
 use borrow.Author.Tests.{le-ltb}
 use lib.ListN.{length}
 use Rattle.lifetimes.specs.declared.answer.Refusal.the-variants.{Malformed, Duplicate, Undeclared, Full, NoSource}
-use Rattle.lifetimes.specs.declared.answer.Refusal.the-variants.{Ambiguous, Mismatch, OutOfRange, NoRoom, Unreadable}
+use Rattle.lifetimes.specs.declared.answer.Refusal.the-variants.{Ambiguous, Mismatch, OutOfRange, NoRoom, Unreadable, Retired}
 use Rattle.lifetimes.specs.Refusals.{next, end}
 use Rattle.lifetimes.specs.Lent.{roomCheck}
 use Rattle.sheet.specs.Reading.{sheetOf}
@@ -47,3 +47,4 @@ status-tells Mismatch = (omega arith, omega arith)
 status-tells OutOfRange = (omega arith, omega arith)
 status-tells NoRoom = (omega arith, omega arith)
 status-tells Unreadable = (omega arith, omega arith)
+status-tells Retired = (omega arith, omega arith)

@@ -18,9 +18,9 @@ BytesEnough = (bytes : List ℕ) (room words : ℕ) → 131072 ≤ room → 1 �
 
 -- and the other call has no 9
 abbrev pub WordsEnough : Type 0
-WordsEnough = (bytes : List ℕ) (used answers edges counts : ℕ) → 64 ≤ used → 16 ≤ answers → 81920 ≤ edges → 3 ≤ counts
+WordsEnough = (bytes : List ℕ) (used answers edges counts : ℕ) → 34 ≤ used → 16 ≤ answers → 43520 ≤ edges → 3 ≤ counts
     → sheetTo bytes used answers edges counts ≡ unless (sheetRefusals bytes) (sheetBorrows (sheetOf bytes))
 
--- A status of 0 is never that of a refusal, and none is above 10
+-- A status of 0 is never that of a refusal, and none is above 13
 abbrev pub StatusTells : Type 0
-StatusTells = (r : Refusal) → (1 ≤ numberOf r) × (numberOf r ≤ 10)
+StatusTells = (r : Refusal) → (1 ≤ numberOf r) × (numberOf r ≤ 13)

@@ -13,8 +13,8 @@ use lifetimes::Verdict;
 
 // Write a sheet's used lifetimes, ascending, to the first slice; the number of each parameter's answer to the second;
 // the edges, five words each in listing order, to the third; and to the fourth how many lifetimes, parameters and edges
-// these are. Refused as the sheet is (10; 1 over all records; 2 to 7 at the first bad place; 8), then by 9 where a
-// slice is too short. 64, 16, 81,920 and 3 words are always enough.
+// these are. Refused as the sheet is (10; 1 over all records; 13; 2 to 7 at the first bad place; 8), then by 9 where a
+// slice is too short. 34, 16, 43,520 and 3 words are always enough.
 #[no_mangle]
 pub extern "C" fn borrows_sheet(
     sheet: &[u8],

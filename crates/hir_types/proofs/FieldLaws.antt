@@ -347,14 +347,14 @@ pub compute-other : {structs : List ℕ} {row field : ℕ} → structsInShape st
 unfolding fieldPairs unless
 compute-other shape (other h) = rw (shape, h)
 
--- a field that is a struct, and the index of the rows
-pub record Indexed (structs : List ℕ) (row field inner from count : ℕ) (lifetimes places : List ℕ) (v : Verdict) : Type 0 where
+-- a field that is a struct, and the rows that were checked
+pub record Indexed (structs : List ℕ) (row field inner from count : ℕ) (lifetimes : List ℕ) (v : Verdict) : Type 0 where
   pub shape : structsInShape structs ≡ true
   pub asked : FieldIs structs row field (aField.Struct inner from count)
-  pub index : Indexes structs lifetimes places v
+  pub index : Indexes structs lifetimes v
 
-module _ {structs : List ℕ} {row field inner from count : ℕ} {lifetimes places : List ℕ} {v : Verdict}
-    (x : Indexed structs row field inner from count lifetimes places v) where
+module _ {structs : List ℕ} {row field inner from count : ℕ} {lifetimes : List ℕ} {v : Verdict}
+    (x : Indexed structs row field inner from count lifetimes v) where
   asked : (fieldAt (rowsOf structs) row field .kind ≡ Struct inner) × (inner < row)
       × (length (fieldAt (rowsOf structs) row field .path) ≤ 16)
       × (take count (drop from structs) ≡ fieldAt (rowsOf structs) row field .path)

@@ -1,4 +1,4 @@
--- The index of the rows: the loop of `index_rows`.
+-- The rows that were checked: the loop of `index_rows`.
 use Prim.Native.Nat.{ℕ, suc, _+_, _-_, _≤_, _<_}
 use mathlib.Core.Bool.{true}
 use mathlib.Core.Path.{_≡_, refl, sym, _∙_}
@@ -20,33 +20,31 @@ use Rattle.lowered_types.specs.Rows.{Row, rowWith, readRow, rowsOf, structsInSh
 use Rattle.hir_types.specs.declared.fits.Fit.{Fit}
 use Rattle.hir_types.specs.declared.fits.Fit.the-variants.{To, Misfit}
 use Rattle.hir_types.specs.Method.{rowAt, typeChecks, rowChecks}
-use Rattle.hir_types.specs.Inner.{Holding, TypesFit, RowStands, Placed, Indexes}
+use Rattle.hir_types.specs.Inner.{Holding, TypesFit, Indexes}
 use Rattle.hir_types.proofs.PassLaws.{Items, items-start, NextItem, items-next, RowParts, row-parts}
 use Rattle.hir_types.proofs.FitLaws.{fit-goes, fit-stops}
 
--- the rows that are left to check, and what the arrays hold of those that were
-pub record Indexing (structs lifetimes places : List ℕ) (at number : ℕ) : Type 0 where
+-- the rows that are left to check, and what the array holds of those that were
+pub record Indexing (structs lifetimes : List ℕ) (at number : ℕ) : Type 0 where
   pub steps : ℕ
   pub items : Items readRow number steps (drop at structs) (drop number (rowsOf structs))
   pub same : judged (rowChecks (rowsOf structs) 0 (rowsOf structs))
       ≡ judged (rowChecks (rowsOf structs) number (drop number (rowsOf structs)))
-  pub sizes : (length lifetimes ≡ 32) × (length places ≡ 32)
+  pub size : length lifetimes ≡ 32
   pub few : number ≤ 32
   pub before : number ≤ length (rowsOf structs)
   pub holding : Holding (rowsOf structs) number lifetimes
-  pub placed : Placed structs number places
 
-pub indexing-start : (structs lifetimes places : List ℕ) → structsInShape structs ≡ true
-    → (length lifetimes ≡ 32) × (length places ≡ 32) → Indexing structs lifetimes places 0 0
-indexing-start structs lifetimes places e s = record {
+pub indexing-start : (structs lifetimes : List ℕ) → structsInShape structs ≡ true → length lifetimes ≡ 32
+    → Indexing structs lifetimes 0 0
+indexing-start structs lifetimes e s = record {
   steps = length structs;
   items = items-start readRow structs e;
   same = refl;
-  sizes = s;
+  size = s;
   few = omega arith;
   before = omega arith;
   holding = λ row h. absurd (omega arith);
-  placed = λ row h. absurd (omega arith);
 }
 
 -- one more entry
@@ -58,22 +56,14 @@ holding-set rows number value lifetimes size h e k row l =
     (λ m. getD-set-other lifetimes number row value 0 (λ q. omega arith) ∙ k row m)
     (eq-or-lt-of-le {n = row} {m = number} (omega arith))
 
-placed-set : (structs : List ℕ) (number value : ℕ) (places : List ℕ) → length places ≡ 32 → number < 32
-    → RowStands structs number value → Placed structs number places
-    → Placed structs (number + 1) (set places number value)
-placed-set structs number value places size h e k row l =
-    ⊎-elim (λ q. rw (q, getD-set-same places number value 0 (omega arith)) e)
-    (λ m. rw (getD-set-other places number row value 0 (λ q. omega arith)) (k row m))
-    (eq-or-lt-of-le {n = row} {m = number} (omega arith))
-
--- a refusal beside any arrays
-refused-index : (structs lifetimes places : List ℕ) {r : Verdict} → (length lifetimes ≡ 32) × (length places ≡ 32)
+-- a refusal beside any array
+refused-index : (structs lifetimes : List ℕ) {r : Verdict} → length lifetimes ≡ 32
     → r ≡ judged (rowChecks (rowsOf structs) 0 (rowsOf structs))
-    → (r ≡ Accepted → ⊥) → Indexes structs lifetimes places r
-refused-index structs lifetimes places s e n =
-    record { verdict = e; sizes = s; few = λ k. absurd (n k); holding = λ k. absurd (n k); placed = λ k. absurd (n k) }
+    → (r ≡ Accepted → ⊥) → Indexes structs lifetimes r
+refused-index structs lifetimes s e n =
+    record { verdict = e; size = s; few = λ k. absurd (n k); holding = λ k. absurd (n k) }
 
-module _ {structs lifetimes places : List ℕ} {at number : ℕ} (inv : Indexing structs lifetimes places at number) where
+module _ {structs lifetimes : List ℕ} {at number : ℕ} (inv : Indexing structs lifetimes at number) where
   module _ (h : number < length (rowsOf structs)) where
     rows-next : drop number (rowsOf structs) ≡ rowAt (rowsOf structs) number ∷ drop (number + 1) (rowsOf structs)
     rows-next = rw add-one (drop-cons (rowsOf structs) number (rowWith 0 []) h)
@@ -88,20 +78,20 @@ module _ {structs lifetimes places : List ℕ} {at number : ℕ} (inv : Indexing
     pub row-here : at + 1 < length structs
     row-here = parts .here
 
-    pub indexing-full : 32 ≤ number → Indexes structs lifetimes places (Refused Full)
+    pub indexing-full : 32 ≤ number → Indexes structs lifetimes (Refused Full)
     unfolding rowChecks unless
     indexing-full k =
-        refused-index structs lifetimes places (inv .sizes)
+        refused-index structs lifetimes (inv .size)
         (sym (inv .same ∙ rw (rows-next, le-leb 32 number k)))
         (λ e. refused-accepted e)
 
     module _ (k : number < 32) where
-      sizes₁ : (length (set lifetimes number (getD structs at 0)) ≡ 32) × (length (set places number at) ≡ 32)
-      sizes₁ = (length-set lifetimes number (getD structs at 0) ∙ inv .sizes .0, length-set places number at ∙ inv .sizes .1)
+      size₁ : length (set lifetimes number (getD structs at 0)) ≡ 32
+      size₁ = length-set lifetimes number (getD structs at 0) ∙ inv .size
 
       holding₁ : Holding (rowsOf structs) (number + 1) (set lifetimes number (getD structs at 0))
       holding₁ =
-          holding-set (rowsOf structs) number (getD structs at 0) lifetimes (inv .sizes .0) k (sym (parts .lifetimes))
+          holding-set (rowsOf structs) number (getD structs at 0) lifetimes (inv .size) k (sym (parts .lifetimes))
           (inv .holding)
 
       judged-row : judged (rowChecks (rowsOf structs) 0 (rowsOf structs))
@@ -112,9 +102,9 @@ module _ {structs lifetimes places : List ℕ} {at number : ℕ} (inv : Indexing
 
       module _ {r : Fit} (f : TypesFit structs (at + 2) (getD structs (at + 1) 0) (set lifetimes number (getD structs at 0)) r) where
         pub indexing-stops : r ≡ Misfit
-            → Indexes structs (set lifetimes number (getD structs at 0)) (set places number at) (Refused Mismatch)
+            → Indexes structs (set lifetimes number (getD structs at 0)) (Refused Mismatch)
         indexing-stops e =
-            refused-index structs (set lifetimes number (getD structs at 0)) (set places number at) sizes₁
+            refused-index structs (set lifetimes number (getD structs at 0)) size₁
             (sym (judged-row
             ∙ judged-stays (typeChecks (rowsOf structs) (rowAt (rowsOf structs) number .fields))
             (rowChecks (rowsOf structs) (suc number) (drop (number + 1) (rowsOf structs)))
@@ -124,7 +114,7 @@ module _ {structs lifetimes places : List ℕ} {at number : ℕ} (inv : Indexing
             (λ e. refused-accepted e)
 
         pub indexing-more : {place : ℕ} → r ≡ To place
-            → Indexing structs (set lifetimes number (getD structs at 0)) (set places number at) place (number + 1)
+            → Indexing structs (set lifetimes number (getD structs at 0)) place (number + 1)
         indexing-more {place} e =
             let g = fit-goes
             (f (rowsOf structs) number (rowAt (rowsOf structs) number .fields) (next .behind) (omega arith)
@@ -136,22 +126,19 @@ module _ {structs lifetimes places : List ℕ} {at number : ℕ} (inv : Indexing
                   ∙ judged-after (typeChecks (rowsOf structs) (rowAt (rowsOf structs) number .fields))
                   (rowChecks (rowsOf structs) (suc number) (drop (number + 1) (rowsOf structs))) (g .accepted)
                   ∙ rw (add-one number);
-              sizes = sizes₁;
+              size = size₁;
               few = omega arith;
               before = omega arith;
               holding = holding₁;
-              placed = placed-set structs number at places (inv .sizes .1) k
-                  (record { rest = next .behind; reads = next .first; here = parts .here }) (inv .placed);
             }
 
-  pub indexing-end : length (rowsOf structs) ≤ number → Indexes structs lifetimes places Accepted
+  pub indexing-end : length (rowsOf structs) ≤ number → Indexes structs lifetimes Accepted
   unfolding rowChecks unless
   indexing-end h =
       let z : number ≡ length (rowsOf structs) = omega (arith, inv .before) in
       record {
         verdict = sym (inv .same ∙ rw (drop-of-length-le (rowsOf structs) {i = number} h));
-        sizes = inv .sizes;
+        size = inv .size;
         few = λ e. omega (arith, inv .few);
         holding = λ e row l. inv .holding row (omega arith);
-        placed = λ e row l. inv .placed row (omega arith);
       }

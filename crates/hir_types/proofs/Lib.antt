@@ -4,10 +4,8 @@ pub mod FitLaws
 pub mod CollectLaws
 pub mod IndexLaws
 pub mod MethodLaws
-pub mod ForceLaws
 pub mod UsedLaws
 pub mod FieldLaws
-pub mod FoundByForceLaws
 pub mod UsedAre
 pub mod PairsAre
 -- The main theorems:

@@ -2,7 +2,6 @@
 use mathlib.Core.Path.{refl}
 use mathlib.Core.List as list
 use Rattle.lifetimes.specs.Refusals as refusals
-use Rattle.lifetimes.specs.Ranges as ranges
 use Rattle.lifetimes.specs.Sets as sets
 use Rattle.lifetimes.specs.Env as env
 use Rattle.records.specs.Reading as reading
@@ -11,19 +10,22 @@ use Rattle.lowered_types.specs.Rows as rows
 use Rattle.hir_types.specs.Method as method
 use Rattle.hir_types.specs.Used as used
 use Rattle.hir_types.specs.Fields as fields
-use Rattle.hir_types.specs.Theorems.{UsedLifetimesAre, FieldPairsAre, ExamplesHold}
-use Rattle.hir_types.proofs.UsedAre.{used-are}
+use Rattle.hir_types.specs.Theorems.{UsedLifetimesAre, ForceIsRetired, FieldPairsAre, ExamplesHold}
+use Rattle.hir_types.proofs.UsedAre.{used-are, force-is-refused}
 use Rattle.hir_types.proofs.PairsAre.{pairs-are}
 
 pub used-lifetimes-are : UsedLifetimesAre
 used-lifetimes-are = used-are
 
+pub force-is-retired : ForceIsRetired
+force-is-retired = force-is-refused
+
 pub field-pairs-are : FieldPairsAre
 field-pairs-are = pairs-are
 
 pub examples-hold : ExamplesHold
-unfolding used.usedSet used.numbersOf used.inTypes used.inRows fields.fieldPairs fields.pairsFrom method.typeChecks
+unfolding used.usedSet used.numbersOf fields.fieldPairs fields.pairsFrom method.typeChecks
     method.rowChecks method.paramChecks method.anyPast rows.readKnown rows.readTypes rows.readRow rows.methodInShape
     types.readOpaque types.readStruct types.readSlice types.readBare types.readLowered reading.readAll reading.inShape
-    reading.itemsOf refusals.unless ranges.select sets.insert sets.insertAll env.allBelow env.envOf list.flatMap
-examples-hold = (refl, (refl, (refl, (refl, (refl, (refl, (refl, (refl, (refl, tt)))))))))
+    reading.itemsOf refusals.unless sets.insert sets.insertAll env.allBelow env.envOf list.flatMap
+examples-hold = (refl, (refl, (refl, (refl, (refl, (refl, (refl, (refl, (refl, (refl, (refl, (refl, (refl, tt)))))))))))))

@@ -1,67 +1,126 @@
--- The used lifetimes of a method that is not refused are those of its output and those found by force.
-use Prim.Native.Nat.{ℕ}
-use mathlib.Core.Bool.{Bool, true, false, cond}
-use mathlib.Core.Path.{_≡_, refl}
-use mathlib.Core.Logic.{⊎-elim, inl, inr}
-use mathlib.Core.List.{List, [], List·Memᴰ, List·Memᴰ·not-nil, List·Memᴰ·append-cases, Memᴰ·append-left}
-use mathlib.Core.List.{Memᴰ·append-right}
-use lib.ListN.{length}
-use borrow.Author.Tests.{not-false}
-use Rattle.lifetimes.specs.declared.env.LifetimeEnv.{LifetimeEnv}
+-- The used lifetimes of a method that is not refused are those of its output, and few; with 1 in `force` it is refused.
+use Prim.Native.Nat.{ℕ, zero, suc, _*_, _≤_}
+use mathlib.Core.Bool.{true, not, and-eq-true-iff}
+use mathlib.Core.Path.{_≡_, refl, ap}
+use mathlib.Core.Logic.{⊎-elim}
+use mathlib.Core.List.{List, [], _∷_, map, flatMap, List·Memᴰ, List·Memᴰ·head, List·Memᴰ·tail, List·Memᴰ·cases-cons}
+use mathlib.Core.List.{List·Memᴰ·not-nil}
+use native.Mathlib.Omega.{arith}
+use lib.ListN.{length, length-append, length-map}
+use borrow.Author.Tests.{leb-true, not-false}
+use Rattle.lifetimes.specs.declared.answer.Refusal.the-variants.{Malformed, Retired}
+use Rattle.lifetimes.specs.declared.maybe_static.MaybeStatic.{MaybeStatic}
+use Rattle.lifetimes.specs.declared.maybe_static.MaybeStatic.the-variants.{Static, NonStatic}
+use Rattle.lifetimes.specs.Numbers.{lifetime}
+use Rattle.lifetimes.specs.LoweredWords.{fromWord}
+use Rattle.lifetimes.specs.Refusals.{check, here, later}
 use Rattle.lifetimes.specs.Sets.{setOf}
-use Rattle.lifetimes.proofs.RefusalLaws.{given-due, none-first}
-use Rattle.lifetimes.proofs.SetLaws.{setOf-has}
-use Rattle.lowered_types.specs.Rows.{rowsOf, forced, methodInShape}
+use Rattle.lifetimes.proofs.RefusalLaws.{given-due, due-refused, none-first}
+use Rattle.lifetimes.proofs.SetLaws.{setOf-has, setOf-few}
+use Rattle.records.specs.Reading.{Read}
+use Rattle.records.proofs.ReadingLaws.{holds-read}
+use Rattle.lowered_types.specs.declared.types.Own.{Own}
+use Rattle.lowered_types.specs.declared.types.Own.the-variants as own
+use Rattle.lowered_types.specs.LoweredTypes.{LoweredType, ownLifetimes, lifetimesOf}
+use Rattle.lowered_types.specs.Rows.{readTypes, rowsOf, structsInShape, paramsInShape, outputInShape, methodInShape}
+use Rattle.lowered_types.specs.Rows.{forced}
+use Rattle.lowered_types.proofs.LocatedLaws.{type-few}
 use Rattle.hir_types.specs.Method.{typesIn, outputLifetimes, methodChecks}
-use Rattle.hir_types.specs.Used.{outputNumbers, forcedNumbers, usedNumbers, usedSet, inRows}
-use Rattle.hir_types.specs.Theorems.{FoundByForce, UsedLifetimesAre}
+use Rattle.hir_types.specs.Used.{numbersOf, outputNumbers, usedSet}
+use Rattle.hir_types.specs.Theorems.{UsedLifetimesAre, ForceIsRetired}
+use Rattle.hir_types.proofs.PassLaws.{known-read, types-next, types-none}
 use Rattle.hir_types.proofs.MethodLaws.{types-read}
-use Rattle.hir_types.proofs.UsedLaws.{shape-parts}
-use Rattle.hir_types.proofs.FoundByForceLaws.{numbers-from, numbers-to, types-known, rows-known, types-from}
-use Rattle.hir_types.proofs.FoundByForceLaws.{types-to, held-found, found-held}
 
-module _ (env : LifetimeEnv) (structs params output force : List ℕ)
-    (shape : methodInShape structs params output force ≡ true) (k : ℕ) where
-  from-force : List·Memᴰ k (cond (forced force) (forcedNumbers (env .declared) structs params) [])
-      → FoundByForce env structs params force k
-  from-force m = go (forced force) refl m
-    where
-      go : (b : Bool) → forced force ≡ b → List·Memᴰ k (cond b (forcedNumbers (env .declared) structs params) [])
-          → FoundByForce env structs params force k
-      go true e m =
-          let t = types-from (env .declared) (inRows (env .declared) (rowsOf structs) (length (rowsOf structs)))
-          (typesIn structs params) k m in
-          let f = held-found (env .declared) (rowsOf structs) (length (rowsOf structs)) k (t .0) (t .2) in
-          record { on = e; declared = f .0; type = t .0; given = t .1; found = f .1 }
-      go false e m = absurd (List·Memᴰ·not-nil m)
+-- ---- the numbers of those that are not static
 
-  to-force : FoundByForce env structs params force k
-      → List·Memᴰ k (cond (forced force) (forcedNumbers (env .declared) structs params) [])
-  to-force f =
-      let p = shape-parts structs params output force shape in
-      let r = types-read (length (rowsOf structs)) params (p .1) refl in
-      let known =
-      types-known (length (rowsOf structs)) (length (typesIn structs params)) params (typesIn structs params) (r .1)
-      (f .type) (f .given) in
-      rw (f .on)
-      (types-to (env .declared) (inRows (env .declared) (rowsOf structs) (length (rowsOf structs)))
-      (typesIn structs params) k (f .type) (f .given)
-      (found-held (env .declared) (rowsOf structs) (rows-known structs (p .0)) (f .found) (f .declared)
-      (length (rowsOf structs)) known))
+numbers-from : (l : List MaybeStatic) (k : ℕ) → List·Memᴰ k (numbersOf l) → List·Memᴰ (NonStatic (lifetime k)) l
+unfolding numbersOf
+numbers-from [] k m = absurd (List·Memᴰ·not-nil m)
+numbers-from (Static ∷ l) k m = List·Memᴰ·tail (numbers-from l k m)
+numbers-from (NonStatic x ∷ l) k m =
+    ⊎-elim (λ e. List·Memᴰ·head (rw e)) (λ r. List·Memᴰ·tail (numbers-from l k r)) (List·Memᴰ·cases-cons m)
+
+numbers-to : (l : List MaybeStatic) (k : ℕ) → List·Memᴰ (NonStatic (lifetime k)) l → List·Memᴰ k (numbersOf l)
+unfolding numbersOf
+numbers-to [] k m = absurd (List·Memᴰ·not-nil m)
+numbers-to (Static ∷ l) k m =
+    ⊎-elim (λ e. let z : _≡_ {A = ℕ} 0 1 = cc in absurd (omega arith)) (numbers-to l k) (List·Memᴰ·cases-cons m)
+numbers-to (NonStatic x ∷ l) k m =
+    ⊎-elim (λ e. let q : lifetime k ≡ x = cc in List·Memᴰ·head (ap (λ y. y .0) q))
+    (λ r. List·Memᴰ·tail (numbers-to l k r)) (List·Memᴰ·cases-cons m)
+
+numbers-few : (l : List MaybeStatic) → length (numbersOf l) ≤ length l
+unfolding numbersOf
+numbers-few [] = omega arith
+numbers-few (Static ∷ l) = omega (arith, numbers-few l)
+numbers-few (NonStatic x ∷ l) = omega (arith, numbers-few l)
+
+-- ---- how many lifetimes types have
+
+own-few : (o : Own) → length (ownLifetimes o) ≤ 1
+own-few own.Absent = omega arith
+own-few (own.Word word) = omega arith
+own-few own.Strs = omega arith
+
+lifetimes-few : (t : LoweredType) → length (t .path) ≤ 16 → length (lifetimesOf t) ≤ 17
+lifetimes-few t h =
+    rw (length-append (map fromWord (t .path)) (ownLifetimes (t .own)), length-map (t .path) fromWord)
+    (omega (arith, own-few (t .own)))
+
+types-few : (n m : ℕ) (words : List ℕ) (types : List LoweredType) {rest : List ℕ} → readTypes n m words ≡ Read types rest
+    → length (flatMap lifetimesOf types) ≤ 17 * m
+unfolding flatMap
+types-few n zero words types e = rw ((types-none n words e) .0) (omega arith)
+types-few n (suc m) words types e =
+    let x = types-next n m words e in
+    let short : length (x .type .path) ≤ 16 =
+    holds-read (λ (t : LoweredType) (rest : List ℕ). length (t .path) ≤ 16) (x .type) (x .behind)
+    (rw ((known-read n words (x .first)) .reads) at (type-few words)) in
+    rw (x .all, length-append (lifetimesOf (x .type)) (flatMap lifetimesOf (x .more)))
+    (omega (arith, lifetimes-few (x .type) short, types-few n m (x .behind) (x .more) (x .others)))
+
+-- an output in shape has at most two types
+output-few : (structs params output force : List ℕ) → methodInShape structs params output force ≡ true
+    → length (outputLifetimes structs output) ≤ 34
+unfolding methodInShape
+output-few structs params output force e =
+    let one = (and-eq-true-iff (structsInShape structs) _) .0 e in
+    let two = (and-eq-true-iff (paramsInShape (length (rowsOf structs)) params) _) .0 (one .1) in
+    let three = (and-eq-true-iff (outputInShape (length (rowsOf structs)) output) _) .0 (two .1) in
+    let four = (and-eq-true-iff (paramsInShape (length (rowsOf structs)) output) _) .0 (three .0) in
+    let types = typesIn structs output in
+    let read = types-read (length (rowsOf structs)) output (four .0) refl in
+    omega (
+      arith,
+      leb-true (length types) 2 (four .1),
+      types-few (length (rowsOf structs)) (length types) output types (read .1),
+    )
+
+-- ---- the theorems
 
 pub used-are : UsedLifetimesAre
 unfolding usedSet
-used-are env structs params output force set e k =
-    let g = given-due (setOf (usedNumbers env structs params output force)) set (methodChecks env structs params output force) e in
+used-are env structs params output force set e =
+    let g = given-due (setOf (outputNumbers structs output)) set (methodChecks env structs params output force) e in
     let shape : methodInShape structs params output force ≡ true = not-false _ (none-first (g .0)) in
-    let has = setOf-has (usedNumbers env structs params output force) k in (
-      λ m. ⊎-elim
-          (λ a. inl (numbers-from (outputLifetimes structs output) k a))
-          (λ b. inr (from-force env structs params output force shape k b))
-          (List·Memᴰ·append-cases (outputNumbers structs output) (has .0 (rw (← g .1) at m))),
-      λ s. rw (← g .1) (has .1 (⊎-elim
-          (λ a. Memᴰ·append-left (cond (forced force) (forcedNumbers (env .declared) structs params) [])
-          (numbers-to (outputLifetimes structs output) k a))
-          (λ b. Memᴰ·append-right (outputNumbers structs output) (to-force env structs params output force shape k b))
-          s)),
-    )
+    record {
+      members-are = λ k. let has = setOf-has (outputNumbers structs output) k in (
+        λ m. numbers-from (outputLifetimes structs output) k (has .0 (rw (← g .1) at m)),
+        λ m. rw (← g .1) (has .1 (numbers-to (outputLifetimes structs output) k m)),
+      );
+      few = rw (← g .1) (omega (
+        arith,
+        setOf-few (outputNumbers structs output),
+        numbers-few (outputLifetimes structs output),
+        output-few structs params output force shape,
+      ));
+    }
+
+pub force-is-refused : ForceIsRetired
+unfolding usedSet
+force-is-refused env structs params output force f = (
+  λ e. due-refused _
+      (later {c = check (not (methodInShape structs params output force)) Malformed} (rw e)
+      (here {c = check (forced force) Retired} f refl)),
+  λ e. due-refused _ (here {c = check (not (methodInShape structs params output force)) Malformed} (rw e) refl),
+)

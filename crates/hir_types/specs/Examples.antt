@@ -3,7 +3,7 @@
 use Prim.Native.Nat.{ℕ}
 use mathlib.Core.Path.{_≡_}
 use mathlib.Core.List.{List, [], _∷_}
-use Rattle.lifetimes.specs.declared.answer.Refusal.the-variants.{Malformed, Mismatch, OutOfRange}
+use Rattle.lifetimes.specs.declared.answer.Refusal.the-variants.{Malformed, Full, Mismatch, OutOfRange, Retired}
 use Rattle.lifetimes.specs.Refusals.{Outcome, Gives, Refuses}
 use Rattle.lifetimes.specs.Env.{envOf}
 use Rattle.hir_types.specs.declared.fields.FieldPair.{FieldPair}
@@ -43,9 +43,14 @@ examples =
     ∷ asked (Used 0 0 [] [] [] []) (Set (Refuses Malformed))
     -- a struct under an option with no words for its row's one lifetime: 7
     ∷ asked (Used 0 0 (1 ∷ 0 ∷ []) (4 ∷ 2 ∷ 0 ∷ 0 ∷ []) [] (0 ∷ [])) (Set (Refuses Mismatch))
-    -- force: the number in the field is taken unlinked; a path word of a slice does not count
-    ∷ asked (Used 2 2 (1 ∷ 1 ∷ 3 ∷ 1 ∷ 1 ∷ []) (2 ∷ 0 ∷ 1 ∷ 2 ∷ []) [] (1 ∷ [])) (Set (Gives 1))
-    ∷ asked (Used 1 1 [] (3 ∷ 3 ∷ 1 ∷ 1 ∷ 0 ∷ []) [] (1 ∷ [])) (Set (Gives 0))
+    -- `force` 1: 13, also beside 65 lifetimes (4) and an output number past the count (8); but 1 beside a torn record,
+    -- and for `force` 2 and 0 1
+    ∷ asked (Used 2 2 (1 ∷ 1 ∷ 3 ∷ 1 ∷ 1 ∷ []) (2 ∷ 0 ∷ 1 ∷ 2 ∷ []) [] (1 ∷ [])) (Set (Refuses Retired))
+    ∷ asked (Used 65 65 [] [] (3 ∷ 2 ∷ []) (1 ∷ [])) (Set (Refuses Retired))
+    ∷ asked (Used 65 65 [] [] (3 ∷ 2 ∷ []) (0 ∷ [])) (Set (Refuses Full))
+    ∷ asked (Used 1 1 [] (2 ∷ 0 ∷ 0 ∷ []) [] (1 ∷ [])) (Set (Refuses Malformed))
+    ∷ asked (Used 1 1 [] [] [] (2 ∷ [])) (Set (Refuses Malformed))
+    ∷ asked (Used 1 1 [] [] [] (0 ∷ 1 ∷ [])) (Set (Refuses Malformed))
     -- row 1 has two lifetimes, its field row 0's two filled by 'static and by its second
     ∷ asked (Field (2 ∷ 0 ∷ 2 ∷ 1 ∷ 2 ∷ 0 ∷ 2 ∷ 0 ∷ 2 ∷ []) 1 0) (Pairs (Gives (fieldPair 1 1 ∷ [])))
     -- a field that is not there: 1

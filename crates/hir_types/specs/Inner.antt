@@ -1,9 +1,9 @@
--- For private functions only: what a pass over types says, and what the index of the rows holds. No public contract
--- cites this file.
+-- For private functions only: what a pass over types says, and what is held of the rows. No public contract cites this
+-- file.
 use Prim.Native.Nat.{ℕ, _+_, _≤_, _<_}
 use mathlib.Core.Bool.{Bool, true, false, not}
 use mathlib.Core.Path.{_≡_}
-use mathlib.Core.List.{List, [], _∷_, flatMap, List·Memᴰ}
+use mathlib.Core.List.{List, [], _∷_, flatMap}
 use lib.Dec.{eqb}
 use lib.ListN.{length, getD, take, drop}
 use Rattle.lifetimes.specs.declared.answer.Refusal.the-variants.{Mismatch}
@@ -15,20 +15,18 @@ use Rattle.lowered_types.specs.declared.types.Kind.{Kind}
 use Rattle.lowered_types.specs.declared.types.Kind.the-variants.{Plain, Opaque, Struct, Slice}
 use Rattle.lowered_types.specs.LoweredTypes.{LoweredType, lifetimesOf}
 use Rattle.lowered_types.specs.Rows.{Row, readKnown, readTypes, readRow, rowsOf, structsInShape, paramsInShape}
-use Rattle.lowered_types.specs.Rows.{methodInShape}
 use Rattle.hir_types.specs.declared.fits.Fit.{Fit}
 use Rattle.hir_types.specs.declared.fits.Fit.the-variants.{To, Misfit}
 use Rattle.lifetimes.specs.declared.maybe_static.MaybeStatic.{MaybeStatic}
 use Rattle.lifetimes.specs.declared.env.LifetimeEnv.{LifetimeEnv}
-use Rattle.lifetimes.specs.Sets.{member, insertAll, setOf}
+use Rattle.lifetimes.specs.Sets.{insertAll, setOf}
 use Rattle.hir_types.specs.declared.output.Collected.{Collected}
 use Rattle.hir_types.specs.declared.output.Collected.the-variants.{Set, Past}
 use Rattle.hir_types.specs.declared.method.Judged.{Judged}
-use Rattle.hir_types.specs.Method.{rowAt, typeChecks, rowChecks, paramChecks, placeChecks, typesIn, anyPast}
+use Rattle.hir_types.specs.Method.{rowAt, typeChecks, rowChecks, paramChecks, typesIn, anyPast}
 use Rattle.hir_types.specs.Method.{methodChecks}
 use Rattle.hir_types.specs.Fields.{fieldAt, isStruct}
-use Rattle.hir_types.specs.Used.{numbersOf, outputNumbers, inType, inTypes, inRows}
-use Rattle.hir_types.specs.declared.force.Step.{Step}
+use Rattle.hir_types.specs.Used.{numbersOf, outputNumbers}
 use Rattle.hir_types.specs.declared.fields.Field.{Field}
 use Rattle.hir_types.specs.declared.fields.Field.the-variants as aField
 
@@ -66,22 +64,18 @@ TypesFit words from count lifetimes r =
     → readTypes n count (drop from words) ≡ Read types rest
     → FitIs words from rest (judged (typeChecks rows types)) r
 
--- where the first rows stand, by number
+-- where a row stands
 pub record RowStands (structs : List ℕ) (row place : ℕ) : Type 0 where
   pub rest : List ℕ
   pub reads : readRow row (drop place structs) ≡ Read (rowAt (rowsOf structs) row) rest
   pub here : place + 1 < length structs
 
-abbrev pub Placed : List ℕ → ℕ → List ℕ → Type 0
-Placed structs n places = (row : ℕ) → row < n → RowStands structs row (getD places row 0)
-
--- the index of rows that were checked: the verdict, and what it holds of them where they are accepted
-pub record Indexes (structs lifetimes places : List ℕ) (r : Verdict) : Type 0 where
+-- rows that were checked: the verdict, and where they are accepted the lifetimes of each
+pub record Indexes (structs lifetimes : List ℕ) (r : Verdict) : Type 0 where
   pub verdict : r ≡ judged (rowChecks (rowsOf structs) 0 (rowsOf structs))
-  pub sizes : (length lifetimes ≡ 32) × (length places ≡ 32)
+  pub size : length lifetimes ≡ 32
   pub few : r ≡ Accepted → length (rowsOf structs) ≤ 32
   pub holding : r ≡ Accepted → Holding (rowsOf structs) (length (rowsOf structs)) lifetimes
-  pub placed : r ≡ Accepted → Placed structs (length (rowsOf structs)) places
 
 -- the set with the numbers of some lifetimes put in, if none is past the count
 pub data CollectIs (count set : ℕ) (l : List MaybeStatic) : Collected → Type 0 where
@@ -114,67 +108,10 @@ pub record InShape (structs params output : List ℕ) (rows inputs outputs : ℕ
   pub input-count : inputs ≡ length (typesIn structs params)
   pub output-count : outputs ≡ length (typesIn structs output)
 
--- the checks by place of records in shape: the verdict; accepted, where the rows stand
-pub record Places (structs params output places : List ℕ) (r : Verdict) : Type 0 where
-  pub verdict : r ≡ judged (placeChecks structs params output)
-  pub size : length places ≡ 32
-  pub few : r ≡ Accepted → length (rowsOf structs) ≤ 32
-  pub placed : r ≡ Accepted → Placed structs (length (rowsOf structs)) places
-
--- a method that was judged: the verdict; accepted, how much stands in its records, where the rows stand, and the
--- lifetimes of its output
-pub record Judges (env : LifetimeEnv) (structs params output force places : List ℕ) (r : Judged) : Type 0 where
+-- a method that was judged: the verdict; accepted, the lifetimes of its output
+pub record Judges (env : LifetimeEnv) (structs params output force : List ℕ) (r : Judged) : Type 0 where
   pub verdict : r .verdict ≡ judged (methodChecks env structs params output force)
-  pub size : length places ≡ 32
-  pub few : r .verdict ≡ Accepted → length (rowsOf structs) ≤ 32
-  pub placed : r .verdict ≡ Accepted → Placed structs (length (rowsOf structs)) places
-  pub shape : r .verdict ≡ Accepted → methodInShape structs params output force ≡ true
-  pub counts : r .verdict ≡ Accepted → (r .rows ≡ length (rowsOf structs))
-      × (r .params ≡ length (typesIn structs params))
   pub used : r .verdict ≡ Accepted → r .used ≡ setOf (outputNumbers structs output)
-  pub small : r .verdict ≡ Accepted → env .declared ≤ 64
-
--- The search under `force`
-
--- what a row holds
-abbrev pub rowNumbers : List ℕ → ℕ → ℕ → List ℕ
-rowNumbers structs declared row =
-    inTypes declared (inRows declared (rowsOf structs) row) (rowAt (rowsOf structs) row .fields)
-
--- what the rows hold that were searched is in the set
-abbrev pub Closed : List ℕ → ℕ → ℕ → ℕ → Type 0
-Closed structs declared set done =
-    (row : ℕ) → member done row ≡ true → (x : ℕ) → List·Memᴰ x (rowNumbers structs declared row) → member set x ≡ true
-
--- a search can go on from here
-pub record Ready (structs places : List ℕ) (declared set done : ℕ) : Type 0 where
-  pub placed : Placed structs (length (rowsOf structs)) places
-  pub size : length places ≡ 32
-  pub few : length (rowsOf structs) ≤ 32
-  pub small : declared ≤ 64
-  pub closed : Closed structs declared set done
-
--- a search went on: some numbers were put in
-pub record Adds (structs : List ℕ) (declared set : ℕ) (numbers : List ℕ) (after done : ℕ) : Type 0 where
-  pub added : after ≡ insertAll set numbers
-  pub closed : Closed structs declared after done
-
--- the type at a place was searched, where one is that names rows below a limit
-pub record TypeIs (structs words : List ℕ) (declared limit at set : ℕ) (t : LoweredType) (rest : List ℕ)
-    (r : Step) : Type 0 where
-  pub adds : Adds structs declared set (inType declared (inRows declared (rowsOf structs) limit) t) (r .set) (r .done)
-  pub left : drop (r .next) words ≡ rest
-
-abbrev pub TypeSearched : List ℕ → List ℕ → ℕ → ℕ → ℕ → ℕ → Step → Type 0
-TypeSearched structs words declared limit at set r =
-    (t : LoweredType) (rest : List ℕ) → readKnown limit (drop at words) ≡ Read t rest
-    → TypeIs structs words declared limit at set t rest r
-
--- the parameters stand there
-pub record ParamsThere (structs params : List ℕ) (rows count : ℕ) : Type 0 where
-  pub row-count : rows ≡ length (rowsOf structs)
-  pub rest : List ℕ
-  pub reads : readTypes (length (rowsOf structs)) count params ≡ Read (typesIn structs params) rest
 
 -- `compute_for_struct_field`
 

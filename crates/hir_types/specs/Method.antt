@@ -17,6 +17,7 @@ use Rattle.lowered_types.specs.declared.types.Kind.{Kind}
 use Rattle.lowered_types.specs.declared.types.Kind.the-variants.{Plain, Opaque, Struct, Slice}
 use Rattle.lowered_types.specs.LoweredTypes.{LoweredType, lifetimesOf}
 use Rattle.lowered_types.specs.Rows.{Row, rowWith, rowsOf, typesOf, structsInShape, paramsInShape, methodInShape}
+use Rattle.lowered_types.specs.Rows.{shapeChecks}
 
 -- By place: 4 and 7
 
@@ -85,13 +86,14 @@ unfoldable pub anyPast : ℕ → List MaybeStatic → Bool
 anyPast count [] = false
 anyPast count (m ∷ ms) = isPast count m || anyPast count ms
 
--- Of the environment's checks the first two are limits (4: a 65th lifetime, a 257th bound); they stand where its
--- records would. The others (8: more declared than there are, a bound past the declared) stand with the 8 of the output
+-- First 1 over the four records, then 13. Of the environment's checks the first two are limits (4: a 65th lifetime, a
+-- 257th bound); they stand where its records would. The others (8: more declared than there are, a bound past the
+-- declared) stand with the 8 of the output
 
 abbrev pub methodChecks : LifetimeEnv → List ℕ → List ℕ → List ℕ → List ℕ → List Check
 methodChecks env structs params output force =
-    check (not (methodInShape structs params output force)) Malformed
-    ∷ (take 2 (envChecks env)
+    shapeChecks (methodInShape structs params output force) force
+    ++ (take 2 (envChecks env)
     ++ (placeChecks structs params output
     ++ (drop 2 (envChecks env)
     ++ (check (anyPast (env .count) (outputLifetimes structs output)) OutOfRange ∷ []))))

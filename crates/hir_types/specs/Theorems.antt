@@ -1,53 +1,42 @@
 -- The main theorems of this crate, stated. Each has its proof, a term of exactly this type and of the same name in
 -- small letters, in proofs/Theorems.antt.
-use Prim.Native.Nat.{ℕ, _<_}
-use mathlib.Core.Bool.{true}
+use Prim.Native.Nat.{ℕ, _≤_, _<_}
+use mathlib.Core.Bool.{true, false}
 use mathlib.Core.Path.{_≡_}
-use mathlib.Core.Logic.{_↔_, _⊎_}
+use mathlib.Core.Logic.{_↔_}
 use mathlib.Core.List.{List, List·Memᴰ, Pairwise}
 use lib.ListN.{length, getD}
+use Rattle.lifetimes.specs.declared.answer.Refusal.the-variants.{Malformed, Retired}
 use Rattle.lifetimes.specs.declared.maybe_static.MaybeStatic.the-variants.{NonStatic}
 use Rattle.lifetimes.specs.declared.maybe_static.MaybeStaticDef.the-variants as definition
 use Rattle.lifetimes.specs.declared.env.LifetimeEnv.{LifetimeEnv}
 use Rattle.lifetimes.specs.Numbers.{lifetime, defLifetime}
 use Rattle.lifetimes.specs.LoweredWords.{defFromWord}
-use Rattle.lifetimes.specs.Refusals.{Gives}
-use Rattle.lifetimes.specs.Sets.{member}
-use Rattle.lowered_types.specs.declared.types.Kind.the-variants.{Struct, Slice}
-use Rattle.lowered_types.specs.LoweredTypes.{LoweredType, ownLifetimes}
-use Rattle.lowered_types.specs.Rows.{Row, rowsOf, forced}
+use Rattle.lifetimes.specs.Refusals.{Gives, Refuses}
+use Rattle.lifetimes.specs.Sets.{member, count}
+use Rattle.lowered_types.specs.Rows.{rowsOf, forced, methodInShape}
 use Rattle.hir_types.specs.declared.fields.FieldPair.{FieldPair}
-use Rattle.hir_types.specs.Method.{rowAt, typesIn, outputLifetimes}
-use Rattle.hir_types.specs.Used.{usedSet}
+use Rattle.hir_types.specs.Method.{rowAt, outputLifetimes}
+use Rattle.hir_types.specs.Used.{usedSet, mostUsed}
 use Rattle.hir_types.specs.Examples.{examples, Right}
 use Rattle.hir_types.specs.Fields.{fieldAt, fieldPair, fieldPairs}
 
--- a slice whose own lifetime has a number is found from a type: it is that slice, or it is found from a field of the
--- row that the type names
-pub data SliceIn (rows : List Row) (k : ℕ) : LoweredType → Type 0 where
-  own : {t : LoweredType} → t .kind ≡ Slice → List·Memᴰ (NonStatic (lifetime k)) (ownLifetimes (t .own))
-      → SliceIn rows k t
-  field : {t f : LoweredType} (row : ℕ) → t .kind ≡ Struct row → List·Memᴰ f (rowAt rows row .fields) → SliceIn rows k f
-      → SliceIn rows k t
+-- Used lifetimes (01: "the output's non-static lifetimes"; what 01 adds "with force" is retired): of every method that
+-- is not refused, and for each number; and how many they are at most
+pub record Uses (structs output : List ℕ) (set : ℕ) : Type 0 where
+  pub members-are : (k : ℕ) → (member set k ≡ true)
+      ↔ List·Memᴰ (NonStatic (lifetime k)) (outputLifetimes structs output)
+  pub few : count set ≤ mostUsed
 
--- a declared lifetime of a slice that is found from the parameters
-pub record FoundByForce (env : LifetimeEnv) (structs params force : List ℕ) (k : ℕ) : Type 0 where
-  pub on : forced force ≡ true
-  pub declared : k < env .declared
-  pub type : LoweredType
-  pub given : List·Memᴰ type (typesIn structs params)
-  pub found : SliceIn (rowsOf structs) k type
-
--- Used lifetimes (01: "the output's non-static lifetimes, ascending. With force, also the own word (no path word) of
--- each slice in params, where `get_bounds` knows it ..; a field that is a struct is searched through its own fields,
--- and its numbers are taken unlinked .."): of every method that is not refused, and for each number. The set is the one
--- that the code gives, which searches each row once.
 abbrev pub UsedLifetimesAre : Type 0
 UsedLifetimesAre = (env : LifetimeEnv) (structs params output force : List ℕ) (set : ℕ)
-    → usedSet env structs params output force ≡ Gives set → (k : ℕ)
-    → (member set k ≡ true)
-    ↔ (List·Memᴰ (NonStatic (lifetime k)) (outputLifetimes structs output)
-    ⊎ FoundByForce env structs params force k)
+    → usedSet env structs params output force ≡ Gives set → Uses structs output set
+
+-- `force` 1 is accepted nowhere, so that no method uses anything by it
+abbrev pub ForceIsRetired : Type 0
+ForceIsRetired = (env : LifetimeEnv) (structs params output force : List ℕ) → forced force ≡ true
+    → (methodInShape structs params output force ≡ true → usedSet env structs params output force ≡ Refuses Retired)
+    × (methodInShape structs params output force ≡ false → usedSet env structs params output force ≡ Refuses Malformed)
 
 -- in ascending order of the field's lifetime, each once
 abbrev pub ByDef : FieldPair → FieldPair → Type 0

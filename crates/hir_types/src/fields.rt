@@ -72,8 +72,7 @@ pub fn compute_for_struct_field(structs: &[usize], row: usize, field: usize) -> 
         return refused(Refusal::Malformed);
     };
     let mut lifetimes = [0usize; 32];
-    let mut places = [0usize; 32];
-    let verdict = index_rows(structs, rows, &mut lifetimes, &mut places);
+    let verdict = index_rows(structs, rows, &mut lifetimes);
     match verdict {
         Verdict::Refused(refusal) => refused(refusal),
         Verdict::Accepted => {

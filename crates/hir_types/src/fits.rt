@@ -1,4 +1,4 @@
-// Limits and misfits by place (4 and 7), and the index of the rows.
+// Limits and misfits by place (4 and 7).
 ghost use mathlib.Core.Path.{_≡_};
 ghost use mathlib.Core.Bool.{true};
 ghost use Prim.Native.Nat.{_≤_};
@@ -24,17 +24,12 @@ pub(crate) enum Fit {
     Misfit,
 }
 
-// Whether the rows of `structs`, so many, are not too many and their fields fit. Accepted, the arrays hold each row's
-// lifetimes and place.
-pub(crate) fn index_rows(
-    structs: &[usize],
-    rows: usize,
-    lifetimes: &mut [usize; 32],
-    places: &mut [usize; 32],
-) -> Verdict
+// Whether the rows of `structs`, so many, are not too many and their fields fit. Accepted, the array holds each row's
+// lifetimes.
+pub(crate) fn index_rows(structs: &[usize], rows: usize, lifetimes: &mut [usize; 32]) -> Verdict
     requires { ⌜ (structsInShape (now structs) ≡ true) × (length (rowsOf (now structs)) ≡ rows) ⌝ }
-    requires { ⌜ (length (now lifetimes) ≡ 32) × (length (now places) ≡ 32) ⌝ }
-    ensures { λ r. ⌜ Indexes (held structs) (left lifetimes) (left places) r ⌝ }
+    requires { ⌜ length (now lifetimes) ≡ 32 ⌝ }
+    ensures { λ r. ⌜ Indexes (held structs) (left lifetimes) r ⌝ }
 {
     let mut at = 0;
     let mut number = 0;
@@ -45,7 +40,6 @@ pub(crate) fn index_rows(
         let declared = structs[at];
         let fields = structs[at + 1];
         lifetimes[number] = declared;
-        places[number] = at;
         let fit = types_fit(structs, at + 2, fields, lifetimes);
         let Fit::To(next) = fit else {
             return Verdict::Refused(Refusal::Mismatch);

@@ -1,9 +1,9 @@
 // The refusal of a method, and the lifetimes of its output.
 ghost use mathlib.Core.Path.{_≡_};
-ghost use lib.ListN.{length};
-ghost use Rattle.hir_types.specs.Method.{methodVerdict, structsAndParamsVerdict};
-ghost use Rattle.hir_types.specs.Inner.{InShape, Places, Judges};
-ghost use Rattle.lifetimes.specs.Lent.{held, left};
+ghost use Rattle.hir_types.specs.Method.{placeChecks, methodVerdict, structsAndParamsVerdict};
+ghost use Rattle.hir_types.specs.Inner.{InShape, Judges};
+ghost use Rattle.lifetimes.specs.Lent.{held};
+ghost use Rattle.records.specs.Ends.{judged};
 use super::fits::Fit;
 use super::fits::index_rows;
 use super::fits::params_fit;
@@ -18,18 +18,15 @@ use lowered_types::method_shape;
 use lowered_types::params_shape;
 use lowered_types::structs_shape;
 
-// A method that was judged. Accepted: how many rows and parameters there are, and the lifetimes of its output. Refused:
-// 0 for each.
+// A method that was judged, and the lifetimes of its output; beside a refusal none.
 pub(crate) struct Judged {
     pub(crate) verdict: Verdict,
-    pub(crate) rows: usize,
-    pub(crate) params: usize,
     pub(crate) used: u64,
 }
 
-// Whether an environment and four records make a method. Refused by 1 over the records; by 4 as the environment is; by
-// 4 and 7 at the first bad place of `structs`, `params`, `output`; by 8 as the environment is, and for a lifetime of
-// the output past the count.
+// Whether an environment and four records make a method. Refused by 1 over the records; by 13 for 1 in `force`; by 4 as
+// the environment is; by 4 and 7 at the first bad place of `structs`, `params`, `output`; by 8 as the environment is,
+// and for a lifetime of the output past the count.
 pub fn check_method(
     env: LifetimeEnv,
     structs: &[usize],
@@ -39,8 +36,7 @@ pub fn check_method(
 ) -> Verdict
     ensures answer { λ r. ⌜ r ≡ methodVerdict env (held structs) (held params) (held output) (held force) ⌝ }
 {
-    let mut places = [0usize; 32];
-    let judged = judge(env, structs, params, output, force, &mut places);
+    let judged = judge(env, structs, params, output, force);
     judged.verdict
 }
 
@@ -58,25 +54,22 @@ pub fn check_structs_and_params(structs: &[usize], params: &[usize]) -> Verdict
         return Verdict::Refused(Refusal::Malformed);
     };
     let mut lifetimes = [0usize; 32];
-    let mut places = [0usize; 32];
-    let verdict = index_rows(structs, rows, &mut lifetimes, &mut places);
+    let verdict = index_rows(structs, rows, &mut lifetimes);
     let Verdict::Accepted = verdict else {
         return verdict;
     };
     params_fit(params, inputs, &lifetimes)
 }
 
-// As `check_method`, with what is known of an accepted method: the array holds where its rows stand.
+// As `check_method`, with the lifetimes of an accepted method's output.
 pub(crate) fn judge(
     env: LifetimeEnv,
     structs: &[usize],
     params: &[usize],
     output: &[usize],
     force: &[usize],
-    places: &mut [usize; 32],
 ) -> Judged
-    requires { ⌜ length (now places) ≡ 32 ⌝ }
-    ensures { λ r. ⌜ Judges env (held structs) (held params) (held output) (held force) (left places) r ⌝ }
+    ensures { λ r. ⌜ Judges env (held structs) (held params) (held output) (held force) r ⌝ }
 {
     let shape = method_shape(structs, params, output, force);
     let first = shape.verdict;
@@ -94,7 +87,7 @@ pub(crate) fn judge(
     let rows = shape.rows;
     let inputs = shape.params;
     let outputs = shape.outputs;
-    let second = judge_places(structs, params, output, rows, inputs, outputs, places);
+    let second = judge_places(structs, params, output, rows, inputs, outputs);
     let Verdict::Accepted = second else {
         return refused(second);
     };
@@ -108,22 +101,15 @@ pub(crate) fn judge(
     };
     Judged {
         verdict: Verdict::Accepted,
-        rows,
-        params: inputs,
         used,
     }
 }
 
 // A refusal alone.
 fn refused(verdict: Verdict) -> Judged
-    ensures { λ r. ⌜ r ≡ record { verdict = verdict; rows = 0; params = 0; used = 0 } ⌝ }
+    ensures { λ r. ⌜ r ≡ record { verdict = verdict; used = 0 } ⌝ }
 {
-    Judged {
-        verdict,
-        rows: 0,
-        params: 0,
-        used: 0,
-    }
+    Judged { verdict, used: 0 }
 }
 
 // Limits and misfits by place, of records in shape with so many rows, parameters and output types.
@@ -134,14 +120,12 @@ fn judge_places(
     rows: usize,
     inputs: usize,
     outputs: usize,
-    places: &mut [usize; 32],
 ) -> Verdict
     requires { ⌜ InShape (now structs) (now params) (now output) rows inputs outputs ⌝ }
-    requires { ⌜ length (now places) ≡ 32 ⌝ }
-    ensures { λ r. ⌜ Places (held structs) (held params) (held output) (left places) r ⌝ }
+    ensures { λ r. ⌜ r ≡ judged (placeChecks (held structs) (held params) (held output)) ⌝ }
 {
     let mut lifetimes = [0usize; 32];
-    let first = index_rows(structs, rows, &mut lifetimes, places);
+    let first = index_rows(structs, rows, &mut lifetimes);
     let Verdict::Accepted = first else {
         return first;
     };

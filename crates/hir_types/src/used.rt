@@ -2,7 +2,6 @@
 ghost use mathlib.Core.Path.{_≡_};
 ghost use Rattle.hir_types.specs.Used.{usedSet, usedAnswer};
 ghost use Rattle.lifetimes.specs.Lent.{held};
-use super::force::search_params;
 use super::method::judge;
 use lifetimes::LifetimeEnv;
 use lifetimes::Refusal;
@@ -14,9 +13,8 @@ pub enum UsedLifetimes {
     Refused(Refusal),
 }
 
-// The lifetimes that a method uses: those of its output that are not static; with `force` also the own lifetimes of the
-// slices in its parameters that are declared, through options and through the fields of structs. Refused as the method
-// is. Reads each row once. The Rust's call of this name gives those of the output; its visitor adds the others.
+// The lifetimes that a method uses: those of its output that are not static, at most 34. Refused as the method is (1,
+// 13, 4, 7, 8): `force` is one of its records. Reads each row once.
 pub fn used_method_lifetimes(
     env: LifetimeEnv,
     structs: &[usize],
@@ -26,21 +24,10 @@ pub fn used_method_lifetimes(
 ) -> UsedLifetimes
     ensures answer { λ r. ⌜ r ≡ usedAnswer (usedSet env (held structs) (held params) (held output) (held force)) ⌝ }
 {
-    let mut places = [0usize; 32];
-    let judged = judge(env, structs, params, output, force, &mut places);
+    let judged = judge(env, structs, params, output, force);
     let verdict = judged.verdict;
-    let rows = judged.rows;
-    let count = judged.params;
-    let used = judged.used;
-    let declared = env.declared;
     match verdict {
         Verdict::Refused(refusal) => UsedLifetimes::Refused(refusal),
-        Verdict::Accepted => {
-            if force[0] == 0 {
-                return UsedLifetimes::Set(used);
-            }
-            let all = search_params(params, count, structs, &places, rows, declared, used);
-            UsedLifetimes::Set(all)
-        }
+        Verdict::Accepted => UsedLifetimes::Set(judged.used),
     }
 }

@@ -330,6 +330,33 @@ setOf-has l x =
     let all = insertAll-has 0 l x in
     (λ h. ⊎-elim (λ k. absurd (false≢true (sym (member-empty x) ∙ k))) (λ m. m) (all .0 h), λ m. all .1 (inr m))
 
+-- one that is put in is at most one more, and the set of a list has at most as many as stand in the list
+insert-same : (s x : ℕ) → ((y : ℕ) → y < 64 → x ≡ y → member s y ≡ true) → count (insert s x) ≡ count s
+unfolding count members
+insert-same s x h =
+    ap length (select-agree (member (insert s x)) (member s) (ascending 0 64)
+    (λ y m. go y (ascending-has 0 64 y .0 m .1) (ℕ-discrete x y)))
+  where
+    go : (y : ℕ) → y < 64 → Dec (x ≡ y) → member (insert s x) y ≡ member s y
+    go y l (yes e) = member-insert-keeps s x y (h y l e) ∙ sym (h y l e)
+    go y l (no a) = member-insert-other s x y a
+
+count-put : (s x : ℕ) → count (insert s x) ≤ count s + 1
+count-put s x = go (member s x) refl (decLt x 64)
+  where
+    go : (b : Bool) → member s x ≡ b → Dec (x < 64) → count (insert s x) ≤ count s + 1
+    go true e d = omega (arith, insert-same s x (λ y l q. rw q at e))
+    go false e (yes l) = omega (arith, count-insert s x l e)
+    go false e (no a) = omega (arith, insert-same s x (λ y l q. absurd (omega (arith, a))))
+
+insertAll-few : (s : ℕ) (l : List ℕ) → count (insertAll s l) ≤ count s + length l
+unfolding insertAll
+insertAll-few s [] = omega arith
+insertAll-few s (x ∷ l) = omega (arith, insertAll-few (insert s x) l, count-put s x)
+
+pub setOf-few : (l : List ℕ) → count (setOf l) ≤ length l
+setOf-few l = omega (arith, insertAll-few 0 l, count-empty)
+
 pub insertAll-append : (s : ℕ) (l m : List ℕ) → insertAll s (l ++ m) ≡ insertAll (insertAll s l) m
 unfolding insertAll
 insertAll-append s [] m = refl

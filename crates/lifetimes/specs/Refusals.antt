@@ -1,4 +1,5 @@
--- Refusals: 01's number of each, and which one a call gives: the first that is due in one ordered list of checks.
+-- Refusals: the number of each (01's, from 11 on 02's), and which one a call gives: the first that is due in one
+-- ordered list of checks.
 use Prim.Native.Nat.{ℕ}
 use mathlib.Core.Bool.{Bool, true, false, cond}
 use mathlib.Core.Path.{_≡_}
@@ -6,7 +7,7 @@ use mathlib.Core.List.{List, [], _∷_}
 use Rattle.lifetimes.specs.declared.answer.Refusal.{Refusal}
 use Rattle.lifetimes.specs.declared.answer.Refusal.the-variants.{Malformed, Duplicate, Undeclared, Full, NoSource}
 use Rattle.lifetimes.specs.declared.answer.Refusal.the-variants.{Ambiguous, Mismatch, OutOfRange, NoRoom}
-use Rattle.lifetimes.specs.declared.answer.Refusal.the-variants.{Unreadable}
+use Rattle.lifetimes.specs.declared.answer.Refusal.the-variants.{Unreadable, Retired}
 
 abbrev pub numberOf : Refusal → ℕ
 numberOf Malformed = 1
@@ -19,6 +20,7 @@ numberOf Mismatch = 7
 numberOf OutOfRange = 8
 numberOf NoRoom = 9
 numberOf Unreadable = 10
+numberOf Retired = 13
 
 -- a check: whether its refusal is due
 pub record Check : Type 0 where

@@ -2,7 +2,8 @@
 ghost use mathlib.Core.Path.{_≡_};
 ghost use Rattle.lifetimes.specs.Refusals.{numberOf};
 
-// Why a call is refused. `number` is 01's number; the comments give 01's words.
+// Why a call is refused. `number` is 01's number, or from 11 on that of the change requests ("02"); the comments give
+// the papers' words.
 pub enum Refusal {
     // 1, torn: a record that is not in its shape, or a row, field or parameter asked for that is not there.
     Malformed,
@@ -24,10 +25,12 @@ pub enum Refusal {
     NoRoom,
     // 10, unreadable: bytes that are not the text of a sheet.
     Unreadable,
+    // 13, retired: the value 1 in `force`.
+    Retired,
 }
 
 impl Refusal {
-    // 01's number of the refusal.
+    // The papers' number of the refusal.
     pub fn number(self) -> usize
         ensures answer { λ r. ⌜ r ≡ numberOf self ⌝ }
     {
@@ -42,6 +45,7 @@ impl Refusal {
             Refusal::OutOfRange => 8,
             Refusal::NoRoom => 9,
             Refusal::Unreadable => 10,
+            Refusal::Retired => 13,
         }
     }
 }

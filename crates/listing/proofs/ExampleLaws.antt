@@ -55,7 +55,8 @@ visits-right [] p = tt
 visits-right (x ∷ xs) p = (ap Visited (p .0), visits-right xs (p .1))
 
 pub program-right : Right programExamples
-unfolding response unless listingOf listingChecks sheets.sheetRefusals sheets.recordsChecks read.textChecks read.sheetOf
+unfolding response unless listingOf listingChecks sheets.sheetRefusals sheets.loweringChecks shape.sheetChecks read.textChecks
+    read.sheetOf
     read.sheetIn read.linesBehind read.ten read.readLines read.behind read.allShort flatten flatMap text.line
     text.following text.digits text.digitsFor
     shape.sheetInShape rows.methodInShape shapes.namesInShape shapes.allNames shapes.boundsInShape shapes.pairsOf
@@ -64,7 +65,7 @@ unfolding response unless listingOf listingChecks sheets.sheetRefusals sheets.re
     declared.place rfc.throughout rfc.anonymous rfc.hasSelfType rfc.ownFrom
     rows.readKnown rows.readTypes rows.readRow types.readOpaque types.readStruct types.readSlice types.readBare
     types.readLowered method.typeChecks method.rowChecks method.paramChecks method.anyPast
-    used.usedSet used.numbersOf used.inTypes used.inRows new.created new.newVisitor map-of.listedTo map-of.listedEdges
+    used.usedSet used.numbersOf new.created new.newVisitor map-of.listedTo map-of.listedEdges
     map-of.answersFrom brings.bring brings.anyDrawn brings.structEdges
     listings.answersFrom env.envOf env.allBelow ranges.ascending ranges.select walk.reachSet walk.traversal walk.walk
     walk.walkFor walk.unpushed walk.neighbours sets.member sets.insert sets.insertAll sets.members

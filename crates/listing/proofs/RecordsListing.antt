@@ -1,4 +1,4 @@
--- Ten records in shape, listed stage by stage: the first refusal due is that of the stage which refuses them; if none
+-- Ten records that were read, listed stage by stage: the first refusal due is that of the stage which refuses them; if none
 -- is, the method that the stages leave is listed as the records are.
 use Prim.Native.Nat.{ℕ, _-_, _/_, _≤_, _<_}
 use mathlib.Core.Bool.{true}
@@ -6,7 +6,7 @@ use mathlib.Core.Path.{_≡_, refl, sym, ap, subst, _∙_}
 use mathlib.Core.List.{List, [], _∷_, _++_, List·Memᴰ·head, List·Memᴰ·tail}
 use native.Mathlib.Nat.{sub-zero, div-add-mod', mod-lt}
 use native.Mathlib.Omega.{arith}
-use borrow.Author.Tests.{le-ltb}
+use borrow.Author.Tests.{le-ltb, not-false}
 use lib.Dec.{ltb}
 use lib.ListN.{length, take, drop, length-append, length-map}
 use lib.Seq.{take-append-seam}
@@ -18,7 +18,7 @@ use Rattle.lifetimes.specs.declared.env.LifetimeEnv.{LifetimeEnv}
 use Rattle.lifetimes.specs.Refusals.{Check, check, Outcome, Gives, unless, FirstDue, NoneDue, next, end}
 use Rattle.lifetimes.specs.Lent.{written}
 use Rattle.lifetimes.specs.LoweredWords.{wordOf}
-use Rattle.lifetimes.proofs.RefusalLaws.{due-given, due-refused, first-more}
+use Rattle.lifetimes.proofs.RefusalLaws.{due-given, due-refused, first-more, none-first}
 use Rattle.records.proofs.VerdictLaws.{unless-after}
 use Rattle.ast_lifetimes.specs.declared.env.LifetimeEnv as ast-env
 use Rattle.ast_lifetimes.specs.declared.env.Made as ast-made
@@ -33,10 +33,10 @@ use Rattle.hir_types.specs.declared.used.UsedLifetimes.{UsedLifetimes}
 use Rattle.hir_types.specs.declared.used.UsedLifetimes.the-variants as answer
 use Rattle.hir_types.specs.Used.{usedSet, usedAnswer}
 use Rattle.sheet.specs.Text.{line, Records}
-use Rattle.sheet.specs.Shape.{sheetInShape}
+use Rattle.sheet.specs.Shape.{sheetInShape, recordsChecks}
 use Rattle.sheet.proofs.Theorems.{shapes-are-short}
 use Rattle.borrowing_param.specs.New.{created}
-use Rattle.borrowing_param.specs.SheetMethod.{loweredOf, astEnvOf, envOfSheet, recordsChecks}
+use Rattle.borrowing_param.specs.SheetMethod.{loweredOf, astEnvOf, envOfSheet, loweringChecks}
 use Rattle.borrowing_param.specs.Borrows.{Borrows, sheetBorrows}
 use Rattle.borrowing_param.proofs.Creating.{used-refused, gives, accepted, used-below, env-none}
 use Rattle.borrowing_param.proofs.Forcing.{params-none}
@@ -65,11 +65,14 @@ textBy env b own given taken =
     ++ (answerLines (b .answers)
     ++ edgeLines (b .edges))))
 
-refuses : (r : Records) {k : Refusal} {out : List ℕ} → FirstDue k (recordsChecks r)
+refuses : (r : Records) {k : Refusal} {out : List ℕ} → FirstDue k (loweringChecks r)
     → Lists (listedRecords r) out (listed.Refused k) out
 refuses r f = (due-refused (listingOf r) (first-more (edgesCheck r ∷ []) f), refl)
 
-module _ (r : Records) (shape : sheetInShape r ≡ true) (given taken : ℕ) where
+module _ (r : Records) (first : NoneDue (recordsChecks r)) (given taken : ℕ) where
+  shape : sheetInShape r ≡ true
+  shape = not-false (sheetInShape r) (none-first first)
+
   -- scratch for the lowered words
   steps-long : length (r .steps) ≤ 1024
   steps-long =
@@ -96,7 +99,7 @@ module _ (r : Records) (shape : sheetInShape r ≡ true) (given taken : ℕ) whe
       {a : ast-made.Made} (is : a ≡ ast.made (ast.envOf [] []) (ast.fromMethodItem (r .names) (r .bounds) (r .types))) where
     pub names-listed : {k : Refusal} {out : List ℕ} → a .verdict ≡ verdict.Refused k
         → Lists (listedRecords r) out (listed.Refused k) out
-    names-listed v = refuses r (names-first r shape is v)
+    names-listed v = refuses r (names-first r first is v)
 
     -- with so much room `lower` refuses as `measure` does
     room-none : (e : ast-env.LifetimeEnv) → NoneDue (roomChecks (recordsOf e (r .self) (r .steps) (r .returns)) 1 given taken)
@@ -137,13 +140,13 @@ module _ (r : Records) (shape : sheetInShape r ≡ true) (given taken : ℕ) whe
 
       pub steps-listed : {k : Refusal} {out : List ℕ} → l .verdict ≡ verdict.Refused k
           → Lists (listedRecords r) out (listed.Refused k) out
-      steps-listed v = refuses r (steps-first r shape is fine measures v)
+      steps-listed v = refuses r (steps-first r first is fine measures v)
 
 -- What the stages have left when the records are lowered: what `from_method_item` answered, and what `lower` answered
 -- and wrote to three slices
 pub record Elided (r : Records) (own given taken : List ℕ) (a : ast-made.Made) (l : Lowering)
     (own₁ given₁ taken₁ : List ℕ) : Type 0 where
-  pub shape : sheetInShape r ≡ true
+  pub first : NoneDue (recordsChecks r)
   pub steps-room : length (r .steps) ≤ length given / 8
   pub returns-room : length (r .returns) ≤ length taken / 8
   pub names : a ≡ ast.made (ast.envOf [] []) (ast.fromMethodItem (r .names) (r .bounds) (r .types))
@@ -165,18 +168,18 @@ module _ {r : Records} {own given taken : List ℕ} {a : ast-made.Made} {l : Low
   lowering = lowerRecords (a .env) (r .self) (r .steps) (r .returns) 1 (length given) (length taken)
 
   measured : l ≡ answered (a .env) (measureRecords (a .env) (r .self) (r .steps) (r .returns))
-  measured = measures r (h .shape) (length given) (length taken) (h .steps-room) (h .returns-room) (h .names) (h .fine) (h .lowers)
+  measured = measures r (h .first) (length given) (length taken) (h .steps-room) (h .returns-room) (h .names) (h .fine) (h .lowers)
 
   -- what stands in the scratch
   lowered-is : lowering ≡ Gives (loweredOf r)
   unfolding measureRecords
   lowered-is =
-      lower-measures r (h .shape) (length given) (length taken) (h .steps-room) (h .returns-room) (h .names)
+      lower-measures r (h .first) (length given) (length taken) (h .steps-room) (h .returns-room) (h .names)
       ∙ ap (λ (e : ast-env.LifetimeEnv). measureRecords e (r .self) (r .steps) (r .returns))
-      (ast-is r (h .shape) (h .names) (h .fine))
+      (ast-is r (h .first) (h .names) (h .fine))
       ∙ due-given (recordsOf (astEnvOf r) (r .self) (r .steps) (r .returns))
-      (measure-none r (h .shape) (h .names) (h .fine) measured (h .elides))
-      ∙ rw (names-are r (h .shape) (h .names) (h .fine))
+      (measure-none r (h .first) (h .names) (h .fine) measured (h .elides))
+      ∙ rw (names-are r (h .first) (h .names) (h .fine))
 
   answer-is : l ≡ answered (a .env) (Gives (loweredOf r))
   answer-is = h .lowers ∙ ap (answered (a .env)) lowered-is
@@ -206,16 +209,16 @@ module _ {r : Records} {own given taken : List ℕ} {a : ast-made.Made} {l : Low
     pub used-listed : {k : Refusal} {out : List ℕ} → u ≡ answer.Refused k → Lists (listedRecords r) out (listed.Refused k) out
     used-listed e =
         refuses r
-        (method-first r (h .shape) (h .names) (h .fine) measured (h .elides)
+        (method-first r (h .first) (h .names) (h .fine) measured (h .elides)
         (used-refused (l .env) (r .structs) (r .params) (r .output) (r .force) uses e))
 
     module _ {used : ℕ} (e : u ≡ answer.Set used) where
-      none : NoneDue (recordsChecks r)
-      none = method-none r (h .shape) (h .names) (h .fine) measured (h .elides)
+      none : NoneDue (loweringChecks r)
+      none = method-none r (h .first) (h .names) (h .fine) measured (h .elides)
           (accepted (l .env) (r .structs) (r .params) (r .output) (r .force) uses e)
 
       the-env : l .env ≡ envOfSheet r
-      the-env = env-is r (h .shape) (h .names) (h .fine) measured (h .elides)
+      the-env = env-is r (h .first) (h .names) (h .fine) measured (h .elides)
 
       borrows-are : sheetBorrows r ≡ methodBorrows (l .env) used (r .structs) (r .params)
       unfolding created
@@ -251,8 +254,9 @@ module _ {r : Records} {own given taken : List ℕ} {a : ast-made.Made} {l : Low
             valid = env-none (l .env) (r .structs) (r .params) (r .output) (r .force) n;
             of = params-none (l .env) (r .structs) (r .params) (r .output) (r .force) n;
             below = used-below (l .env) (r .structs) (r .params) (r .output) (r .force) n used g;
-            short = λ h. subst (λ (t : List ℕ). length t ≤ 131072) text-is
-                (listing-short r none (subst (λ (b : Borrows). length (b .edges) ≤ mostEdges) (sym borrows-are) h));
+            short = λ few. subst (λ (t : List ℕ). length t ≤ 131072) text-is
+                (listing-short r (h .first) none
+                (subst (λ (b : Borrows). length (b .edges) ≤ mostEdges) (sym borrows-are) few));
           }
 
       pub records-listed : (lists edges : ℕ) (w : Within) (out out₁ : List ℕ)

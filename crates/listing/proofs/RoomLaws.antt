@@ -27,13 +27,13 @@ use Rattle.elision.specs.Lowering.{words}
 use Rattle.elision.proofs.SmallLaws.{AllSmall}
 use Rattle.elision.proofs.SizeLaws.{lowered-self, lowered-steps, lowered-returns, accepted-small}
 use Rattle.sheet.specs.Text.{digits, following, line, Records}
-use Rattle.sheet.specs.Shape.{sheetInShape}
+use Rattle.sheet.specs.Shape.{sheetInShape, recordsChecks}
 use Rattle.sheet.proofs.DigitLaws.{digits-length, digits-of-word}
 use Rattle.sheet.proofs.Theorems.{shapes-are-short}
 use Rattle.borrowing_param.specs.declared.visitor.LifetimeEdge.{LifetimeEdge}
 use Rattle.borrowing_param.specs.Edges.{edgeWords}
 use Rattle.borrowing_param.specs.Consistent.{Consistent}
-use Rattle.borrowing_param.specs.SheetMethod.{loweredOf, envOfSheet, recordsChecks}
+use Rattle.borrowing_param.specs.SheetMethod.{loweredOf, envOfSheet, loweringChecks}
 use Rattle.borrowing_param.specs.Borrows.{Borrows, sheetBorrows}
 use Rattle.borrowing_param.specs.New.{created}
 use Rattle.borrowing_param.proofs.Forcing.{params-none}
@@ -160,7 +160,7 @@ five-short a b c d e h i j k l =
       length-append d e,
     )
 
-module _ (r : Records) (none : NoneDue (recordsChecks r)) where
+module _ (r : Records) (first : NoneDue (recordsChecks r)) (none : NoneDue (loweringChecks r)) where
   abbrev names : List ℕ
   names = ast.allNamesOf (r .names)
 
@@ -170,11 +170,11 @@ module _ (r : Records) (none : NoneDue (recordsChecks r)) where
   parts : (sheetInShape r ≡ true)
       × NoneDue (ast.placeChecks (r .names) (r .bounds) (r .types))
       × NoneDue (rfc.methodChecks names (receiverOf (r .self)) (stepsOf (r .steps)) (stepsOf (r .returns)))
-  unfolding recordsChecks
+  unfolding loweringChecks
   parts =
-      let p = none-split (ast.placeChecks (r .names) (r .bounds) (r .types)) _ (none-rest none) in
+      let p = none-split (ast.placeChecks (r .names) (r .bounds) (r .types)) _ none in
       let q = none-split (rfc.methodChecks names (receiverOf (r .self)) (stepsOf (r .steps)) (stepsOf (r .returns))) _ (p .1) in
-      (not-false (sheetInShape r) (none-first none), p .0, q .0)
+      (not-false (sheetInShape r) (none-first first), p .0, q .0)
 
   lowered-short : length (loweredLines elided) ≤ 49166
   lowered-short =
@@ -212,7 +212,7 @@ module _ (r : Records) (none : NoneDue (recordsChecks r)) where
   pub consistent : Consistent (sheetBorrows r .used) (sheetBorrows r .answers) (sheetBorrows r .edges)
   consistent =
       listing-consistent (created (envOfSheet r) (r .structs) (r .params) (r .output) (r .force) .visitor) (r .structs) (r .params)
-      (params-none (envOfSheet r) (r .structs) (r .params) (r .output) (r .force) (accepted-method r none))
+      (params-none (envOfSheet r) (r .structs) (r .params) (r .output) (r .force) (accepted-method r first none))
 
   -- 131,072 bytes are enough
   pub listing-short : length (sheetBorrows r .edges) ≤ 4096 → length (listingOf r) ≤ 131072

@@ -9,7 +9,7 @@ use lib.ListN.{length, drop, length-append}
 use lib.Seq.{sets}
 use Rattle.lifetimes.specs.declared.answer.Refusal.{Refusal}
 use Rattle.lifetimes.specs.declared.answer.Refusal.the-variants.{Malformed, Duplicate, Undeclared, Full, NoSource}
-use Rattle.lifetimes.specs.declared.answer.Refusal.the-variants.{Ambiguous, Mismatch, OutOfRange, NoRoom, Unreadable}
+use Rattle.lifetimes.specs.declared.answer.Refusal.the-variants.{Ambiguous, Mismatch, OutOfRange, NoRoom, Unreadable, Retired}
 use Rattle.lifetimes.specs.declared.answer.Listed.{Listed}
 use Rattle.lifetimes.specs.declared.answer.Listed.the-variants as listed
 use Rattle.lifetimes.specs.declared.answer.Verdict.the-variants as verdict
@@ -22,13 +22,13 @@ use Rattle.lifetimes.proofs.RefusalLaws.{none-more, first-more, first-after}
 use Rattle.records.proofs.VerdictLaws.{unless-after}
 use Rattle.sheet.specs.declared.text.Text.{Text}
 use Rattle.sheet.specs.Text.{line, Records}
-use Rattle.sheet.specs.Reading.{sheetOf, textChecks}
+use Rattle.sheet.specs.Reading.{sheetOf}
 use Rattle.sheet.specs.Shape as shape
 use Rattle.sheet.specs.Shape.{sheetAnswer}
 use Rattle.sheet.specs.Inner.{recordsAt, Roomy}
-use Rattle.borrowing_param.specs.SheetMethod.{recordsChecks, sheetRefusals}
+use Rattle.borrowing_param.specs.SheetMethod.{loweringChecks, sheetRefusals}
 use Rattle.borrowing_param.specs.Borrows.{sheetBorrows}
-use Rattle.borrowing_param.proofs.SheetLaws.{text-first, text-none, found}
+use Rattle.borrowing_param.proofs.SheetLaws.{text-first, read-none, read-parts, found}
 use Rattle.listing.specs.declared.within.Within.{Within}
 use Rattle.listing.specs.declared.within.Within.the-variants as within
 use Rattle.listing.specs.Listing as spec
@@ -60,10 +60,10 @@ module _ (bytes : List ℕ) where
       unfolding listingChecks sheetRefusals
       records-same =
           ap listedRecords (found bytes scratch roomy read wrote fine)
-          ∙ sym (unless-after (listingOf sheet) (recordsChecks sheet ++ (edgesCheck sheet ∷ []))
-          (text-none bytes scratch roomy read wrote fine .0))
+          ∙ sym (unless-after (listingOf sheet) (loweringChecks sheet ++ (edgesCheck sheet ∷ []))
+          (read-none bytes scratch roomy read wrote fine))
           ∙ ap (λ (cs : List Check). unless cs (listingOf sheet))
-          (sym (append-assoc (textChecks bytes) (recordsChecks sheet) (edgesCheck sheet ∷ [])))
+          (sym (append-assoc (shape.sheetChecks bytes) (loweringChecks sheet) (edgesCheck sheet ∷ [])))
 
       pub text-listed : (A : Type 0) (w : Within) (out out₁ : List ℕ)
           → ListsWithin (listedRecords (recordsAt scratch₁ (t .ends))) A out w out₁
@@ -105,8 +105,8 @@ module _ (bytes : List ℕ) where
   unfolding listingChecks sheetRefusals
   fits-room n =
       let p = none-split (sheetRefusals bytes) (edgesCheck sheet ∷ []) n in
-      let q = none-split (textChecks bytes) (recordsChecks sheet) (p .0) in
-      listing-short sheet (q .1) (ltb-false mostEdges (length (sheetBorrows sheet .edges)) (none-first (p .1)))
+      let q = none-split (shape.sheetChecks bytes) (loweringChecks sheet) (p .0) in
+      listing-short sheet (read-parts bytes (q .0) .1) (q .1) (ltb-false mostEdges (length (sheetBorrows sheet .edges)) (none-first (p .1)))
 
   module _ (out : List ℕ) where
     abbrev answer : Outcome (List ℕ)
@@ -204,6 +204,7 @@ refusal-short k = rw length-append (omega (arith, line-short (numberOf k ∷ [])
     below OutOfRange = omega arith
     below NoRoom = omega arith
     below Unreadable = omega arith
+    below Retired = omega arith
 
 module _ (k : Refusal) {number : ℕ} (is : number ≡ numberOf k) where
   pub refusal-fits : 0 + length (refusalHeading ++ line (number ∷ [])) < 2 ^ 64

@@ -16,7 +16,7 @@ use Rattle.sheet.specs.Text.{line, Records}
 use Rattle.sheet.specs.Reading.{sheetOf}
 use Rattle.borrowing_param.specs.Edges.{edgesIn}
 use Rattle.borrowing_param.specs.New.{newVisitor}
-use Rattle.borrowing_param.specs.SheetMethod.{recordsChecks}
+use Rattle.borrowing_param.specs.SheetMethod.{loweringChecks}
 use Rattle.borrowing_param.specs.Borrows.{Borrows, borrowsBy}
 use Rattle.borrowing_param.specs.InnerSheet.{OfMethod}
 use Rattle.listing.specs.declared.within.Within.{Within}
@@ -32,7 +32,7 @@ listedSheet bytes = unless (listingChecks bytes) (listingOf (sheetOf bytes))
 
 -- and of records that are in shape
 abbrev pub listedRecords : Records → Outcome (List ℕ)
-listedRecords r = unless (recordsChecks r ++ (edgesCheck r ∷ [])) (listingOf r)
+listedRecords r = unless (loweringChecks r ++ (edgesCheck r ∷ [])) (listingOf r)
 
 -- what a function answers and leaves that lists into a slice: the text's length, and the text stored from the front as
 -- far as the slice goes; or a refusal, and the slice as it was

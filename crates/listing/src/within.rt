@@ -1,10 +1,10 @@
 // A listing made in lent scratch: where it is too short, and only then, the answer says so.
 ghost use Prim.Native.Nat.{_≤_};
-ghost use mathlib.Core.Bool.{true};
 ghost use mathlib.Core.Path.{_≡_};
 ghost use lib.ListN.{length};
+ghost use Rattle.lifetimes.specs.Refusals.{NoneDue};
 ghost use Rattle.lifetimes.specs.Lent.{held, room, left};
-ghost use Rattle.sheet.specs.Shape.{sheetInShape};
+ghost use Rattle.sheet.specs.Shape.{recordsChecks};
 ghost use Rattle.sheet.specs.Inner.{Laid, recordsAt, Roomy};
 ghost use Rattle.borrowing_param.specs.InnerSheet.{records};
 ghost use Rattle.listing.specs.InnerListing.{listedSheet, listedRecords, Ample, ListsWithin, listedMethod};
@@ -52,7 +52,7 @@ pub(crate) fn list_within(
     list_laid(words, ends, given, taken, lists, edges, out)
 }
 
-// List records in shape whose words stand one record after another.
+// List records that were read, whose words stand one record after another.
 fn list_laid(
     words: &[usize],
     ends: [usize; 10],
@@ -62,7 +62,7 @@ fn list_laid(
     edges: &mut [usize],
     out: &mut [u8],
 ) -> Within
-    requires { ⌜ Laid (now words) ends × (sheetInShape (recordsAt (now words) ends) ≡ true)
+    requires { ⌜ Laid (now words) ends × NoneDue (recordsChecks (recordsAt (now words) ends))
         × (length (now edges) ≤ 20480) ⌝ }
     ensures { λ r. ⌜ ListsWithin (listedRecords (recordsAt (held words) ends))
         (Ample (room given) (room taken) (room lists) (room edges)) (held out) r (left out) ⌝ }
@@ -104,9 +104,9 @@ fn list_records(
     edges: &mut [usize],
     out: &mut [u8],
 ) -> Within
-    requires { ⌜ (sheetInShape
+    requires { ⌜ NoneDue (recordsChecks
         (records (now names) (now bounds) (now types) (now receiver) (now steps) (now returns) (now structs)
-        (now params) (now output) (now force)) ≡ true) × (length (now edges) ≤ 20480) ⌝ }
+        (now params) (now output) (now force))) × (length (now edges) ≤ 20480) ⌝ }
     ensures { λ r. ⌜ ListsWithin
         (listedRecords
         (records (held names) (held bounds) (held types) (held receiver) (held steps) (held returns) (held structs)

@@ -1,38 +1,53 @@
 -- The shape of `force` and of `output`, and of a method's four records from that of each.
 use Prim.Native.Nat.{ℕ, _≤_, _<_}
-use mathlib.Core.Bool.{Bool, true, false}
+use mathlib.Core.Bool.{Bool, true, false, not}
 use mathlib.Core.Path.{_≡_, refl, sym, _∙_}
 use mathlib.Core.List.{List, [], _∷_}
 use native.Mathlib.Omega.{arith}
 use lib.ListN.{length, getD}
-use borrow.Author.Tests.{le-leb, lt-leb}
+use borrow.Author.Tests.{le-leb, lt-leb, ne-eqb}
 use Rattle.lifetimes.specs.declared.answer.Refusal.{Refusal}
-use Rattle.lifetimes.specs.declared.answer.Refusal.the-variants.{Malformed}
+use Rattle.lifetimes.specs.declared.answer.Refusal.the-variants.{Malformed, Retired}
 use Rattle.lifetimes.specs.declared.answer.Verdict.{Verdict}
 use Rattle.lifetimes.specs.declared.answer.Verdict.the-variants as verdict
 use Rattle.lifetimes.specs.declared.answer.Listed.{Listed}
 use Rattle.lifetimes.specs.declared.answer.Listed.the-variants.{Count, Refused}
-use Rattle.records.specs.Reading.{shapeVerdict}
+use Rattle.lifetimes.specs.Refusals.{check, unless, FirstDue}
+use Rattle.lifetimes.specs.Lent.{verdictOf}
+use Rattle.lifetimes.proofs.RefusalLaws.{due-given, due-refused, refused-first, accepted-none}
 use Rattle.lowered_types.specs.Rows.{forceInShape, outputInShape, paramsInShape, structsInShape, rowsOf, typesOf}
-use Rattle.lowered_types.specs.Rows.{methodInShape, methodShape, noShape, howMany}
+use Rattle.lowered_types.specs.Rows.{methodInShape, methodShape, noShape, shapeOf, howMany, forced, shapeChecks}
+use Rattle.lowered_types.specs.Rows.{checksVerdict}
+use Rattle.lowered_types.specs.declared.shapes.Shape.{Shape}
 
 -- ---- `force`
 
-pub force-size : (force : List ℕ) → (length force ≡ 1 → ⊥) → verdict.Refused Malformed ≡ shapeVerdict (forceInShape force)
+pub force-size : (force : List ℕ) → (length force ≡ 1 → ⊥) → verdict.Refused Malformed ≡ checksVerdict (forceInShape force) force
+unfolding unless
 force-size [] h = refl
 force-size (word ∷ []) h = absurd (h refl)
 force-size (word ∷ other ∷ words) h = refl
 
 pub force-large : (force : List ℕ) → length force ≡ 1 → 1 < getD force 0 0
-    → verdict.Refused Malformed ≡ shapeVerdict (forceInShape force)
+    → verdict.Refused Malformed ≡ checksVerdict (forceInShape force) force
+unfolding unless
 force-large [] e h = absurd (omega arith)
 force-large (word ∷ []) e h = rw (lt-leb word 1 h)
 force-large (word ∷ other ∷ words) e h = absurd (omega arith)
 
-pub force-flag : (force : List ℕ) → length force ≡ 1 → getD force 0 0 ≤ 1 → verdict.Accepted ≡ shapeVerdict (forceInShape force)
-force-flag [] e h = absurd (omega arith)
-force-flag (word ∷ []) e h = rw (le-leb word 1 h)
-force-flag (word ∷ other ∷ words) e h = absurd (omega arith)
+pub force-retired : (force : List ℕ) → length force ≡ 1 → getD force 0 0 ≡ 1
+    → verdict.Refused Retired ≡ checksVerdict (forceInShape force) force
+unfolding unless
+force-retired [] e h = absurd (omega arith)
+force-retired (word ∷ []) e h = rw h
+force-retired (word ∷ other ∷ words) e h = absurd (omega arith)
+
+pub force-taken : (force : List ℕ) → length force ≡ 1 → getD force 0 0 ≤ 1 → (getD force 0 0 ≡ 1 → ⊥)
+    → verdict.Accepted ≡ checksVerdict (forceInShape force) force
+unfolding unless
+force-taken [] e h k = absurd (omega arith)
+force-taken (word ∷ []) e h k = rw (le-leb word 1 h, ne-eqb word 1 k)
+force-taken (word ∷ other ∷ words) e h k = absurd (omega arith)
 
 -- ---- what a count says
 
@@ -45,14 +60,6 @@ pub refused-shape : {A : Type 0} (b : Bool) (items : List A) {r : Listed} {s : R
     → r ≡ Refused s → b ≡ false
 refused-shape true items e k = let z : _≡_ {A = ℕ} 0 1 = cc in absurd (omega arith)
 refused-shape false items e k = refl
-
-flag-accepted : (b : Bool) {v : Verdict} → v ≡ shapeVerdict b → v ≡ verdict.Accepted → b ≡ true
-flag-accepted true e k = refl
-flag-accepted false e k = let z : _≡_ {A = ℕ} 0 1 = cc in absurd (omega arith)
-
-flag-refused : (b : Bool) {v : Verdict} {s : Refusal} → v ≡ shapeVerdict b → v ≡ verdict.Refused s → b ≡ false
-flag-refused true e k = let z : _≡_ {A = ℕ} 0 1 = cc in absurd (omega arith)
-flag-refused false e k = refl
 
 -- ---- `output`
 
@@ -74,24 +81,24 @@ module _ (rows : ℕ) (output : List ℕ) {r : Listed} (e : r ≡ howMany (param
 -- ---- the four records
 
 module _ (structs params output force : List ℕ) {a : Listed} (e : a ≡ howMany (structsInShape structs) (rowsOf structs)) where
-  pub method-structs : {s : Refusal} → a ≡ Refused s → noShape ≡ methodShape structs params output force
-  unfolding methodInShape methodShape
+  pub method-structs : {s : Refusal} → a ≡ Refused s → noShape Malformed ≡ methodShape structs params output force
+  unfolding methodInShape methodShape unless
   method-structs k = rw (refused-shape (structsInShape structs) (rowsOf structs) e k)
 
   module _ {rows : ℕ} (k : a ≡ Count rows) {b : Listed} (f : b ≡ howMany (paramsInShape rows params) (typesOf rows params)) where
     rows-right : (structsInShape structs ≡ true) × (length (rowsOf structs) ≡ rows)
     rows-right = counted-shape (structsInShape structs) (rowsOf structs) e k
 
-    pub method-params : {s : Refusal} → b ≡ Refused s → noShape ≡ methodShape structs params output force
-    unfolding methodInShape methodShape
+    pub method-params : {s : Refusal} → b ≡ Refused s → noShape Malformed ≡ methodShape structs params output force
+    unfolding methodInShape methodShape unless
     method-params l = rw (rows-right .0, rows-right .1, refused-shape (paramsInShape rows params) (typesOf rows params) f l)
 
     module _ {n : ℕ} (l : b ≡ Count n) {c : Listed} (g : c ≡ howMany (outputInShape rows output) (typesOf rows output)) where
       params-right : (paramsInShape rows params ≡ true) × (length (typesOf rows params) ≡ n)
       params-right = counted-shape (paramsInShape rows params) (typesOf rows params) f l
 
-      pub method-output : {s : Refusal} → c ≡ Refused s → noShape ≡ methodShape structs params output force
-      unfolding methodInShape methodShape
+      pub method-output : {s : Refusal} → c ≡ Refused s → noShape Malformed ≡ methodShape structs params output force
+      unfolding methodInShape methodShape unless
       method-output m =
           rw (
             rows-right .0,
@@ -100,25 +107,40 @@ module _ (structs params output force : List ℕ) {a : Listed} (e : a ≡ howMan
             refused-shape (outputInShape rows output) (typesOf rows output) g m,
           )
 
-      module _ {m : ℕ} (q : c ≡ Count m) {v : Verdict} (w : v ≡ shapeVerdict (forceInShape force)) where
+      module _ {m : ℕ} (q : c ≡ Count m) {v : Verdict} (w : v ≡ checksVerdict (forceInShape force) force) where
         output-right : (outputInShape rows output ≡ true) × (length (typesOf rows output) ≡ m)
         output-right = counted-shape (outputInShape rows output) (typesOf rows output) g q
 
-        pub method-force : {s : Refusal} → v ≡ verdict.Refused s → noShape ≡ methodShape structs params output force
-        unfolding methodInShape methodShape
-        method-force t = rw (rows-right .0, rows-right .1, params-right .0, output-right .0, flag-refused (forceInShape force) w t)
+        -- the first three are in shape, so that all four are if `force` is
+        by-force : methodInShape structs params output force ≡ forceInShape force
+        unfolding methodInShape
+        by-force = rw (rows-right .0, rows-right .1, params-right .0, output-right .0)
+
+        pub method-force : {s : Refusal} → v ≡ verdict.Refused s → noShape s ≡ methodShape structs params output force
+        unfolding methodShape
+        method-force {s} t =
+            let due : FirstDue s (shapeChecks (forceInShape force) force) =
+            refused-first (tt {0}) s (shapeChecks (forceInShape force) force) (sym w ∙ t) in
+            rw (by-force, due-refused _ due)
 
         pub method-whole : v ≡ verdict.Accepted
             → record { verdict = verdict.Accepted; rows = rows; params = n; outputs = m }
             ≡ methodShape structs params output force
-        unfolding methodInShape methodShape
+        unfolding methodShape
         method-whole t =
-            rw (
-              rows-right .0,
-              rows-right .1,
-              params-right .0,
-              output-right .0,
-              flag-accepted (forceInShape force) w t,
-              params-right .1,
-              output-right .1,
-            )
+            let none = accepted-none (tt {0}) (shapeChecks (forceInShape force) force) (sym w ∙ t) in
+            rw (by-force, due-given _ none, rows-right .1, params-right .1, output-right .1)
+
+-- what is answered on a method's records has the verdict of their first refusals
+verdict-is : (inShape flag : Bool) (s : Shape) → s .verdict ≡ verdict.Accepted
+    → shapeOf (unless (check (not inShape) Malformed ∷ check flag Retired ∷ []) s) .verdict
+    ≡ verdictOf (unless (check (not inShape) Malformed ∷ check flag Retired ∷ []) (tt {0}))
+unfolding unless
+verdict-is false flag s e = refl
+verdict-is true true s e = refl
+verdict-is true false s e = e
+
+pub shape-verdict : (structs params output force : List ℕ) → methodShape structs params output force .verdict
+    ≡ checksVerdict (methodInShape structs params output force) force
+unfolding methodShape
+shape-verdict structs params output force = verdict-is (methodInShape structs params output force) (forced force) _ refl

@@ -1,14 +1,18 @@
--- The records `structs`, `params`, `output` and `force`: their shape (refusal 1, 01's "torn"), and what a record in
--- shape says.
+-- The records `structs`, `params`, `output` and `force`: their shape (refusal 1, 01's "torn"), the value of `force`
+-- that is no longer taken (refusal 13, 02's "retired"), and what a record in shape says.
 use Prim.Native.Nat.{ℕ, zero, suc}
-use mathlib.Core.Bool.{Bool, true, false, cond, _&&_}
+use mathlib.Core.Bool.{Bool, true, false, cond, not, _&&_}
 use mathlib.Core.List.{List, [], _∷_}
 use lib.Dec.{eqb, leb}
 use lib.ListN.{length}
-use Rattle.lifetimes.specs.declared.answer.Refusal.the-variants.{Malformed}
+use Rattle.lifetimes.specs.declared.answer.Refusal.{Refusal}
+use Rattle.lifetimes.specs.declared.answer.Refusal.the-variants.{Malformed, Retired}
 use Rattle.lifetimes.specs.declared.answer.Listed.{Listed}
 use Rattle.lifetimes.specs.declared.answer.Listed.the-variants.{Count, Refused}
+use Rattle.lifetimes.specs.declared.answer.Verdict.{Verdict}
 use Rattle.lifetimes.specs.declared.answer.Verdict.the-variants as verdict
+use Rattle.lifetimes.specs.Refusals.{Check, check, Outcome, Gives, Refuses, unless}
+use Rattle.lifetimes.specs.Lent.{verdictOf}
 use Rattle.records.specs.Reading.{Reading, Read, Fails, onward, readWord, inShape, itemsOf}
 use Rattle.lowered_types.specs.declared.shapes.Shape.{Shape}
 use Rattle.lowered_types.specs.LoweredTypes.{LoweredType, readLowered, knows}
@@ -75,22 +79,35 @@ methodInShape structs params output force =
     && (outputInShape (length (rowsOf structs)) output
     && forceInShape force))
 
+-- The first refusals of some records with `force` among them (`force` alone, the four of a method, the ten of a
+-- sheet), by whether they are in shape: 1; then 13 (02: "retired, for 1 in `force`, directly after 1 over all records
+-- and before 2")
+abbrev pub shapeChecks : Bool → List ℕ → List Check
+shapeChecks inShape force = check (not inShape) Malformed ∷ check (forced force) Retired ∷ []
+
+abbrev pub checksVerdict : Bool → List ℕ → Verdict
+checksVerdict inShape force = verdictOf (unless (shapeChecks inShape force) (tt {0}))
+
 -- what a call answers on the shape of a record of items: how many they are, or 1
 abbrev pub howMany : {A : Type 0} → Bool → List A → Listed
 howMany true items = Count (length items)
 howMany false items = Refused Malformed
 
--- what it answers on the shape of a method: how much stands in the records, or 1
-abbrev pub noShape : Shape
-noShape = record { verdict = verdict.Refused Malformed; rows = 0; params = 0; outputs = 0 }
+-- what it answers on a method's records: how much stands in them; or why they are refused, and 0 for each
+abbrev pub noShape : Refusal → Shape
+noShape r = record { verdict = verdict.Refused r; rows = 0; params = 0; outputs = 0 }
+
+abbrev pub shapeOf : Outcome Shape → Shape
+shapeOf (Gives shape) = shape
+shapeOf (Refuses r) = noShape r
 
 unfoldable pub methodShape : List ℕ → List ℕ → List ℕ → List ℕ → Shape
 methodShape structs params output force =
-    cond (methodInShape structs params output force)
+    shapeOf
+    (unless (shapeChecks (methodInShape structs params output force) force)
     (record {
       verdict = verdict.Accepted;
       rows = length (rowsOf structs);
       params = length (typesOf (length (rowsOf structs)) params);
       outputs = length (typesOf (length (rowsOf structs)) output);
-    })
-    noShape
+    }))

@@ -3,10 +3,10 @@ ghost use mathlib.Core.Path.{_≡_};
 ghost use Prim.Native.Nat.{_≤_};
 ghost use lib.ListN.{length, drop};
 ghost use Rattle.lifetimes.specs.Lent.{held};
-ghost use Rattle.records.specs.Reading.{shapeVerdict};
 ghost use Rattle.records.specs.Ends.{EndsAt};
 ghost use Rattle.lowered_types.specs.Rows.{readKnown, readTypes, readRow, structsInShape, rowsOf, paramsInShape};
-ghost use Rattle.lowered_types.specs.Rows.{typesOf, outputInShape, forceInShape, methodShape, noShape, howMany};
+ghost use Rattle.lowered_types.specs.Rows.{typesOf, outputInShape, forceInShape, checksVerdict, methodShape};
+ghost use Rattle.lowered_types.specs.Rows.{noShape, howMany};
 ghost use Rattle.lowered_types.specs.Inner.{EndsFrom};
 use super::types::Located;
 use super::types::type_at;
@@ -17,6 +17,9 @@ use records::End;
 
 // How many fields a struct may have, and how many lifetimes.
 const MAX_FIELDS: usize = 16;
+
+// The value of `force` that is retired; a larger one never was a value.
+const RETIRED: usize = 1;
 
 // Whether `structs` is in shape, and how many rows it has: all that stand there, also past the 32nd. Refused by 1.
 // Reads each type once.
@@ -74,15 +77,18 @@ pub fn output_shape(output: &[usize], rows: usize) -> Listed
     Listed::Count(count)
 }
 
-// Whether `force` is in shape: one word, 0 or 1. Refused by 1.
+// Whether `force` is one word, 0. Refused by 1 where it is not in shape (one word, 0 or 1), then by 13 for 1.
 pub fn force_shape(force: &[usize]) -> Verdict
-    ensures answer { λ r. ⌜ r ≡ shapeVerdict (forceInShape (held force)) ⌝ }
+    ensures answer { λ r. ⌜ r ≡ checksVerdict (forceInShape (held force)) (held force) ⌝ }
 {
     if force.len() != 1 {
         return Verdict::Refused(Refusal::Malformed);
     }
-    if 1 < force[0] {
+    if RETIRED < force[0] {
         return Verdict::Refused(Refusal::Malformed);
+    }
+    if force[0] == RETIRED {
+        return Verdict::Refused(Refusal::Retired);
     }
     Verdict::Accepted
 }
@@ -96,26 +102,27 @@ pub struct Shape {
     pub outputs: usize,
 }
 
-// Whether the four records of a method are in shape, and how much stands in them. Refused by 1.
+// Whether the four records of a method are in shape, and how much stands in them. Refused by 1 over all four, then by
+// 13 for 1 in `force`.
 pub fn method_shape(structs: &[usize], params: &[usize], output: &[usize], force: &[usize]) -> Shape
     ensures answer { λ r. ⌜ r ≡ methodShape (held structs) (held params) (held output) (held force) ⌝ }
 {
     let first = structs_shape(structs);
     let Listed::Count(rows) = first else {
-        return malformed();
+        return no_shape(Refusal::Malformed);
     };
     let second = params_shape(params, rows);
     let Listed::Count(inputs) = second else {
-        return malformed();
+        return no_shape(Refusal::Malformed);
     };
     let third = output_shape(output, rows);
     let Listed::Count(outputs) = third else {
-        return malformed();
+        return no_shape(Refusal::Malformed);
     };
     let last = force_shape(force);
-    let Verdict::Accepted = last else {
-        return malformed();
-    };
+    if let Verdict::Refused(refusal) = last {
+        return no_shape(refusal);
+    }
     Shape {
         verdict: Verdict::Accepted,
         rows,
@@ -124,12 +131,12 @@ pub fn method_shape(structs: &[usize], params: &[usize], output: &[usize], force
     }
 }
 
-// What is answered where a record is not in shape.
-fn malformed() -> Shape
-    ensures { λ r. ⌜ r ≡ noShape ⌝ }
+// A refusal, and 0 for each.
+fn no_shape(refusal: Refusal) -> Shape
+    ensures { λ r. ⌜ r ≡ noShape refusal ⌝ }
 {
     Shape {
-        verdict: Verdict::Refused(Refusal::Malformed),
+        verdict: Verdict::Refused(refusal),
         rows: 0,
         params: 0,
         outputs: 0,

@@ -1,7 +1,7 @@
 -- Answers: what the parts of a text say of the whole, what `measure` answers, and what `read_text` and `read_sheet`
 -- answer and write.
 use Prim.Native.Nat.{ℕ, zero, suc, _+_, _≤_, _<_}
-use mathlib.Core.Bool.{Bool, true, false, cond, not}
+use mathlib.Core.Bool.{Bool, true, false, cond}
 use mathlib.Core.Path.{_≡_, refl, sym, ap, subst, _∙_}
 use mathlib.Core.List.{List, [], _∷_, _++_, append-assoc, flatMap, flatten}
 use mathlib.Core.Option.{Option, none, some}
@@ -13,8 +13,9 @@ use lib.ListN.{length, getD, take, drop, length-append}
 use lib.Seq.{sets, slice, drop-append-seam, drop-at, take-at}
 use Rattle.lifetimes.specs.declared.answer.Refusal.{Refusal}
 use Rattle.lifetimes.specs.declared.answer.Refusal.the-variants.{Malformed, NoRoom, Unreadable}
+use Rattle.lifetimes.specs.declared.answer.Verdict.{Verdict}
 use Rattle.lifetimes.specs.declared.answer.Verdict.the-variants as verdict
-use Rattle.lifetimes.specs.Refusals.{Check, Gives, Refuses, unless, FirstDue, here, NoneDue, end, next}
+use Rattle.lifetimes.specs.Refusals.{Check, Gives, Refuses, unless, FirstDue, NoneDue, end}
 use Rattle.lifetimes.specs.Lent.{written}
 use Rattle.lifetimes.proofs.RefusalLaws.{due-given, due-refused, given-due, refused-due, refused-first, accepted-none}
 use Rattle.lifetimes.proofs.RefusalLaws.{none-first, first-more, first-after, none-more}
@@ -28,8 +29,8 @@ use Rattle.sheet.specs.Reading.{behind, LineStart, recordsOf, ten, lines
 use Rattle.sheet.specs.Reading.{allShort, textChecks}
 use Rattle.lifetimes.specs.Reach.{endsFrom}
 use Rattle.sheet.specs.Answer.{answerOf, measured, withRoom, readWords, readEnds, readAnswer}
-use Rattle.sheet.specs.Shape.{sheetInShape, sheetChecks, sheetWords, sheetEnds, sheetAnswer}
-use Rattle.sheet.specs.Inner.{readFrom, TenAt, LinesRead, Counted}
+use Rattle.sheet.specs.Shape.{recordsChecks, sheetChecks, sheetWords, sheetEnds, sheetAnswer}
+use Rattle.sheet.specs.Inner.{readFrom, TenAt, LinesRead, recordsVerdict, Counted}
 use Rattle.sheet.specs.Theorems.{CallGives}
 use Rattle.sheet.proofs.TextLaws.{read-lines}
 use Rattle.sheet.proofs.SheetLaws.{lists-of-ten, in-sheet}
@@ -228,17 +229,19 @@ module _ (bytes words : List ℕ) (j : Text) (m : j ≡ measured bytes) where
   ReadsSheet a words′ = (a ≡ sheetAnswer bytes (length words)) × (words′ ≡ written (sheetWords bytes (length words)) words)
 
   module _ (e : j .verdict ≡ verdict.Accepted) where
-    module _ {t : Bool} (s : t ≡ sheetInShape (sheetOf bytes)) where
-      pub sheet-malformed : t ≡ false → ReadsSheet (answerOf (Refuses Malformed)) words
+    module _ {v : Verdict} (s : v ≡ recordsVerdict (sheetOf bytes)) where
+      pub sheet-unshaped : {k : Refusal} → v ≡ verdict.Refused k → ReadsSheet (answerOf (Refuses k)) words
       unfolding sheetAnswer sheetEnds sheetWords sheetChecks
-      sheet-malformed f =
-          let d : FirstDue Malformed (sheetChecks bytes) = first-after (none-due bytes j m e) (here (ap not (sym s ∙ f)) refl) in
+      sheet-unshaped {k} f =
+          let d : FirstDue k (sheetChecks bytes) =
+          first-after (none-due bytes j m e) (refused-first (tt {0}) k (recordsChecks (sheetOf bytes)) (sym s ∙ f)) in
           call-refuses (sheetChecks bytes) (sheetOf bytes) words (first-more _ d)
 
-      module _ (f : t ≡ true) where
+      module _ (f : v ≡ verdict.Accepted) where
         sheet-none : NoneDue (sheetChecks bytes)
         unfolding sheetChecks
-        sheet-none = none-more (none-due bytes j m e) (next (ap not (sym s ∙ f)) end)
+        sheet-none =
+            none-more (none-due bytes j m e) (accepted-none (tt {0}) (recordsChecks (sheetOf bytes)) (sym s ∙ f))
 
         module _ {fits : Bool} (l : fits ≡ leb (getD (j .ends) 9 0) (length words)) {words′ : List ℕ}
             (w : words′ ≡ cond fits (sets words 0 (wordsOf (sheetOf bytes))) words) where

@@ -1,6 +1,6 @@
 -- Records one after another: each stands between two ends, and the whole is the sheet.
 use Prim.Native.Nat.{ℕ, zero, suc, _+_, _*_, _-_, _≤_, _<_}
-use mathlib.Core.Bool.{Bool, true, false, cond, _&&_}
+use mathlib.Core.Bool.{Bool, true, false, _&&_, true≢false, false≢true}
 use mathlib.Core.Path.{_≡_, refl, sym, ap, _∙_}
 use mathlib.Core.List.{List, [], _∷_, flatten}
 use native.Mathlib.Nat.{sub-zero}
@@ -10,14 +10,14 @@ use lib.Dec.{leb}
 use lib.ListN.{length, getD, take, drop, length-append}
 use lib.Seq.{sets, slice, take-append-seam}
 use Rattle.lifetimes.specs.declared.answer.Refusal.{Refusal}
-use Rattle.lifetimes.specs.declared.answer.Refusal.the-variants.{NoRoom}
+use Rattle.lifetimes.specs.declared.answer.Refusal.the-variants.{Malformed, NoRoom}
 use Rattle.lifetimes.specs.declared.answer.Verdict.the-variants as verdict
 use Rattle.lifetimes.specs.declared.answer.Listed.{Listed}
 use Rattle.lifetimes.specs.declared.answer.Listed.the-variants.{Count, Refused}
 use Rattle.lifetimes.specs.Lent as lent
 use Rattle.lifetimes.specs.Lent.{written, isAccepted}
 use Rattle.lifetimes.proofs.Copying.{sets-front}
-use Rattle.lifetimes.specs.Refusals.{Refuses, NoneDue}
+use Rattle.lifetimes.specs.Refusals.{Refuses, unless, NoneDue}
 use Rattle.lifetimes.proofs.RefusalLaws.{due-given, none-first, none-rest}
 use Rattle.lifetimes.specs.declared.answer.Verdict.{Verdict}
 use Rattle.records.specs.Reading.{shapeVerdict}
@@ -27,14 +27,15 @@ use Rattle.ast_lifetimes.specs.Shapes.{namesInShape, boundsInShape}
 use Rattle.ast_lifetimes.specs.Types.{typesInShape}
 use Rattle.elision.specs.Steps.{selfInShape, stepsInShape}
 use Rattle.lowered_types.specs.declared.shapes.Shape.{Shape}
-use Rattle.lowered_types.specs.Rows.{methodInShape, methodShape, noShape, rowsOf, typesOf}
+use Rattle.lowered_types.specs.Rows.{methodInShape, methodShape, checksVerdict}
+use Rattle.lowered_types.proofs.ShapeLaws.{shape-verdict}
 use Rattle.sheet.specs.Text.{Records, lists, wordsOf}
 use Rattle.sheet.specs.declared.text.Text.{Text}
 use Rattle.sheet.specs.Reading.{sheetOf, textChecks, allShort, readText}
 use Rattle.lifetimes.specs.Reach.{endsFrom}
 use Rattle.sheet.specs.Answer.{answerOf, startOf, recordWords, measured}
 use Rattle.sheet.specs.Shape.{sheetInShape, sheetAnswer, sheetWords}
-use Rattle.sheet.specs.Inner.{recordAt, recordsAt, Laid, Counted, Roomy}
+use Rattle.sheet.specs.Inner.{recordAt, recordsAt, Laid, recordsVerdict, Counted, Roomy}
 use Rattle.sheet.proofs.SheetLaws.{few-all, total-words}
 use Rattle.sheet.proofs.Answers.{last-end, list-between, none-due, counted, sheet-short, sheet-wrote}
 use Rattle.sheet.proofs.Theorems.{room-for-any-sheet, words-take-two-bytes}
@@ -152,9 +153,9 @@ module _ {bytes ends : List ℕ} (c : Counted bytes ends) where
       placed = c .placed;
     }
 
-    pub counted-shape : {t : Bool} → t ≡ sheetInShape (recordsAt words′ ends) → t ≡ sheetInShape (sheetOf bytes)
+    pub counted-shape : {v : Verdict} → v ≡ recordsVerdict (recordsAt words′ ends) → v ≡ recordsVerdict (sheetOf bytes)
     unfolding counted-laid
-    counted-shape e = e ∙ ap sheetInShape (laid-records counted-laid)
+    counted-shape e = e ∙ ap recordsVerdict (laid-records counted-laid)
 
 -- scratch that takes the words of any sheet of so many bytes: half as many words, and 10,240 in any case
 pub half-room : (bytes : List ℕ) {room : ℕ} → length bytes ≤ 2 * room → Roomy bytes room
@@ -170,7 +171,7 @@ roomy-fits bytes roomy n =
     roomy (length (wordsOf (sheetOf bytes))) (omega (arith, room-for-any-sheet bytes (sheetOf bytes) e))
     (words-take-two-bytes bytes (sheetOf bytes) e)
 
--- an accepted text that `scan` left in such scratch: its records stand there, their shape is the sheet's, and what is
+-- an accepted text that `scan` left in such scratch: its records stand there, their verdict is the sheet's, and what is
 -- copied from the front are its words
 module _ (bytes scratch : List ℕ) (roomy : Roomy bytes (length scratch)) {j : Text} (m : j ≡ measured bytes)
     (e : j .verdict ≡ verdict.Accepted)
@@ -184,7 +185,7 @@ module _ (bytes scratch : List ℕ) (roomy : Roomy bytes (length scratch)) {j : 
   pub scanned-laid : Laid scratch₁ (j .ends)
   scanned-laid = counted-laid ends-counted scratch words-fit (w (none-due bytes j m e))
 
-  pub scanned-shape : {t : Bool} → t ≡ sheetInShape (recordsAt scratch₁ (j .ends)) → t ≡ sheetInShape (sheetOf bytes)
+  pub scanned-shape : {v : Verdict} → v ≡ recordsVerdict (recordsAt scratch₁ (j .ends)) → v ≡ recordsVerdict (sheetOf bytes)
   scanned-shape = counted-shape ends-counted scratch words-fit (w (none-due bytes j m e))
 
   first-words : take (getD (j .ends) 9 0) scratch₁ ≡ wordsOf (sheetOf bytes)
@@ -195,7 +196,8 @@ module _ (bytes scratch : List ℕ) (roomy : Roomy bytes (length scratch)) {j : 
   unfolding counted-laid scanned-laid sheetOf
   inside = rw (scanned-laid .stored, length-append) (omega (arith, counted-end ends-counted))
 
-  module _ {t : Bool} (shape : t ≡ sheetInShape (recordsAt scratch₁ (j .ends))) (right : t ≡ true) (words : List ℕ) {words′ : List ℕ}
+  module _ {v : Verdict} (shape : v ≡ recordsVerdict (recordsAt scratch₁ (j .ends))) (right : v ≡ verdict.Accepted)
+      (words : List ℕ) {words′ : List ℕ}
       (left : words′ ≡ written (copied scratch₁ (getD (j .ends) 9 0) (length words)) words) {r : Listed}
       (told : r ≡ lent.counted (copied scratch₁ (getD (j .ends) 9 0) (length words))) where
     pub scanned-short : {k : Refusal} → r ≡ Refused k → (answerOf (Refuses NoRoom) ≡ sheetAnswer bytes (length words))
@@ -224,36 +226,34 @@ shape-is shape {l} e f g = g ∙ ap isAccepted (f ∙ ap (λ (x : List ℕ). sha
 pub all-three : {a b c t u w r s : Bool} → t ≡ a → u ≡ b → w ≡ c → s ≡ u && w → r ≡ t && s → r ≡ a && (b && c)
 all-three e f g h k = k ∙ rw (h, e, f, g)
 
--- the shape of a method's four records, and of all ten
-method-verdict : (structs params output force : List ℕ) → isAccepted (methodShape structs params output force .verdict)
-    ≡ methodInShape structs params output force
-unfolding methodShape
-method-verdict structs params output force =
-    go (methodInShape structs params output force) (methodShape structs params output force) refl
-  where
-    go : (t : Bool) (s : Shape)
-        → s
-        ≡ cond t
-        (record {
-          verdict = verdict.Accepted;
-          rows = length (rowsOf structs);
-          params = length (typesOf (length (rowsOf structs)) params);
-          outputs = length (typesOf (length (rowsOf structs)) output);
-        })
-        noShape
-        → isAccepted (s .verdict) ≡ t
-    go true s e = rw e
-    go false s e = rw e
+-- the first refusals of a method's four records, and of all ten
+pub method-is : {a b c d a′ b′ c′ d′ : List ℕ} {s : Shape} → a′ ≡ a → b′ ≡ b → c′ ≡ c → d′ ≡ d
+    → s ≡ methodShape a′ b′ c′ d′ → s .verdict ≡ checksVerdict (methodInShape a b c d) d
+method-is {a} {b} {c} {d} e f g h k = rw (k, e, f, g, h) (shape-verdict a b c d)
 
-pub method-is : {a b c d a′ b′ c′ d′ : List ℕ} {s : Shape} {t : Bool} → a′ ≡ a → b′ ≡ b → c′ ≡ c → d′ ≡ d
-    → s ≡ methodShape a′ b′ c′ d′ → t ≡ isAccepted (s .verdict)
-    → t ≡ methodInShape a b c d
-method-is {a} {b} {c} {d} e f g h k l = l ∙ rw (k, e, f, g, h) (method-verdict a b c d)
+module _ (r : Records) {t u x : Bool}
+    (e : t ≡ namesInShape (r .names) && (boundsInShape (r .bounds) && typesInShape (r .types)))
+    (f : u ≡ selfInShape (r .self) && (stepsInShape (r .steps) && stepsInShape (r .returns))) (g : x ≡ t && u) where
+  abbrev method : Bool
+  method = methodInShape (r .structs) (r .params) (r .output) (r .force)
 
-pub sheet-is : (r : Records) {t u w x y : Bool}
-    → t ≡ namesInShape (r .names) && (boundsInShape (r .bounds) && typesInShape (r .types))
-    → u ≡ selfInShape (r .self) && (stepsInShape (r .steps) && stepsInShape (r .returns))
-    → w ≡ methodInShape (r .structs) (r .params) (r .output) (r .force) → y ≡ u && w → x ≡ t && y
-    → x ≡ sheetInShape r
-unfolding sheetInShape
-sheet-is r e f g h k = all-three e f g h k
+  of-parts : sheetInShape r ≡ t && (u && method)
+  unfolding sheetInShape
+  of-parts = rw (e, f)
+
+  pub sheet-torn : x ≡ false → verdict.Refused Malformed ≡ recordsVerdict r
+  unfolding unless
+  sheet-torn h = rw (of-parts ∙ go t u (sym g ∙ h))
+    where
+      go : (a b : Bool) → (a && b) ≡ false → (a && (b && method)) ≡ false
+      go true true k = absurd (true≢false k)
+      go true false k = refl
+      go false b k = refl
+
+  pub sheet-judged : x ≡ true → {v : Verdict} → v ≡ checksVerdict method (r .force) → v ≡ recordsVerdict r
+  sheet-judged h k = k ∙ ap (λ (b : Bool). checksVerdict b (r .force)) (sym (of-parts ∙ go t u (sym g ∙ h)))
+    where
+      go : (a b : Bool) → (a && b) ≡ true → (a && (b && method)) ≡ method
+      go true true k = refl
+      go true false k = absurd (false≢true k)
+      go false b k = absurd (false≢true k)

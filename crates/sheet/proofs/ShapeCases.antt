@@ -1,23 +1,24 @@
--- Reading with the shapes, by its cases: no sheet, records in shape, records that are not.
+-- Reading with the shapes, by its cases: no sheet; records in shape, `force` 1 or not; records that are not.
 use Prim.Native.Nat.{ℕ}
-use mathlib.Core.Bool.{Bool, true, false, not, _&&_, and-eq-true-iff}
+use mathlib.Core.Bool.{Bool, true, false, not, _&&_, true≢false, false≢true, and-eq-true-iff}
 use mathlib.Core.Logic.{inl, inr}
-use mathlib.Core.Path.{_≡_, refl, ap, subst, _∙_}
+use mathlib.Core.Path.{_≡_, refl, sym, ap, subst, _∙_}
 use mathlib.Core.List.{List, [], _∷_}
 use native.Mathlib.Omega.{arith}
-use borrow.Author.Tests.{leb-true, le-leb}
+use borrow.Author.Tests.{leb-true, le-leb, eqb-false}
 use lib.Dec.{leb}
 use lib.ListN.{length}
-use Rattle.lifetimes.specs.declared.answer.Refusal.the-variants.{Malformed, Unreadable}
-use Rattle.lifetimes.specs.Refusals.{Gives, Refuses, FirstDue, here, NoneDue, end, next}
+use Rattle.lifetimes.specs.declared.answer.Refusal.the-variants.{Malformed, Unreadable, Retired}
+use Rattle.lifetimes.specs.Refusals.{Gives, Refuses, FirstDue, here, later, NoneDue, end, next}
 use Rattle.lifetimes.proofs.RefusalLaws.{due-given, due-refused, given-due, refused-due, first-more, first-after}
 use Rattle.lifetimes.proofs.RefusalLaws.{none-more}
 use Rattle.records.specs.Reading.{Reading, fewWords, inShape}
+use Rattle.records.proofs.ReadingLaws.{passed}
 use Rattle.ast_lifetimes.specs.Shapes.{namesInShape, boundsInShape}
 use Rattle.ast_lifetimes.specs.Types.{typesInShape, readType}
 use Rattle.elision.specs.Steps.{selfInShape, stepsInShape, readStep}
 use Rattle.lowered_types.specs.Rows.{structsInShape, paramsInShape, outputInShape, forceInShape, methodInShape, rowsOf}
-use Rattle.lowered_types.specs.Rows.{readRow, readKnown}
+use Rattle.lowered_types.specs.Rows.{readRow, readKnown, forced}
 use Rattle.sheet.specs.Text.{Records, lists, mostWords}
 use Rattle.sheet.specs.Reading.{allShort, sheetOf, textChecks, readText}
 use Rattle.sheet.specs.Shape.{sheetInShape, sheetChecks, readSheet}
@@ -81,10 +82,33 @@ long-not r f = go (sheetInShape r) refl
     go true e = let h = shape-short r e in let z : _≡_ {A = ℕ} 0 1 = cc in absurd (omega arith)
     go false e = e
 
+-- `force` that is in shape and not 1 is 0
+force-zero : (l : List ℕ) → forceInShape l ≡ true → forced l ≡ false → l ≡ 0 ∷ []
+force-zero [] e f = passed e
+force-zero (word ∷ []) e f =
+    let z : word ≡ 0 = omega (arith, leb-true word 1 e, eqb-false word 1 f) in
+    rw z
+force-zero (word ∷ other ∷ words) e f = passed e
+
+tenth-line : (r : Records) → sheetInShape r ≡ true → forced (r .force) ≡ false → r .force ≡ 0 ∷ []
+unfolding sheetInShape methodInShape
+tenth-line r e =
+    let environment = namesInShape (r .names) && (boundsInShape (r .bounds) && typesInShape (r .types)) in
+    let elision = selfInShape (r .self) && (stepsInShape (r .steps) && stepsInShape (r .returns)) in
+    let a = (and-eq-true-iff environment _) .0 e in
+    let b = (and-eq-true-iff elision _) .0 (a .1) in
+    let c = (and-eq-true-iff (structsInShape (r .structs)) _) .0 (b .1) in
+    let d = (and-eq-true-iff (paramsInShape (length (rowsOf (r .structs))) (r .params)) _) .0 (c .1) in
+    let f = (and-eq-true-iff (outputInShape (length (rowsOf (r .structs))) (r .output)) _) .0 (d .1) in
+    force-zero (r .force) (f .1)
+
 data Shaped (bytes : List ℕ) : Type 0 where
   None : readSheet bytes ≡ Refuses Unreadable → ((r : Records) → IsSheet bytes r → ⊥) → Shaped bytes
-  Good : (r : Records) → readSheet bytes ≡ Gives r → IsSheet bytes r → sheetInShape r ≡ true → Shaped bytes
+  Good : (r : Records) → readSheet bytes ≡ Gives r → IsSheet bytes r → sheetInShape r ≡ true → forced (r .force) ≡ false
+      → Shaped bytes
   Bad : (r : Records) → readSheet bytes ≡ Refuses Malformed → IsSheet bytes r → sheetInShape r ≡ false → Shaped bytes
+  Old : (r : Records) → readSheet bytes ≡ Refuses Retired → IsSheet bytes r → sheetInShape r ≡ true → forced (r .force) ≡ true
+      → Shaped bytes
 
 shaped : (bytes : List ℕ) → Read bytes → Shaped bytes
 unfolding readText readSheet sheetChecks
@@ -95,48 +119,88 @@ shaped bytes (NoSheet e n) =
 shaped bytes (Many r e s f) =
     let d : FirstDue Malformed (sheetChecks bytes) = first-more _ (refused-due (sheetOf bytes) Malformed (textChecks bytes) e) in
     Bad r (due-refused (sheetOf bytes) d) s (long-not r f)
-shaped bytes (Few r e s f) = go (sheetInShape r) refl (given-due (sheetOf bytes) r (textChecks bytes) e)
+shaped bytes (Few r e s f) =
+    go (sheetInShape r) (forced (r .force)) refl refl (given-due (sheetOf bytes) r (textChecks bytes) e)
   where
-    go : (t : Bool) → sheetInShape r ≡ t → NoneDue (textChecks bytes) × (sheetOf bytes ≡ r) → Shaped bytes
-    go true q g =
-        let n : NoneDue (sheetChecks bytes) = none-more (g .0) (next (ap not (ap sheetInShape (g .1) ∙ q)) end) in
-        Good r (due-given (sheetOf bytes) n ∙ ap Gives (g .1)) s q
-    go false q g =
+    go : (t u : Bool) → sheetInShape r ≡ t → forced (r .force) ≡ u → NoneDue (textChecks bytes) × (sheetOf bytes ≡ r)
+        → Shaped bytes
+    go false u q o g =
         let d : FirstDue Malformed (sheetChecks bytes) =
         first-after (g .0) (here (ap not (ap sheetInShape (g .1) ∙ q)) refl) in
         Bad r (due-refused (sheetOf bytes) d) s q
+    go true true q o g =
+        let d : FirstDue Retired (sheetChecks bytes) =
+        first-after (g .0) (later (ap not (ap sheetInShape (g .1) ∙ q))
+        (here (ap (λ (x : Records). forced (x .force)) (g .1) ∙ o) refl)) in
+        Old r (due-refused (sheetOf bytes) d) s q o
+    go true false q o g =
+        let n : NoneDue (sheetChecks bytes) =
+        none-more (g .0) (next (ap not (ap sheetInShape (g .1) ∙ q))
+        (next (ap (λ (x : Records). forced (x .force)) (g .1) ∙ o) end)) in
+        Good r (due-given (sheetOf bytes) n ∙ ap Gives (g .1)) s q o
+
+-- two of the same sheet
+module _ {bytes : List ℕ} {q r : Records} (a : IsSheet bytes q) (b : IsSheet bytes r) where
+  shape-same : sheetInShape q ≡ sheetInShape r
+  shape-same = ap sheetInShape (one-sheet a b)
+
+  force-same : forced (q .force) ≡ forced (r .force)
+  force-same = ap (λ (x : Records). forced (x .force)) (one-sheet a b)
 
 by-cases : (bytes : List ℕ) → Shaped bytes → ReadsInShape bytes
 by-cases bytes (None e n) = record {
   given = λ r. (λ g. let z : _≡_ {A = ℕ} 0 1 = cc in absurd (omega arith), λ s. absurd (n r (s .0)));
   unreadable = (λ g. n, λ g. e);
   malformed = (λ g. let z : _≡_ {A = ℕ} 0 1 = cc in absurd (omega arith), λ s. absurd (n (s .0) (s .1)));
+  retired = (λ g. let z : _≡_ {A = ℕ} 0 1 = cc in absurd (omega arith), λ s. absurd (n (s .0) (s .1)));
   refusals = λ k g. inl (cc);
+  tenth = λ r g. let z : _≡_ {A = ℕ} 0 1 = cc in absurd (omega arith);
 }
-by-cases bytes (Good r e s f) = record {
+by-cases bytes (Good r e s f o) = record {
   given = λ q. (
-    λ g. let h : r ≡ q = cc in subst (λ (x : Records). IsSheet bytes x × (sheetInShape x ≡ true)) h (s, f),
+    λ g. let h : r ≡ q = cc in
+        subst (λ (x : Records). IsSheet bytes x × (sheetInShape x ≡ true) × (forced (x .force) ≡ false)) h (s, f, o),
     λ p. let h : r ≡ q = one-sheet s (p .0) in cc,
   );
   unreadable = (λ g. let z : _≡_ {A = ℕ} 0 1 = cc in absurd (omega arith), λ n. absurd (n r s));
   malformed = (
     λ g. let z : _≡_ {A = ℕ} 0 1 = cc in absurd (omega arith),
-    λ p. let h : p .0 ≡ r = one-sheet (p .1) s in
-        let k : sheetInShape r ≡ false = subst (λ (x : Records). sheetInShape x ≡ false) h (p .2) in
-        let z : _≡_ {A = ℕ} 0 1 = cc in absurd (omega arith),
+    λ p. absurd (true≢false (sym (shape-same (p .1) s ∙ f) ∙ p .2)),
+  );
+  retired = (
+    λ g. let z : _≡_ {A = ℕ} 0 1 = cc in absurd (omega arith),
+    λ p. absurd (false≢true (sym (force-same (p .1) s ∙ o) ∙ p .3)),
   );
   refusals = λ k g. let z : _≡_ {A = ℕ} 0 1 = cc in absurd (omega arith);
+  tenth = λ q g. let h : r ≡ q = cc in subst (λ (x : Records). x .force ≡ 0 ∷ []) h (tenth-line r f o);
 }
 by-cases bytes (Bad r e s f) = record {
   given = λ q. (
     λ g. let z : _≡_ {A = ℕ} 0 1 = cc in absurd (omega arith),
-    λ p. let h : q ≡ r = one-sheet (p .0) s in
-        let k : sheetInShape r ≡ true = subst (λ (x : Records). sheetInShape x ≡ true) h (p .1) in
-        let z : _≡_ {A = ℕ} 0 1 = cc in absurd (omega arith),
+    λ p. absurd (false≢true (sym (shape-same (p .0) s ∙ f) ∙ p .1)),
   );
   unreadable = (λ g. let z : _≡_ {A = ℕ} 0 1 = cc in absurd (omega arith), λ n. absurd (n r s));
   malformed = (λ g. (r, s, f), λ g. e);
-  refusals = λ k g. inr (cc);
+  retired = (
+    λ g. let z : _≡_ {A = ℕ} 0 1 = cc in absurd (omega arith),
+    λ p. absurd (false≢true (sym (shape-same (p .1) s ∙ f) ∙ p .2)),
+  );
+  refusals = λ k g. inr (inl (cc));
+  tenth = λ q g. let z : _≡_ {A = ℕ} 0 1 = cc in absurd (omega arith);
+}
+by-cases bytes (Old r e s f o) = record {
+  given = λ q. (
+    λ g. let z : _≡_ {A = ℕ} 0 1 = cc in absurd (omega arith),
+    λ p. absurd (true≢false (sym (force-same (p .0) s ∙ o) ∙ p .2)),
+  );
+  unreadable = (λ g. let z : _≡_ {A = ℕ} 0 1 = cc in absurd (omega arith), λ n. absurd (n r s));
+  malformed = (
+    λ g. let z : _≡_ {A = ℕ} 0 1 = cc in absurd (omega arith),
+    λ p. absurd (true≢false (sym (shape-same (p .1) s ∙ f) ∙ p .2)),
+  );
+  retired = (λ g. (r, s, f, o), λ g. e);
+  refusals = λ k g. inr (inr (cc));
+  tenth = λ q g. let z : _≡_ {A = ℕ} 0 1 = cc in absurd (omega arith);
 }
 
 pub reads-in-shape : (bytes : List ℕ) → ReadsInShape bytes

@@ -66,4 +66,4 @@ unfolding readSheet sheetChecks textChecks sheetOf sheetIn linesBehind ten readL
     flatMap text line following digits digitsFor
     sheetInShape methodInShape namesInShape allNames boundsInShape inShape itemsOf readAll readType readStep readKnown
     readLowered readBare readOpaque readSlice readStruct
-sheet-examples-hold = (refl, (refl, (refl, (refl, (refl, (refl, (refl, (refl, tt))))))))
+sheet-examples-hold = (refl, (refl, (refl, (refl, (refl, (refl, (refl, (refl, (refl, (refl, (refl, (refl, tt))))))))))))

@@ -4,7 +4,7 @@ use Prim.Native.Nat.{ℕ}
 use mathlib.Core.Path.{_≡_}
 use mathlib.Core.List.{List, [], _∷_, _++_, flatten}
 use lib.ListN.{replicate}
-use Rattle.lifetimes.specs.declared.answer.Refusal.the-variants.{Malformed, Unreadable}
+use Rattle.lifetimes.specs.declared.answer.Refusal.the-variants.{Malformed, Unreadable, Retired}
 use Rattle.lifetimes.specs.Refusals.{Outcome, Gives, Refuses}
 use Rattle.sheet.specs.Text.{newline, space, heading, Records, text}
 use Rattle.sheet.specs.Reading.{recordsOf}
@@ -93,6 +93,11 @@ sheetExamples =
     ∷ reads (text (sheetWith (4 ∷ 1 ∷ 1 ∷ 0 ∷ 0 ∷ []) (0 ∷ []))) (Gives (sheetWith (4 ∷ 1 ∷ 1 ∷ 0 ∷ 0 ∷ []) (0 ∷ [])))
     ∷ reads (text (sheetWith (4 ∷ 4 ∷ 0 ∷ []) (0 ∷ []))) (Refuses Malformed)
     ∷ reads (text (sheetWith (2 ∷ 0 ∷ 0 ∷ []) (0 ∷ []))) (Refuses Malformed)
+    -- `force` 1; beside it a row that is not there, and a line too many; `force` 2
+    ∷ reads (text (sheetWith [] (1 ∷ []))) (Refuses Retired)
+    ∷ reads (text (sheetWith (2 ∷ 0 ∷ 0 ∷ []) (1 ∷ []))) (Refuses Malformed)
+    ∷ reads (text (sheetWith [] (1 ∷ [])) ++ emptyLines 1) (Refuses Unreadable)
+    ∷ reads (text (sheetWith [] (2 ∷ []))) (Refuses Malformed)
     ∷ []
 
 -- each of a list is read as expected

@@ -1,13 +1,13 @@
--- The shape of a sheet's ten records (refusal 1, 01's "torn"): each as the crate that reads it says.
+-- The shape of a sheet's ten records (refusal 1, 01's "torn"): each as the crate that reads it says; and what the
+-- reader refuses.
 use Prim.Native.Nat.{ℕ}
-use mathlib.Core.Bool.{Bool, _&&_, not}
-use mathlib.Core.List.{List, [], _∷_, _++_}
-use Rattle.lifetimes.specs.declared.answer.Refusal.the-variants.{Malformed}
-use Rattle.lifetimes.specs.Refusals.{Check, check, Outcome, unless}
+use mathlib.Core.Bool.{Bool, _&&_}
+use mathlib.Core.List.{List, _++_}
+use Rattle.lifetimes.specs.Refusals.{Check, Outcome, unless}
 use Rattle.ast_lifetimes.specs.Shapes.{namesInShape, boundsInShape}
 use Rattle.ast_lifetimes.specs.Types.{typesInShape}
 use Rattle.elision.specs.Steps.{selfInShape, stepsInShape}
-use Rattle.lowered_types.specs.Rows.{methodInShape}
+use Rattle.lowered_types.specs.Rows.{methodInShape, shapeChecks}
 use Rattle.sheet.specs.declared.text.Text.{Text}
 use Rattle.sheet.specs.Text.{Records, lists, wordsOf}
 use Rattle.sheet.specs.Reading.{sheetOf, textChecks}
@@ -22,15 +22,19 @@ sheetInShape r =
     && ((selfInShape (r .self) && (stepsInShape (r .steps) && stepsInShape (r .returns)))
     && methodInShape (r .structs) (r .params) (r .output) (r .force))
 
--- The checks of a sheet, in 01's order: 10; then 1 over all records, for one above 1,024 words or one that is not in
--- shape
+-- The first refusals of ten records: 1 over all of them, then 13
+abbrev pub recordsChecks : Records → List Check
+recordsChecks r = shapeChecks (sheetInShape r) (r .force)
+
+-- The checks of the reader, in the papers' order: 10; 1 over all records, for one above 1,024 words or one that is not
+-- in shape; 13. The reader checks no further, and the refusals of a sheet begin with this list
 unfoldable pub sheetChecks : List ℕ → List Check
-sheetChecks bytes = textChecks bytes ++ (check (not (sheetInShape (sheetOf bytes))) Malformed ∷ [])
+sheetChecks bytes = textChecks bytes ++ recordsChecks (sheetOf bytes)
 
 unfoldable pub readSheet : List ℕ → Outcome Records
 readSheet bytes = unless (sheetChecks bytes) (sheetOf bytes)
 
--- What `read_sheet` answers: 10, 1, then 9
+-- What `read_sheet` answers: 10, 1, 13, then 9
 abbrev pub callChecks : List ℕ → ℕ → List Check
 callChecks bytes room = withRoom (sheetChecks bytes) room (sheetOf bytes)
 

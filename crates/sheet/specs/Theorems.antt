@@ -8,8 +8,9 @@ use mathlib.Core.List.{List, [], _∷_, _++_, List·Memᴰ}
 use lib.ListN.{length, getD}
 use lib.Seq.{slice}
 use Rattle.lifetimes.specs.declared.answer.Refusal.{Refusal}
-use Rattle.lifetimes.specs.declared.answer.Refusal.the-variants.{Malformed, NoRoom, Unreadable}
+use Rattle.lifetimes.specs.declared.answer.Refusal.the-variants.{Malformed, NoRoom, Unreadable, Retired}
 use Rattle.lifetimes.specs.Refusals.{Outcome, Gives, Refuses}
+use Rattle.lowered_types.specs.Rows.{forced}
 use Rattle.sheet.specs.Text.{digits, Records, lists, wordsOf, text, mostWord, mostBytes, mostWords, WordsUpTo}
 use Rattle.sheet.specs.Reading.{readText}
 use Rattle.lifetimes.specs.Reach.{endsFrom}
@@ -50,14 +51,19 @@ pub record ReadsBack (bytes : List ℕ) : Type 0 where
 abbrev pub ReadingIsInverse : Type 0
 ReadingIsInverse = (bytes : List ℕ) → ReadsBack bytes
 
--- Reading with the shapes: gives a sheet exactly if the bytes are that sheet and its records are in shape; refuses with
--- 10 exactly if the bytes are no sheet; with 1 exactly if they are a sheet whose records are not all in shape (a record
--- above 1,024 words is not); and with nothing else.
+-- Reading with the shapes: gives a sheet exactly if the bytes are that sheet, its records are in shape and `force` is
+-- not 1; refuses with 10 exactly if the bytes are no sheet; with 1 exactly if they are a sheet whose records are not
+-- all in shape (a record above 1,024 words is not); with 13 exactly if they are a sheet in shape whose `force` is 1;
+-- and with nothing else. 02: "The sheet keeps its tenth line, which must be 0."
 pub record ReadsInShape (bytes : List ℕ) : Type 0 where
-  pub given : (r : Records) → (readSheet bytes ≡ Gives r) ↔ (IsSheet bytes r × (sheetInShape r ≡ true))
+  pub given : (r : Records) → (readSheet bytes ≡ Gives r)
+      ↔ (IsSheet bytes r × (sheetInShape r ≡ true) × (forced (r .force) ≡ false))
   pub unreadable : (readSheet bytes ≡ Refuses Unreadable) ↔ ((r : Records) → IsSheet bytes r → ⊥)
   pub malformed : (readSheet bytes ≡ Refuses Malformed) ↔ ((r : Records) × IsSheet bytes r × (sheetInShape r ≡ false))
-  pub refusals : (k : Refusal) → readSheet bytes ≡ Refuses k → (k ≡ Unreadable) ⊎ (k ≡ Malformed)
+  pub retired : (readSheet bytes ≡ Refuses Retired)
+      ↔ ((r : Records) × IsSheet bytes r × (sheetInShape r ≡ true) × (forced (r .force) ≡ true))
+  pub refusals : (k : Refusal) → readSheet bytes ≡ Refuses k → (k ≡ Unreadable) ⊎ ((k ≡ Malformed) ⊎ (k ≡ Retired))
+  pub tenth : (r : Records) → readSheet bytes ≡ Gives r → r .force ≡ 0 ∷ []
 
 abbrev pub ReadingJudgesShapes : Type 0
 ReadingJudgesShapes = (bytes : List ℕ) → ReadsInShape bytes

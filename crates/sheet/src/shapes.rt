@@ -1,31 +1,33 @@
-// The shape of the ten records of a sheet.
+// The first refusals of the ten records of a sheet: their shape, and 1 in `force`.
 ghost use mathlib.Core.Bool.{_&&_};
 ghost use mathlib.Core.Path.{_≡_};
 ghost use Rattle.ast_lifetimes.specs.Shapes.{namesInShape, boundsInShape};
 ghost use Rattle.ast_lifetimes.specs.Types.{typesInShape};
 ghost use Rattle.elision.specs.Steps.{selfInShape, stepsInShape};
 ghost use Rattle.lifetimes.specs.Lent.{held, isAccepted};
-ghost use Rattle.lowered_types.specs.Rows.{methodInShape};
-ghost use Rattle.sheet.specs.Shape.{sheetInShape};
-ghost use Rattle.sheet.specs.Inner.{recordAt, recordsAt, Laid};
+ghost use Rattle.lowered_types.specs.Rows.{methodInShape, checksVerdict};
+ghost use Rattle.sheet.specs.Inner.{recordAt, recordsAt, Laid, recordsVerdict};
 use super::record::record_words;
 use ast_lifetimes::bounds_shape;
 use ast_lifetimes::names_shape;
 use ast_lifetimes::types_shape;
 use elision::self_shape;
 use elision::steps_shape;
+use lifetimes::Refusal;
 use lifetimes::Verdict;
 use lowered_types::method_shape;
 
-// Whether records are in shape whose words stand one record after another.
-pub(crate) fn laid_in_shape(words: &[usize], ends: [usize; 10]) -> bool
+// The first refusal of records whose words stand one record after another: 1 over all ten, then 13.
+pub(crate) fn judge_laid(words: &[usize], ends: [usize; 10]) -> Verdict
     requires { ⌜ Laid (now words) ends ⌝ }
-    ensures { λ r. ⌜ r ≡ sheetInShape (recordsAt (held words) ends) ⌝ }
+    ensures { λ r. ⌜ r ≡ recordsVerdict (recordsAt (held words) ends) ⌝ }
 {
     let environment = environment_in_shape(words, ends);
     let elision = elision_in_shape(words, ends);
-    let method = method_in_shape(words, ends);
-    both(environment, both(elision, method))
+    if !both(environment, elision) {
+        return Verdict::Refused(Refusal::Malformed);
+    }
+    judge_method(words, ends)
 }
 
 fn environment_in_shape(words: &[usize], ends: [usize; 10]) -> bool
@@ -50,10 +52,12 @@ fn elision_in_shape(words: &[usize], ends: [usize; 10]) -> bool
     both(own, both(steps, returns))
 }
 
-fn method_in_shape(words: &[usize], ends: [usize; 10]) -> bool
+// The first refusal of the four records of the method.
+fn judge_method(words: &[usize], ends: [usize; 10]) -> Verdict
     requires { ⌜ Laid (now words) ends ⌝ }
-    ensures { λ r. ⌜ r ≡ methodInShape (recordAt (held words) ends 6) (recordAt (held words) ends 7)
-        (recordAt (held words) ends 8) (recordAt (held words) ends 9) ⌝ }
+    ensures { λ r. ⌜ r ≡ checksVerdict
+        (methodInShape (recordAt (held words) ends 6) (recordAt (held words) ends 7)
+        (recordAt (held words) ends 8) (recordAt (held words) ends 9)) (recordAt (held words) ends 9) ⌝ }
 {
     let shape = method_shape(
         record_words(words, ends, 6),
@@ -61,8 +65,7 @@ fn method_in_shape(words: &[usize], ends: [usize; 10]) -> bool
         record_words(words, ends, 8),
         record_words(words, ends, 9),
     );
-    let verdict = shape.verdict;
-    accepted(verdict)
+    shape.verdict
 }
 
 fn accepted(verdict: Verdict) -> bool

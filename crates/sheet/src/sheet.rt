@@ -1,4 +1,4 @@
-// The call that reads a sheet and judges the shape of its records.
+// The call that reads a sheet and judges its records as far as their shape and `force` go.
 //
 // A refused call writes nothing, so the words are read into scratch, judged there, and copied once nothing can be
 // refused any more. Scratch has four sizes, so that a small sheet does not pay for a large one.
@@ -8,7 +8,7 @@ ghost use lib.ListN.{length};
 ghost use Rattle.lifetimes.specs.Lent.{held, room, Fills};
 ghost use Rattle.sheet.specs.Shape.{sheetAnswer, sheetWords};
 ghost use Rattle.sheet.specs.Inner.{Roomy};
-use super::shapes::laid_in_shape;
+use super::shapes::judge_laid;
 use super::text::Text;
 use super::text::refused;
 use super::text::scan;
@@ -19,8 +19,8 @@ use records::copy_words;
 
 // Read a sheet whose records are all in shape. The words of its ten records are written to a slice, one record after
 // another; the answer says where each ends. Refused by 10 where the bytes are not the text of a sheet, then by 1 where
-// a record has more than 1,024 words or is not in shape, then by 9 where the slice is too short. 10,240 words are
-// always enough. Reads each byte once.
+// a record has more than 1,024 words or is not in shape, then by 13 for 1 in `force`, then by 9 where the slice is too
+// short. 10,240 words are always enough. Reads each byte once.
 pub fn read_sheet(sheet: &[u8], words: &mut [usize]) -> Text
     ensures answer { λ r. ⌜ r ≡ sheetAnswer (held sheet) (room words) ⌝ }
     ensures stored { λ _. ⌜ Fills (sheetWords (held sheet) (room words)) words ⌝ }
@@ -101,8 +101,9 @@ fn read_within(sheet: &[u8], scratch: &mut [usize], words: &mut [usize]) -> Text
         return text;
     };
     let ends = text.ends;
-    if !laid_in_shape(scratch, ends) {
-        return refused(Refusal::Malformed);
+    let shape = judge_laid(scratch, ends);
+    if let Verdict::Refused(refusal) = shape {
+        return refused(refusal);
     }
     let Listed::Count(_) = copy_words(scratch, ends[9], words) else {
         return refused(Refusal::NoRoom);

@@ -837,7 +837,6 @@ pub struct Case {
     inexact: BTreeMap<usize, Type<SheetInput>>,
     /// the parameters' names: their numbers
     names: Vec<String>,
-    force: bool,
 }
 
 /// An environment from numbers: declared, count, then pairs longer, shorter. For methods made by hand,
@@ -919,7 +918,7 @@ impl Case {
         let names = (0..params.len()).map(|i| i.to_string()).collect();
         let output = output(sheet.record(8), forms);
         let mut w = sheet.record(9);
-        let force = flag(&mut w);
+        assert!(!flag(&mut w), "sheet: force is retired");
         assert!(!w.more(), "sheet: words over");
         let name = defs::Ident::new(engine.ident("m"), None);
         let abi_name = engine.ident("m");
@@ -978,12 +977,12 @@ impl Case {
             },
             inexact,
             names,
-            force,
         }
     }
 
     fn visitor(&self) -> BorrowingParamVisitor<'_> {
-        self.method.borrowing_param_visitor(&self.tcx, self.force)
+        // force is retired: the Rust gets false
+        self.method.borrowing_param_visitor(&self.tcx, false)
     }
 
     fn visit<'t>(

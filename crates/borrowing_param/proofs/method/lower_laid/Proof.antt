@@ -1,8 +1,10 @@
 -- `lower_laid` meets its contract: the ten slices are the records.
-use mathlib.Core.Path.{_≡_, ap, _∙_}
+use mathlib.Core.Path.{_≡_, sym, ap, subst, _∙_}
 use mathlib.Core.List.{[]}
+use Rattle.lifetimes.specs.Refusals.{NoneDue}
 use Rattle.lifetimes.specs.Env.{envOf, made}
 use Rattle.sheet.specs.Text.{Records}
+use Rattle.sheet.specs.Shape.{recordsChecks}
 use Rattle.sheet.specs.Inner.{recordsAt}
 use Rattle.borrowing_param.specs.InnerSheet.{records, methodOf}
 use Rattle.borrowing_param.proofs.SheetLaws.{ten-found}
@@ -35,7 +37,7 @@ found c =
     (c .before .before .record-words8 .ensures) (c .before .record-words9 .ensures) (c .record-words10 .ensures)
 
 lower-records-requires : tie.Need-lower-records-requires
-lower-records-requires c κs = rw (found c) (start c .pre .1)
+lower-records-requires c κs = subst (λ (r : Records). NoneDue (recordsChecks r)) (sym (found c)) (start c .pre .1)
 
 returns : tie.Need-returns
 returns c = c .lower-records .ensures ∙ ap (λ (r : Records). made (envOf 0 0 []) (methodOf r)) (found (c .before))

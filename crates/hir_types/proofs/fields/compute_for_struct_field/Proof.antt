@@ -27,7 +27,7 @@ in-order c = let s = begun c .args .structs .now in
 
 -- the field that is asked for is a struct, from where the rows are indexed
 abbrev found : tie.After-index-rows → tie.After-found
-found c = c .before .before .before .before
+found c = c .before .before .before
 
 abbrev counted : tie.After-found → tie.After-shape
 counted c = c .before .before .before .before
@@ -37,7 +37,7 @@ first c = begun (counted (found c))
 
 indexed : (c : tie.After-index-rows) → let s = first c .args in let f = found c .found .given .0 in
     Indexed (s .structs .now) (s .row) (s .field) (f .0) (f .1 .0) (f .1 .1 .0) (c .index-rows .last .1 .1 .0)
-    (c .index-rows .last .1 .1 .1 .0) (c .index-rows .result)
+    (c .index-rows .result)
 indexed c =
     let s = first c .args in
     record {
@@ -68,7 +68,7 @@ returns-2 c =
     (asked .field-at .ensures))
 
 index-rows-requires : tie.Need-index-rows-requires
-index-rows-requires c κs = (in-order (c .before .before .before .before .before .before .before), (refl, refl))
+index-rows-requires c κs = (in-order (c .before .before .before .before .before .before), refl)
 
 mul-declared : tie.Need-mul-declared
 mul-declared c = omega (arith, few c .0)

@@ -10,10 +10,10 @@ use Rattle.hir_types.proofs.fits.index_rows.Statement.{statement}
 use Rattle.hir_types.proofs.fits.index_rows.Tie as tie
 
 abbrev Inv-loop : tie.InvT-loop
-Inv-loop structs rows lifetimes₀ places₀ at₀ number₀ lifetimes places at number = Indexing structs lifetimes places at number
+Inv-loop structs rows lifetimes₀ at₀ number₀ lifetimes at number = Indexing structs lifetimes at number
 
 abbrev μ-loop : tie.MeasureT-loop
-μ-loop structs rows lifetimes₀ places₀ at₀ number₀ lifetimes places at number = rows - number
+μ-loop structs rows lifetimes₀ at₀ number₀ lifetimes at number = rows - number
 
 mul-declared : tie.Need-mul-declared Inv-loop μ-loop
 mul-declared c = omega (arith, row-here (c .before .before .loop .inv) (omega (arith, c .before .before .before .before .pre .0 .1)))
@@ -49,7 +49,7 @@ types-fit-requires c κs = (
     row-here (c .before .before .before .before .before .loop .inv)
         (omega (arith, c .before .before .before .before .before .before .before .pre .0 .1)),
   ),
-  rw length-set (c .before .before .before .before .before .loop .inv .sizes .0),
+  rw length-set (c .before .before .before .before .before .loop .inv .size),
 )
 
 returns-3 : tie.Need-returns-3 Inv-loop μ-loop
@@ -68,7 +68,7 @@ index-rows-spec =
     add-fields
     (λ c. search (row-here, needs))
     (λ c. search (row-here, needs))
-    (λ c. search needs) (λ c. search needs) (λ c. search needs) (λ c. search needs)
+    (λ c. search needs) (λ c. search needs)
     add-types-fit
     types-fit-requires
     (λ c. search needs) (λ c. search needs)

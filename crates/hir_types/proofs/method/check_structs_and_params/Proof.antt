@@ -8,8 +8,8 @@ use Rattle.hir_types.proofs.method.check_structs_and_params.Tie as tie
 
 index-rows-requires : tie.Need-index-rows-requires
 index-rows-requires c κs =
-    let rows = c .before .before .before .before .before .before .before in
-    (counted-shape _ _ (rows .before .before .structs-shape .ensures) (rows .counted .given .1), (refl, refl))
+    let rows = c .before .before .before .before .before .before in
+    (counted-shape _ _ (rows .before .before .structs-shape .ensures) (rows .counted .given .1), refl)
 
 pub check-structs-and-params-spec : {M : Type 1} → statement M
 check-structs-and-params-spec =

@@ -11,38 +11,37 @@ start c = c .before .before .before .before .before
 
 -- where the shape is known, from where the places are judged
 abbrev shaped : tie.After-judge-places → tie.After-method-shape
-shaped c = c .before .before .before .before .before .before
+shaped c = c .before .before .before .before .before
 
 judging : (c : tie.After-judge-places) → let s = start (shaped c) .args in
     Judging (s .env) (s .structs .now) (s .params .now) (s .output .now) (s .force .now)
-    (c .judge-places .last .1 .1 .1 .1 .1 .1 .0) (shaped c .method-shape .result) (c .judge-places .result)
+    (shaped c .method-shape .result) (c .judge-places .result)
 judging c =
     record {
       shape = shaped c .method-shape .ensures;
-      accepted = c .before .before .before .before .enum-told .given .1;
-      lifetimes = c .before .before .before .if1 .left;
-      bounds = c .before .before .if2 .left;
+      accepted = c .before .before .before .enum-told .given .1;
+      lifetimes = c .before .before .if1 .left;
+      bounds = c .before .if2 .left;
       by-place = c .judge-places .ensures;
     }
 
 returns : tie.Need-returns
 returns c =
     let shape = c .before .before .before in
-    rw (c .refused .ensures) (judge-torn (shape .method-shape .ensures) (start shape .pre) (c .before .enum-told2 .given .1))
+    rw (c .refused .ensures) (judge-torn (shape .method-shape .ensures) (c .before .enum-told2 .given .1))
 
 returns-2 : tie.Need-returns-2
 returns-2 c =
     let told = c .before .before in
     rw (c .refused2 .ensures)
-    (judge-lifetimes (told .before .before .method-shape .ensures) (told .enum-told .given .1)
-    (start (told .before .before) .pre) (c .before .if1 .taken))
+    (judge-lifetimes (told .before .before .method-shape .ensures) (told .enum-told .given .1) (c .before .if1 .taken))
 
 returns-3 : tie.Need-returns-3
 returns-3 c =
     let told = c .before .before .before in
     rw (c .refused3 .ensures)
     (judge-bounds (told .before .before .method-shape .ensures) (told .enum-told .given .1)
-    (c .before .before .if1 .left) (start (told .before .before) .pre) (c .before .if2 .taken))
+    (c .before .before .if1 .left) (c .before .if2 .taken))
 
 returns-4 : tie.Need-returns-4
 returns-4 c = rw (c .refused4 .ensures) (judge-place (judging (c .before .before .before)) (c .before .enum-told4 .given .1))

@@ -4,14 +4,6 @@ use borrow.Author.Needs.{needs}
 use Rattle.hir_types.proofs.method.judge_places.Statement.{statement}
 use Rattle.hir_types.proofs.method.judge_places.Tie as tie
 
--- the start, from where the rows are indexed
-abbrev start : tie.After-index-rows → tie.Start
-start c = c .before .before .before .before .before .before
-
--- where the rows are indexed, from where the parameters fit
-abbrev indexed : tie.After-params-fit → tie.After-index-rows
-indexed c = c .before .before .before .before
-
 pub judge-places-spec : {M : Type 1} → statement M
 judge-places-spec =
     tie.close

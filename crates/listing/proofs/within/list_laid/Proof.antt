@@ -1,9 +1,9 @@
 -- `list_laid` meets its contract: the ten slices are the records.
-use mathlib.Core.Bool.{true}
 use mathlib.Core.Path.{_≡_, sym, subst}
 use lib.ListN.{length}
 use Rattle.sheet.specs.Text.{Records}
-use Rattle.sheet.specs.Shape.{sheetInShape}
+use Rattle.lifetimes.specs.Refusals.{NoneDue}
+use Rattle.sheet.specs.Shape.{recordsChecks}
 use Rattle.sheet.specs.Inner.{recordsAt}
 use Rattle.borrowing_param.specs.InnerSheet.{records}
 use Rattle.borrowing_param.proofs.SheetLaws.{ten-found}
@@ -42,7 +42,7 @@ found c =
 list-records-requires : tie.Need-list-records-requires
 list-records-requires c κs =
     let ten = c .before .before .before .before .before in
-    (subst (λ (r : Records). sheetInShape r ≡ true) (sym (found ten)) (start ten .pre .1), start ten .pre .2)
+    (subst (λ (r : Records). NoneDue (recordsChecks r)) (sym (found ten)) (start ten .pre .1), start ten .pre .2)
 
 returns : tie.Need-returns
 returns c =

@@ -39,7 +39,7 @@ elided c =
     let told = accepted c in
     let l = after-lower c .lower .ensures in
     record {
-      shape = begun told .pre .0;
+      first = begun told .pre .0;
       steps-room = told .before .before .before .before .if1 .left;
       returns-room = told .before .before .before .if2 .left;
       names = told .before .before .from-method-item .ensures;
