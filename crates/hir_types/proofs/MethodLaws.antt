@@ -119,6 +119,9 @@ module _ (structs params output force : List ℕ) {sh : Shape} (q : sh ≡ metho
   verdict-judged : sh .verdict ≡ judged first
   verdict-judged = ap (λ (s : Shape). s .verdict) q ∙ shape-verdict structs params output force
 
+  torn : (env : LifetimeEnv) {r : Refusal} → sh .verdict ≡ Refused r → judged (methodChecks env structs params output force) ≡ Refused r
+  torn env k = judged-stays first (behindShape env structs params output) (sym verdict-judged ∙ k)
+
   module _ (k : sh .verdict ≡ Accepted) where
     none-torn : NoneDue first
     none-torn = accepted-none (tt {0}) first (sym verdict-judged ∙ k)
@@ -158,11 +161,7 @@ refused-judges e k = record { verdict = e; used = λ a. refused-accepted (sym k 
 module _ {env : LifetimeEnv} {structs params output force : List ℕ} {sh : Shape}
     (q : sh ≡ methodShape structs params output force) where
   pub judge-torn : {r : Refusal} → sh .verdict ≡ Refused r → Judges env structs params output force (only (sh .verdict))
-  judge-torn k =
-      refused-judges
-      (k ∙ sym (judged-stays (first structs params output force q) (behindShape env structs params output)
-      (sym (verdict-judged structs params output force q) ∙ k)))
-      k
+  judge-torn k = refused-judges (k ∙ sym (torn structs params output force q env k)) k
 
   module _ (a : sh .verdict ≡ Accepted) where
     pub judge-lifetimes : 64 < env .count → Judges env structs params output force (only (Refused Full))

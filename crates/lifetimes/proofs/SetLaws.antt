@@ -1,6 +1,6 @@
 -- Laws of specs/Lists.antt and specs/Sets.antt, over plain values.
--- In order: numbers in a row, the entries that pass a test, membership and one member more, union, equality by members,
--- the members in ascending order, how many, the set of a list. Assumes nothing.
+-- In order: numbers in a row, the entries that pass a test, membership and one member more, union, the
+-- members in ascending order, how many, the set of a list. Assumes nothing.
 use Prim.Native.Nat.{ℕ, zero, suc, _+_, _-_, _/_, _%_, _^_, _≤_, _<_}
 use mathlib.Core.Bool.{Bool, true, false, cond, _||_, true≢false, false≢true}
 use mathlib.Core.Logic.{_⊎_, inl, inr, ⊎-elim, _↔_, ∥∥₁-elim, ∥∥₁-map}
@@ -156,10 +156,6 @@ member-insert-keeps s x y h =
     elim (ℕ-discrete x y)
     [ yes e ↦ ap (member (insert s x)) (sym e) ∙ member-insert-same s x | no n ↦ member-insert-other s x y n ∙ h ]
 
-pub insert-lt : (w s x : ℕ) → s < 2 ^ w → x < w → insert s x < 2 ^ w
-unfolding insert
-insert-lt w s x hs hx = or-lt w s (2 ^ x) hs (pow-lt hx)
-
 -- a set of w bits has no member from w on
 pub member-past : (w s x : ℕ) → s < 2 ^ w → w ≤ x → member s x ≡ false
 unfolding member
@@ -195,26 +191,6 @@ member-union s t x = rw (bit-or s t x) (digits (s / 2 ^ x % 2) (t / 2 ^ x % 2) (
 pub union-lt : (w s t : ℕ) → s < 2 ^ w → t < 2 ^ w → union s t < 2 ^ w
 unfolding union
 union-lt w s t hs ht = or-lt w s t hs ht
-
--- ---- two sets with the same members are one number
-
-pub same-members : (w s t : ℕ) → s < 2 ^ w → t < 2 ^ w → ((x : ℕ) → x < w → member s x ≡ member t x) → s ≡ t
-same-members zero s t hs ht h = omega arith
-same-members (suc w) s t hs ht h =
-    let high =
-    same-members w (s / 2) (t / 2) (half-lt w s hs) (half-lt w t ht)
-    (λ x k. sym (member-suc s x) ∙ h (suc x) (omega arith) ∙ member-suc t x) in
-    let low = digit (s % 2) (t % 2) (omega arith) (omega arith) (sym (member-zero s) ∙ h 0 (omega arith) ∙ member-zero t) in
-    omega arith
-  where
-    digit : (a b : ℕ) → a < 2 → b < 2 → eqb a 1 ≡ eqb b 1 → a ≡ b
-    digit zero zero h k e = refl
-    digit zero (suc zero) h k e = absurd (false≢true e)
-    digit zero (suc (suc b)) h k e = absurd (omega arith)
-    digit (suc zero) zero h k e = absurd (true≢false e)
-    digit (suc zero) (suc zero) h k e = refl
-    digit (suc zero) (suc (suc b)) h k e = absurd (omega arith)
-    digit (suc (suc a)) b h k e = absurd (omega arith)
 
 -- ---- the members in ascending order
 
@@ -361,9 +337,3 @@ pub insertAll-append : (s : ℕ) (l m : List ℕ) → insertAll s (l ++ m) ≡ i
 unfolding insertAll
 insertAll-append s [] m = refl
 insertAll-append s (x ∷ l) m = insertAll-append (insert s x) l m
-
-pub insertAll-lt : (w s : ℕ) (l : List ℕ) → s < 2 ^ w → ((x : ℕ) → List·Memᴰ x l → x < w) → insertAll s l < 2 ^ w
-unfolding insertAll
-insertAll-lt w s [] h k = h
-insertAll-lt w s (x ∷ l) h k =
-    insertAll-lt w (insert s x) l (insert-lt w s x h (k x (List·Memᴰ·head refl))) (λ y m. k y (List·Memᴰ·tail m))
