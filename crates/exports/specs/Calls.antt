@@ -12,7 +12,7 @@ use Rattle.borrowing_param.specs.SheetMethod.{sheetRefusals}
 use Rattle.borrowing_param.specs.Borrows.{Borrows, sheetBorrows, roomChecks, usedWords, answerWords, edgesWords}
 use Rattle.listing.specs.Listing.{listingOf, listingChecks}
 
--- 0, or 01's number of the refusal
+-- 0, or the papers' number of the refusal
 abbrev pub statusOf : {A : Type 0} → Outcome A → ℕ
 statusOf (Gives a) = 0
 statusOf (Refuses r) = numberOf r

@@ -2,7 +2,8 @@
 //
 // For whoever generates wrappers from another language. A slice is a pointer, then a length; include/borrows.h declares
 // the calls and says what a caller owes (pointers valid for their lengths, nothing overlapping). Each call answers a
-// status: 0, or the scope paper's ("01") number of the refusal. Refused, it leaves every lent slice as it was.
+// status: 0, or the number of the refusal in the scope paper ("01") or the change requests ("02"). Refused, it leaves
+// every lent slice as it was.
 //
 // The scratch is local: no call allocates, keeps anything for the next one, or looks at anything but its arguments.
 mod listed;

@@ -19,7 +19,7 @@ use lifetimes::Refusal;
 pub const ROOM: usize = 131072;
 
 // Write the listing of a sheet to a slice. The answer is how many bytes it has. Refused as the sheet is (10; 1 over all
-// records; 2 to 7 at the first bad place; 8), then by 9 for more than 4,096 edges or where the slice is too short.
+// records; 13; 2 to 7 at the first bad place; 8), then by 9 for more than 4,096 edges or where the slice is too short.
 pub fn listing(sheet: &[u8], out: &mut [u8]) -> Listed
     ensures answer { λ r. ⌜ r ≡ counted (spec.listing (held sheet) (room out)) ⌝ }
     ensures stored { λ _. ⌜ Fills (spec.listing (held sheet) (room out)) out ⌝ }

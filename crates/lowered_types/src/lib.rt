@@ -2,8 +2,8 @@
 // `force`.
 //
 // Of `hir/types.rs`, `hir/paths.rs` and `hir/defs.rs` of diplomat_core 0.17.0. Types are words read in place: a type is
-// where it stands, and a definition is the number of its row. The scope paper ("01") decides what is right; a refused
-// call answers one of its numbers.
+// where it stands, and a definition is the number of its row. The scope paper ("01") and the change requests ("02")
+// decide what is right; a refused call answers one of their numbers.
 //
 // What is here: one type and its lifetimes (`types`), and the shape of the four records (`shapes`).
 mod shapes;
