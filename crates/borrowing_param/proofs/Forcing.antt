@@ -25,7 +25,8 @@ use Rattle.lifetimes.proofs.Theorems.{reach-is-outlives, outlives-is-forced}
 use Rattle.lowered_types.specs.declared.types.Kind.{Kind}
 use Rattle.lowered_types.specs.declared.types.Kind.the-variants.{Plain, Opaque, Struct, Slice}
 use Rattle.lowered_types.specs.LoweredTypes.{LoweredType}
-use Rattle.lowered_types.specs.Rows.{rowsOf, structsInShape, paramsInShape, methodInShape}
+use Rattle.lowered_types.specs.Rows.{rowsOf, structsInShape, paramsInShape}
+use Rattle.lowered_types.proofs.ShapeLaws.{four-in-shape}
 use Rattle.hir_types.specs.Method.{typesIn, typeChecks, rowChecks, paramChecks, structsAndParamsChecks, methodChecks}
 use Rattle.hir_types.specs.Used.{usedSet, outputNumbers}
 use Rattle.borrowing_param.specs.declared.visitor.LifetimeEdge.{LifetimeEdge}
@@ -128,10 +129,9 @@ once-used used = once-from (member used) 0 64
 module _ (env : LifetimeEnv) (structs params output force : List ℕ)
     (none : NoneDue (methodChecks env structs params output force)) where
   pub in-shape : (structsInShape structs ≡ true) × (paramsInShape (length (rowsOf structs)) params ≡ true)
-  unfolding methodInShape
   in-shape =
-      let all = (and-eq-true-iff (structsInShape structs) _) .0 (not-false _ (none-first none)) in
-      (all .0, (and-eq-true-iff (paramsInShape (length (rowsOf structs)) params) _) .0 (all .1) .0)
+      let four = four-in-shape structs params output force (not-false _ (none-first none)) in
+      (four .structs-shape, four .params-shape)
 
   pub rows-params : NoneDue (rowChecks (rowsOf structs) 0 (rowsOf structs))
       × NoneDue (paramChecks (rowsOf structs) 0 (typesIn structs params))

@@ -1,6 +1,6 @@
 -- The refusal of a method, one stage after another: each stage answers the verdict of its own checks.
 use Prim.Native.Nat.{ℕ, _≤_, _<_}
-use mathlib.Core.Bool.{Bool, true, false, cond, and-eq-true-iff}
+use mathlib.Core.Bool.{Bool, true, false, cond}
 use mathlib.Core.Path.{_≡_, refl, sym, ap, subst, _∙_}
 use mathlib.Core.List.{List, [], _∷_, _++_}
 use lib.ListN.{length, take, drop}
@@ -22,8 +22,8 @@ use Rattle.records.specs.Ends.{judged}
 use Rattle.records.proofs.VerdictLaws.{judged-after, judged-stays, refused-accepted}
 use Rattle.lowered_types.specs.declared.shapes.Shape.{Shape}
 use Rattle.lowered_types.specs.Rows.{readKnown, readTypes, rowsOf, structsInShape, paramsInShape, typesOf}
-use Rattle.lowered_types.specs.Rows.{outputInShape, methodInShape, shapeChecks, methodShape, howMany}
-use Rattle.lowered_types.proofs.ShapeLaws.{counted-shape, refused-shape, shape-verdict}
+use Rattle.lowered_types.specs.Rows.{methodInShape, shapeChecks, methodShape, howMany}
+use Rattle.lowered_types.proofs.ShapeLaws.{counted-shape, refused-shape, four-in-shape, shape-verdict}
 use Rattle.hir_types.specs.declared.fits.Fit.{Fit}
 use Rattle.hir_types.specs.declared.fits.Fit.the-variants.{To, Misfit}
 use Rattle.hir_types.specs.declared.output.Collected.{Collected}
@@ -134,16 +134,13 @@ module _ (structs params output force : List ℕ) {sh : Shape} (q : sh ≡ metho
     past-shape env = judged-after first (behindShape env structs params output) (sym verdict-judged ∙ k)
 
     pub in-shape : InShape structs params output (sh .rows) (sh .params) (sh .outputs)
-    unfolding methodShape methodInShape
+    unfolding methodShape
     in-shape =
-        let one = (and-eq-true-iff (structsInShape structs) _) .0 shaped in
-        let two = (and-eq-true-iff (paramsInShape (length (rowsOf structs)) params) _) .0 (one .1) in
-        let three = (and-eq-true-iff (outputInShape (length (rowsOf structs)) output) _) .0 (two .1) in
-        let four = (and-eq-true-iff (paramsInShape (length (rowsOf structs)) output) _) .0 (three .0) in
+        let four = four-in-shape structs params output force shaped in
         record {
-          structs-shape = one .0;
-          params-shape = two .0;
-          output-shape = four .0;
+          structs-shape = four .structs-shape;
+          params-shape = four .params-shape;
+          output-shape = four .output-shape;
           row-count = ap (λ (s : Shape). s .rows) q ∙ rw (due-given _ none-torn);
           input-count = ap (λ (s : Shape). s .params) q ∙ rw (due-given _ none-torn);
           output-count = ap (λ (s : Shape). s .outputs) q ∙ rw (due-given _ none-torn);

@@ -1,13 +1,13 @@
 -- The used lifetimes of a method that is not refused are those of its output, and few; with 1 in `force` it is refused.
 use Prim.Native.Nat.{ℕ, zero, suc, _*_, _≤_}
-use mathlib.Core.Bool.{true, not, and-eq-true-iff}
+use mathlib.Core.Bool.{true, not}
 use mathlib.Core.Path.{_≡_, refl, ap}
 use mathlib.Core.Logic.{⊎-elim}
 use mathlib.Core.List.{List, [], _∷_, map, flatMap, List·Memᴰ, List·Memᴰ·head, List·Memᴰ·tail, List·Memᴰ·cases-cons}
 use mathlib.Core.List.{List·Memᴰ·not-nil}
 use native.Mathlib.Omega.{arith}
 use lib.ListN.{length, length-append, length-map}
-use borrow.Author.Tests.{leb-true, not-false}
+use borrow.Author.Tests.{not-false}
 use Rattle.lifetimes.specs.declared.answer.Refusal.the-variants.{Malformed, Retired}
 use Rattle.lifetimes.specs.declared.maybe_static.MaybeStatic.{MaybeStatic}
 use Rattle.lifetimes.specs.declared.maybe_static.MaybeStatic.the-variants.{Static, NonStatic}
@@ -22,9 +22,10 @@ use Rattle.records.proofs.ReadingLaws.{holds-read}
 use Rattle.lowered_types.specs.declared.types.Own.{Own}
 use Rattle.lowered_types.specs.declared.types.Own.the-variants as own
 use Rattle.lowered_types.specs.LoweredTypes.{LoweredType, ownLifetimes, lifetimesOf}
-use Rattle.lowered_types.specs.Rows.{readTypes, rowsOf, structsInShape, paramsInShape, outputInShape, methodInShape}
+use Rattle.lowered_types.specs.Rows.{readTypes, rowsOf, methodInShape}
 use Rattle.lowered_types.specs.Rows.{forced}
 use Rattle.lowered_types.proofs.LocatedLaws.{type-few}
+use Rattle.lowered_types.proofs.ShapeLaws.{four-in-shape}
 use Rattle.hir_types.specs.Method.{typesIn, outputLifetimes, methodChecks}
 use Rattle.hir_types.specs.Used.{numbersOf, outputNumbers, usedSet}
 use Rattle.hir_types.specs.Theorems.{UsedLifetimesAre, ForceIsRetired}
@@ -82,17 +83,13 @@ types-few n (suc m) words types e =
 -- an output in shape has at most two types
 output-few : (structs params output force : List ℕ) → methodInShape structs params output force ≡ true
     → length (outputLifetimes structs output) ≤ 34
-unfolding methodInShape
 output-few structs params output force e =
-    let one = (and-eq-true-iff (structsInShape structs) _) .0 e in
-    let two = (and-eq-true-iff (paramsInShape (length (rowsOf structs)) params) _) .0 (one .1) in
-    let three = (and-eq-true-iff (outputInShape (length (rowsOf structs)) output) _) .0 (two .1) in
-    let four = (and-eq-true-iff (paramsInShape (length (rowsOf structs)) output) _) .0 (three .0) in
+    let four = four-in-shape structs params output force e in
     let types = typesIn structs output in
-    let read = types-read (length (rowsOf structs)) output (four .0) refl in
+    let read = types-read (length (rowsOf structs)) output (four .output-shape) refl in
     omega (
       arith,
-      leb-true (length types) 2 (four .1),
+      four .two-outputs,
       types-few (length (rowsOf structs)) (length types) output types (read .1),
     )
 

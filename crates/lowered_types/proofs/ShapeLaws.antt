@@ -1,11 +1,11 @@
 -- The shape of `force` and of `output`, and of a method's four records from that of each.
 use Prim.Native.Nat.{ℕ, _≤_, _<_}
-use mathlib.Core.Bool.{Bool, true, false, not}
+use mathlib.Core.Bool.{Bool, true, false, not, and-eq-true-iff}
 use mathlib.Core.Path.{_≡_, refl, sym, _∙_}
 use mathlib.Core.List.{List, [], _∷_}
 use native.Mathlib.Omega.{arith}
 use lib.ListN.{length, getD}
-use borrow.Author.Tests.{le-leb, lt-leb, ne-eqb}
+use borrow.Author.Tests.{le-leb, lt-leb, leb-true, ne-eqb}
 use Rattle.lifetimes.specs.declared.answer.Refusal.{Refusal}
 use Rattle.lifetimes.specs.declared.answer.Refusal.the-variants.{Malformed, Retired}
 use Rattle.lifetimes.specs.declared.answer.Verdict.{Verdict}
@@ -130,6 +130,31 @@ module _ (structs params output force : List ℕ) {a : Listed} (e : a ≡ howMan
         method-whole t =
             let none = accepted-none (tt {0}) (shapeChecks (forceInShape force) force) (sym w ∙ t) in
             rw (by-force, due-given _ none, rows-right .1, params-right .1, output-right .1)
+
+-- what four records in shape say of each
+pub record FourInShape (structs params output force : List ℕ) : Type 0 where
+  pub structs-shape : structsInShape structs ≡ true
+  pub params-shape : paramsInShape (length (rowsOf structs)) params ≡ true
+  pub output-shape : paramsInShape (length (rowsOf structs)) output ≡ true
+  pub two-outputs : length (typesOf (length (rowsOf structs)) output) ≤ 2
+  pub force-shape : forceInShape force ≡ true
+
+pub four-in-shape : (structs params output force : List ℕ) → methodInShape structs params output force ≡ true
+    → FourInShape structs params output force
+unfolding methodInShape
+four-in-shape structs params output force e =
+    let rows = length (rowsOf structs) in
+    let one = (and-eq-true-iff (structsInShape structs) _) .0 e in
+    let two = (and-eq-true-iff (paramsInShape rows params) _) .0 (one .1) in
+    let three = (and-eq-true-iff (outputInShape rows output) _) .0 (two .1) in
+    let four = (and-eq-true-iff (paramsInShape rows output) _) .0 (three .0) in
+    record {
+      structs-shape = one .0;
+      params-shape = two .0;
+      output-shape = four .0;
+      two-outputs = leb-true (length (typesOf rows output)) 2 (four .1);
+      force-shape = three .1;
+    }
 
 -- what is answered on a method's records has the verdict of their first refusals
 verdict-is : (inShape flag : Bool) (s : Shape) → s .verdict ≡ verdict.Accepted

@@ -17,8 +17,9 @@ use Rattle.records.proofs.ReadingLaws.{passed}
 use Rattle.ast_lifetimes.specs.Shapes.{namesInShape, boundsInShape}
 use Rattle.ast_lifetimes.specs.Types.{typesInShape, readType}
 use Rattle.elision.specs.Steps.{selfInShape, stepsInShape, readStep}
-use Rattle.lowered_types.specs.Rows.{structsInShape, paramsInShape, outputInShape, forceInShape, methodInShape, rowsOf}
+use Rattle.lowered_types.specs.Rows.{forceInShape, rowsOf}
 use Rattle.lowered_types.specs.Rows.{readRow, readKnown, forced}
+use Rattle.lowered_types.proofs.ShapeLaws.{four-in-shape}
 use Rattle.sheet.specs.Text.{Records, lists, mostWords}
 use Rattle.sheet.specs.Reading.{allShort, sheetOf, textChecks, readText}
 use Rattle.sheet.specs.Shape.{sheetInShape, sheetChecks, readSheet}
@@ -49,7 +50,7 @@ force-short (w ∷ []) e = refl
 force-short (w ∷ v ∷ l) e = let z : _≡_ {A = ℕ} 0 1 = cc in absurd (omega arith)
 
 pub shape-short : (r : Records) → sheetInShape r ≡ true → allShort (lists r) ≡ true
-unfolding sheetInShape methodInShape allShort
+unfolding sheetInShape allShort
 shape-short r e =
     let rows = length (rowsOf (r .structs)) in
     let a = (and-eq-true-iff (namesInShape (r .names) && (boundsInShape (r .bounds) && typesInShape (r .types))) _) .0 e in
@@ -58,10 +59,7 @@ shape-short r e =
     let t = (and-eq-true-iff (boundsInShape (r .bounds)) _) .0 (n .1) in
     let s = (and-eq-true-iff (selfInShape (r .self)) _) .0 (b .0) in
     let q = (and-eq-true-iff (stepsInShape (r .steps)) _) .0 (s .1) in
-    let m = (and-eq-true-iff (structsInShape (r .structs)) _) .0 (b .1) in
-    let p = (and-eq-true-iff (paramsInShape rows (r .params)) _) .0 (m .1) in
-    let o = (and-eq-true-iff (outputInShape rows (r .output)) _) .0 (p .1) in
-    let w = (and-eq-true-iff (paramsInShape rows (r .output)) _) .0 (o .0) in
+    let four = four-in-shape (r .structs) (r .params) (r .output) (r .force) (b .1) in
     rw (
       names-short (r .names) (n .0),
       bounds-short (r .bounds) (t .0),
@@ -69,10 +67,10 @@ shape-short r e =
       self-short (r .self) (s .0),
       items-short (λ number. readStep) (r .steps) (q .0),
       items-short (λ number. readStep) (r .returns) (q .1),
-      items-short readRow (r .structs) (m .0),
-      items-short (λ number. readKnown rows) (r .params) (p .0),
-      items-short (λ number. readKnown rows) (r .output) (w .0),
-      force-short (r .force) (o .1),
+      items-short readRow (r .structs) (four .structs-shape),
+      items-short (λ number. readKnown rows) (r .params) (four .params-shape),
+      items-short (λ number. readKnown rows) (r .output) (four .output-shape),
+      force-short (r .force) (four .force-shape),
     )
 
 long-not : (r : Records) → allShort (lists r) ≡ false → sheetInShape r ≡ false
@@ -91,16 +89,13 @@ force-zero (word ∷ []) e f =
 force-zero (word ∷ other ∷ words) e f = passed e
 
 tenth-line : (r : Records) → sheetInShape r ≡ true → forced (r .force) ≡ false → r .force ≡ 0 ∷ []
-unfolding sheetInShape methodInShape
+unfolding sheetInShape
 tenth-line r e =
     let environment = namesInShape (r .names) && (boundsInShape (r .bounds) && typesInShape (r .types)) in
     let elision = selfInShape (r .self) && (stepsInShape (r .steps) && stepsInShape (r .returns)) in
     let a = (and-eq-true-iff environment _) .0 e in
     let b = (and-eq-true-iff elision _) .0 (a .1) in
-    let c = (and-eq-true-iff (structsInShape (r .structs)) _) .0 (b .1) in
-    let d = (and-eq-true-iff (paramsInShape (length (rowsOf (r .structs))) (r .params)) _) .0 (c .1) in
-    let f = (and-eq-true-iff (outputInShape (length (rowsOf (r .structs))) (r .output)) _) .0 (d .1) in
-    force-zero (r .force) (f .1)
+    force-zero (r .force) (four-in-shape (r .structs) (r .params) (r .output) (r .force) (b .1) .force-shape)
 
 data Shaped (bytes : List ℕ) : Type 0 where
   None : readSheet bytes ≡ Refuses Unreadable → ((r : Records) → IsSheet bytes r → ⊥) → Shaped bytes
