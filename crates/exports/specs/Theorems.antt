@@ -18,7 +18,8 @@ BytesEnough = (bytes : List ℕ) (room words : ℕ) → 131072 ≤ room → 1 �
 
 -- and the other call has no 9
 abbrev pub WordsEnough : Type 0
-WordsEnough = (bytes : List ℕ) (used answers edges counts : ℕ) → 34 ≤ used → 16 ≤ answers → 43520 ≤ edges → 3 ≤ counts
+WordsEnough = (bytes : List ℕ) (used answers edges counts : ℕ)
+    → 34 ≤ used → 16 ≤ answers → 43520 ≤ edges → 3 ≤ counts
     → sheetTo bytes used answers edges counts ≡ unless (sheetRefusals bytes) (sheetBorrows (sheetOf bytes))
 
 -- A status of 0 is never that of a refusal, and none is above 13

@@ -45,7 +45,8 @@ examples =
     ∷ asked (Used 0 0 (1 ∷ 0 ∷ []) (4 ∷ 2 ∷ 0 ∷ 0 ∷ []) [] (0 ∷ [])) (Set (Refuses Mismatch))
     -- `force` 1: 13, also beside 65 lifetimes (4) and an output number past the count (8); but 1 beside a torn record,
     -- and for `force` 2 and 0 1
-    ∷ asked (Used 2 2 (1 ∷ 1 ∷ 3 ∷ 1 ∷ 1 ∷ []) (2 ∷ 0 ∷ 1 ∷ 2 ∷ []) [] (1 ∷ [])) (Set (Refuses Retired))
+    ∷ asked (Used 2 2 (1 ∷ 1 ∷ 3 ∷ 1 ∷ 1 ∷ []) (2 ∷ 0 ∷ 1 ∷ 2 ∷ []) [] (1 ∷ []))
+    (Set (Refuses Retired))
     ∷ asked (Used 65 65 [] [] (3 ∷ 2 ∷ []) (1 ∷ [])) (Set (Refuses Retired))
     ∷ asked (Used 65 65 [] [] (3 ∷ 2 ∷ []) (0 ∷ [])) (Set (Refuses Full))
     ∷ asked (Used 1 1 [] (2 ∷ 0 ∷ 0 ∷ []) [] (1 ∷ [])) (Set (Refuses Malformed))

@@ -35,8 +35,10 @@ UsedLifetimesAre = (env : LifetimeEnv) (structs params output force : List ℕ) 
 -- `force` 1 is accepted nowhere, so that no method uses anything by it
 abbrev pub ForceIsRetired : Type 0
 ForceIsRetired = (env : LifetimeEnv) (structs params output force : List ℕ) → forced force ≡ true
-    → (methodInShape structs params output force ≡ true → usedSet env structs params output force ≡ Refuses Retired)
-    × (methodInShape structs params output force ≡ false → usedSet env structs params output force ≡ Refuses Malformed)
+    → (methodInShape structs params output force ≡ true
+    → usedSet env structs params output force ≡ Refuses Retired)
+    × (methodInShape structs params output force ≡ false
+    → usedSet env structs params output force ≡ Refuses Malformed)
 
 -- in ascending order of the field's lifetime, each once
 abbrev pub ByDef : FieldPair → FieldPair → Type 0

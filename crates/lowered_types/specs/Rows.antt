@@ -85,6 +85,7 @@ methodInShape structs params output force =
 abbrev pub shapeChecks : Bool → List ℕ → List Check
 shapeChecks inShape force = check (not inShape) Malformed ∷ check (forced force) Retired ∷ []
 
+-- the verdict of these checks alone
 abbrev pub checksVerdict : Bool → List ℕ → Verdict
 checksVerdict inShape force = verdictOf (unless (shapeChecks inShape force) (tt {0}))
 

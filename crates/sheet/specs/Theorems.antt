@@ -62,7 +62,8 @@ pub record ReadsInShape (bytes : List ℕ) : Type 0 where
   pub malformed : (readSheet bytes ≡ Refuses Malformed) ↔ ((r : Records) × IsSheet bytes r × (sheetInShape r ≡ false))
   pub retired : (readSheet bytes ≡ Refuses Retired)
       ↔ ((r : Records) × IsSheet bytes r × (sheetInShape r ≡ true) × (forced (r .force) ≡ true))
-  pub refusals : (k : Refusal) → readSheet bytes ≡ Refuses k → (k ≡ Unreadable) ⊎ ((k ≡ Malformed) ⊎ (k ≡ Retired))
+  pub refusals : (k : Refusal) → readSheet bytes ≡ Refuses k
+      → (k ≡ Unreadable) ⊎ ((k ≡ Malformed) ⊎ (k ≡ Retired))
   pub tenth : (r : Records) → readSheet bytes ≡ Gives r → r .force ≡ 0 ∷ []
 
 abbrev pub ReadingJudgesShapes : Type 0
