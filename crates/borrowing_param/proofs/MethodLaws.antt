@@ -1,7 +1,7 @@
 -- A sheet's method: the first refusal due on ten records that were read is that of the stage which refuses them; if
 -- none is due, the method is accepted.
 use Prim.Native.Nat.{ℕ, _≤_}
-use mathlib.Core.Bool.{true, false, _&&_, not, and-eq-true-iff}
+use mathlib.Core.Bool.{true, false, _&&_, not}
 use mathlib.Core.Path.{_≡_, refl, sym, ap, _∙_}
 use mathlib.Core.List.{List, [], _∷_, _++_}
 use native.Mathlib.Omega.{arith}
@@ -33,6 +33,7 @@ use Rattle.lowered_types.specs.Rows.{methodInShape, shapeChecks}
 use Rattle.hir_types.specs.Method.{placeChecks, outputLifetimes, anyPast, methodChecks, methodVerdict}
 use Rattle.sheet.specs.Text.{Records}
 use Rattle.sheet.specs.Shape.{sheetInShape, recordsChecks}
+use Rattle.sheet.proofs.ShapeCases.{sheet-parts}
 use Rattle.borrowing_param.specs.SheetMethod.{loweredOf, astEnvOf, envOfSheet, loweringChecks}
 use Rattle.borrowing_param.specs.InnerSheet.{methodOf}
 
@@ -93,11 +94,7 @@ module _ (r : Records) where
     shapes : (namesInShape (r .names) && (boundsInShape (r .bounds) && typesInShape (r .types)) ≡ true)
         × (inShapeAll (r .self) (r .steps) (r .returns) ≡ true)
         × (methodInShape (r .structs) (r .params) (r .output) (r .force) ≡ true)
-    unfolding sheetInShape
-    shapes =
-        let p = (and-eq-true-iff (namesInShape (r .names) && (boundsInShape (r .bounds) && typesInShape (r .types))) _) .0 shape in
-        let q = (and-eq-true-iff (inShapeAll (r .self) (r .steps) (r .returns)) _) .0 (p .1) in
-        (p .0, q .0, q .1)
+    shapes = sheet-parts r shape
 
     of-method : NoneDue (shapeChecks (methodInShape (r .structs) (r .params) (r .output) (r .force)) (r .force))
     of-method = next (ap not (shapes .2)) (none-rest first)

@@ -30,7 +30,7 @@ use Rattle.listing.specs.InnerSections.{numbered, cutFrom}
 abbrev pub listedSheet : List ℕ → Outcome (List ℕ)
 listedSheet bytes = unless (listingChecks bytes) (listingOf (sheetOf bytes))
 
--- and of records that are in shape
+-- and of records that were read
 abbrev pub listedRecords : Records → Outcome (List ℕ)
 listedRecords r = unless (loweringChecks r ++ (edgesCheck r ∷ [])) (listingOf r)
 

@@ -17,14 +17,24 @@ use Rattle.records.proofs.ReadingLaws.{passed}
 use Rattle.ast_lifetimes.specs.Shapes.{namesInShape, boundsInShape}
 use Rattle.ast_lifetimes.specs.Types.{typesInShape, readType}
 use Rattle.elision.specs.Steps.{selfInShape, stepsInShape, readStep}
-use Rattle.lowered_types.specs.Rows.{forceInShape, rowsOf}
-use Rattle.lowered_types.specs.Rows.{readRow, readKnown, forced}
+use Rattle.lowered_types.specs.Rows.{forceInShape, rowsOf, readRow, readKnown, forced, methodInShape}
 use Rattle.lowered_types.proofs.ShapeLaws.{four-in-shape}
 use Rattle.sheet.specs.Text.{Records, lists, mostWords}
 use Rattle.sheet.specs.Reading.{allShort, sheetOf, textChecks, readText}
 use Rattle.sheet.specs.Shape.{sheetInShape, sheetChecks, readSheet}
 use Rattle.sheet.specs.Theorems.{IsSheet, ReadsInShape}
 use Rattle.sheet.proofs.SheetLaws.{Read, NoSheet, Few, Many, read-cases, one-sheet}
+
+-- what ten records in shape say of those that each crate reads
+pub sheet-parts : (r : Records) → sheetInShape r ≡ true
+    → (namesInShape (r .names) && (boundsInShape (r .bounds) && typesInShape (r .types)) ≡ true)
+    × (selfInShape (r .self) && (stepsInShape (r .steps) && stepsInShape (r .returns)) ≡ true)
+    × (methodInShape (r .structs) (r .params) (r .output) (r .force) ≡ true)
+unfolding sheetInShape
+sheet-parts r e =
+    let a = (and-eq-true-iff (namesInShape (r .names) && (boundsInShape (r .bounds) && typesInShape (r .types))) _) .0 e in
+    let b = (and-eq-true-iff (selfInShape (r .self) && (stepsInShape (r .steps) && stepsInShape (r .returns))) _) .0 (a .1) in
+    (a .0, b .0, b .1)
 
 -- no record in shape has more than 1,024 words
 names-short : (l : List ℕ) → namesInShape l ≡ true → leb (length l) mostWords ≡ true
@@ -50,16 +60,15 @@ force-short (w ∷ []) e = refl
 force-short (w ∷ v ∷ l) e = let z : _≡_ {A = ℕ} 0 1 = cc in absurd (omega arith)
 
 pub shape-short : (r : Records) → sheetInShape r ≡ true → allShort (lists r) ≡ true
-unfolding sheetInShape allShort
+unfolding allShort
 shape-short r e =
     let rows = length (rowsOf (r .structs)) in
-    let a = (and-eq-true-iff (namesInShape (r .names) && (boundsInShape (r .bounds) && typesInShape (r .types))) _) .0 e in
-    let b = (and-eq-true-iff (selfInShape (r .self) && (stepsInShape (r .steps) && stepsInShape (r .returns))) _) .0 (a .1) in
-    let n = (and-eq-true-iff (namesInShape (r .names)) _) .0 (a .0) in
+    let parts = sheet-parts r e in
+    let n = (and-eq-true-iff (namesInShape (r .names)) _) .0 (parts .0) in
     let t = (and-eq-true-iff (boundsInShape (r .bounds)) _) .0 (n .1) in
-    let s = (and-eq-true-iff (selfInShape (r .self)) _) .0 (b .0) in
+    let s = (and-eq-true-iff (selfInShape (r .self)) _) .0 (parts .1) in
     let q = (and-eq-true-iff (stepsInShape (r .steps)) _) .0 (s .1) in
-    let four = four-in-shape (r .structs) (r .params) (r .output) (r .force) (b .1) in
+    let four = four-in-shape (r .structs) (r .params) (r .output) (r .force) (parts .2) in
     rw (
       names-short (r .names) (n .0),
       bounds-short (r .bounds) (t .0),
@@ -89,13 +98,9 @@ force-zero (word ∷ []) e f =
 force-zero (word ∷ other ∷ words) e f = passed e
 
 tenth-line : (r : Records) → sheetInShape r ≡ true → forced (r .force) ≡ false → r .force ≡ 0 ∷ []
-unfolding sheetInShape
 tenth-line r e =
-    let environment = namesInShape (r .names) && (boundsInShape (r .bounds) && typesInShape (r .types)) in
-    let elision = selfInShape (r .self) && (stepsInShape (r .steps) && stepsInShape (r .returns)) in
-    let a = (and-eq-true-iff environment _) .0 e in
-    let b = (and-eq-true-iff elision _) .0 (a .1) in
-    force-zero (r .force) (four-in-shape (r .structs) (r .params) (r .output) (r .force) (b .1) .force-shape)
+    force-zero (r .force)
+    (four-in-shape (r .structs) (r .params) (r .output) (r .force) (sheet-parts r e .2) .force-shape)
 
 data Shaped (bytes : List ℕ) : Type 0 where
   None : readSheet bytes ≡ Refuses Unreadable → ((r : Records) → IsSheet bytes r → ⊥) → Shaped bytes
