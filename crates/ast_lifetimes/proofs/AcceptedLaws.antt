@@ -8,12 +8,12 @@ use native.Mathlib.Omega.{arith}
 use borrow.Author.Tests.{leb-false, le-ltb, lt-ltb}
 use lib.ListN.{length, length-append, length-map}
 use lib.Seq.{take-append-seam}
-use Rattle.lifetimes.specs.declared.answer.Refusal.the-variants.{OutOfRange}
+use Rattle.answers.specs.declared.Refusal.the-variants.{OutOfRange}
 use Rattle.lifetimes.specs.declared.env.Bound.{Bound}
-use Rattle.lifetimes.specs.Refusals.{check, NoneDue, next, end}
+use Rattle.answers.specs.Refusals.{check, NoneDue, next, end}
 use Rattle.lifetimes.specs.Env.{allBelow}
-use Rattle.lifetimes.proofs.RefusalLaws.{accepted-none, none-first, none-rest, none-split}
-use Rattle.lifetimes.specs.declared.answer.Verdict.the-variants.{Accepted}
+use Rattle.answers.proofs.RefusalLaws.{accepted-none, none-first, none-rest, none-split}
+use Rattle.answers.specs.declared.Verdict.the-variants.{Accepted}
 use Rattle.ast_lifetimes.specs.declared.env.Counts.{Counts}
 use Rattle.ast_lifetimes.specs.Inner.{sidesOf, Built}
 use Rattle.ast_lifetimes.specs.Shapes.{implNames, methodNames, Pair, implPairs, methodPairs}

@@ -13,10 +13,10 @@ use lib.Seq.{sets, sets-eq, length-take-le}
 use Rattle.lifetimes.specs.declared.lifetime.Lifetime.{Lifetime}
 use Rattle.lifetimes.specs.declared.env.Bound.{Bound}
 use Rattle.lifetimes.specs.Numbers.{lifetime}
-use Rattle.lifetimes.specs.Ranges.{ascending}
+use Rattle.answers.specs.Lists.{range}
 use Rattle.lifetimes.specs.Env.{above, byteOf, allBelow}
 use Rattle.lifetimes.proofs.SetLaws.{length-ascending}
-use Rattle.lifetimes.proofs.Copying.{Copying, copying-more, drop-replicate}
+use Rattle.answers.proofs.Copying.{Copying, copying-more, drop-replicate}
 use Rattle.ast_lifetimes.specs.Env.{envOf}
 use Rattle.ast_lifetimes.specs.Inner.{sidesOf}
 use Rattle.ast_lifetimes.proofs.Building.{Under, below-under, under-sides}
@@ -44,7 +44,7 @@ length-sides n longs shorts = rw (length-map, length-ascending 0 n)
 pub record Storing (longs shorts : List ℕ) (pushed : ℕ) (bounds : List Bound) (i : ℕ) : Type 0 where
   pub here : i ≤ pushed
   pub small : Under 255 (sidesOf pushed longs shorts)
-  pub stored : sets bounds i (map (side longs shorts) (ascending i (pushed - i))) ≡ sets (replicate 256 (above 0 0)) 0
+  pub stored : sets bounds i (map (side longs shorts) (range i (pushed - i))) ≡ sets (replicate 256 (above 0 0)) 0
       (sidesOf pushed longs shorts)
 
 pub storing-start : (longs shorts : List ℕ) (pushed : ℕ) → allBelow 255 (sidesOf pushed longs shorts) ≡ true
@@ -60,7 +60,7 @@ module _ {longs shorts : List ℕ} {pushed : ℕ} {bounds : List Bound} {i : ℕ
   pub storing-more : i < pushed → {l s : Lifetime} → l ≡ lifetime (getD longs i 0) → s ≡ lifetime (getD shorts i 0)
       → {b : Bound} → b ≡ above (byteOf (l .0)) (byteOf (s .0))
       → Storing longs shorts pushed (set bounds i b) (i + 1)
-  unfolding ascending
+  unfolding range
   storing-more h {l} {s} el es {b} eb =
       let one : pushed - i ≡ suc (pushed - suc i) = omega arith in
       let k = storing-small h in
@@ -69,7 +69,7 @@ module _ {longs shorts : List ℕ} {pushed : ℕ} {bounds : List Bound} {i : ℕ
 
   all-stored : pushed ≤ 256 → pushed ≤ i
       → bounds ≡ sidesOf pushed longs shorts ++ replicate (256 - length (sidesOf pushed longs shorts)) (above 0 0)
-  unfolding ascending
+  unfolding range
   all-stored few h =
       let none : pushed - i ≡ 0 = omega arith in
       rw none at (inv .stored)

@@ -9,19 +9,19 @@ use native.Mathlib.Omega.{arith}
 use borrow.Author.Tests.{lt-ltb, le-ltb}
 use lib.ListN.{length, getD, drop, length-take, drop-of-length-le}
 use lib.Seq.{getD-take, drop-cons}
-use Rattle.lifetimes.specs.declared.answer.Refusal.{Refusal}
-use Rattle.lifetimes.specs.declared.answer.Refusal.the-variants.{Full, OutOfRange}
-use Rattle.lifetimes.specs.declared.answer.Verdict.{Verdict}
-use Rattle.lifetimes.specs.declared.answer.Verdict.the-variants.{Accepted, Refused}
-use Rattle.lifetimes.specs.Refusals.{check, unless}
-use Rattle.lifetimes.specs.Lent.{verdictOf}
+use Rattle.answers.specs.declared.Refusal.{Refusal}
+use Rattle.answers.specs.declared.Refusal.the-variants.{Full, OutOfRange}
+use Rattle.answers.specs.declared.Verdict.{Verdict}
+use Rattle.answers.specs.declared.Verdict.the-variants.{Accepted, Refused}
+use Rattle.answers.specs.Refusals.{check, unless}
+use Rattle.answers.specs.Lent.{verdictOf}
 use Rattle.lifetimes.specs.Env.{above, bothBelow, allBelow}
 use Rattle.ast_lifetimes.specs.declared.env.LifetimeEnv.{LifetimeEnv}
 use Rattle.records.specs.Reading.{shapeVerdict}
 use Rattle.ast_lifetimes.specs.Shapes.{namesInShape, boundsInShape}
 use Rattle.ast_lifetimes.specs.Types.{typesInShape}
 use Rattle.ast_lifetimes.specs.Env.{boundsOf, envChecks}
-use Rattle.records.proofs.VerdictLaws.{refused-accepted}
+use Rattle.answers.proofs.VerdictLaws.{refused-accepted}
 
 -- ---- `shape_of`
 

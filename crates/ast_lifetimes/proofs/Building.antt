@@ -11,15 +11,15 @@ use borrow.Author.Tests.{eqb-true, leb-true, lt-ltb, ltb-true, not-false}
 use lib.Dec.{eqb, leb, ltb}
 use lib.ListN.{length, getD, take, drop, length-append, length-drop}
 use lib.Seq.{slice, take-length, take-nil, drop-nil, length-take-le}
-use Rattle.lifetimes.specs.declared.answer.Refusal.{Refusal}
-use Rattle.lifetimes.specs.declared.answer.Refusal.the-variants.{Malformed}
-use Rattle.lifetimes.specs.declared.answer.Verdict.{Verdict}
-use Rattle.lifetimes.specs.declared.answer.Verdict.the-variants.{Accepted, Refused}
+use Rattle.answers.specs.declared.Refusal.{Refusal}
+use Rattle.answers.specs.declared.Refusal.the-variants.{Malformed}
+use Rattle.answers.specs.declared.Verdict.{Verdict}
+use Rattle.answers.specs.declared.Verdict.the-variants.{Accepted, Refused}
 use Rattle.lifetimes.specs.declared.env.Bound.{Bound}
-use Rattle.lifetimes.specs.Ranges.{ascending}
-use Rattle.lifetimes.specs.Refusals.{Check, unless, FirstDue, NoneDue, next}
+use Rattle.answers.specs.Lists.{range}
+use Rattle.answers.specs.Refusals.{Check, unless, FirstDue, NoneDue, next}
 use Rattle.lifetimes.specs.Env.{above, bothBelow, allBelow}
-use Rattle.lifetimes.proofs.RefusalLaws.{due-given, due-refused, refused-first, accepted-none}
+use Rattle.answers.proofs.RefusalLaws.{due-given, due-refused, refused-first, accepted-none}
 use Rattle.ast_lifetimes.specs.declared.implied.Implied.{Implied}
 use Rattle.ast_lifetimes.specs.declared.env.Counts.{Counts}
 use Rattle.ast_lifetimes.specs.declared.env.LifetimeEnv.{LifetimeEnv}
@@ -29,9 +29,9 @@ use Rattle.ast_lifetimes.specs.Shapes.{boundsInShape, implPairs, methodP
 use Rattle.ast_lifetimes.specs.Types.{TypeName, typesInShape, typesOf}
 use Rattle.ast_lifetimes.specs.Env.{nameChecks, allPairChecks, boundsFor, allImplied, envOf, allNamesOf}
 use Rattle.ast_lifetimes.specs.Env.{explicitBounds, impliedPairs, placeChecks, methodBounds, fromMethodItem, made}
-use Rattle.records.specs.Ends.{judged}
+use Rattle.answers.specs.Lent.{judged}
 use Rattle.ast_lifetimes.specs.Inner.{sidesOf, Declares, Pushes, encodeAll, Below, Extends, Built}
-use Rattle.records.proofs.VerdictLaws.{refused-accepted, judged-after, judged-stays}
+use Rattle.answers.proofs.VerdictLaws.{refused-accepted, judged-after, judged-stays}
 use Rattle.ast_lifetimes.proofs.ReadingLaws.{types-encoded}
 
 -- ---- what records in shape say
@@ -175,9 +175,9 @@ pairs-under names pushed (p ∷ ps) (next a (next b (next c d))) =
     more (ltb-true _ _ (not-false _ a)) (ltb-true _ _ (not-false _ b)) (pairs-under names (suc pushed) ps d)
 
 pub under-sides : (m x n : ℕ) (longs shorts : List ℕ)
-    → Under m (map (λ i. above (getD longs i 0) (getD shorts i 0)) (ascending x n)) → (i : ℕ) → x ≤ i → i < x + n
+    → Under m (map (λ i. above (getD longs i 0) (getD shorts i 0)) (range x n)) → (i : ℕ) → x ≤ i → i < x + n
     → (getD longs i 0 < m) × (getD shorts i 0 < m)
-unfolding ascending
+unfolding range
 under-sides m x zero longs shorts u i h k = absurd (omega arith)
 under-sides m x (suc n) longs shorts (more l s u) i h k = go (ℕ-discrete i x) (under-sides m (suc x) n longs shorts u i)
   where
@@ -316,7 +316,7 @@ module _ {names bounds types : List ℕ} where
         (stage-refused _ _ _ (i .left) (impl-pairs .verdict) e) e
 
     pub impl-bound : v ≡ Accepted → ImplBound names bounds types declared longs₁ shorts₁
-    unfolding ascending
+    unfolding range
     impl-bound e = record {
       shaped = i .shaped;
       named = i .named;

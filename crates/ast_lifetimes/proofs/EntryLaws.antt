@@ -8,7 +8,7 @@ use native.Mathlib.Nat.{add-zero}
 use native.Mathlib.Omega.{arith}
 use lib.ListN.{length, length-append, length-map}
 use Rattle.lifetimes.specs.declared.env.Bound.{Bound}
-use Rattle.lifetimes.specs.Refusals.{Check, Outcome, Gives, Refuses, unless, after}
+use Rattle.answers.specs.Refusals.{Check, Outcome, Gives, Refuses, unless, bind}
 use Rattle.ast_lifetimes.specs.declared.env.LifetimeEnv.{LifetimeEnv}
 use Rattle.ast_lifetimes.specs.Shapes.{namesInShape, implNames, methodNames, Pair, boundsInShape, implPairs}
 use Rattle.ast_lifetimes.specs.Shapes.{methodPairs}
@@ -22,23 +22,23 @@ use Rattle.ast_lifetimes.proofs.PairLaws.{allPairChecks-append}
 
 -- some checks, and then what follows if none is due
 after-unless : {A B : Type 0} (checks more : List Check) (a : A) (b : B) (f : A → Outcome B) → f a ≡ unless more b
-    → after (unless checks a) f ≡ unless (checks ++ more) b
+    → bind (unless checks a) f ≡ unless (checks ++ more) b
 unfolding unless
 after-unless [] more a b f e = e
 after-unless (c ∷ cs) more a b f e = go (c .due) (after-unless cs more a b f e)
   where
-    go : (t : Bool) → after (unless cs a) f ≡ unless (cs ++ more) b
-        → after (cond t (Refuses (c .refusal)) (unless cs a)) f ≡ cond t (Refuses (c .refusal)) (unless (cs ++ more) b)
+    go : (t : Bool) → bind (unless cs a) f ≡ unless (cs ++ more) b
+        → bind (cond t (Refuses (c .refusal)) (unless cs a)) f ≡ cond t (Refuses (c .refusal)) (unless (cs ++ more) b)
     go true h = refl
     go false h = h
 
-fold-append : {A B : Type 0} (f : A → B → Outcome A) (a : A) (l m : List B) → fold f a (l ++ m) ≡ after (fold f a l) (λ b. fold f b m)
+fold-append : {A B : Type 0} (f : A → B → Outcome A) (a : A) (l m : List B) → fold f a (l ++ m) ≡ bind (fold f a l) (λ b. fold f b m)
 unfolding fold
 fold-append f a [] m = refl
 fold-append {A = A} f a (x ∷ l) m = go (f a x) (λ b. fold-append f b l m)
   where
-    go : (o : Outcome A) → ((b : A) → fold f b (l ++ m) ≡ after (fold f b l) (λ c. fold f c m))
-        → after o (λ b. fold f b (l ++ m)) ≡ after (after o (λ b. fold f b l)) (λ c. fold f c m)
+    go : (o : Outcome A) → ((b : A) → fold f b (l ++ m) ≡ bind (fold f b l) (λ c. fold f c m))
+        → bind o (λ b. fold f b (l ++ m)) ≡ bind (bind o (λ b. fold f b l)) (λ c. fold f c m)
     go (Gives b) h = h b
     go (Refuses r) h = refl
 
@@ -75,11 +75,11 @@ fold-bounded s [] = refl
 fold-bounded s (p ∷ l) = go (push s p) (λ t. fold-bounded t l)
   where
     go : (o : Outcome State) → ((t : State) → fold step t (map Bounded l) ≡ fold push t l)
-        → after o (λ next. fold step next (map Bounded l)) ≡ after o (λ next. fold push next l)
+        → bind o (λ next. fold step next (map Bounded l)) ≡ bind o (λ next. fold push next l)
     go (Gives t) h = h t
     go (Refuses r) h = refl
 
-after-gives : {A : Type 0} (o : Outcome A) → after o (λ a. Gives a) ≡ o
+after-gives : {A : Type 0} (o : Outcome A) → bind o (λ a. Gives a) ≡ o
 after-gives (Gives a) = refl
 after-gives (Refuses r) = refl
 

@@ -10,28 +10,28 @@ use borrow.Author.Tests.{ltb-true, ltb-false, not-false}
 use lib.Dec.{ltb}
 use lib.ListN.{length, getD, take, set, length-set, length-take}
 use lib.Seq.{take-suc, length-take-le}
-use Rattle.lifetimes.specs.declared.answer.Refusal.{Refusal}
-use Rattle.lifetimes.specs.declared.answer.Refusal.the-variants.{Malformed}
-use Rattle.lifetimes.specs.declared.answer.Verdict.{Verdict}
-use Rattle.lifetimes.specs.declared.answer.Verdict.the-variants.{Accepted, Refused}
+use Rattle.answers.specs.declared.Refusal.{Refusal}
+use Rattle.answers.specs.declared.Refusal.the-variants.{Malformed}
+use Rattle.answers.specs.declared.Verdict.{Verdict}
+use Rattle.answers.specs.declared.Verdict.the-variants.{Accepted, Refused}
 use Rattle.lifetimes.specs.declared.env.Bound.{Bound}
-use Rattle.lifetimes.specs.Ranges as ranges
-use Rattle.lifetimes.specs.Refusals as refusals
-use Rattle.lifetimes.specs.Refusals.{unless, FirstDue, here, later, NoneDue, next}
-use Rattle.lifetimes.specs.Lent.{verdictOf}
+use Rattle.answers.specs.Lists as lists
+use Rattle.answers.specs.Refusals as refusals
+use Rattle.answers.specs.Refusals.{unless, FirstDue, here, later, NoneDue, next}
+use Rattle.answers.specs.Lent.{verdictOf}
 use Rattle.lifetimes.specs.Env.{above, bothBelow}
 use Rattle.lifetimes.specs.Env as hir
-use Rattle.lifetimes.proofs.RefusalLaws.{due-given, due-refused, refused-first, accepted-none, none-first, none-rest}
-use Rattle.lifetimes.proofs.RefusalLaws.{first-more}
+use Rattle.answers.proofs.RefusalLaws.{due-given, due-refused, refused-first, accepted-none, none-first, none-rest}
+use Rattle.answers.proofs.RefusalLaws.{first-more}
 use Rattle.ast_lifetimes.specs.declared.env.LifetimeEnv.{LifetimeEnv}
 use Rattle.ast_lifetimes.specs.declared.implied.Implied.{Implied}
 use Rattle.records.specs.Reading.{shapeVerdict}
 use Rattle.ast_lifetimes.specs.Types.{typesInShape, typesOf}
 use Rattle.ast_lifetimes.specs.Env.{allPairChecks, allImplied, boundsFor, namesOf, boundsOf, envOf, envChecks}
 use Rattle.ast_lifetimes.specs.Env.{impliedOn, extendedWith, extendChecks, extendImplied, made}
-use Rattle.records.specs.Ends.{judged}
+use Rattle.answers.specs.Lent.{judged}
 use Rattle.ast_lifetimes.specs.Inner.{sidesOf, Below, Splits, Extends}
-use Rattle.records.proofs.VerdictLaws.{refused-accepted, unless-after}
+use Rattle.answers.proofs.VerdictLaws.{refused-accepted, unless-after}
 use Rattle.ast_lifetimes.proofs.PairLaws.{sides-more}
 use Rattle.ast_lifetimes.proofs.Building.{Under, below-under, under-below, under-append, under-wider}
 use Rattle.ast_lifetimes.proofs.Building.{pairs-under, under-sides}
@@ -45,7 +45,7 @@ pub record Splitting (e : LifetimeEnv) (longs shorts : List ℕ) (i : ℕ) : Typ
 
 pub splitting-start : (e : LifetimeEnv) (longs shorts : List ℕ) → length longs ≡ 256 → length shorts ≡ 256
     → Splitting e longs shorts 0
-unfolding ranges.ascending
+unfolding lists.range
 splitting-start e longs shorts a b = record { here = omega arith; size-longs = a; size-shorts = b; sides = refl }
 
 module _ {e : LifetimeEnv} {longs shorts : List ℕ} {i : ℕ} (inv : Splitting e longs shorts i) where

@@ -7,18 +7,18 @@ use native.Mathlib.Nat.{add-zero}
 use native.Mathlib.Omega.{arith}
 use borrow.Author.Tests.{ltb-true, not-false}
 use lib.ListN.{length, length-append}
-use Rattle.lifetimes.specs.declared.answer.Refusal.{Refusal}
-use Rattle.lifetimes.specs.declared.answer.Verdict.{Verdict}
-use Rattle.lifetimes.specs.declared.answer.Verdict.the-variants.{Accepted, Refused}
+use Rattle.answers.specs.declared.Refusal.{Refusal}
+use Rattle.answers.specs.declared.Verdict.{Verdict}
+use Rattle.answers.specs.declared.Verdict.the-variants.{Accepted, Refused}
 use Rattle.lifetimes.specs.declared.env.Bound.{Bound}
-use Rattle.lifetimes.specs.Refusals.{unless}
-use Rattle.lifetimes.proofs.RefusalLaws.{accepted-none, none-first, none-rest}
+use Rattle.answers.specs.Refusals.{unless}
+use Rattle.answers.proofs.RefusalLaws.{accepted-none, none-first, none-rest}
 use Rattle.ast_lifetimes.specs.declared.implied.Implied.{Implied}
 use Rattle.ast_lifetimes.specs.Shapes.{Pair}
 use Rattle.ast_lifetimes.specs.Env.{place, allPairChecks, boundOf, boundsFor}
-use Rattle.records.specs.Ends.{judged}
+use Rattle.answers.specs.Lent.{judged}
 use Rattle.ast_lifetimes.specs.Inner.{sidesOf, Pushes, Reaches, Joins, Extends}
-use Rattle.records.proofs.VerdictLaws.{refused-accepted, judged-after, judged-stays}
+use Rattle.answers.proofs.VerdictLaws.{refused-accepted, judged-after, judged-stays}
 use Rattle.ast_lifetimes.proofs.PairLaws.{allPairChecks-append}
 
 -- a run under way: `left` of the pairs `all` is to be pushed

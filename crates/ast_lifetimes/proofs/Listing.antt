@@ -8,23 +8,23 @@ use native.Mathlib.Omega.{arith}
 use borrow.Author.Tests.{lt-ltb, le-ltb, lt-leb, ltb-false, not-false}
 use lib.ListN.{length}
 use lib.Seq.{length-take-le}
-use Rattle.lifetimes.specs.declared.answer.Refusal.{Refusal}
-use Rattle.lifetimes.specs.declared.answer.Listed.{Listed}
-use Rattle.lifetimes.specs.declared.answer.Listed.the-variants as listed
+use Rattle.answers.specs.declared.Refusal.{Refusal}
+use Rattle.answers.specs.declared.Listed.{Listed}
+use Rattle.answers.specs.declared.Listed.the-variants as listed
 use Rattle.lifetimes.specs.declared.lifetime.Lifetime.{Lifetime}
 use Rattle.lifetimes.specs.declared.env.LifetimeEnv as hir
 use Rattle.lifetimes.specs.Numbers.{lifetime}
-use Rattle.lifetimes.specs.Refusals.{FirstDue, NoneDue, end, next}
-use Rattle.lifetimes.specs.Lent.{counted, written, roomCheck}
+use Rattle.answers.specs.Refusals.{FirstDue, NoneDue, end, next}
+use Rattle.answers.specs.Lent.{counted, written, roomCheck}
 use Rattle.lifetimes.specs.Env as lifetimes
 use Rattle.lifetimes.specs.Walk.{FirstFirst, traversal}
 use Rattle.lifetimes.specs.Reach.{listReach}
-use Rattle.lifetimes.proofs.RefusalLaws.{none-first, none-rest, first-more, none-more}
+use Rattle.answers.proofs.RefusalLaws.{none-first, none-rest, first-more, none-more}
 use Rattle.lifetimes.proofs.EnvLaws.{none-due}
-use Rattle.lifetimes.proofs.Answering.{answers-refusal, answers-list, has-room}
+use Rattle.answers.proofs.LentLaws.{answers-refusal, answers-list, has-room}
 use Rattle.ast_lifetimes.specs.declared.env.LifetimeEnv.{LifetimeEnv}
 use Rattle.ast_lifetimes.specs.Env.{place, namesOf, boundsOf, reachOf, envChecks, listThan}
-use Rattle.records.proofs.VerdictLaws.{unless-after}
+use Rattle.answers.proofs.VerdictLaws.{unless-after}
 
 -- an environment whose names are all its lifetimes, with the same bounds
 abbrev pub hirOf : LifetimeEnv → hir.LifetimeEnv

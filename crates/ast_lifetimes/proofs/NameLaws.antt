@@ -9,15 +9,15 @@ use native.Mathlib.Omega.{arith}
 use borrow.Author.Tests.{lt-ltb, le-ltb, le-leb, lt-leb, eq-eqb, ne-eqb}
 use lib.ListN.{length, getD, take, set, length-set}
 use lib.Seq.{length-take-le, take-suc-set, slice, slice-empty, slice-cons}
-use Rattle.lifetimes.specs.declared.answer.Refusal.{Refusal}
-use Rattle.lifetimes.specs.declared.answer.Refusal.the-variants.{Duplicate, Full}
-use Rattle.lifetimes.specs.declared.answer.Verdict.{Verdict}
-use Rattle.lifetimes.specs.declared.answer.Verdict.the-variants.{Accepted, Refused}
-use Rattle.lifetimes.specs.Refusals.{unless}
+use Rattle.answers.specs.declared.Refusal.{Refusal}
+use Rattle.answers.specs.declared.Refusal.the-variants.{Duplicate, Full}
+use Rattle.answers.specs.declared.Verdict.{Verdict}
+use Rattle.answers.specs.declared.Verdict.the-variants.{Accepted, Refused}
+use Rattle.answers.specs.Refusals.{unless}
 use Rattle.ast_lifetimes.specs.Env.{place, nameChecks}
-use Rattle.records.specs.Ends.{judged}
+use Rattle.answers.specs.Lent.{judged}
 use Rattle.ast_lifetimes.specs.Inner.{Declares}
-use Rattle.records.proofs.VerdictLaws.{refused-accepted, judged-after, judged-stays}
+use Rattle.answers.proofs.VerdictLaws.{refused-accepted, judged-after, judged-stays}
 
 -- ---- `position`: the names that were read are others, so the name's place among those that are left, counted from
 -- here, is its number

@@ -12,7 +12,7 @@ use native.Mathlib.Numerals.{add-one}
 use lib.ListN.{length, getD, set, length-set}
 use lib.Seq.{getD-set-same, getD-set-other}
 use Rattle.lifetimes.specs.declared.env.Bound.{Bound}
-use Rattle.lifetimes.specs.Ranges.{ascending}
+use Rattle.answers.specs.Lists.{range}
 use Rattle.lifetimes.specs.Sets.{empty, member, insert, union}
 use Rattle.lifetimes.specs.Env.{above}
 use Rattle.lifetimes.specs.Outlives.{Outlives, itself}
@@ -139,7 +139,7 @@ sides-next n longs shorts = rw (add-one n, ascending-snoc 0 n, map-append, zero-
 
 -- the loop of `close`: the sets of the first bounds
 pub closing-start : (named : ℕ) (longs shorts reach : List ℕ) → Reaches [] named reach → Reaches (sidesOf 0 longs shorts) named reach
-unfolding ascending
+unfolding range
 closing-start named longs shorts reach r = r
 
 pub closing-more : (i : ℕ) (longs shorts : List ℕ) {named : ℕ} {reach reach₁ : List ℕ}

@@ -9,20 +9,20 @@ use native.Mathlib.Omega.{arith}
 use borrow.Author.Tests.{lt-ltb, le-ltb, le-leb, lt-leb}
 use lib.ListN.{length, getD, set, length-set}
 use lib.Seq.{getD-set-same, getD-set-other, slice, slice-empty, slice-cons}
-use Rattle.lifetimes.specs.declared.answer.Refusal.{Refusal}
-use Rattle.lifetimes.specs.declared.answer.Refusal.the-variants.{Undeclared, Full}
-use Rattle.lifetimes.specs.declared.answer.Verdict.{Verdict}
-use Rattle.lifetimes.specs.declared.answer.Verdict.the-variants.{Accepted, Refused}
+use Rattle.answers.specs.declared.Refusal.{Refusal}
+use Rattle.answers.specs.declared.Refusal.the-variants.{Undeclared, Full}
+use Rattle.answers.specs.declared.Verdict.{Verdict}
+use Rattle.answers.specs.declared.Verdict.the-variants.{Accepted, Refused}
 use Rattle.lifetimes.specs.declared.env.Bound.{Bound}
-use Rattle.lifetimes.specs.Ranges.{ascending}
-use Rattle.lifetimes.specs.Refusals.{unless}
+use Rattle.answers.specs.Lists.{range}
+use Rattle.answers.specs.Refusals.{unless}
 use Rattle.lifetimes.specs.Env.{above}
 use Rattle.lifetimes.proofs.SetLaws.{ascending-snoc}
 use Rattle.ast_lifetimes.specs.Shapes.{Pair, pair, pairsOf}
 use Rattle.ast_lifetimes.specs.Env.{place, allPairChecks, boundsFor}
-use Rattle.records.specs.Ends.{judged}
+use Rattle.answers.specs.Lent.{judged}
 use Rattle.ast_lifetimes.specs.Inner.{sidesOf, Pushes}
-use Rattle.records.proofs.VerdictLaws.{refused-accepted, judged-after, judged-stays}
+use Rattle.answers.proofs.VerdictLaws.{refused-accepted, judged-after, judged-stays}
 
 -- ---- the checks of some pairs, and of more after them
 
@@ -39,8 +39,8 @@ allPairChecks-append names pushed (p ∷ l) m =
 abbrev side : List ℕ → List ℕ → ℕ → Bound
 side longs shorts i = above (getD longs i 0) (getD shorts i 0)
 
-map-row : (f g : ℕ → Bound) (x n : ℕ) → ((i : ℕ) → i < x + n → f i ≡ g i) → map f (ascending x n) ≡ map g (ascending x n)
-unfolding ascending
+map-row : (f g : ℕ → Bound) (x n : ℕ) → ((i : ℕ) → i < x + n → f i ≡ g i) → map f (range x n) ≡ map g (range x n)
+unfolding range
 map-row f g x zero h = refl
 map-row f g x (suc n) h = rw (h x (omega arith), map-row f g (suc x) n (λ i k. h i (omega arith)))
 
@@ -48,13 +48,13 @@ map-row f g x (suc n) h = rw (h x (omega arith), map-row f g (suc x) n (λ i k. 
 pub sides-more : (n : ℕ) (longs shorts : List ℕ) (l s : ℕ) → n < length longs → n < length shorts
     → sidesOf (suc n) (set longs n l) (set shorts n s) ≡ sidesOf n longs shorts ++ (above l s ∷ [])
 sides-more n longs shorts l s h k =
-    let row : ascending 0 (suc n) ≡ ascending 0 n ++ (n ∷ []) = rw (ascending-snoc, zero-add) in
+    let row : range 0 (suc n) ≡ range 0 n ++ (n ∷ []) = rw (ascending-snoc, zero-add) in
     let same : sidesOf n (set longs n l) (set shorts n s) ≡ sidesOf n longs shorts =
     map-row (side (set longs n l) (set shorts n s)) (side longs shorts) 0 n
     (λ i q. rw (getD-set-other longs n i l 0 (λ e. omega arith), getD-set-other shorts n i s 0 (λ e. omega arith))) in
     rw (
       row,
-      map-append (side (set longs n l) (set shorts n s)) (ascending 0 n) (n ∷ []),
+      map-append (side (set longs n l) (set shorts n s)) (range 0 n) (n ∷ []),
       same,
       getD-set-same longs n l 0 h,
       getD-set-same shorts n s 0 k,

@@ -12,7 +12,7 @@ use lib.Dec.{eqb}
 use lib.ListN.{length, getD}
 use lib.Seq.{slice, slice-cons, slice-empty}
 use Rattle.lifetimes.specs.declared.env.Bound.{Bound}
-use Rattle.lifetimes.specs.Ranges.{select}
+use Rattle.answers.specs.Lists.{filter}
 use Rattle.lifetimes.specs.Sets.{empty, member}
 use Rattle.lifetimes.specs.Walk.{FirstFirst, traversal}
 use Rattle.lifetimes.proofs.SetLaws.{member-empty}
@@ -69,7 +69,7 @@ module _ (names : List ℕ) (bs : List Bound) (r : ℕ) (words : List ℕ) (at t
   path-next : pathPairs names bs r (slice at to words)
       ≡ cond test (pair (getD words at 0) r ∷ pathPairs names bs r (slice (at + 1) to words))
       (pathPairs names bs r (slice (at + 1) to words))
-  unfolding select test
+  unfolding filter test
   path-next =
       rw (slice-cons at to words 0 inside fits, add-one at)
       (go (isName (getD words at 0) && not (among names bs r (getD words at 0))))
@@ -77,8 +77,8 @@ module _ (names : List ℕ) (bs : List Bound) (r : ℕ) (words : List ℕ) (at t
       go : (t : Bool)
           → map (λ word. pair word r)
           (cond t
-          (getD words at 0 ∷ select (λ word. isName word && not (among names bs r word)) (slice (suc at) to words))
-          (select (λ word. isName word && not (among names bs r word)) (slice (suc at) to words)))
+          (getD words at 0 ∷ filter (λ word. isName word && not (among names bs r word)) (slice (suc at) to words))
+          (filter (λ word. isName word && not (among names bs r word)) (slice (suc at) to words)))
           ≡ cond t (pair (getD words at 0) r ∷ pathPairs names bs r (slice (suc at) to words))
           (pathPairs names bs r (slice (suc at) to words))
       go true = refl
@@ -97,5 +97,5 @@ module _ (names : List ℕ) (bs : List Bound) (r : ℕ) (words : List ℕ) (at t
 
 pub path-end : (names : List ℕ) (bs : List Bound) (r : ℕ) (words : List ℕ) (at to : ℕ) → at ≤ to
     → to ≤ at → pathPairs names bs r (slice at to words) ≡ []
-unfolding select
+unfolding filter
 path-end names bs r words at to a b = let e : at ≡ to = omega arith in rw (e, slice-empty to words)

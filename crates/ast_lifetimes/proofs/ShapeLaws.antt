@@ -10,8 +10,8 @@ use borrow.Author.Tests.{le-leb, lt-leb, eq-eqb, ne-eqb}
 use lib.Dec.{eqb, leb}
 use lib.ListN.{length, getD, drop, drop-of-length-le}
 use lib.Seq.{drop-cons}
-use Rattle.lifetimes.specs.declared.answer.Refusal.the-variants.{Malformed}
-use Rattle.lifetimes.specs.declared.answer.Verdict.the-variants.{Accepted, Refused}
+use Rattle.answers.specs.declared.Refusal.the-variants.{Malformed}
+use Rattle.answers.specs.declared.Verdict.the-variants.{Accepted, Refused}
 use Rattle.records.specs.Reading.{shapeVerdict}
 use Rattle.ast_lifetimes.specs.Shapes.{allNames, namesInShape, boundsInShape}
 

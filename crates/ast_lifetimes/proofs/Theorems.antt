@@ -3,12 +3,12 @@ use mathlib.Core.Bool.{Bool, true, false, cond}
 use mathlib.Core.Path.{_≡_, refl, sym, ap, _∙_}
 use mathlib.Core.List.{[], List·Nodup, nodup-nil}
 use lib.Seq.{take-append-seam}
-use Rattle.lifetimes.specs.Ranges as ranges
-use Rattle.lifetimes.specs.Refusals as refusals
+use Rattle.answers.specs.Lists as lists
+use Rattle.answers.specs.Refusals as refusals
 use Rattle.lifetimes.specs.Sets as sets
 use Rattle.lifetimes.specs.Env as hir
 use Rattle.lifetimes.specs.Walk as walk
-use Rattle.lifetimes.proofs.RefusalLaws.{given-due, none-rest}
+use Rattle.answers.proofs.RefusalLaws.{given-due, none-rest}
 use Rattle.lifetimes.proofs.ReachLaws.{listed-toward, traversal-once}
 use Rattle.records.specs.Reading as reading
 use Rattle.ast_lifetimes.specs.declared.env.LifetimeEnv.{LifetimeEnv}
@@ -69,6 +69,6 @@ listed-depth-first longer names bs word h = record {
 pub examples-hold : ExamplesHold
 unfolding env.fromMethodItem env.envOf env.listThan env.place env.nameChecks env.allPairChecks env.has env.implied
     env.allImplied shapes.namesInShape shapes.allNames shapes.boundsInShape shapes.pairsOf types.readType
-    reading.readAll reading.inShape reading.itemsOf refusals.unless hir.allBelow ranges.select walk.traversal walk.walk
+    reading.readAll reading.inShape reading.itemsOf refusals.unless hir.allBelow lists.filter walk.traversal walk.walk
     walk.walkFor walk.unpushed walk.neighbours sets.member sets.insert
 examples-hold = (refl, (refl, (refl, (refl, tt))))

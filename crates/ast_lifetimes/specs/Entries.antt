@@ -4,9 +4,9 @@ use Prim.Native.Nat.{ℕ}
 use mathlib.Core.List.{List, [], _∷_, _++_, map}
 use lib.Dec.{leb}
 use lib.ListN.{length}
-use Rattle.lifetimes.specs.declared.answer.Refusal.the-variants.{Duplicate, Full}
+use Rattle.answers.specs.declared.Refusal.the-variants.{Duplicate, Full}
 use Rattle.lifetimes.specs.declared.env.Bound.{Bound}
-use Rattle.lifetimes.specs.Refusals.{check, Outcome, Gives, after, unless}
+use Rattle.answers.specs.Refusals.{check, Outcome, Gives, bind, unless}
 use Rattle.ast_lifetimes.specs.declared.env.LifetimeEnv.{LifetimeEnv}
 use Rattle.ast_lifetimes.specs.Shapes.{implNames, methodNames, Pair, implPairs, methodPairs}
 use Rattle.ast_lifetimes.specs.Types.{TypeName, Other, Named, Reference, Option, Result, typesOf}
@@ -56,7 +56,7 @@ state names bs = record { names = names; bounds = bs }
 -- one thing after another, to the first refusal
 unfoldable pub fold : {A B : Type 0} → (A → B → Outcome A) → A → List B → Outcome A
 fold step a [] = Gives a
-fold step a (b ∷ bs) = after (step a b) (λ next. fold step next bs)
+fold step a (b ∷ bs) = bind (step a b) (λ next. fold step next bs)
 
 -- one name more: refused as a 33rd (4) or declared again (2)
 abbrev pub declare : State → ℕ → Outcome State
@@ -77,4 +77,4 @@ step s (Path r lifetimes) = fold push s (pathPairs (s .names) (s .bounds) r life
 
 abbrev pub built : List ℕ → List ℕ → List ℕ → Outcome LifetimeEnv
 built names bounds types =
-    after (fold step (state [] []) (entries names bounds types)) (λ s. Gives (envOf (s .names) (s .bounds)))
+    bind (fold step (state [] []) (entries names bounds types)) (λ s. Gives (envOf (s .names) (s .bounds)))

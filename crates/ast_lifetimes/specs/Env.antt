@@ -5,11 +5,11 @@ use mathlib.Core.Bool.{Bool, true, false, cond, _&&_, not}
 use mathlib.Core.List.{List, [], _∷_, _++_, map}
 use lib.Dec.{eqb, leb, ltb}
 use lib.ListN.{length, take, replicate}
-use Rattle.lifetimes.specs.declared.answer.Refusal.the-variants.{Malformed, Duplicate, Undeclared, Full, OutOfRange}
+use Rattle.answers.specs.declared.Refusal.the-variants.{Malformed, Duplicate, Undeclared, Full, OutOfRange}
 use Rattle.lifetimes.specs.declared.env.Bound.{Bound}
-use Rattle.lifetimes.specs.Ranges.{select}
-use Rattle.lifetimes.specs.Refusals.{Check, check, Outcome, unless}
-use Rattle.lifetimes.specs.Lent.{verdictOf, resultOr, roomCheck}
+use Rattle.answers.specs.Lists.{filter}
+use Rattle.answers.specs.Refusals.{Check, check, Outcome, unless}
+use Rattle.answers.specs.Lent.{verdictOf, resultOr, roomCheck}
 use Rattle.lifetimes.specs.Env.{above, allBelow}
 use Rattle.lifetimes.specs.Walk.{FirstFirst, traversal}
 use Rattle.ast_lifetimes.specs.declared.env.LifetimeEnv.{LifetimeEnv}
@@ -83,7 +83,7 @@ among names bs r word = isDeclared names word && has (place names word) (reachOf
 
 abbrev pub pathPairs : List ℕ → List Bound → ℕ → List ℕ → List Pair
 pathPairs names bs r lifetimes =
-    map (λ word. pair word r) (select (λ word. isName word && not (among names bs r word)) lifetimes)
+    map (λ word. pair word r) (filter (λ word. isName word && not (among names bs r word)) lifetimes)
 
 -- the pairs that a type implies, given the bounds before it; each path's list is taken before its first push
 unfoldable pub implied : List ℕ → Behind → List Bound → TypeName → List Pair

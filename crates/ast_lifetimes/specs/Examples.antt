@@ -4,9 +4,9 @@ use Prim.Native.Nat.{ℕ}
 use mathlib.Core.Bool.{true}
 use mathlib.Core.Path.{_≡_}
 use mathlib.Core.List.{List, [], _∷_}
-use Rattle.lifetimes.specs.declared.answer.Refusal.the-variants.{Duplicate}
+use Rattle.answers.specs.declared.Refusal.the-variants.{Duplicate}
 use Rattle.lifetimes.specs.declared.env.Bound.{Bound}
-use Rattle.lifetimes.specs.Refusals.{Outcome, Gives, Refuses, over}
+use Rattle.answers.specs.Refusals.{Outcome, Gives, Refuses, over}
 use Rattle.lifetimes.specs.Env.{above}
 use Rattle.ast_lifetimes.specs.declared.env.LifetimeEnv.{LifetimeEnv}
 use Rattle.ast_lifetimes.specs.Env.{boundsOf, envOf, fromMethodItem, listThan}

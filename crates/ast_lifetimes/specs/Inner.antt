@@ -6,11 +6,11 @@ use mathlib.Core.Path.{_≡_}
 use mathlib.Core.Logic.{_↔_}
 use mathlib.Core.List.{List, [], _∷_, _++_, map}
 use lib.ListN.{length, getD, take, drop}
-use Rattle.lifetimes.specs.declared.answer.Verdict.{Verdict}
-use Rattle.lifetimes.specs.declared.answer.Verdict.the-variants.{Accepted}
+use Rattle.answers.specs.declared.Verdict.{Verdict}
+use Rattle.answers.specs.declared.Verdict.the-variants.{Accepted}
 use Rattle.lifetimes.specs.declared.env.Bound.{Bound}
-use Rattle.lifetimes.specs.Ranges.{ascending}
-use Rattle.records.specs.Ends.{judged}
+use Rattle.answers.specs.Lists.{range}
+use Rattle.answers.specs.Lent.{judged}
 use Rattle.lifetimes.specs.Env.{above}
 use Rattle.lifetimes.specs.Sets.{empty, member}
 use Rattle.lifetimes.specs.Outlives.{Outlives}
@@ -24,7 +24,7 @@ use Rattle.ast_lifetimes.specs.Env.{placeChecks, methodBounds}
 
 -- the first n bounds, from their longer and their shorter sides
 abbrev pub sidesOf : ℕ → List ℕ → List ℕ → List Bound
-sidesOf n longs shorts = map (λ i. above (getD longs i 0) (getD shorts i 0)) (ascending 0 n)
+sidesOf n longs shorts = map (λ i. above (getD longs i 0) (getD shorts i 0)) (range 0 n)
 
 -- names declared behind the first `named` of an array: the verdict is that of their checks; accepted, they stand there
 pub record Declares (new before after : List ℕ) (named : ℕ) (r : Verdict) : Type 0 where

@@ -5,8 +5,8 @@ ghost use mathlib.Core.List.{[]};
 ghost use Prim.Native.Nat.{_≤_};
 ghost use lib.ListN.{length, take};
 ghost use lib.Seq.{sets};
-ghost use Rattle.lifetimes.specs.Refusals.{NoneDue, unless};
-ghost use Rattle.lifetimes.specs.Lent.{counted, verdictOf, held, room, left, Fills};
+ghost use Rattle.answers.specs.Refusals.{NoneDue, unless};
+ghost use Rattle.answers.specs.Lent.{counted, verdictOf, held, room, left, Fills};
 ghost use Rattle.lifetimes.specs.Env.{allBelow};
 ghost use mathlib.Core.Bool.{_&&_};
 ghost use Rattle.records.specs.Reading.{shapeVerdict};
@@ -23,11 +23,11 @@ use super::names::declare_all;
 use super::names::names_shape;
 use super::names::position;
 use super::types::types_shape;
+use answers::Listed;
+use answers::Refusal;
+use answers::Verdict;
 use lifetimes::Bound;
 use lifetimes::Lifetime;
-use lifetimes::Listed;
-use lifetimes::Refusal;
-use lifetimes::Verdict;
 
 // The names of a method in order of declaration, the first `named` of the array: a name's number is its place. The
 // bounds in push order, the first `pushed`.

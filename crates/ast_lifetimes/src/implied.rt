@@ -11,11 +11,11 @@ ghost use Rattle.ast_lifetimes.specs.Types.{TypeName};
 ghost use Rattle.ast_lifetimes.specs.Env.{pathPairs, allImplied};
 ghost use Rattle.ast_lifetimes.specs.Inner.{encodeAll, sidesOf, Joins, Below, Reaches, outlivedBy, isImplied};
 ghost use Rattle.ast_lifetimes.specs.Inner.{Extends};
-ghost use Rattle.lifetimes.specs.Lent.{held, left};
+ghost use Rattle.answers.specs.Lent.{held, left};
 use super::bounds::push_pair;
 use super::names::position;
+use answers::Verdict;
 use lifetimes::Lifetime;
-use lifetimes::Verdict;
 use lifetimes::set;
 
 // How far pushing came: the verdict, and how many bounds there are.

@@ -4,14 +4,14 @@ ghost use mathlib.Core.List.{[], _∷_};
 ghost use Prim.Native.Nat.{_≤_};
 ghost use lib.ListN.{length, take, drop};
 ghost use lib.Seq.{slice};
-ghost use Rattle.lifetimes.specs.Lent.{held, left};
+ghost use Rattle.answers.specs.Lent.{held, left};
 ghost use Rattle.records.specs.Reading.{shapeVerdict};
 ghost use Rattle.ast_lifetimes.specs.Shapes.{namesInShape, allNames};
 ghost use Rattle.ast_lifetimes.specs.Env.{place};
 ghost use Rattle.ast_lifetimes.specs.Inner.{Declares};
 use super::env::LifetimeEnv;
-use lifetimes::Refusal;
-use lifetimes::Verdict;
+use answers::Refusal;
+use answers::Verdict;
 use records::End;
 
 // Whether the record `names` is in shape: how many names are the impl's, then all names, each 2 or more. Refused by 1.

@@ -2,13 +2,13 @@
 ghost use mathlib.Core.Path.{_≡_};
 ghost use Prim.Native.Nat.{_≤_};
 ghost use lib.ListN.{length, drop};
-ghost use Rattle.lifetimes.specs.Lent.{held};
+ghost use Rattle.answers.specs.Lent.{held};
 ghost use Rattle.records.specs.Reading.{shapeVerdict};
 ghost use Rattle.records.specs.Ends.{EndsAt};
 ghost use Rattle.ast_lifetimes.specs.Types.{readType, typesInShape};
 use super::env::LifetimeEnv;
-use lifetimes::Refusal;
-use lifetimes::Verdict;
+use answers::Refusal;
+use answers::Verdict;
 use records::End;
 use records::lifetimes_end;
 

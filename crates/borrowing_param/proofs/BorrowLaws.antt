@@ -8,19 +8,19 @@ use native.Mathlib.Omega.{arith}
 use borrow.Author.Tests.{le-ltb, lt-ltb}
 use lib.ListN.{length, getD, take, drop}
 use lib.Seq.{take-append-seam}
-use Rattle.lifetimes.specs.declared.answer.Refusal.{Refusal}
-use Rattle.lifetimes.specs.declared.answer.Refusal.the-variants.{NoRoom}
-use Rattle.lifetimes.specs.declared.answer.Verdict.the-variants as verdict
+use Rattle.answers.specs.declared.Refusal.{Refusal}
+use Rattle.answers.specs.declared.Refusal.the-variants.{NoRoom}
+use Rattle.answers.specs.declared.Verdict.the-variants as verdict
 use Rattle.lifetimes.specs.declared.env.LifetimeEnv.{LifetimeEnv}
-use Rattle.lifetimes.specs.Refusals.{Check, Outcome, Gives, Refuses, unless, FirstDue, here, later, NoneDue, next, end}
-use Rattle.lifetimes.specs.Lent.{Slice, left, room, Fills, Stays, verdictOf, roomCheck}
+use Rattle.answers.specs.Refusals.{Check, Outcome, Gives, Refuses, unless, FirstDue, here, later, NoneDue, next, end}
+use Rattle.answers.specs.Lent.{Slice, left, room, Fills, Stays, verdictOf, roomCheck}
 use Rattle.lifetimes.specs.Env.{boundsOf}
 use Rattle.lifetimes.specs.Sets as sets
-use Rattle.lifetimes.proofs.RefusalLaws.{due-given, due-refused, none-split, first-more, first-behind, refused-first}
-use Rattle.lifetimes.proofs.RefusalLaws.{accepted-none, given-due}
-use Rattle.records.proofs.VerdictLaws.{unless-after}
-use Rattle.hir_types.specs.Method.{typesIn, structsAndParamsChecks, methodChecks}
-use Rattle.hir_types.specs.Used.{usedSet, outputNumbers, mostUsed}
+use Rattle.answers.proofs.RefusalLaws.{due-given, due-refused, none-split, first-more, first-behind, refused-first}
+use Rattle.answers.proofs.RefusalLaws.{accepted-none, given-due}
+use Rattle.answers.proofs.VerdictLaws.{unless-after}
+use Rattle.methods.specs.Method.{typesIn, structsAndParamsChecks, methodChecks}
+use Rattle.methods.specs.Used.{usedSet, outputNumbers, mostUsed}
 use Rattle.sheet.specs.Text.{Records, lists}
 use Rattle.sheet.specs.Reading.{sheetOf}
 use Rattle.sheet.specs.Shape.{sheetChecks}

@@ -11,41 +11,41 @@ use borrow.Author.Tests.{leb-false, ltb-false}
 use lib.ListN.{length, getD, take, drop, set, replicate, length-map, length-set, length-append, length-replicate}
 use lib.ListN.{getD-replicate, List·getD-append}
 use lib.Seq.{ext-getD, getD-set-same, getD-set-other}
-use Rattle.lifetimes.specs.declared.answer.Refusal.{Refusal}
-use Rattle.lifetimes.specs.declared.answer.Refusal.the-variants.{OutOfRange}
-use Rattle.lifetimes.specs.declared.answer.Verdict.the-variants.{Accepted, Refused}
+use Rattle.answers.specs.declared.Refusal.{Refusal}
+use Rattle.answers.specs.declared.Refusal.the-variants.{OutOfRange}
+use Rattle.answers.specs.declared.Verdict.the-variants.{Accepted, Refused}
 use Rattle.lifetimes.specs.declared.maybe_static.MaybeStatic.{MaybeStatic}
 use Rattle.lifetimes.specs.declared.maybe_static.MaybeStatic.the-variants.{NonStatic}
 use Rattle.lifetimes.specs.declared.env.LifetimeEnv.{LifetimeEnv}
 use Rattle.lifetimes.specs.declared.reach.ReachSets.{ReachSets}
 use Rattle.lifetimes.specs.Numbers.{lifetime}
-use Rattle.lifetimes.specs.Ranges.{ascending}
-use Rattle.lifetimes.specs.Refusals.{Check, check, Outcome, Gives, Refuses, unless, FirstDue, NoneDue}
-use Rattle.lifetimes.specs.Lent.{resultOr}
+use Rattle.answers.specs.Lists.{range}
+use Rattle.answers.specs.Refusals.{Check, check, Outcome, Gives, Refuses, unless, FirstDue, NoneDue}
+use Rattle.answers.specs.Lent.{resultOr}
 use Rattle.lifetimes.specs.Sets.{member}
 use Rattle.lifetimes.specs.Env.{boundsOf, envChecks}
 use Rattle.lifetimes.specs.Walk.{reachSet}
 use Rattle.lifetimes.specs.Reach.{allSets, noSets, reachSets}
-use Rattle.lifetimes.proofs.RefusalLaws.{due-given, given-due, refused-due, none-first, none-rest, none-split}
-use Rattle.lifetimes.proofs.RefusalLaws.{none-more}
+use Rattle.answers.proofs.RefusalLaws.{due-given, given-due, refused-due, none-first, none-rest, none-split}
+use Rattle.answers.proofs.RefusalLaws.{none-more}
 use Rattle.lifetimes.proofs.SetLaws.{length-ascending}
-use Rattle.hir_types.specs.declared.used.UsedLifetimes.{UsedLifetimes}
-use Rattle.hir_types.specs.declared.used.UsedLifetimes.the-variants as answer
-use Rattle.hir_types.specs.Method.{outputLifetimes, isPast, anyPast, placeChecks, methodChecks}
-use Rattle.hir_types.specs.Used.{usedSet, usedAnswer}
-use Rattle.hir_types.proofs.Theorems.{used-lifetimes-are}
+use Rattle.methods.specs.declared.used.UsedLifetimes.{UsedLifetimes}
+use Rattle.methods.specs.declared.used.UsedLifetimes.the-variants as answer
+use Rattle.methods.specs.Method.{outputLifetimes, isPast, anyPast, placeChecks, methodChecks}
+use Rattle.methods.specs.Used.{usedSet, usedAnswer}
+use Rattle.methods.proofs.Theorems.{used-lifetimes-are}
 use Rattle.borrowing_param.specs.New.{drawsTo, newVisitor, noVisitor, created}
 use Rattle.borrowing_param.specs.Inner.{keptAt, keptOf}
 
 -- ---- a list made place by place
 
-pub at-place : (f : ℕ → ℕ) (x n i : ℕ) → i < n → getD (map f (ascending x n)) i 0 ≡ f (x + i)
-unfolding ascending
+pub at-place : (f : ℕ → ℕ) (x n i : ℕ) → i < n → getD (map f (range x n)) i 0 ≡ f (x + i)
+unfolding range
 at-place f x zero i h = absurd (omega arith)
 at-place f x (suc n) zero h = ap f (omega arith)
 at-place f x (suc n) (suc i) h = let e : suc x + i ≡ x + suc i = omega arith in at-place f (suc x) n i (omega arith) ∙ ap f e
 
-pub places : (f : ℕ → ℕ) (n : ℕ) → length (map f (ascending 0 n)) ≡ n
+pub places : (f : ℕ → ℕ) (n : ℕ) → length (map f (range 0 n)) ≡ n
 places f n = rw length-map (length-ascending 0 n)
 
 -- ---- the loop of `keep_used`
@@ -146,7 +146,7 @@ all-size env h = let size = places (reachSet true (boundsOf env)) (env .count) i
 pub set-there : (env : LifetimeEnv) (i : ℕ) → i < env .count → getD (allSets true env) i 0 ≡ reachSet true (boundsOf env) i
 unfolding allSets
 set-there env i below =
-    List·getD-append (map (reachSet true (boundsOf env)) (ascending 0 (env .count))) (replicate (64 - env .count) 0) 0 i
+    List·getD-append (map (reachSet true (boundsOf env)) (range 0 (env .count))) (replicate (64 - env .count) 0) 0 i
     (omega (arith, places (reachSet true (boundsOf env)) (env .count)))
     ∙ at-place (reachSet true (boundsOf env)) 0 (env .count) i below
     ∙ ap (reachSet true (boundsOf env)) (zero-add i)
@@ -217,8 +217,8 @@ module _ (env : LifetimeEnv) (structs params output force : List ℕ) {a : UsedL
         let all : r .sets ≡ allSets true env =
         ap (λ (x : ReachSets). x .sets) q
         ∙ rw (due-given (allSets true env) (env-none env structs params output force accepted)) in
-        let same : draws ≡ map (drawsTo used (boundsOf env)) (ascending 0 64) =
-        k ∙ ext-getD 0 (keptOf used (r .sets) (replicate 64 0)) (map (drawsTo used (boundsOf env)) (ascending 0 64))
+        let same : draws ≡ map (drawsTo used (boundsOf env)) (range 0 64) =
+        k ∙ ext-getD 0 (keptOf used (r .sets) (replicate 64 0)) (map (drawsTo used (boundsOf env)) (range 0 64))
         (places (keptAt used (r .sets) (replicate 64 0)) 64 ∙ sym (places (drawsTo used (boundsOf env)) 64))
         (λ i h.
         let l : i < 64 = omega (arith, places (keptAt used (r .sets) (replicate 64 0)) 64) in

@@ -12,23 +12,23 @@ use borrow.Author.Tests.{lt-ltb, lt-leb, not-false}
 use lib.Dec.{ltb}
 use lib.ListN.{length, getD, List·getD-eq-default}
 use Rattle.lifetimes.specs.declared.env.LifetimeEnv.{LifetimeEnv}
-use Rattle.lifetimes.specs.declared.answer.Refusal.the-variants.{Malformed}
-use Rattle.lifetimes.specs.declared.answer.Verdict.the-variants.{Accepted}
-use Rattle.lifetimes.specs.Refusals.{check, Gives, NoneDue, next}
-use Rattle.lifetimes.specs.Ranges.{ascending, select}
+use Rattle.answers.specs.declared.Refusal.the-variants.{Malformed}
+use Rattle.answers.specs.declared.Verdict.the-variants.{Accepted}
+use Rattle.answers.specs.Refusals.{check, Gives, NoneDue, next}
+use Rattle.answers.specs.Lists.{range, filter}
 use Rattle.lifetimes.specs.Sets.{empty, member, members, setOf}
 use Rattle.lifetimes.specs.Env.{boundsOf, envChecks}
 use Rattle.lifetimes.specs.Walk.{LastFirst, reachSet}
-use Rattle.lifetimes.proofs.RefusalLaws.{due-given, none-first, none-more, none-split}
+use Rattle.answers.proofs.RefusalLaws.{due-given, none-first, none-more, none-split}
 use Rattle.lifetimes.proofs.SetLaws.{members-has, ascending-has, select-has}
 use Rattle.lifetimes.proofs.Theorems.{reach-is-outlives, outlives-is-forced}
-use Rattle.lowered_types.specs.declared.types.Kind.{Kind}
-use Rattle.lowered_types.specs.declared.types.Kind.the-variants.{Plain, Opaque, Struct, Slice}
-use Rattle.lowered_types.specs.LoweredTypes.{LoweredType}
-use Rattle.lowered_types.specs.Rows.{rowsOf, structsInShape, paramsInShape}
-use Rattle.lowered_types.proofs.ShapeLaws.{four-in-shape}
-use Rattle.hir_types.specs.Method.{typesIn, typeChecks, rowChecks, paramChecks, structsAndParamsChecks, methodChecks}
-use Rattle.hir_types.specs.Used.{usedSet, outputNumbers}
+use Rattle.types.specs.declared.types.Kind.{Kind}
+use Rattle.types.specs.declared.types.Kind.the-variants.{Plain, Opaque, Struct, Slice}
+use Rattle.types.specs.LoweredTypes.{LoweredType}
+use Rattle.types.specs.Rows.{rowsOf, structsInShape, paramsInShape}
+use Rattle.types.proofs.ShapeLaws.{four-in-shape}
+use Rattle.methods.specs.Method.{typesIn, typeChecks, rowChecks, paramChecks, structsAndParamsChecks, methodChecks}
+use Rattle.methods.specs.Used.{usedSet, outputNumbers}
 use Rattle.borrowing_param.specs.declared.visitor.LifetimeEdge.{LifetimeEdge}
 use Rattle.borrowing_param.specs.declared.visitor.BorrowingParamVisitor.{BorrowingParamVisitor}
 use Rattle.borrowing_param.specs.declared.visitor.Created.{Created}
@@ -75,11 +75,11 @@ module _ (env : LifetimeEnv) (valid : NoneDue (envChecks env)) (few : env .count
       not-member h true e = absurd (out ((members-has used l) .1 (h, e)))
       not-member h false e = refl
 
-      go : Dec (l < 64) → getD (map (drawsTo used (boundsOf env)) (ascending 0 64)) l 0 ≡ empty
+      go : Dec (l < 64) → getD (map (drawsTo used (boundsOf env)) (range 0 64)) l 0 ≡ empty
       go (yes h) = at-place (drawsTo used (boundsOf env)) 0 64 l h ∙ ap (drawsTo used (boundsOf env)) (zero-add l)
           ∙ not-member h (member used l) refl
       go (no h) =
-          List·getD-eq-default (map (drawsTo used (boundsOf env)) (ascending 0 64)) 0 {n = l}
+          List·getD-eq-default (map (drawsTo used (boundsOf env)) (range 0 64)) 0 {n = l}
           (omega (arith, h, places (drawsTo used (boundsOf env)) 64))
 
   -- what one parameter brings and answers
@@ -106,15 +106,15 @@ module _ (env : LifetimeEnv) (valid : NoneDue (envChecks env)) (few : env .count
 
 -- ---- each used lifetime stands once
 
-once-from : (f : ℕ → Bool) (x n : ℕ) → Once (select f (ascending x n))
-unfolding ascending select Once
+once-from : (f : ℕ → Bool) (x n : ℕ) → Once (filter f (range x n))
+unfolding range filter Once
 once-from f x zero = tt
 once-from f x (suc n) = go (f x) (once-from f (suc x) n)
   where
-    go : (t : Bool) → Once (select f (ascending (suc x) n))
-        → Once (cond t (x ∷ select f (ascending (suc x) n)) (select f (ascending (suc x) n)))
+    go : (t : Bool) → Once (filter f (range (suc x) n))
+        → Once (cond t (x ∷ filter f (range (suc x) n)) (filter f (range (suc x) n)))
     go true r = (
-      λ m. let k = (ascending-has (suc x) n x) .0 ((select-has f (ascending (suc x) n) x) .0
+      λ m. let k = (ascending-has (suc x) n x) .0 ((select-has f (range (suc x) n) x) .0
           m .0) in omega (arith, k .0),
       r,
     )

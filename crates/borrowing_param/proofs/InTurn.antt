@@ -11,14 +11,14 @@ use borrow.Author.Tests.{le-leb, leb-true, leb-false}
 use lib.Dec.{leb}
 use lib.ListN.{length, getD, take}
 use lib.Seq.{take-length}
-use Rattle.lifetimes.specs.declared.answer.Refusal.the-variants.{NoRoom}
+use Rattle.answers.specs.declared.Refusal.the-variants.{NoRoom}
 use Rattle.lifetimes.specs.declared.env.LifetimeEnv.{LifetimeEnv}
-use Rattle.lifetimes.specs.Refusals.{NoneDue}
-use Rattle.lifetimes.specs.Ranges.{ascending}
+use Rattle.answers.specs.Refusals.{NoneDue}
+use Rattle.answers.specs.Lists.{range}
 use Rattle.lifetimes.specs.Sets.{member}
 use Rattle.lifetimes.proofs.SetLaws.{length-ascending, getD-ascending, ascending-has, members-has}
-use Rattle.lowered_types.specs.LoweredTypes.{LoweredType}
-use Rattle.hir_types.specs.Method.{typesIn, methodChecks}
+use Rattle.types.specs.LoweredTypes.{LoweredType}
+use Rattle.methods.specs.Method.{typesIn, methodChecks}
 use Rattle.borrowing_param.specs.declared.visitor.ParamBorrowInfo.{ParamBorrowInfo}
 use Rattle.borrowing_param.specs.declared.visitor.BorrowingParamVisitor.{BorrowingParamVisitor}
 use Rattle.borrowing_param.specs.Edges.{width, edgesIn, edgesOf}
@@ -86,15 +86,15 @@ module _ (v : BorrowingParamVisitor) (all : List LoweredType) where
   same-rest k t ts s i h = let e : suc k + i ≡ k + suc i = omega arith in ap (typeAt all) e ∙ s (suc i) (omega arith)
 
   turn-brings : (used k : ℕ) (ts : List LoweredType) → Same k ts
-      → flatMap (λ p. bringTo v (typeAt all p) p used) (ascending k (length ts)) ≡ listedTo v k ts used
-  unfolding ascending flatMap listedTo
+      → flatMap (λ p. bringTo v (typeAt all p) p used) (range k (length ts)) ≡ listedTo v k ts used
+  unfolding range flatMap listedTo
   turn-brings used k [] s = refl
   turn-brings used k (t ∷ ts) s = rw (same-first k t ts s, turn-brings used (suc k) ts (same-rest k t ts s))
 
   turn-sums : (k : ℕ) (ts : List LoweredType) → Same k ts
-      → sums (λ p. length (bringAll v (typeAt all p) p)) (ascending k (length ts))
+      → sums (λ p. length (bringAll v (typeAt all p) p)) (range k (length ts))
       ≡ length (flatMap (listedTo v k ts) (usedOf v))
-  unfolding ascending sums
+  unfolding range sums
   turn-sums k [] s = ap length (sym (listed-none v k (usedOf v)))
   turn-sums k (t ∷ ts) s = rw (same-first k t ts s, turn-sums (suc k) ts (same-rest k t ts s)) (sym (listed-more v k t ts))
 

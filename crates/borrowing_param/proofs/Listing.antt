@@ -12,29 +12,29 @@ use borrow.Author.Tests.{lt-ltb, le-ltb, leb-false, not-false}
 use lib.Dec.{ltb}
 use lib.ListN.{length, getD, take, drop, set, length-append, length-set, length-drop, drop-of-length-le}
 use lib.Seq.{sets, length-sets, take-at}
-use Rattle.lifetimes.specs.declared.answer.Refusal.{Refusal}
-use Rattle.lifetimes.specs.declared.answer.Refusal.the-variants.{NoRoom}
-use Rattle.lifetimes.specs.declared.answer.Verdict.{Verdict}
-use Rattle.lifetimes.specs.declared.answer.Verdict.the-variants.{Accepted, Refused}
-use Rattle.lifetimes.specs.Refusals.{Check, Outcome, Gives, Refuses, unless, FirstDue, here, later, NoneDue, end, next}
-use Rattle.lifetimes.specs.Lent.{Slice, held, left, room, Fills, Stays}
+use Rattle.answers.specs.declared.Refusal.{Refusal}
+use Rattle.answers.specs.declared.Refusal.the-variants.{NoRoom}
+use Rattle.answers.specs.declared.Verdict.{Verdict}
+use Rattle.answers.specs.declared.Verdict.the-variants.{Accepted, Refused}
+use Rattle.answers.specs.Refusals.{Check, Outcome, Gives, Refuses, unless, FirstDue, here, later, NoneDue, end, next}
+use Rattle.answers.specs.Lent.{Slice, held, left, room, Fills, Stays}
 use Rattle.lifetimes.specs.Sets.{member, members}
-use Rattle.lifetimes.proofs.RefusalLaws.{due-given, due-refused, refused-first, accepted-none, first-more, none-first}
-use Rattle.lifetimes.proofs.RefusalLaws.{none-rest, none-split}
+use Rattle.answers.proofs.RefusalLaws.{due-given, due-refused, refused-first, accepted-none, first-more, none-first}
+use Rattle.answers.proofs.RefusalLaws.{none-rest, none-split}
 use Rattle.lifetimes.proofs.SetLaws.{members-few}
-use Rattle.lifetimes.proofs.Copying.{sets-front}
+use Rattle.answers.proofs.Copying.{sets-front}
 use Rattle.records.specs.Copied.{copied}
 use Rattle.records.proofs.CopyLaws.{copied-stores}
 use Rattle.records.specs.Reading.{Read, Fails, readAll, readOr, fewWords, inShape, itemsOf}
 use Rattle.records.proofs.ReadingLaws.{Holds, read, fails, holds-onward, holds-or, fails-read}
-use Rattle.lowered_types.specs.declared.types.Parts.{Parts}
-use Rattle.lowered_types.specs.declared.types.Located.{Located}
-use Rattle.lowered_types.specs.declared.types.Located.the-variants.{At, Missing}
-use Rattle.lowered_types.specs.LoweredTypes.{LoweredType, readLowered, located}
-use Rattle.lowered_types.specs.Rows.{Row, rowsOf, readKnown, typesOf, structsInShape, paramsInShape}
-use Rattle.lowered_types.proofs.LocatedLaws.{type-located}
-use Rattle.lowered_types.proofs.FoundLaws.{found-told, missing-told, path-inside}
-use Rattle.hir_types.specs.Method.{typesIn, rowChecks, paramChecks, structsAndParamsChecks, structsAndParamsVerdict}
+use Rattle.types.specs.declared.types.Parts.{Parts}
+use Rattle.types.specs.declared.types.Located.{Located}
+use Rattle.types.specs.declared.types.Located.the-variants.{At, Missing}
+use Rattle.types.specs.LoweredTypes.{LoweredType, readLowered, located}
+use Rattle.types.specs.Rows.{Row, rowsOf, readKnown, typesOf, structsInShape, paramsInShape}
+use Rattle.types.proofs.LocatedLaws.{type-located}
+use Rattle.types.proofs.FoundLaws.{found-told, missing-told, path-inside}
+use Rattle.methods.specs.Method.{typesIn, rowChecks, paramChecks, structsAndParamsChecks, structsAndParamsVerdict}
 use Rattle.borrowing_param.specs.declared.listed.BorrowMap.{BorrowMap}
 use Rattle.borrowing_param.specs.declared.listed.Counted.{Counted}
 use Rattle.borrowing_param.specs.declared.visitor.LifetimeEdge.{LifetimeEdge}

@@ -7,17 +7,17 @@ use mathlib.Core.List.{List, [], _∷_, _++_}
 use native.Mathlib.Omega.{arith}
 use borrow.Author.Tests.{le-ltb, not-false}
 use lib.ListN.{length, take, drop}
-use Rattle.lifetimes.specs.declared.answer.Refusal.{Refusal}
-use Rattle.lifetimes.specs.declared.answer.Refusal.the-variants.{OutOfRange}
-use Rattle.lifetimes.specs.declared.answer.Verdict.{Verdict}
-use Rattle.lifetimes.specs.declared.answer.Verdict.the-variants as verdict
+use Rattle.answers.specs.declared.Refusal.{Refusal}
+use Rattle.answers.specs.declared.Refusal.the-variants.{OutOfRange}
+use Rattle.answers.specs.declared.Verdict.{Verdict}
+use Rattle.answers.specs.declared.Verdict.the-variants as verdict
 use Rattle.lifetimes.specs.declared.env.LifetimeEnv.{LifetimeEnv}
 use Rattle.lifetimes.specs.declared.env.Made.{Made}
-use Rattle.lifetimes.specs.Refusals.{Check, check, Outcome, Gives, Refuses, FirstDue, here, later, NoneDue, next, end}
-use Rattle.lifetimes.specs.Lent.{verdictOf, resultOr}
+use Rattle.answers.specs.Refusals.{Check, check, Outcome, Gives, Refuses, FirstDue, here, later, NoneDue, next, end}
+use Rattle.answers.specs.Lent.{verdictOf, resultOr}
 use Rattle.lifetimes.specs.Env.{envChecks, envOf, made}
-use Rattle.lifetimes.proofs.RefusalLaws.{due-given, due-refused, none-first, none-rest, none-split, none-more}
-use Rattle.lifetimes.proofs.RefusalLaws.{first-more, first-after, first-behind, refused-first, accepted-none}
+use Rattle.answers.proofs.RefusalLaws.{due-given, due-refused, none-first, none-rest, none-split, none-more}
+use Rattle.answers.proofs.RefusalLaws.{first-more, first-after, first-behind, refused-first, accepted-none}
 use Rattle.ast_lifetimes.specs.declared.env.LifetimeEnv as ast-env
 use Rattle.ast_lifetimes.specs.declared.env.Made as ast-made
 use Rattle.ast_lifetimes.specs.Shapes.{namesInShape, boundsInShape}
@@ -29,8 +29,8 @@ use Rattle.elision.specs.Steps.{receiverOf, stepsOf}
 use Rattle.elision.specs.Rfc as rfc
 use Rattle.elision.specs.Lowering.{inShapeAll, recordsOf, measureChecks, measureRecords, answered}
 use Rattle.elision.proofs.Theorems.{rfc141-says}
-use Rattle.lowered_types.specs.Rows.{methodInShape, shapeChecks}
-use Rattle.hir_types.specs.Method.{placeChecks, outputLifetimes, anyPast, methodChecks, methodVerdict}
+use Rattle.types.specs.Rows.{methodInShape, shapeChecks}
+use Rattle.methods.specs.Method.{placeChecks, outputLifetimes, anyPast, methodChecks, methodVerdict}
 use Rattle.sheet.specs.Text.{Records}
 use Rattle.sheet.specs.Shape.{sheetInShape, recordsChecks}
 use Rattle.sheet.proofs.ShapeCases.{sheet-parts}

@@ -8,26 +8,26 @@ use native.Mathlib.Omega.{arith}
 use borrow.Author.Tests.{le-ltb, lt-ltb}
 use lib.ListN.{length, getD, take, drop, length-append}
 use lib.Seq.{sets, take-append-seam}
-use Rattle.lifetimes.specs.declared.answer.Refusal.{Refusal}
-use Rattle.lifetimes.specs.declared.answer.Refusal.the-variants.{NoRoom}
-use Rattle.lifetimes.specs.declared.answer.Verdict.the-variants as verdict
-use Rattle.lifetimes.specs.declared.answer.Listed.{Listed}
-use Rattle.lifetimes.specs.declared.answer.Listed.the-variants.{Count, Refused}
+use Rattle.answers.specs.declared.Refusal.{Refusal}
+use Rattle.answers.specs.declared.Refusal.the-variants.{NoRoom}
+use Rattle.answers.specs.declared.Verdict.the-variants as verdict
+use Rattle.answers.specs.declared.Listed.{Listed}
+use Rattle.answers.specs.declared.Listed.the-variants.{Count, Refused}
 use Rattle.lifetimes.specs.declared.env.Made.{Made}
-use Rattle.lifetimes.specs.Refusals.{Check, Outcome, Gives, Refuses, unless, FirstDue, here, later, NoneDue}
-use Rattle.lifetimes.specs.Refusals.{next, end}
-use Rattle.lifetimes.specs.Lent.{counted, verdictOf, resultOr, roomCheck, written}
+use Rattle.answers.specs.Refusals.{Check, Outcome, Gives, Refuses, unless, FirstDue, here, later, NoneDue}
+use Rattle.answers.specs.Refusals.{next, end}
+use Rattle.answers.specs.Lent.{counted, verdictOf, resultOr, roomCheck, written}
 use Rattle.lifetimes.specs.Env.{envOf, made}
-use Rattle.lifetimes.proofs.Copying.{sets-front}
-use Rattle.lifetimes.proofs.RefusalLaws.{due-given, due-refused, none-split, none-more, first-more}
-use Rattle.lifetimes.proofs.RefusalLaws.{first-after, refused-first, accepted-none}
+use Rattle.answers.proofs.Copying.{sets-front}
+use Rattle.answers.proofs.RefusalLaws.{due-given, due-refused, none-split, none-more, first-more}
+use Rattle.answers.proofs.RefusalLaws.{first-after, refused-first, accepted-none}
 use Rattle.records.specs.Copied.{copied}
 use Rattle.records.proofs.CopyLaws.{copied-stores, copied-all, copied-none}
-use Rattle.records.proofs.VerdictLaws.{refused-accepted}
+use Rattle.answers.proofs.VerdictLaws.{refused-accepted}
 use Rattle.sheet.specs.declared.text.Text.{Text}
 use Rattle.sheet.specs.Text.{Records, lists, wordsOf}
 use Rattle.sheet.specs.Reading.{sheetOf, textChecks}
-use Rattle.lifetimes.specs.Reach.{endsFrom}
+use Rattle.answers.specs.Lists.{endsFrom}
 use Rattle.sheet.specs.Answer.{recordWords}
 use Rattle.sheet.specs.Shape as shape
 use Rattle.sheet.specs.Shape.{sheetAnswer, sheetEnds, callChecks}

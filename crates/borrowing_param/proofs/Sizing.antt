@@ -5,11 +5,11 @@ use mathlib.Core.List.{List}
 use native.Mathlib.Omega.{arith}
 use lib.ListN.{length}
 use Rattle.lifetimes.specs.declared.env.LifetimeEnv.{LifetimeEnv}
-use Rattle.lifetimes.specs.Refusals.{NoneDue}
+use Rattle.answers.specs.Refusals.{NoneDue}
 use Rattle.lifetimes.specs.Sets.{count}
-use Rattle.hir_types.specs.Method.{typesIn, methodChecks}
-use Rattle.hir_types.specs.Used.{mostUsed}
-use Rattle.hir_types.proofs.Theorems.{used-lifetimes-are}
+use Rattle.methods.specs.Method.{typesIn, methodChecks}
+use Rattle.methods.specs.Used.{mostUsed}
+use Rattle.methods.proofs.Theorems.{used-lifetimes-are}
 use Rattle.borrowing_param.specs.declared.visitor.BorrowingParamVisitor.{BorrowingParamVisitor}
 use Rattle.borrowing_param.specs.Visit.{usedOf}
 use Rattle.borrowing_param.specs.New.{created}

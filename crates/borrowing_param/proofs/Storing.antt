@@ -14,10 +14,10 @@ use lib.ListN.{length, getD, set, length-append, length-set}
 use lib.Seq.{sets, length-sets}
 use Rattle.lifetimes.specs.declared.maybe_static.MaybeStatic.{MaybeStatic}
 use Rattle.lifetimes.specs.LoweredWords.{fromWord}
-use Rattle.lifetimes.specs.Ranges.{ascending, select}
+use Rattle.answers.specs.Lists.{range, filter}
 use Rattle.lifetimes.specs.Sets.{member, insert, members}
-use Rattle.lowered_types.specs.declared.types.Kind.the-variants.{Plain, Opaque, Struct, Slice}
-use Rattle.lowered_types.specs.LoweredTypes.{LoweredType, lifetimesOf}
+use Rattle.types.specs.declared.types.Kind.the-variants.{Plain, Opaque, Struct, Slice}
+use Rattle.types.specs.LoweredTypes.{LoweredType, lifetimesOf}
 use Rattle.borrowing_param.specs.declared.visitor.LifetimeEdge.{LifetimeEdge}
 use Rattle.borrowing_param.specs.Edges.{edge, width, edgeWords}
 use Rattle.borrowing_param.specs.Brings.{drawn, anyDrawn, oneEdge, structEdges, bring, note, notes}
@@ -229,7 +229,7 @@ module _ (draws : ℕ → Bool) (used param : ℕ) (t : LoweredType) {at : ℕ} 
 
 -- the used lifetimes from a number on
 abbrev pub usedFrom : ℕ → ℕ → List ℕ
-usedFrom used l = select (member used) (ascending l (64 - l))
+usedFrom used l = filter (member used) (range l (64 - l))
 
 module _ (used : ℕ) where
   pub used-all : members used ≡ usedFrom used 0
@@ -240,8 +240,8 @@ module _ (used : ℕ) where
   unfolding member
   none-past x h = rw (div-eq-of-lt h)
 
-  select-past : (x n : ℕ) → used < 2 ^ x → select (member used) (ascending x n) ≡ []
-  unfolding ascending select
+  select-past : (x n : ℕ) → used < 2 ^ x → filter (member used) (range x n) ≡ []
+  unfolding range filter
   select-past x zero h = refl
   select-past x (suc n) h = rw (none-past x h) (select-past (suc x) n (omega (arith, pow-suc 2 x)))
 
@@ -249,16 +249,16 @@ module _ (used : ℕ) where
   used-end {limit} b l h = select-past l (64 - l) (omega (arith, b .1, pow-le-pow-right {n = 2} (omega arith) h))
 
   module _ (l : ℕ) (h : l < 64) where
-    row : ascending l (64 - l) ≡ l ∷ ascending (l + 1) (64 - (l + 1))
-    unfolding ascending
+    row : range l (64 - l) ≡ l ∷ range (l + 1) (64 - (l + 1))
+    unfolding range
     row = let e : 64 - l ≡ suc (64 - (l + 1)) = omega arith in rw (e, add-one l)
 
     pub used-here : true ≡ member used l → usedFrom used l ≡ l ∷ usedFrom used (l + 1)
-    unfolding select
+    unfolding filter
     used-here q = rw (row, ← q)
 
     pub used-not : false ≡ member used l → usedFrom used l ≡ usedFrom used (l + 1)
-    unfolding select
+    unfolding filter
     used-not q = rw (row, ← q)
 
 pub below-64 : {used limit l : ℕ} → Below used limit → l < limit → l < 64

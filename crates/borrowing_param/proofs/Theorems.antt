@@ -1,8 +1,8 @@
 -- The main theorems, proved: for each statement of specs/Theorems.antt a term of exactly its type.
 use mathlib.Core.Path.{refl}
 use mathlib.Core.List.{flatMap, flatten}
-use Rattle.lifetimes.specs.Ranges as ranges
-use Rattle.lifetimes.specs.Refusals as refusals
+use Rattle.answers.specs.Lists as lists
+use Rattle.answers.specs.Refusals as refusals
 use Rattle.lifetimes.specs.Sets as sets
 use Rattle.lifetimes.specs.Env as env
 use Rattle.lifetimes.specs.Walk as walk
@@ -12,10 +12,10 @@ use Rattle.ast_lifetimes.specs.Types as ast-types
 use Rattle.ast_lifetimes.specs.Env as ast
 use Rattle.elision.specs.Steps as steps
 use Rattle.elision.specs.Rfc as rfc
-use Rattle.lowered_types.specs.LoweredTypes as types
-use Rattle.lowered_types.specs.Rows as rows
-use Rattle.hir_types.specs.Method as method
-use Rattle.hir_types.specs.Used as used
+use Rattle.types.specs.LoweredTypes as types
+use Rattle.types.specs.Rows as rows
+use Rattle.methods.specs.Method as method
+use Rattle.methods.specs.Used as used
 use Rattle.sheet.specs.Text as text
 use Rattle.sheet.specs.Reading as read
 use Rattle.sheet.specs.Shape as shape
@@ -59,7 +59,7 @@ unfolding new.created new.newVisitor map.listedTo map.listedEdges map.answersFro
     used.numbersOf method.typeChecks method.rowChecks method.paramChecks method.anyPast
     rows.readKnown rows.readTypes rows.readRow rows.methodInShape types.readOpaque types.readStruct types.readSlice
     types.readBare types.readLowered reading.readAll reading.inShape reading.itemsOf refusals.unless env.envOf
-    env.allBelow ranges.ascending ranges.select walk.reachSet walk.traversal walk.walk walk.walkFor walk.unpushed
+    env.allBelow lists.range lists.filter walk.reachSet walk.traversal walk.walk walk.walkFor walk.unpushed
     walk.neighbours sets.member sets.insert sets.insertAll sets.members flatMap
     sheets.lowerSheet sheets.sheetRefusals sheets.loweringChecks shape.sheetChecks read.textChecks read.sheetOf read.sheetIn
     read.linesBehind read.ten read.readLines read.behind read.allShort flatten text.text text.line text.following

@@ -13,29 +13,29 @@ use mir.Val.{boolByte}
 use borrow.Author.Tests.{lt-leb, leb-true, leb-false, not-false, eq-eqb, ne-eqb}
 use lib.Dec.{eqb, leb}
 use lib.ListN.{length, drop}
-use Rattle.lifetimes.specs.declared.answer.Refusal.{Refusal}
-use Rattle.lifetimes.specs.declared.answer.Refusal.the-variants.{Malformed, NoRoom}
-use Rattle.lifetimes.specs.declared.answer.Verdict.{Verdict}
-use Rattle.lifetimes.specs.declared.answer.Verdict.the-variants.{Accepted, Refused}
+use Rattle.answers.specs.declared.Refusal.{Refusal}
+use Rattle.answers.specs.declared.Refusal.the-variants.{Malformed, NoRoom}
+use Rattle.answers.specs.declared.Verdict.{Verdict}
+use Rattle.answers.specs.declared.Verdict.the-variants.{Accepted, Refused}
 use Rattle.lifetimes.specs.declared.env.Made.{Made}
-use Rattle.lifetimes.specs.Lent.{resultOr}
+use Rattle.answers.specs.Lent.{resultOr}
 use Rattle.lifetimes.specs.Env.{envOf, pairsOf, newEnv, made}
-use Rattle.lifetimes.specs.Refusals as refusals
-use Rattle.lifetimes.specs.Refusals.{check, unless, FirstDue, here, later, NoneDue, next}
-use Rattle.lifetimes.proofs.RefusalLaws.{due-given, due-refused, refused-first, accepted-none, none-first}
+use Rattle.answers.specs.Refusals as refusals
+use Rattle.answers.specs.Refusals.{check, unless, FirstDue, here, later, NoneDue, next}
+use Rattle.answers.proofs.RefusalLaws.{due-given, due-refused, refused-first, accepted-none, none-first}
 use Rattle.records.specs.Reading.{Reading, Read, Fails, onward, readAll, fewWords, inShape, itemsOf}
 use Rattle.records.proofs.ReadingLaws.{Holds, read, fails, holds-read, holds-cond, holds-onward, holds-or, fails-read}
-use Rattle.lowered_types.specs.declared.types.Kind.{Kind}
-use Rattle.lowered_types.specs.declared.types.Kind.the-variants.{Plain, Opaque, Struct, Slice}
-use Rattle.lowered_types.specs.declared.types.Parts.{Parts}
-use Rattle.lowered_types.specs.declared.types.Located.{Located}
-use Rattle.lowered_types.specs.declared.types.Located.the-variants.{At, Missing}
-use Rattle.lowered_types.specs.LoweredTypes.{LoweredType, readLowered, knows, located}
-use Rattle.lowered_types.specs.Rows.{rowsOf, readKnown, typesOf, paramsInShape, structsInShape}
-use Rattle.lowered_types.specs.Places.{Stands, nowhere, codeOf, codeIn, Coded}
-use Rattle.lowered_types.proofs.LocatedLaws.{type-few, type-located, type-coded}
-use Rattle.lowered_types.proofs.FoundLaws.{found-told, missing-told, code-told, path-inside}
-use Rattle.hir_types.specs.Method.{typesIn, structsAndParamsChecks, structsAndParamsVerdict}
+use Rattle.types.specs.declared.types.Kind.{Kind}
+use Rattle.types.specs.declared.types.Kind.the-variants.{Plain, Opaque, Struct, Slice}
+use Rattle.types.specs.declared.types.Parts.{Parts}
+use Rattle.types.specs.declared.types.Located.{Located}
+use Rattle.types.specs.declared.types.Located.the-variants.{At, Missing}
+use Rattle.types.specs.LoweredTypes.{LoweredType, readLowered, knows, located}
+use Rattle.types.specs.Rows.{rowsOf, readKnown, typesOf, paramsInShape, structsInShape}
+use Rattle.types.specs.Places.{Stands, nowhere, codeOf, codeIn, Coded}
+use Rattle.types.proofs.LocatedLaws.{type-few, type-located, type-coded}
+use Rattle.types.proofs.FoundLaws.{found-told, missing-told, code-told, path-inside}
+use Rattle.methods.specs.Method.{typesIn, structsAndParamsChecks, structsAndParamsVerdict}
 use Rattle.borrowing_param.specs.declared.visitor.LifetimeEdge.{LifetimeEdge}
 use Rattle.borrowing_param.specs.declared.visitor.BorrowingParamVisitor.{BorrowingParamVisitor}
 use Rattle.borrowing_param.specs.declared.visitor.ParamBorrowInfo.{ParamBorrowInfo}

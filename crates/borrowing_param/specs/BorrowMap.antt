@@ -4,11 +4,11 @@ use Prim.Native.Nat.{ℕ, suc}
 use mathlib.Core.Path.{_≡_}
 use mathlib.Core.List.{List, [], _∷_, _++_, flatMap}
 use lib.ListN.{length}
-use Rattle.lifetimes.specs.declared.answer.Verdict.the-variants as verdict
-use Rattle.lifetimes.specs.Refusals.{Check, Outcome, Gives, Refuses, unless, over}
-use Rattle.lifetimes.specs.Lent.{Slice, Fills, roomCheck}
-use Rattle.lowered_types.specs.LoweredTypes.{LoweredType}
-use Rattle.hir_types.specs.Method.{typesIn, structsAndParamsChecks}
+use Rattle.answers.specs.declared.Verdict.the-variants as verdict
+use Rattle.answers.specs.Refusals.{Check, Outcome, Gives, Refuses, unless, over}
+use Rattle.answers.specs.Lent.{Slice, Fills, roomCheck}
+use Rattle.types.specs.LoweredTypes.{LoweredType}
+use Rattle.methods.specs.Method.{typesIn, structsAndParamsChecks}
 use Rattle.borrowing_param.specs.declared.listed.BorrowMap.{BorrowMap}
 use Rattle.borrowing_param.specs.declared.visitor.LifetimeEdge.{LifetimeEdge}
 use Rattle.borrowing_param.specs.declared.visitor.BorrowingParamVisitor.{BorrowingParamVisitor}

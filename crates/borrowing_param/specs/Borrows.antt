@@ -3,12 +3,12 @@ use Prim.Native.Nat.{ℕ, _*_}
 use mathlib.Core.Path.{_≡_}
 use mathlib.Core.List.{List, [], _∷_, _++_, flatMap}
 use lib.ListN.{length}
-use Rattle.lifetimes.specs.declared.answer.Verdict.the-variants as verdict
+use Rattle.answers.specs.declared.Verdict.the-variants as verdict
 use Rattle.lifetimes.specs.declared.env.LifetimeEnv.{LifetimeEnv}
-use Rattle.lifetimes.specs.Refusals.{Check, Outcome, Gives, Refuses, unless, over}
-use Rattle.lifetimes.specs.Lent.{Slice, Fills, roomCheck}
-use Rattle.hir_types.specs.Method.{typesIn, methodChecks}
-use Rattle.hir_types.specs.Used.{mostUsed}
+use Rattle.answers.specs.Refusals.{Check, Outcome, Gives, Refuses, unless, over}
+use Rattle.answers.specs.Lent.{Slice, Fills, roomCheck}
+use Rattle.methods.specs.Method.{typesIn, methodChecks}
+use Rattle.methods.specs.Used.{mostUsed}
 use Rattle.sheet.specs.Text.{Records}
 use Rattle.sheet.specs.Reading.{sheetOf}
 use Rattle.borrowing_param.specs.declared.borrows.Borrows as answer

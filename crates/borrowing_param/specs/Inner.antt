@@ -9,15 +9,15 @@ use lib.ListN.{length, getD, take, drop}
 use lib.Seq.{sets}
 use Rattle.lifetimes.specs.declared.maybe_static.MaybeStatic.{MaybeStatic}
 use Rattle.lifetimes.specs.LoweredWords.{fromWord}
-use Rattle.lifetimes.specs.Ranges.{ascending}
+use Rattle.answers.specs.Lists.{range}
 use Rattle.lifetimes.specs.Sets.{member, members}
 use Rattle.records.specs.Reading.{Reading, onward}
-use Rattle.lowered_types.specs.declared.types.Kind.{Kind}
-use Rattle.lowered_types.specs.declared.types.Kind.the-variants.{Plain, Opaque, Struct, Slice}
-use Rattle.lowered_types.specs.declared.types.Parts.{Parts}
-use Rattle.lowered_types.specs.declared.types.Located.{Located}
-use Rattle.lowered_types.specs.LoweredTypes.{LoweredType, ownLifetimes, readLowered}
-use Rattle.lowered_types.specs.Places.{Locates, CodedAt}
+use Rattle.types.specs.declared.types.Kind.{Kind}
+use Rattle.types.specs.declared.types.Kind.the-variants.{Plain, Opaque, Struct, Slice}
+use Rattle.types.specs.declared.types.Parts.{Parts}
+use Rattle.types.specs.declared.types.Located.{Located}
+use Rattle.types.specs.LoweredTypes.{LoweredType, ownLifetimes, readLowered}
+use Rattle.types.specs.Places.{Locates, CodedAt}
 use Rattle.borrowing_param.specs.declared.edges.First.{First}
 use Rattle.borrowing_param.specs.declared.edges.First.the-variants.{At, Absent}
 use Rattle.borrowing_param.specs.declared.visitor.LifetimeEdge.{LifetimeEdge}
@@ -103,4 +103,4 @@ abbrev pub keptAt : ℕ → List ℕ → List ℕ → ℕ → ℕ
 keptAt used sets draws i = cond (member used i) (getD sets i 0) (getD draws i 0)
 
 abbrev pub keptOf : ℕ → List ℕ → List ℕ → List ℕ
-keptOf used sets draws = map (keptAt used sets draws) (ascending 0 64)
+keptOf used sets draws = map (keptAt used sets draws) (range 0 64)

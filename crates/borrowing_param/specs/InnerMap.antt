@@ -6,10 +6,10 @@ use mathlib.Core.Path.{_≡_}
 use mathlib.Core.List.{List, [], _∷_, _++_, flatMap}
 use lib.ListN.{length}
 use lib.Seq.{sets}
-use Rattle.lifetimes.specs.Refusals.{Check, Outcome, unless}
-use Rattle.lifetimes.specs.Lent.{roomCheck}
+use Rattle.answers.specs.Refusals.{Check, Outcome, unless}
+use Rattle.answers.specs.Lent.{roomCheck}
 use Rattle.records.specs.Reading.{Read, itemsOf}
-use Rattle.lowered_types.specs.LoweredTypes.{LoweredType, readLowered}
+use Rattle.types.specs.LoweredTypes.{LoweredType, readLowered}
 use Rattle.borrowing_param.specs.declared.listed.Counted.{Counted}
 use Rattle.borrowing_param.specs.declared.visitor.LifetimeEdge.{LifetimeEdge}
 use Rattle.borrowing_param.specs.declared.visitor.BorrowingParamVisitor.{BorrowingParamVisitor}

@@ -3,10 +3,10 @@
 use Prim.Native.Nat.{ℕ}
 use mathlib.Core.Path.{_≡_}
 use mathlib.Core.List.{List, _++_}
-use Rattle.lifetimes.specs.declared.answer.Verdict.the-variants as verdict
+use Rattle.answers.specs.declared.Verdict.the-variants as verdict
 use Rattle.lifetimes.specs.declared.env.LifetimeEnv.{LifetimeEnv}
-use Rattle.lifetimes.specs.Refusals.{Outcome, unless, NoneDue}
-use Rattle.hir_types.specs.Method.{structsAndParamsChecks}
+use Rattle.answers.specs.Refusals.{Outcome, unless, NoneDue}
+use Rattle.methods.specs.Method.{structsAndParamsChecks}
 use Rattle.sheet.specs.Text.{Records, wordsOf}
 use Rattle.sheet.specs.Reading.{sheetOf}
 use Rattle.borrowing_param.specs.declared.method.SheetMethod.{SheetMethod}

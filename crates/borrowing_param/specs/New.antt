@@ -3,15 +3,15 @@ use Prim.Native.Nat.{ℕ}
 use mathlib.Core.Bool.{true, cond}
 use mathlib.Core.List.{List, map}
 use lib.ListN.{replicate}
-use Rattle.lifetimes.specs.declared.answer.Verdict.the-variants as verdict
+use Rattle.answers.specs.declared.Verdict.the-variants as verdict
 use Rattle.lifetimes.specs.declared.env.Bound.{Bound}
 use Rattle.lifetimes.specs.declared.env.LifetimeEnv.{LifetimeEnv}
-use Rattle.lifetimes.specs.Ranges.{ascending}
-use Rattle.lifetimes.specs.Refusals.{Outcome, Gives, Refuses}
+use Rattle.answers.specs.Lists.{range}
+use Rattle.answers.specs.Refusals.{Outcome, Gives, Refuses}
 use Rattle.lifetimes.specs.Sets.{empty, member}
 use Rattle.lifetimes.specs.Env.{boundsOf}
 use Rattle.lifetimes.specs.Walk.{reachSet}
-use Rattle.hir_types.specs.Used.{usedSet}
+use Rattle.methods.specs.Used.{usedSet}
 use Rattle.borrowing_param.specs.declared.visitor.BorrowingParamVisitor.{BorrowingParamVisitor}
 use Rattle.borrowing_param.specs.declared.visitor.Created.{Created}
 
@@ -21,7 +21,7 @@ abbrev pub drawsTo : ℕ → List Bound → ℕ → ℕ
 drawsTo used bs lifetime = cond (member used lifetime) (reachSet true bs lifetime) empty
 
 unfoldable pub newVisitor : ℕ → List Bound → BorrowingParamVisitor
-newVisitor used bs = record { used = used; draws = map (drawsTo used bs) (ascending 0 64); stored = 0 }
+newVisitor used bs = record { used = used; draws = map (drawsTo used bs) (range 0 64); stored = 0 }
 
 -- the visitor that stands beside a refusal: nothing is used
 abbrev pub noVisitor : BorrowingParamVisitor

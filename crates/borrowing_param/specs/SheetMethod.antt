@@ -3,20 +3,20 @@
 use Prim.Native.Nat.{ℕ}
 use mathlib.Core.List.{List, [], _∷_, _++_}
 use lib.ListN.{replicate}
-use Rattle.lifetimes.specs.declared.answer.Refusal.the-variants.{OutOfRange}
-use Rattle.lifetimes.specs.declared.answer.Verdict.the-variants as verdict
+use Rattle.answers.specs.declared.Refusal.the-variants.{OutOfRange}
+use Rattle.answers.specs.declared.Verdict.the-variants as verdict
 use Rattle.lifetimes.specs.declared.env.LifetimeEnv.{LifetimeEnv}
-use Rattle.lifetimes.specs.Refusals.{Check, check, Outcome, Gives, Refuses, unless, over}
+use Rattle.answers.specs.Refusals.{Check, check, Outcome, Gives, Refuses, unless, over}
 use Rattle.lifetimes.specs.Env.{envOf}
 use Rattle.ast_lifetimes.specs.declared.env.LifetimeEnv as ast-env
 use Rattle.ast_lifetimes.specs.Env as ast
 use Rattle.elision.specs.Steps.{receiverOf, stepsOf}
 use Rattle.elision.specs.Rfc as rfc
 use Rattle.elision.specs.Lowering.{finished}
-use Rattle.hir_types.specs.Method.{placeChecks, outputLifetimes, anyPast}
+use Rattle.methods.specs.Method.{placeChecks, outputLifetimes, anyPast}
 use Rattle.sheet.specs.Text.{Records, lists, wordsOf}
 use Rattle.sheet.specs.Reading.{sheetOf}
-use Rattle.lifetimes.specs.Reach.{endsFrom}
+use Rattle.answers.specs.Lists.{endsFrom}
 use Rattle.sheet.specs.Answer.{withRoom}
 use Rattle.sheet.specs.Shape.{sheetChecks}
 use Rattle.borrowing_param.specs.declared.method.SheetMethod.{SheetMethod}

@@ -7,14 +7,14 @@ use mathlib.Core.Logic.{_↔_}
 use mathlib.Core.List.{List, List·Memᴰ}
 use lib.ListN.{length, getD}
 use Rattle.lifetimes.specs.declared.env.LifetimeEnv.{LifetimeEnv}
-use Rattle.lifetimes.specs.declared.answer.Refusal.the-variants.{NoRoom}
-use Rattle.lifetimes.specs.declared.answer.Verdict.the-variants.{Accepted}
-use Rattle.lifetimes.specs.Ranges.{ascending}
-use Rattle.lifetimes.specs.Refusals.{Gives, NoneDue}
+use Rattle.answers.specs.declared.Refusal.the-variants.{NoRoom}
+use Rattle.answers.specs.declared.Verdict.the-variants.{Accepted}
+use Rattle.answers.specs.Lists.{range}
+use Rattle.answers.specs.Refusals.{Gives, NoneDue}
 use Rattle.lifetimes.specs.Sets.{empty}
 use Rattle.lifetimes.specs.Env.{boundsOf}
-use Rattle.hir_types.specs.Method.{typesIn, structsAndParamsChecks, methodChecks}
-use Rattle.hir_types.specs.Used.{usedSet, mostUsed}
+use Rattle.methods.specs.Method.{typesIn, structsAndParamsChecks, methodChecks}
+use Rattle.methods.specs.Used.{usedSet, mostUsed}
 use Rattle.sheet.specs.Reading.{sheetOf}
 use Rattle.borrowing_param.specs.declared.edges.EdgeAt.the-variants.{Edge}
 use Rattle.borrowing_param.specs.declared.visitor.ParamBorrowInfo.{ParamBorrowInfo}
@@ -91,7 +91,7 @@ MethodsAreSmall = (env : LifetimeEnv) (structs params output force : List ℕ)
 -- parameter, one after another, gives what `borrow_map` lists
 
 abbrev pub inTurn : List ℕ → List ℕ → List ℕ
-inTurn structs params = ascending 0 (length (typesIn structs params))
+inTurn structs params = range 0 (length (typesIn structs params))
 
 -- what the visit of a parameter answers, and what all of them leave
 abbrev pub visitOf : List ℕ → List ℕ → BorrowingParamVisitor → List ℕ → ℕ → ParamBorrowInfo

@@ -5,9 +5,9 @@ use mathlib.Core.List.{List, [], _∷_, flatMap}
 use lib.Dec.{leb, ltb}
 use lib.ListN.{length, getD, take}
 use lib.Seq.{sets}
-use Rattle.lifetimes.specs.declared.answer.Refusal.the-variants.{NoRoom}
+use Rattle.answers.specs.declared.Refusal.the-variants.{NoRoom}
 use Rattle.lifetimes.specs.Sets.{member, members}
-use Rattle.lowered_types.specs.LoweredTypes.{LoweredType}
+use Rattle.types.specs.LoweredTypes.{LoweredType}
 use Rattle.borrowing_param.specs.declared.visitor.LifetimeEdge.{LifetimeEdge}
 use Rattle.borrowing_param.specs.declared.visitor.ParamBorrowInfo.{ParamBorrowInfo}
 use Rattle.borrowing_param.specs.declared.visitor.BorrowingParamVisitor.{BorrowingParamVisitor}

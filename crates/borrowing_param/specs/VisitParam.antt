@@ -4,12 +4,12 @@ use mathlib.Core.Bool.{false}
 use mathlib.Core.List.{List, [], _∷_}
 use lib.Dec.{leb}
 use lib.ListN.{length, getD}
-use Rattle.lifetimes.specs.declared.answer.Refusal.the-variants.{Malformed}
-use Rattle.lifetimes.specs.Refusals.{Check, check, Outcome, Gives, Refuses, unless}
-use Rattle.lowered_types.specs.declared.types.Kind.the-variants.{Plain}
-use Rattle.lowered_types.specs.declared.types.Own.the-variants.{Absent}
-use Rattle.lowered_types.specs.LoweredTypes.{LoweredType, lowered}
-use Rattle.hir_types.specs.Method.{typesIn, structsAndParamsChecks}
+use Rattle.answers.specs.declared.Refusal.the-variants.{Malformed}
+use Rattle.answers.specs.Refusals.{Check, check, Outcome, Gives, Refuses, unless}
+use Rattle.types.specs.declared.types.Kind.the-variants.{Plain}
+use Rattle.types.specs.declared.types.Own.the-variants.{Absent}
+use Rattle.types.specs.LoweredTypes.{LoweredType, lowered}
+use Rattle.methods.specs.Method.{typesIn, structsAndParamsChecks}
 use Rattle.borrowing_param.specs.Brings.{refuse}
 use Rattle.borrowing_param.specs.Visit.{State, VisitOutcome, outcome, visit}
 

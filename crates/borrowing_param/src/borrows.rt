@@ -3,20 +3,20 @@
 ghost use Prim.Native.Nat.{_≤_};
 ghost use mathlib.Core.Path.{_≡_};
 ghost use lib.ListN.{length, take};
-ghost use Rattle.lifetimes.specs.Refusals.{Refuses};
-ghost use Rattle.lifetimes.specs.Lent.{held, room, left};
+ghost use Rattle.answers.specs.Refusals.{Refuses};
+ghost use Rattle.answers.specs.Lent.{held, room, left};
 ghost use Rattle.sheet.specs.Inner.{Roomy};
 ghost use Rattle.borrowing_param.specs.Edges.{edgesIn};
-ghost use Rattle.hir_types.specs.Used.{mostUsed};
+ghost use Rattle.methods.specs.Used.{mostUsed};
 ghost use Rattle.borrowing_param.specs.Borrows.{borrowMethod, borrowSheet, borrowsAnswer, BorrowsTo};
 ghost use Rattle.borrowing_param.specs.Borrows.{mostListed};
 ghost use Rattle.borrowing_param.specs.Consistent.{Consistent};
 ghost use Rattle.borrowing_param.specs.InnerSheet.{OfMethod, borrowBy};
 use super::method::judge_sheet;
 use super::visitor::BorrowingParamVisitor;
+use answers::Refusal;
+use answers::Verdict;
 use lifetimes::LifetimeEnv;
-use lifetimes::Refusal;
-use lifetimes::Verdict;
 use lifetimes::set;
 use sheet::record_words;
 

@@ -6,10 +6,10 @@ ghost use mathlib.Core.List.{[], _∷_, map};
 ghost use Prim.Native.Nat.{_+_, _*_, _≤_, _<_};
 ghost use lib.ListN.{length, getD, take, drop};
 ghost use lib.Seq.{sets};
-ghost use Rattle.lifetimes.specs.Lent.{held, left};
+ghost use Rattle.answers.specs.Lent.{held, left};
 ghost use Rattle.lifetimes.specs.LoweredWords.{fromWord};
 ghost use Rattle.borrowing_param.specs.Edges.{width, edgeWords, edgeIn};
-ghost use Rattle.lowered_types.specs.LoweredTypes.{lifetimesOf};
+ghost use Rattle.types.specs.LoweredTypes.{lifetimesOf};
 ghost use Rattle.borrowing_param.specs.Brings.{drawn, anyDrawn, oneEdge, optionOf, bring};
 ghost use Rattle.borrowing_param.specs.Visit.{drawsIn};
 ghost use Rattle.borrowing_param.specs.Inner.{Below, Inside, typeIn, firstFrom, FirstDrawn, countDrawn, oneIf};
@@ -22,10 +22,10 @@ use lifetimes::LinkedWord;
 use lifetimes::MaybeStatic;
 use lifetimes::linked_word;
 use lifetimes::set;
-use lowered_types::Kind;
-use lowered_types::OwnLifetime;
-use lowered_types::Parts;
-use lowered_types::path_words;
+use types::Kind;
+use types::OwnLifetime;
+use types::Parts;
+use types::path_words;
 
 // The edge at a place of a slice of edges. Absent past its last whole edge.
 pub enum EdgeAt {

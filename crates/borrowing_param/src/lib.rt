@@ -5,7 +5,7 @@
 // answers one of their numbers (`Refusal`) and leaves the lent slices as they were.
 //
 // Of `hir/methods/borrowing_param.rs` of diplomat_core 0.17.0, but for `compute_for_struct_field`, which is in
-// `hir_types`, and for the search under force, which is retired. `edge_at`, `lower_sheet`, `borrow_method` and
+// `methods`, and for the search under force, which is retired. `edge_at`, `lower_sheet`, `borrow_method` and
 // `borrow_sheet` are ours.
 //
 // What is here, bottom up: the edges of one parameter (`edges`), the visitor and its visits (`visitor`), all parameters

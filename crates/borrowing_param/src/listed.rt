@@ -2,8 +2,8 @@
 ghost use mathlib.Core.Path.{_≡_};
 ghost use Prim.Native.Nat.{_+_, _*_, _≤_, _<_};
 ghost use lib.ListN.{length};
-ghost use Rattle.lifetimes.specs.Refusals.{Refuses};
-ghost use Rattle.lifetimes.specs.Lent.{held, room, left};
+ghost use Rattle.answers.specs.Refusals.{Refuses};
+ghost use Rattle.answers.specs.Lent.{held, room, left};
 ghost use Rattle.borrowing_param.specs.Edges.{width};
 ghost use Rattle.borrowing_param.specs.Visit.{drawsIn};
 ghost use Rattle.borrowing_param.specs.BorrowMap.{listedEdges, borrowMap, mapAnswer, MapsTo};
@@ -14,14 +14,14 @@ use super::edges::past_last;
 use super::edges::store_for;
 use super::visitor::BorrowingParamVisitor;
 use super::visitor::number_of;
-use hir_types::check_structs_and_params;
+use answers::Refusal;
+use answers::Verdict;
 use lifetimes::Lifetime;
-use lifetimes::Refusal;
-use lifetimes::Verdict;
 use lifetimes::set;
-use lowered_types::Located;
-use lowered_types::type_at;
+use methods::check_structs_and_params;
 use records::copy_words;
+use types::Located;
+use types::type_at;
 
 // How many parameters and edges there are, or why the call is refused; beside a refusal none.
 pub struct BorrowMap {

@@ -9,22 +9,22 @@ ghost use Rattle.borrowing_param.specs.Visit.{state, outcome, visit};
 ghost use Rattle.borrowing_param.specs.VisitParam.{visitParam};
 ghost use Rattle.borrowing_param.specs.New.{created};
 ghost use Rattle.borrowing_param.specs.Inner.{Inside, typeIn, FoundAt, numberBy, keptOf};
-ghost use Rattle.lowered_types.specs.Places.{Coded};
-ghost use Rattle.lifetimes.specs.Lent.{held, left};
+ghost use Rattle.types.specs.Places.{Coded};
+ghost use Rattle.answers.specs.Lent.{held, left};
 use super::edges::count_all;
 use super::edges::store_all;
-use hir_types::UsedLifetimes;
-use hir_types::check_structs_and_params;
-use hir_types::used_method_lifetimes;
+use answers::Refusal;
+use answers::Verdict;
 use lifetimes::Lifetime;
 use lifetimes::LifetimeEnv;
-use lifetimes::Refusal;
-use lifetimes::Verdict;
 use lifetimes::set;
-use lowered_types::Kind;
-use lowered_types::Located;
-use lowered_types::Parts;
-use lowered_types::type_at;
+use methods::UsedLifetimes;
+use methods::check_structs_and_params;
+use methods::used_method_lifetimes;
+use types::Kind;
+use types::Located;
+use types::Parts;
+use types::type_at;
 
 // One edge: the values of its line in the listing. Kind 1 is the Rust's `OpaqueParam`, 2 `SliceParam`, 3
 // `StructLifetime`; the used lifetime is the key of its map.

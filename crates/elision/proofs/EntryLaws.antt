@@ -8,21 +8,21 @@ use native.Mathlib.Omega.{arith}
 use borrow.Author.Tests.{lt-ltb, le-ltb, ltb-false}
 use lib.ListN.{length, take, drop, length-map}
 use lib.Seq.{sets, length-take-le}
-use Rattle.lifetimes.specs.declared.answer.Refusal.{Refusal}
-use Rattle.lifetimes.specs.declared.answer.Refusal.the-variants.{Malformed, NoRoom}
-use Rattle.lifetimes.specs.declared.answer.Verdict.{Verdict}
-use Rattle.lifetimes.specs.declared.answer.Verdict.the-variants as verdict
+use Rattle.answers.specs.declared.Refusal.{Refusal}
+use Rattle.answers.specs.declared.Refusal.the-variants.{Malformed, NoRoom}
+use Rattle.answers.specs.declared.Verdict.{Verdict}
+use Rattle.answers.specs.declared.Verdict.the-variants as verdict
 use Rattle.lifetimes.specs.declared.maybe_static.MaybeStatic.{MaybeStatic}
-use Rattle.lifetimes.specs.Refusals.{Check, check, Outcome, Gives, Refuses, unless, FirstDue, NoneDue, here, later}
-use Rattle.lifetimes.specs.Refusals.{next, end}
-use Rattle.lifetimes.specs.Lent.{roomCheck, verdictOf, Slice, held, left, room, Stays}
+use Rattle.answers.specs.Refusals.{Check, check, Outcome, Gives, Refuses, unless, FirstDue, NoneDue, here, later}
+use Rattle.answers.specs.Refusals.{next, end}
+use Rattle.answers.specs.Lent.{roomCheck, verdictOf, Slice, held, left, room, Stays}
 use Rattle.lifetimes.specs.LoweredWords.{wordOf}
 use Rattle.lifetimes.specs.Env.{envOf}
 use Rattle.lifetimes.specs.Env as hirenv
 use Rattle.lifetimes.specs.declared.env.Made as hir
-use Rattle.lifetimes.proofs.RefusalLaws.{refused-first, accepted-none, due-given, due-refused, refused-due, given-due}
-use Rattle.lifetimes.proofs.RefusalLaws.{none-first, none-rest, none-split, first-more, first-after, none-more}
-use Rattle.lifetimes.proofs.Copying.{sets-front}
+use Rattle.answers.proofs.RefusalLaws.{refused-first, accepted-none, due-given, due-refused, refused-due, given-due}
+use Rattle.answers.proofs.RefusalLaws.{none-first, none-rest, none-split, first-more, first-after, none-more}
+use Rattle.answers.proofs.Copying.{sets-front}
 use Rattle.records.specs.Reading.{shapeVerdict}
 use Rattle.ast_lifetimes.specs.declared.env.LifetimeEnv as ast
 use Rattle.ast_lifetimes.specs.Env.{namesOf, envChecks}
@@ -37,7 +37,7 @@ use Rattle.elision.specs.Inner.{shown, totals, RunsAll}
 use Rattle.elision.proofs.RfcLaws.{method-said}
 use Rattle.elision.proofs.ShapeLaws.{shape-in, shape-out}
 use Rattle.elision.proofs.SmallLaws.{AllSmall, small-words, SmallMethod, method-small}
-use Rattle.records.proofs.VerdictLaws.{refused-accepted}
+use Rattle.answers.proofs.VerdictLaws.{refused-accepted}
 
 -- what stands in a total tells which outcome there was
 totals-refused : (o : Outcome Method) {t : Totals} {k : Refusal} → t ≡ totals o → t .verdict ≡ verdict.Refused k → o ≡ Refuses k

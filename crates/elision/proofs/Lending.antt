@@ -9,7 +9,7 @@ use borrow.Author.Tests.{eqb-true, le-leb}
 use lib.Dec.{eqb, leb}
 use lib.ListN.{length, drop-of-length-le}
 use lib.Seq.{take-length}
-use Rattle.lifetimes.specs.Refusals.{Outcome, Gives, Refuses, after}
+use Rattle.answers.specs.Refusals.{Outcome, Gives, Refuses, bind}
 use Rattle.records.specs.Reading.{Read, readLifetimes}
 use Rattle.records.proofs.ReadingLaws.{Holds, read, fails, holds-cond, holds-onward, LifetimesIn, WordIn}
 use Rattle.records.proofs.ReadingLaws.{lifetimes-read, word-read, items-encoded}
@@ -70,11 +70,11 @@ in-turn names out (x ∷ l) p s = rw (step-back x (p .0)) (go (oneStep names out
   where
     go : (o : Outcome (Answer Lowerer))
         → ((s : Lowerer) → inTurn (wordedStep names out) (map wordsOf l) s ≡ inTurn (oneStep names out) l s)
-        → after o
-        (λ first. after (inTurn (wordedStep names out) (map wordsOf l) (first .left))
+        → bind o
+        (λ first. bind (inTurn (wordedStep names out) (map wordsOf l) (first .left))
         (λ rest. Gives (answer (first .given ++ rest .given) (rest .left))))
-        ≡ after o
-        (λ first. after (inTurn (oneStep names out) l (first .left))
+        ≡ bind o
+        (λ first. bind (inTurn (oneStep names out) l (first .left))
         (λ rest. Gives (answer (first .given ++ rest .given) (rest .left))))
     go (Gives a) more = rw (more (a .left))
     go (Refuses r) more = refl

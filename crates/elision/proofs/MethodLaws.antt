@@ -6,10 +6,10 @@ use mathlib.Core.List.{List, [], _∷_}
 use native.Mathlib.Nat.{zero-add}
 use native.Mathlib.Omega.{arith}
 use lib.ListN.{length, getD, set, replicate}
-use Rattle.lifetimes.specs.declared.answer.Refusal.{Refusal}
-use Rattle.lifetimes.specs.declared.answer.Verdict.the-variants as verdict
-use Rattle.lifetimes.specs.Refusals.{Outcome, Gives, Refuses}
-use Rattle.records.proofs.VerdictLaws.{refused-accepted}
+use Rattle.answers.specs.declared.Refusal.{Refusal}
+use Rattle.answers.specs.declared.Verdict.the-variants as verdict
+use Rattle.answers.specs.Refusals.{Outcome, Gives, Refuses}
+use Rattle.answers.proofs.VerdictLaws.{refused-accepted}
 use Rattle.records.proofs.ReadingLaws.{passed}
 use Rattle.elision.specs.declared.source.ElisionSource.the-variants.{NoBorrows, SelfParam}
 use Rattle.elision.specs.declared.lowerer.Standing.the-variants.{Aside}

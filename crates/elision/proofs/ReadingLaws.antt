@@ -10,8 +10,8 @@ use lib.ListN.{length}
 use Rattle.lifetimes.specs.declared.maybe_static.MaybeStatic.{MaybeStatic}
 use Rattle.lifetimes.specs.declared.maybe_static.MaybeStatic.the-variants.{Static, NonStatic}
 use Rattle.lifetimes.specs.Numbers.{lifetime}
-use Rattle.lifetimes.specs.Refusals.{Outcome, Gives, Refuses, NoneDue, after}
-use Rattle.lifetimes.proofs.RefusalLaws.{none-first, none-rest, none-split}
+use Rattle.answers.specs.Refusals.{Outcome, Gives, Refuses, NoneDue, bind}
+use Rattle.answers.proofs.RefusalLaws.{none-first, none-rest, none-split}
 use Rattle.ast_lifetimes.specs.Env.{place}
 use Rattle.records.specs.Reading.{Reading, readOr, readAll, itemsOf}
 use Rattle.records.proofs.ReadingLaws.{Holds, read, fails, passed, holds-onward}
@@ -106,11 +106,11 @@ steps-same names out [] p s = refl
 steps-same names out (x ∷ l) p s = rw (one-fits names out x s (p .0)) (go (lowerStep names out x s) (steps-same names out l (p .1)))
   where
     go : (o : Outcome (Answer Lowerer)) → ((s : Lowerer) → runSteps names out l s ≡ inTurn (oneStep names out) l s)
-        → after o
-        (λ first. after (runSteps names out l (first .left))
+        → bind o
+        (λ first. bind (runSteps names out l (first .left))
         (λ rest. Gives (answer (first .given ++ rest .given) (rest .left))))
-        ≡ after o
-        (λ first. after (inTurn (oneStep names out) l (first .left))
+        ≡ bind o
+        (λ first. bind (inTurn (oneStep names out) l (first .left))
         (λ rest. Gives (answer (first .given ++ rest .given) (rest .left))))
     go (Gives a) more = rw (more (a .left))
     go (Refuses r) more = refl

@@ -9,15 +9,15 @@ use native.Mathlib.Omega.{arith}
 use borrow.Author.Tests.{leb-true}
 use lib.ListN.{length, drop, length-append, length-map, length-drop, drop-of-length-le}
 use lib.Seq.{sets}
-use Rattle.lifetimes.specs.declared.answer.Refusal.{Refusal}
-use Rattle.lifetimes.specs.declared.answer.Verdict.the-variants as verdict
+use Rattle.answers.specs.declared.Refusal.{Refusal}
+use Rattle.answers.specs.declared.Verdict.the-variants as verdict
 use Rattle.lifetimes.specs.declared.maybe_static.MaybeStatic.{MaybeStatic}
-use Rattle.lifetimes.specs.Refusals.{Outcome, Gives, Refuses, after}
-use Rattle.lifetimes.proofs.Copying.{sets-append}
+use Rattle.answers.specs.Refusals.{Outcome, Gives, Refuses, bind}
+use Rattle.answers.proofs.Copying.{sets-append}
 use Rattle.records.specs.declared.End.the-variants as end
 use Rattle.records.specs.Reading.{Reading, Read, Fails, onward, isRead, readOr, readAll, inShape, itemsOf, fewWords}
 use Rattle.records.specs.Ends.{EndsAt, ends}
-use Rattle.records.proofs.VerdictLaws.{refused-accepted}
+use Rattle.answers.proofs.VerdictLaws.{refused-accepted}
 use Rattle.records.proofs.ReadingLaws.{passed, fails-read}
 use Rattle.elision.specs.declared.lowerer.Lowerer.{Lowerer}
 use Rattle.elision.specs.declared.lowerer.Seen.{Seen}
@@ -93,7 +93,7 @@ pub record Reached (names : List ℕ) (out : Bool) (words : List ℕ) (start : L
   pub count : length done ≡ n
   pub here : Lowerer
   pub shows : Shows here seen kept own list
-  pub left : runSteps names out (stepsOf words) start ≡ after (runSteps names out rest here) (behindDone done)
+  pub left : runSteps names out (stepsOf words) start ≡ bind (runSteps names out rest here) (behindDone done)
   pub stored : slice ≡ sets slice₀ 0 (map shown done)
 
 -- the loop: numbers that are safe, and the above for every lowerer that the first numbers show
@@ -106,7 +106,7 @@ pub record Recording (names : List ℕ) (out : Bool) (words : List ℕ) (before 
   pub size : length slice ≡ length slice₀
   pub reached : (s : Lowerer) → Shows s before was had list₀ → Reached names out words s slice₀ slice list seen kept own n at
 
-after-itself : (o : Outcome (Answer Lowerer)) → o ≡ after o (behindDone [])
+after-itself : (o : Outcome (Answer Lowerer)) → o ≡ bind o (behindDone [])
 after-itself (Gives a) = refl
 after-itself (Refuses r) = refl
 
@@ -180,12 +180,12 @@ module _ {names : List ℕ} {out : Bool} {words : List ℕ} {start : Lowerer} {s
     turn = read-turn (inv .number) (inv .fuel) (drop at words) (inv .rest) (inv .tail) (rw length-drop (omega arith)) (inv .reads)
 
     next : runSteps names out (stepsOf words) start
-        ≡ after (after (lowerStep names out (turn .step) (inv .here))
-        (λ first. after (runSteps names out (turn .items) (first .left))
+        ≡ bind (bind (lowerStep names out (turn .step) (inv .here))
+        (λ first. bind (runSteps names out (turn .items) (first .left))
         (λ rest. Gives (answer (first .given ++ rest .given) (rest .left)))))
         (behindDone (inv .done))
     unfolding inTurn
-    next = inv .left ∙ ap (λ (o : Outcome (Answer Lowerer)). after o (behindDone (inv .done)))
+    next = inv .left ∙ ap (λ (o : Outcome (Answer Lowerer)). bind o (behindDone (inv .done)))
         (ap (λ (l : List Step). runSteps names out l (inv .here)) (turn .all))
 
     module _ {list₁ slice₁ : List ℕ} {r : Took} (put : PutsStep names words out at seen kept own n list list₁ slice slice₁ r) where
@@ -200,8 +200,8 @@ module _ {names : List ℕ} {out : Bool} {words : List ℕ} {start : Lowerer} {s
       reached-more v = go (one .accepted v)
         where
           join : (a : Answer Lowerer) (o : Outcome (Answer Lowerer))
-              → after (after o (λ rest. Gives (answer (a .given ++ rest .given) (rest .left)))) (behindDone (inv .done))
-              ≡ after o (behindDone (inv .done ++ a .given))
+              → bind (bind o (λ rest. Gives (answer (a .given ++ rest .given) (rest .left)))) (behindDone (inv .done))
+              ≡ bind o (behindDone (inv .done ++ a .given))
           join a (Gives b) = rw append-assoc
           join a (Refuses k) = refl
 

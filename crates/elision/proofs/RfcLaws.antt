@@ -9,11 +9,11 @@ use native.Mathlib.Omega.{arith}
 use borrow.Author.Tests.{ne-eqb, le-leb}
 use lib.ListN.{length}
 use lib.Seq.{take-at}
-use Rattle.lifetimes.specs.declared.answer.Refusal.the-variants.{Undeclared}
+use Rattle.answers.specs.declared.Refusal.the-variants.{Undeclared}
 use Rattle.lifetimes.specs.declared.maybe_static.MaybeStatic.{MaybeStatic}
 use Rattle.lifetimes.specs.declared.maybe_static.MaybeStatic.the-variants.{NonStatic}
 use Rattle.lifetimes.specs.Numbers.{lifetime}
-use Rattle.lifetimes.specs.Refusals.{Check, check, Outcome, Gives, Refuses, unless, after}
+use Rattle.answers.specs.Refusals.{Check, check, Outcome, Gives, Refuses, unless, bind}
 use Rattle.ast_lifetimes.specs.Env.{place, isDeclared}
 use Rattle.elision.specs.declared.source.ElisionSource.{ElisionSource}
 use Rattle.elision.specs.declared.source.ElisionSource.the-variants.{NoBorrows, SelfParam, OneParam}
@@ -48,25 +48,25 @@ module _ {A B : Type 0} (each : List A → A → List B) where
 
 -- ---- outcomes one after another
 
-pub after-gives : {A B : Type 0} (cs : List Check) (a : A) (f : A → B) → after (unless cs a) (λ x. Gives (f x)) ≡ unless cs (f a)
+pub after-gives : {A B : Type 0} (cs : List Check) (a : A) (f : A → B) → bind (unless cs a) (λ x. Gives (f x)) ≡ unless cs (f a)
 unfolding unless
 after-gives [] a f = refl
 after-gives (c ∷ cs) a f = go (c .due) (after-gives cs a f)
   where
-    go : (t : Bool) → after (unless cs a) (λ x. Gives (f x)) ≡ unless cs (f a)
-        → after (cond t (Refuses (c .refusal)) (unless cs a)) (λ x. Gives (f x))
+    go : (t : Bool) → bind (unless cs a) (λ x. Gives (f x)) ≡ unless cs (f a)
+        → bind (cond t (Refuses (c .refusal)) (unless cs a)) (λ x. Gives (f x))
         ≡ cond t (Refuses (c .refusal)) (unless cs (f a))
     go true h = refl
     go false h = h
 
 pub after-unless : {A B : Type 0} (cs ds : List Check) (a : A) (b : B) (f : A → Outcome B) → f a ≡ unless ds b
-    → after (unless cs a) f ≡ unless (cs ++ ds) b
+    → bind (unless cs a) f ≡ unless (cs ++ ds) b
 unfolding unless
 after-unless [] ds a b f h = h
 after-unless (c ∷ cs) ds a b f h = go (c .due) (after-unless cs ds a b f h)
   where
-    go : (t : Bool) → after (unless cs a) f ≡ unless (cs ++ ds) b
-        → after (cond t (Refuses (c .refusal)) (unless cs a)) f ≡ cond t (Refuses (c .refusal)) (unless (cs ++ ds) b)
+    go : (t : Bool) → bind (unless cs a) f ≡ unless (cs ++ ds) b
+        → bind (cond t (Refuses (c .refusal)) (unless cs a)) f ≡ cond t (Refuses (c .refusal)) (unless (cs ++ ds) b)
     go true k = refl
     go false k = k
 
@@ -87,13 +87,13 @@ module _ {X Y S : Type 0} (step : X → S → Outcome (Answer S)) (item : X → 
       let vs = throughout value-at here (map item l) in
       let e : state (here ++ map item l) ≡ state (before ++ (item x ∷ map item l)) = rw append-assoc in
       let join : Answer S → Answer S = λ r. answer (value-at before (item x) ++ r .given) (r .left) in
-      let more : after (inTurn step l (state here)) (λ r. Gives (join r))
+      let more : bind (inTurn step l (state here)) (λ r. Gives (join r))
       ≡ unless rest (join (answer vs (state (here ++ map item l)))) =
       rw (in-turn here l) (after-gives rest (answer vs (state (here ++ map item l))) join) in
       rw (one before x, ← e)
       (after-unless (check-at before (item x)) rest (answer (value-at before (item x)) (state here))
       (join (answer vs (state (here ++ map item l))))
-      (λ first. after (inTurn step l (first .left)) (λ r. Gives (answer (first .given ++ r .given) (r .left)))) more)
+      (λ first. bind (inTurn step l (first .left)) (λ r. Gives (answer (first .given ++ r .given) (r .left)))) more)
 
 -- ---- one lifetime
 
@@ -450,16 +450,16 @@ method-said names self steps returns =
     (stateOf names self (inputs steps ++ outputs returns)) in
     let whole : Answer Lowerer → Answer Lowerer → Answer Lowerer → Method =
     λ x y z. record { self = x .given; steps = y .given; returns = z .given; count = z .left .seen .count } in
-    let last : after (runSteps names true returns (stateOf names self (inputs steps))) (λ z. Gives (whole a b z))
+    let last : bind (runSteps names true returns (stateOf names self (inputs steps))) (λ z. Gives (whole a b z))
     ≡ unless third (methodOf names self steps returns) =
     rw (steps-said names self true (inputs steps) returns) (after-gives third c (whole a b)) in
-    let middle : after (runSteps names false steps (stateOf names self []))
-    (λ y. after (runSteps names true returns (y .left)) (λ z. Gives (whole a y z)))
+    let middle : bind (runSteps names false steps (stateOf names self []))
+    (λ y. bind (runSteps names true returns (y .left)) (λ z. Gives (whole a y z)))
     ≡ unless (second ++ third) (methodOf names self steps returns) =
     rw (steps-said names self false [] steps)
     (after-unless second third b (methodOf names self steps returns)
-    (λ y. after (runSteps names true returns (y .left)) (λ z. Gives (whole a y z))) last) in
+    (λ y. bind (runSteps names true returns (y .left)) (λ z. Gives (whole a y z))) last) in
     rw (self-said names self)
     (after-unless (checks names self [] (selfOccurrences self)) (second ++ third) a (methodOf names self steps returns)
-    (λ x. after (runSteps names false steps (x .left))
-    (λ y. after (runSteps names true returns (y .left)) (λ z. Gives (whole x y z)))) middle)
+    (λ x. bind (runSteps names false steps (x .left))
+    (λ y. bind (runSteps names true returns (y .left)) (λ z. Gives (whole x y z)))) middle)

@@ -10,13 +10,13 @@ use lib.Dec.{eqb, leb}
 use lib.ListN.{length, getD, drop, set, replicate, length-append, length-replicate, getD-replicate, drop-of-length-le}
 use lib.ListN.{length-map, length-set}
 use lib.Seq.{drop-cons, sets}
-use Rattle.lifetimes.specs.declared.answer.Refusal.{Refusal}
-use Rattle.lifetimes.specs.declared.answer.Refusal.the-variants.{Undeclared, Full}
-use Rattle.lifetimes.specs.declared.answer.Verdict.the-variants as verdict
+use Rattle.answers.specs.declared.Refusal.{Refusal}
+use Rattle.answers.specs.declared.Refusal.the-variants.{Undeclared, Full}
+use Rattle.answers.specs.declared.Verdict.the-variants as verdict
 use Rattle.lifetimes.specs.declared.maybe_static.MaybeStatic.{MaybeStatic}
 use Rattle.lifetimes.specs.declared.maybe_static.MaybeStatic.the-variants.{Static, NonStatic}
 use Rattle.lifetimes.specs.Numbers.{lifetime}
-use Rattle.lifetimes.specs.Refusals.{Outcome, Gives, Refuses, after}
+use Rattle.answers.specs.Refusals.{Outcome, Gives, Refuses, bind}
 use Rattle.ast_lifetimes.specs.Env.{place, isDeclared}
 use Rattle.elision.specs.declared.source.ElisionSource.{ElisionSource}
 use Rattle.elision.specs.declared.source.ElisionSource.the-variants.{NoBorrows, SelfParam, OneParam}
@@ -30,8 +30,8 @@ use Rattle.elision.specs.Rfc.{padded}
 use Rattle.elision.specs.Machine.{Answer, answer, inTurn, lowers, fromSource, lowerAnonymous, lowerWord}
 use Rattle.elision.specs.Machine.{lowerWords, lowered, laid, firstOr}
 use Rattle.elision.specs.Inner.{worded, ran, shown, Puts}
-use Rattle.lifetimes.proofs.Copying.{sets-append}
-use Rattle.records.proofs.VerdictLaws.{refused-accepted}
+use Rattle.answers.proofs.Copying.{sets-append}
+use Rattle.answers.proofs.VerdictLaws.{refused-accepted}
 use Rattle.elision.proofs.Filling.{Filled, filled-none, filled-more, filled-laid}
 
 -- ---- one word gives one lifetime
@@ -101,9 +101,9 @@ pub record Going (names : List ℕ) (st : Standing) (g : ℕ) (words : List ℕ)
   pub within : i ≤ total
   pub done : List MaybeStatic
   pub many : length done ≡ i
-  pub left : lowerWords names st (padded g words) seen ≡ after (lowerWords names st (drop i (padded g words)) here) (behind done)
+  pub left : lowerWords names st (padded g words) seen ≡ bind (lowerWords names st (drop i (padded g words)) here) (behind done)
 
-after-itself : (o : Outcome (Answer Seen)) → o ≡ after o (behind [])
+after-itself : (o : Outcome (Answer Seen)) → o ≡ bind o (behind [])
 after-itself (Gives a) = refl
 after-itself (Refuses r) = refl
 
@@ -130,8 +130,8 @@ module _ {names : List ℕ} {st : Standing} {g : ℕ} {words : List ℕ} {seen :
   module _ (h : i < total) {word : ℕ} (w : word ≡ getD words i 1) {r : Worded}
       (said : r ≡ worded here (lowerWord names st word here)) where
     next : lowerWords names st (drop i (padded g words)) here
-        ≡ after (lowerWord names st word here)
-        (λ first. after (lowerWords names st (drop (i + 1) (padded g words)) (first .left))
+        ≡ bind (lowerWord names st word here)
+        (λ first. bind (lowerWords names st (drop (i + 1) (padded g words)) (first .left))
         (λ rest. Gives (answer (first .given ++ rest .given) (rest .left))))
     unfolding inTurn
     next =
@@ -153,8 +153,8 @@ module _ {names : List ℕ} {st : Standing} {g : ℕ} {words : List ℕ} {seen :
     }
       where
         join : (o : Outcome (Answer Seen))
-            → after (after o (λ rest. Gives (answer ((r .lifetime ∷ []) ++ rest .given) (rest .left))))
-            (behind (inv .done)) ≡ after o (behind (inv .done ++ (r .lifetime ∷ [])))
+            → bind (bind o (λ rest. Gives (answer ((r .lifetime ∷ []) ++ rest .given) (rest .left))))
+            (behind (inv .done)) ≡ bind o (behind (inv .done ++ (r .lifetime ∷ [])))
         join (Gives a) = rw append-assoc
         join (Refuses k) = refl
 

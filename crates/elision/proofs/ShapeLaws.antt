@@ -1,12 +1,12 @@
 -- The shape of several records: the first that is not in shape decides.
 use mathlib.Core.Bool.{Bool, true, false, _&&_}
 use mathlib.Core.Path.{_≡_, refl, sym, _∙_}
-use Rattle.lifetimes.specs.declared.answer.Refusal.{Refusal}
-use Rattle.lifetimes.specs.declared.answer.Refusal.the-variants.{Malformed}
-use Rattle.lifetimes.specs.declared.answer.Verdict.{Verdict}
-use Rattle.lifetimes.specs.declared.answer.Verdict.the-variants.{Accepted, Refused}
+use Rattle.answers.specs.declared.Refusal.{Refusal}
+use Rattle.answers.specs.declared.Refusal.the-variants.{Malformed}
+use Rattle.answers.specs.declared.Verdict.{Verdict}
+use Rattle.answers.specs.declared.Verdict.the-variants.{Accepted, Refused}
 use Rattle.records.specs.Reading.{shapeVerdict}
-use Rattle.records.proofs.VerdictLaws.{refused-accepted}
+use Rattle.answers.proofs.VerdictLaws.{refused-accepted}
 
 pub shape-first : (a b : Bool) {v : Verdict} {r : Refusal} → v ≡ shapeVerdict a → v ≡ Refused r → v ≡ shapeVerdict (a && b)
 shape-first true b e f = refused-accepted (sym f ∙ e)

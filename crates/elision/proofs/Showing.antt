@@ -8,15 +8,15 @@ use native.Mathlib.Nat.{zero-add, zero-sub}
 use native.Mathlib.Omega.{arith}
 use lib.ListN.{length, getD, take, drop, set, length-map, length-set}
 use lib.Seq.{sets, length-sets, take-at}
-use Rattle.lifetimes.specs.declared.answer.Refusal.{Refusal}
-use Rattle.lifetimes.specs.declared.answer.Refusal.the-variants.{Malformed}
-use Rattle.lifetimes.specs.declared.answer.Verdict.the-variants as verdict
-use Rattle.lifetimes.specs.Refusals.{Outcome, Gives, Refuses}
-use Rattle.lifetimes.proofs.Copying.{sets-front, Copying, copying-start, copying-more, copying-end}
+use Rattle.answers.specs.declared.Refusal.{Refusal}
+use Rattle.answers.specs.declared.Refusal.the-variants.{Malformed}
+use Rattle.answers.specs.declared.Verdict.the-variants as verdict
+use Rattle.answers.specs.Refusals.{Outcome, Gives, Refuses}
+use Rattle.answers.proofs.Copying.{sets-front, Copying, copying-start, copying-more, copying-end}
 use Rattle.records.specs.declared.End.the-variants as end
 use Rattle.records.specs.Reading.{Reading, Read, Fails}
 use Rattle.records.specs.Ends.{EndsAt}
-use Rattle.records.proofs.VerdictLaws.{refused-accepted}
+use Rattle.answers.proofs.VerdictLaws.{refused-accepted}
 use Rattle.elision.specs.declared.steps.StepAt.{StepAt}
 use Rattle.elision.specs.declared.steps.StepAt.the-variants as standing
 use Rattle.elision.specs.declared.lowerer.Standing.{Standing}

@@ -9,8 +9,8 @@ use borrow.Author.Tests.{leb-true}
 use lib.Dec.{eqb, leb}
 use lib.ListN.{length, replicate, length-append, length-map, length-replicate}
 use Rattle.lifetimes.specs.declared.maybe_static.MaybeStatic.{MaybeStatic}
-use Rattle.lifetimes.specs.Refusals.{Gives, NoneDue}
-use Rattle.lifetimes.proofs.RefusalLaws.{due-given}
+use Rattle.answers.specs.Refusals.{Gives, NoneDue}
+use Rattle.answers.proofs.RefusalLaws.{due-given}
 use Rattle.records.specs.Reading.{Reading, Read, Fails, onward, readWord, readLifetimes, readAll, itemsOf, readOr}
 use Rattle.records.proofs.ReadingLaws.{Holds, read, fails, holds-cond, holds-onward, LifetimesIn, lifetimes-read}
 use Rattle.elision.specs.Steps.{Step, Lifetime, Generics, SelfType, Receiver, NoSelf, SelfRef, readGenerics}

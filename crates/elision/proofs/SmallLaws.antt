@@ -7,11 +7,11 @@ use native.Mathlib.Omega.{arith}
 use borrow.Author.Tests.{lt-ltb, leb-false, ltb-true}
 use lib.Dec.{eqb, leb}
 use lib.ListN.{length}
-use Rattle.lifetimes.specs.declared.answer.Refusal.the-variants.{Undeclared, Full}
+use Rattle.answers.specs.declared.Refusal.the-variants.{Undeclared, Full}
 use Rattle.lifetimes.specs.declared.maybe_static.MaybeStatic.{MaybeStatic}
 use Rattle.lifetimes.specs.declared.maybe_static.MaybeStatic.the-variants.{Static, NonStatic}
 use Rattle.lifetimes.specs.Numbers.{lifetime}
-use Rattle.lifetimes.specs.Refusals.{Outcome, Gives, Refuses, after}
+use Rattle.answers.specs.Refusals.{Outcome, Gives, Refuses, bind}
 use Rattle.lifetimes.specs.LoweredWords.{wordOf}
 use Rattle.ast_lifetimes.specs.Env.{place, isDeclared}
 use Rattle.elision.specs.declared.source.ElisionSource.{ElisionSource}
@@ -64,13 +64,13 @@ Out P (Refuses r) = Unit {0}
 
 module _ {X S : Type 0} (step : X → S → Outcome (Answer S)) (P : S → Type 0) (fine : (x : X) (s : S) → P s → Out P (step x s)) where
   rest-fine : (a : Answer S) → AllSmall (a .given) → (o : Outcome (Answer S)) → Out P o
-      → Out P (after o (λ rest. Gives (answer (a .given ++ rest .given) (rest .left))))
+      → Out P (bind o (λ rest. Gives (answer (a .given ++ rest .given) (rest .left))))
   rest-fine a p (Gives b) q = (small-append (a .given) (b .given) p (q .0), q .1)
   rest-fine a p (Refuses r) q = tt
 
   first-fine : (l : List X) → ((s : S) → P s → Out P (inTurn step l s)) → (o : Outcome (Answer S)) → Out P o
-      → Out P (after o
-      (λ first. after (inTurn step l (first .left))
+      → Out P (bind o
+      (λ first. bind (inTurn step l (first .left))
       (λ rest. Gives (answer (first .given ++ rest .given) (rest .left)))))
   first-fine l more (Gives a) q = rest-fine a (q .0) (inTurn step l (a .left)) (more (a .left) (q .1))
   first-fine l more (Refuses r) q = tt
@@ -131,13 +131,13 @@ module _ (names : List ℕ) (few : length names ≤ 32) where
   words-fine st = turn-fine (lowerWord names st) Fine (word-fine st)
 
   keep-fine : (kept : Bool) (s : Lowerer) → AllSmall (valuesIn (s .own)) → (o : Outcome (Answer Seen)) → Out Fine o
-      → Out FineLowerer (after o (λ a. Gives (answer (a .given) (record { seen = a .left; kept = kept; own = s .own }))))
+      → Out FineLowerer (bind o (λ a. Gives (answer (a .given) (record { seen = a .left; kept = kept; own = s .own }))))
   keep-fine kept s p (Gives a) q = (q .0, (q .1, p))
   keep-fine kept s p (Refuses r) q = tt
 
   make-fine : (o : Outcome (Answer Seen)) → Out Fine o
       → Out FineLowerer
-      (after o (λ a. Gives (answer (a .given) (record { seen = a .left; kept = true; own = laid (a .given) }))))
+      (bind o (λ a. Gives (answer (a .given) (record { seen = a .left; kept = true; own = laid (a .given) }))))
   make-fine (Gives a) q = (q .0, (q .1, rw (laid-values (a .given)) (q .0)))
   make-fine (Refuses r) q = tt
 
@@ -152,7 +152,7 @@ module _ (names : List ℕ) (few : length names ≤ 32) where
   step-fine out (SelfType l) s p = go (s .kept)
     where
       first : Outcome (Answer Lowerer)
-      first = after (lowerWords names Aside l (s .seen))
+      first = bind (lowerWords names Aside l (s .seen))
           (λ a. Gives (answer (a .given) (record { seen = a .left; kept = true; own = laid (a .given) })))
 
       go : (t : Bool) → Out FineLowerer (cond t (Gives (answer (valuesIn (s .own)) s)) first)
@@ -171,7 +171,7 @@ module _ (names : List ℕ) (few : length names ≤ 32) where
 
   ref-fine : (o : Outcome (Answer Seen)) → Out Fine o
       → Out FineLowerer
-      (after o
+      (bind o
       (λ a. Gives
       (answer (a .given)
       (record {
@@ -203,7 +203,7 @@ module _ (names : List ℕ) (few : length names ≤ 32) where
     where
       third : (a b : Answer Lowerer) → AllSmall (a .given) → AllSmall (b .given) → (o : Outcome (Answer Lowerer)) → Out FineLowerer o
           → SmallMethod
-          (after o
+          (bind o
           (λ c. Gives
           (record { self = a .given; steps = b .given; returns = c .given; count = c .left .seen .count })))
       third a b p q (Gives c) r = (p, (q, r .0))
@@ -211,8 +211,8 @@ module _ (names : List ℕ) (few : length names ≤ 32) where
 
       second : (a : Answer Lowerer) → AllSmall (a .given) → (o : Outcome (Answer Lowerer)) → Out FineLowerer o
           → SmallMethod
-          (after o
-          (λ b. after (runSteps names true returns (b .left))
+          (bind o
+          (λ b. bind (runSteps names true returns (b .left))
           (λ c. Gives
           (record { self = a .given; steps = b .given; returns = c .given; count = c .left .seen .count }))))
       second a p (Gives b) q = third a b p (q .0) (runSteps names true returns (b .left)) (steps-fine true returns (b .left) (q .1))
@@ -220,9 +220,9 @@ module _ (names : List ℕ) (few : length names ≤ 32) where
 
       first : (o : Outcome (Answer Lowerer)) → Out FineLowerer o
           → SmallMethod
-          (after o
-          (λ a. after (runSteps names false steps (a .left))
-          (λ b. after (runSteps names true returns (b .left))
+          (bind o
+          (λ a. bind (runSteps names false steps (a .left))
+          (λ b. bind (runSteps names true returns (b .left))
           (λ c. Gives
           (record { self = a .given; steps = b .given; returns = c .given; count = c .left .seen .count })))))
       first (Gives a) p = second a (p .0) (runSteps names false steps (a .left)) (steps-fine false steps (a .left) (p .1))

@@ -9,13 +9,13 @@ use native.Mathlib.Nat.{add-zero}
 use native.Mathlib.Omega.{arith}
 use borrow.Author.Tests.{ne-eqb, le-leb}
 use lib.Dec.{eqb}
-use Rattle.lifetimes.specs.declared.answer.Refusal.{Refusal}
-use Rattle.lifetimes.specs.declared.answer.Refusal.the-variants.{Malformed, Undeclared}
+use Rattle.answers.specs.declared.Refusal.{Refusal}
+use Rattle.answers.specs.declared.Refusal.the-variants.{Malformed, Undeclared}
 use Rattle.lifetimes.specs.declared.maybe_static.MaybeStatic.{MaybeStatic}
 use Rattle.lifetimes.specs.declared.maybe_static.MaybeStatic.the-variants.{Static, NonStatic}
 use Rattle.lifetimes.specs.Numbers.{lifetime}
-use Rattle.lifetimes.specs.Refusals.{Check, check, Outcome, Gives, Refuses, unless, after, FirstDue}
-use Rattle.lifetimes.proofs.RefusalLaws.{due-refused, refused-due}
+use Rattle.answers.specs.Refusals.{Check, check, Outcome, Gives, Refuses, unless, bind, FirstDue}
+use Rattle.answers.proofs.RefusalLaws.{due-refused, refused-due}
 use Rattle.ast_lifetimes.specs.Env.{place, isDeclared}
 use Rattle.records.specs.Reading.{Reading, Read, Fails}
 use Rattle.elision.specs.declared.source.ElisionSource.{ElisionSource}
@@ -43,7 +43,7 @@ module _ {A : Type 0} where
   refused-both : {o : Outcome A} {cs : List Check} → Judged o cs → (r : Refusal) → (o ≡ Refuses r) ↔ FirstDue r cs
   refused-both {o} {cs} j r = (λ e. refused-due (j .result) r cs (sym (j .is) ∙ e), λ d. j .is ∙ due-refused (j .result) d)
 
-  judged-gives : {B : Type 0} {o : Outcome A} {cs : List Check} (f : A → B) → Judged o cs → Judged (after o (λ a. Gives (f a))) cs
+  judged-gives : {B : Type 0} {o : Outcome A} {cs : List Check} (f : A → B) → Judged o cs → Judged (bind o (λ a. Gives (f a))) cs
   judged-gives {cs = cs} f j = record { result = f (j .result); is = rw (j .is) (after-gives cs (j .result) f) }
 
   -- a test first
@@ -217,7 +217,7 @@ module _ (names : List ℕ) (out : Bool) where
   lower-judged (SelfType words) s = go (s .kept)
     where
       first : Outcome (Answer Lowerer)
-      first = after (lowerWords names Aside words (s .seen))
+      first = bind (lowerWords names Aside words (s .seen))
           (λ a. Gives (answer (a .given) (record { seen = a .left; kept = true; own = laid (a .given) })))
 
       go : (t : Bool)
@@ -235,7 +235,7 @@ module _ (names : List ℕ) (out : Bool) where
   unfolding wordedStep unless
   worded-judged words s = go (readStep words)
     where
-      go : (read : Reading Step) → Judged (after (wholeStep read) (λ step. oneStep names out step s)) (readChecks names out read s)
+      go : (read : Reading Step) → Judged (bind (wholeStep read) (λ step. oneStep names out step s)) (readChecks names out read s)
       go (Read step []) = step-judged step s
       go (Read step (word ∷ rest)) = record { result = answer [] s; is = refl }
       go Fails = record { result = answer [] s; is = refl }

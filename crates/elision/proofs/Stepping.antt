@@ -7,11 +7,11 @@ use native.Mathlib.Nat.{zero-sub}
 use native.Mathlib.Omega.{arith}
 use borrow.Author.Tests.{le-leb, lt-leb}
 use lib.ListN.{length}
-use Rattle.lifetimes.specs.declared.answer.Refusal.{Refusal}
-use Rattle.lifetimes.specs.declared.answer.Refusal.the-variants.{Malformed}
-use Rattle.lifetimes.specs.declared.answer.Verdict.the-variants as verdict
-use Rattle.lifetimes.specs.Refusals.{Outcome, Gives, Refuses, after}
-use Rattle.records.proofs.VerdictLaws.{refused-accepted}
+use Rattle.answers.specs.declared.Refusal.{Refusal}
+use Rattle.answers.specs.declared.Refusal.the-variants.{Malformed}
+use Rattle.answers.specs.declared.Verdict.the-variants as verdict
+use Rattle.answers.specs.Refusals.{Outcome, Gives, Refuses, bind}
+use Rattle.answers.proofs.VerdictLaws.{refused-accepted}
 use Rattle.elision.specs.declared.source.ElisionSource.the-variants.{SelfParam}
 use Rattle.elision.specs.declared.lowerer.Standing.{Standing}
 use Rattle.elision.specs.declared.lowerer.Standing.the-variants.{Aside}
@@ -80,7 +80,7 @@ module _ (self : Lowerer) {r : Run} where
       → r .verdict ≡ verdict.Accepted
       → ((a : Answer Seen) → r .seen ≡ a .left → r .lifetimes ≡ laid (a .given) → next ≡ keep a)
       → record { verdict = verdict.Accepted; lowerer = next; lifetimes = r .lifetimes }
-      ≡ stepped self (after o (λ a. Gives (answer (a .given) (keep a))))
+      ≡ stepped self (bind o (λ a. Gives (answer (a .given) (keep a))))
   given-run keep next (Gives a) e v f = rw (f a (ap (λ (x : Run). x .seen) e) (ap (λ (x : Run). x .lifetimes) e), e)
   given-run keep next (Refuses k) e v f = refused-accepted (sym (ap (λ (x : Run). x .verdict) e) ∙ v)
 
@@ -141,13 +141,13 @@ module _ (self : Lowerer) (names : List ℕ) (out : Bool) (words : List ℕ) whe
       said = rw (zero-sub (length words), append-nil words) at call
 
       made : oneStep names out (SelfType words) self
-          ≡ after (lowerWords names Aside words (self .seen))
+          ≡ bind (lowerWords names Aside words (self .seen))
           (λ a. Gives (answer (a .given) (record { seen = a .left; kept = true; own = laid (a .given) })))
       unfolding oneStep lowerStep
       made = rw (le-leb (length words) 16 h) (go (self .kept) k)
         where
           first : Outcome (Answer Lowerer)
-          first = after (lowerWords names Aside words (self .seen))
+          first = bind (lowerWords names Aside words (self .seen))
               (λ a. Gives (answer (a .given) (record { seen = a .left; kept = true; own = laid (a .given) })))
 
           go : (t : Bool) → t ≡ false → cond t (Gives (answer (valuesIn (self .own)) self)) first ≡ first

@@ -8,8 +8,8 @@ use lib.Dec.{eqb, leb}
 use lib.ListN.{length, take, drop}
 use lib.Seq.{length-take-le}
 use borrow.Author.Tests.{leb-true}
-use Rattle.lifetimes.specs.declared.answer.Refusal.the-variants.{Malformed}
-use Rattle.lifetimes.specs.declared.answer.Verdict.the-variants as verdict
+use Rattle.answers.specs.declared.Refusal.the-variants.{Malformed}
+use Rattle.answers.specs.declared.Verdict.the-variants as verdict
 use Rattle.records.specs.Reading.{Reading, readWord, readLifetimes}
 use Rattle.records.proofs.ReadingLaws.{Holds, read, fails, holds-cond, holds-onward, holds-read}
 use Rattle.elision.specs.declared.steps.StepAt.{StepAt}

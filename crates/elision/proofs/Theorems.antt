@@ -1,9 +1,9 @@
 -- The main theorems: for each statement of specs/Theorems.antt a term of exactly its type, and nothing else.
 use mathlib.Core.Path.{refl, sym, ap, _∙_}
 use native.Mathlib.Omega.{arith}
-use Rattle.lifetimes.specs.Refusals as refusals
+use Rattle.answers.specs.Refusals as refusals
 use Rattle.lifetimes.specs.Env as hir
-use Rattle.lifetimes.proofs.RefusalLaws.{due-given, due-refused, refused-due, given-due}
+use Rattle.answers.proofs.RefusalLaws.{due-given, due-refused, refused-due, given-due}
 use Rattle.records.specs.Reading as reading
 use Rattle.ast_lifetimes.specs.Env as env
 use Rattle.elision.specs.Steps as steps

@@ -5,9 +5,9 @@ use mathlib.Core.Path.{_≡_, refl, sym, ap, _∙_}
 use mathlib.Core.List.{List, [], _∷_}
 use native.Mathlib.Omega.{arith}
 use lib.ListN.{length, drop, length-drop}
-use Rattle.lifetimes.specs.declared.answer.Refusal.the-variants.{Malformed}
-use Rattle.lifetimes.specs.declared.answer.Verdict.the-variants as verdict
-use Rattle.lifetimes.specs.Refusals.{after}
+use Rattle.answers.specs.declared.Refusal.the-variants.{Malformed}
+use Rattle.answers.specs.declared.Verdict.the-variants as verdict
+use Rattle.answers.specs.Refusals.{bind}
 use Rattle.records.specs.declared.End.{End}
 use Rattle.records.specs.declared.End.the-variants.{At, Missing}
 use Rattle.records.specs.Reading.{Reading, Read, Fails}
@@ -25,7 +25,7 @@ torn s = record { verdict = verdict.Refused Malformed; lowerer = s; lifetimes = 
 
 -- over whatever is read
 abbrev answers : List ℕ → Bool → Lowerer → Reading Step → Stepped
-answers names out s reading = stepped s (after (wholeStep reading) (λ step. oneStep names out step s))
+answers names out s reading = stepped s (bind (wholeStep reading) (λ step. oneStep names out step s))
 
 module _ (names : List ℕ) (out : Bool) (words : List ℕ) (s : Lowerer) where
   no-step : {reading : Reading Step} → EndsAt words 0 reading Missing → torn s ≡ answers names out s reading

@@ -5,9 +5,9 @@ use mathlib.Core.Bool.{Bool, true, false}
 use mathlib.Core.Path.{_≡_}
 use mathlib.Core.List.{List, [], _∷_}
 use lib.ListN.{length}
-use Rattle.lifetimes.specs.declared.answer.Refusal.the-variants.{Undeclared, NoSource, Ambiguous}
-use Rattle.lifetimes.specs.declared.answer.Verdict.the-variants.{Refused}
-use Rattle.lifetimes.specs.Refusals.{Outcome, Gives, Refuses, over}
+use Rattle.answers.specs.declared.Refusal.the-variants.{Undeclared, NoSource, Ambiguous}
+use Rattle.answers.specs.declared.Verdict.the-variants.{Refused}
+use Rattle.answers.specs.Refusals.{Outcome, Gives, Refuses, over}
 use Rattle.ast_lifetimes.specs.Env.{envOf}
 use Rattle.elision.specs.declared.lowerer.Stepped.{Stepped}
 use Rattle.elision.specs.Steps.{NoSelf, stepsOf}

@@ -7,15 +7,15 @@ use mathlib.Core.List.{List, [], _∷_, map}
 use lib.Dec.{ltb}
 use lib.ListN.{length, take, drop}
 use lib.Seq.{sets}
-use Rattle.lifetimes.specs.declared.answer.Verdict.the-variants as verdict
+use Rattle.answers.specs.declared.Verdict.the-variants as verdict
 use Rattle.lifetimes.specs.declared.maybe_static.MaybeStatic.{MaybeStatic}
 use Rattle.lifetimes.specs.declared.maybe_static.MaybeStatic.the-variants.{Static}
-use Rattle.lifetimes.specs.declared.answer.Refusal.{Refusal}
-use Rattle.lifetimes.specs.declared.answer.Refusal.the-variants.{Malformed}
+use Rattle.answers.specs.declared.Refusal.{Refusal}
+use Rattle.answers.specs.declared.Refusal.the-variants.{Malformed}
 use Rattle.lifetimes.specs.declared.maybe_static.LoweredWord.{LoweredWord}
 use Rattle.lifetimes.specs.declared.maybe_static.LoweredWord.the-variants.{Word, Absent}
 use Rattle.lifetimes.specs.LoweredWords.{wordAnswer}
-use Rattle.lifetimes.specs.Refusals.{Outcome, Gives, Refuses}
+use Rattle.answers.specs.Refusals.{Outcome, Gives, Refuses}
 use Rattle.records.specs.declared.End.the-variants as end
 use Rattle.records.specs.Reading.{Reading, Read, Fails}
 use Rattle.records.specs.Ends.{EndsAt}

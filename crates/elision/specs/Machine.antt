@@ -6,12 +6,12 @@ use mathlib.Core.Bool.{Bool, true, false, cond, _&&_}
 use mathlib.Core.List.{List, [], _∷_, _++_, map}
 use lib.Dec.{eqb, leb}
 use lib.ListN.{length, take, replicate}
-use Rattle.lifetimes.specs.declared.answer.Refusal.the-variants.{Malformed, Undeclared, Full, NoSource, Ambiguous}
-use Rattle.lifetimes.specs.declared.answer.Verdict.the-variants as verdict
+use Rattle.answers.specs.declared.Refusal.the-variants.{Malformed, Undeclared, Full, NoSource, Ambiguous}
+use Rattle.answers.specs.declared.Verdict.the-variants as verdict
 use Rattle.lifetimes.specs.declared.maybe_static.MaybeStatic.{MaybeStatic}
 use Rattle.lifetimes.specs.declared.maybe_static.MaybeStatic.the-variants.{Static, NonStatic}
 use Rattle.lifetimes.specs.Numbers.{lifetime}
-use Rattle.lifetimes.specs.Refusals.{Outcome, Gives, Refuses, after}
+use Rattle.answers.specs.Refusals.{Outcome, Gives, Refuses, bind}
 use Rattle.ast_lifetimes.specs.Env.{place, isDeclared}
 use Rattle.elision.specs.declared.source.ElisionSource.{ElisionSource}
 use Rattle.elision.specs.declared.source.ElisionSource.the-variants.{NoBorrows, SelfParam, OneParam}
@@ -47,8 +47,8 @@ answer ls s = record { given = ls; left = s }
 unfoldable pub inTurn : {A S : Type 0} → (A → S → Outcome (Answer S)) → List A → S → Outcome (Answer S)
 inTurn step [] s = Gives (answer [] s)
 inTurn step (a ∷ l) s =
-    after (step a s)
-    (λ first. after (inTurn step l (first .left)) (λ rest. Gives (answer (first .given ++ rest .given) (rest .left))))
+    bind (step a s)
+    (λ first. bind (inTurn step l (first .left)) (λ rest. Gives (answer (first .given ++ rest .given) (rest .left))))
 
 -- One lifetime
 
@@ -107,14 +107,14 @@ laid ls = record { n = length ls; list = map lowered ls ++ replicate (16 - lengt
 
 abbrev pub wordsStep : List ℕ → Standing → List ℕ → Lowerer → Outcome (Answer Lowerer)
 wordsStep names st words s =
-    after (lowerWords names st words (s .seen))
+    bind (lowerWords names st words (s .seen))
     (λ a. Gives (answer (a .given) (record { seen = a .left; kept = s .kept; own = s .own })))
 
 -- the `Self` type: its lifetimes are made once, and kept
 abbrev pub selfStep : List ℕ → List ℕ → Lowerer → Outcome (Answer Lowerer)
 selfStep names words s =
     cond (s .kept) (Gives (answer (valuesIn (s .own)) s))
-    (after (lowerWords names Aside words (s .seen))
+    (bind (lowerWords names Aside words (s .seen))
     (λ a. Gives (answer (a .given) (record { seen = a .left; kept = true; own = laid (a .given) }))))
 
 unfoldable pub lowerStep : List ℕ → Bool → Step → Lowerer → Outcome (Answer Lowerer)
@@ -144,7 +144,7 @@ firstOr (l ∷ ls) = l
 
 unfoldable pub selfRef : List ℕ → ℕ → Outcome (Answer Lowerer)
 selfRef names word =
-    after (lowerWord names Aside word (unused names .seen))
+    bind (lowerWord names Aside word (unused names .seen))
     (λ a. Gives
     (answer (a .given)
     (record {
@@ -169,7 +169,7 @@ wholeStep (Read step (word ∷ words)) = Refuses Malformed
 wholeStep Fails = Refuses Malformed
 
 unfoldable pub wordedStep : List ℕ → Bool → List ℕ → Lowerer → Outcome (Answer Lowerer)
-wordedStep names out words s = after (wholeStep (readStep words)) (λ step. oneStep names out step s)
+wordedStep names out words s = bind (wholeStep (readStep words)) (λ step. oneStep names out step s)
 
 -- what is answered where the lowerer is lent
 abbrev pub stepAnswer : Stepped → StepAnswer
@@ -190,7 +190,7 @@ runSteps names out steps s = inTurn (lowerStep names out) steps s
 -- from the new lowerer, self, then the steps, then the returns
 unfoldable pub runMethod : List ℕ → Receiver → List Step → List Step → Outcome Method
 runMethod names self steps returns =
-    after (lowerSelf names self) (λ a.
-    after (runSteps names false steps (a .left)) (λ b.
-    after (runSteps names true returns (b .left)) (λ c.
+    bind (lowerSelf names self) (λ a.
+    bind (runSteps names false steps (a .left)) (λ b.
+    bind (runSteps names true returns (b .left)) (λ c.
     Gives (record { self = a .given; steps = b .given; returns = c .given; count = c .left .seen .count }))))

@@ -8,11 +8,11 @@ use mathlib.Core.Bool.{Bool, true, false, cond, _&&_, _||_, not}
 use mathlib.Core.List.{List, [], _∷_, _++_, map}
 use lib.Dec.{eqb, leb}
 use lib.ListN.{length, replicate}
-use Rattle.lifetimes.specs.declared.answer.Refusal.the-variants.{Undeclared, Full, NoSource, Ambiguous}
+use Rattle.answers.specs.declared.Refusal.the-variants.{Undeclared, Full, NoSource, Ambiguous}
 use Rattle.lifetimes.specs.declared.maybe_static.MaybeStatic.{MaybeStatic}
 use Rattle.lifetimes.specs.declared.maybe_static.MaybeStatic.the-variants.{Static, NonStatic}
 use Rattle.lifetimes.specs.Numbers.{lifetime}
-use Rattle.lifetimes.specs.Refusals.{Check, check, Outcome, Gives, Refuses, unless}
+use Rattle.answers.specs.Refusals.{Check, check, Outcome, Gives, Refuses, unless}
 use Rattle.ast_lifetimes.specs.Shapes.{isName}
 use Rattle.ast_lifetimes.specs.Env.{place, isDeclared}
 use Rattle.elision.specs.declared.lowerer.Standing.{Standing}

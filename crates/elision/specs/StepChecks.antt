@@ -5,8 +5,8 @@ use Prim.Native.Nat.{ℕ, suc, _+_}
 use mathlib.Core.Bool.{Bool, true, false, cond, _&&_, not}
 use mathlib.Core.List.{List, [], _∷_}
 use lib.Dec.{eqb, leb}
-use Rattle.lifetimes.specs.declared.answer.Refusal.the-variants.{Malformed, Undeclared, Full, NoSource, Ambiguous}
-use Rattle.lifetimes.specs.Refusals.{Check, check}
+use Rattle.answers.specs.declared.Refusal.the-variants.{Malformed, Undeclared, Full, NoSource, Ambiguous}
+use Rattle.answers.specs.Refusals.{Check, check}
 use Rattle.records.specs.Reading.{Reading, Read, Fails}
 use Rattle.ast_lifetimes.specs.Shapes.{isName}
 use Rattle.ast_lifetimes.specs.Env.{isDeclared}

@@ -9,12 +9,12 @@ ghost use Rattle.elision.specs.Rfc.{padded, standingIn};
 ghost use Rattle.elision.specs.Machine.{visited, newLifetime, lowerAnonymous, lowerWord, lowerWords, unused};
 ghost use Rattle.elision.specs.Machine.{selfRef, oneStep, laid, valuesIn, stepped};
 ghost use Rattle.elision.specs.Inner.{worded, ran, atMost16};
-ghost use Rattle.lifetimes.specs.Lent.{held};
+ghost use Rattle.answers.specs.Lent.{held};
 use super::source::ElisionSource;
+use answers::Refusal;
+use answers::Verdict;
 use lifetimes::Lifetime;
 use lifetimes::MaybeStatic;
-use lifetimes::Refusal;
-use lifetimes::Verdict;
 use records::End;
 
 // How a lifetime stands in a method.

@@ -6,7 +6,7 @@
 ghost use mathlib.Core.Path.{_≡_};
 ghost use mathlib.Core.Bool.{true};
 ghost use mathlib.Core.List.{[]};
-ghost use Rattle.lifetimes.specs.Lent.{held, room, left};
+ghost use Rattle.answers.specs.Lent.{held, room, left};
 ghost use Rattle.lifetimes.specs.Env.{envOf, made};
 ghost use Rattle.records.specs.Reading.{shapeVerdict};
 ghost use Rattle.elision.specs.Steps.{receiverOf, stepsInShape, stepsOf};
@@ -18,9 +18,9 @@ use super::put::put_receiver;
 use super::put::put_record;
 use super::steps::self_shape;
 use super::steps::steps_shape;
+use answers::Refusal;
+use answers::Verdict;
 use lifetimes::Bound;
-use lifetimes::Refusal;
-use lifetimes::Verdict;
 use records::End;
 
 // What `lower` answers: how many words each slice was written, and the method's environment. Refused, none, and an

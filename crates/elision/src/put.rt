@@ -12,7 +12,7 @@ ghost use Rattle.elision.specs.Steps.{receiverOf, stepsInShape, stepsOf}
 ghost use Rattle.elision.specs.Rfc.{padded, standingIn};
 ghost use Rattle.elision.specs.Machine.{lowerWords, lowerSelf, wordsStep, selfStep, runSteps};
 ghost use Rattle.elision.specs.Inner.{shown, Shows, Lowers, Puts, PutsOne, PutsStep};
-ghost use Rattle.lifetimes.specs.Lent.{held, left};
+ghost use Rattle.answers.specs.Lent.{held, left};
 use super::lowerer::Lowerer;
 use super::lowerer::Seen;
 use super::lowerer::Standing;
@@ -23,10 +23,10 @@ use super::lowerer::word_or_anonymous;
 use super::source::ElisionSource;
 use super::steps::StepAt;
 use super::steps::read_step;
+use answers::Refusal;
+use answers::Verdict;
 use lifetimes::LoweredWord;
 use lifetimes::MaybeStatic;
-use lifetimes::Refusal;
-use lifetimes::Verdict;
 use records::End;
 
 // Some words lowered and stored: what is seen then, and the place behind them; refused, what was seen before and the

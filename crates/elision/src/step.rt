@@ -7,7 +7,7 @@ ghost use lib.ListN.{drop};
 ghost use Rattle.elision.specs.Steps.{readStep};
 ghost use Rattle.elision.specs.Inner.{takes};
 ghost use Rattle.elision.specs.Machine.{stepped, wordedStep, stepAnswer, inputThenOutput};
-ghost use Rattle.lifetimes.specs.Lent.{held, left};
+ghost use Rattle.answers.specs.Lent.{held, left};
 use super::lowerer::Lifetimes;
 use super::lowerer::Lowerer;
 use super::lowerer::Stepped;
@@ -15,8 +15,8 @@ use super::lowerer::refused;
 use super::steps::StepAt;
 use super::steps::read_step;
 use super::steps::step_end;
-use lifetimes::Refusal;
-use lifetimes::Verdict;
+use answers::Refusal;
+use answers::Verdict;
 use records::End;
 
 // What a step on a lent lowerer answers: the lifetimes; refused, none.

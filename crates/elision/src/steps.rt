@@ -1,13 +1,13 @@
 // The records `self`, `steps` and `returns`: their shape.
 ghost use mathlib.Core.Path.{_≡_};
 ghost use lib.ListN.{drop};
-ghost use Rattle.lifetimes.specs.Lent.{held};
+ghost use Rattle.answers.specs.Lent.{held};
 ghost use Rattle.records.specs.Reading.{shapeVerdict};
 ghost use Rattle.records.specs.Ends.{EndsAt};
 ghost use Rattle.elision.specs.Steps.{readStep, selfInShape, stepsInShape};
 ghost use Rattle.elision.specs.Inner.{StandsAt};
-use lifetimes::Refusal;
-use lifetimes::Verdict;
+use answers::Refusal;
+use answers::Verdict;
 use records::End;
 use records::lifetimes_end;
 

@@ -5,9 +5,9 @@ use mathlib.Core.List.{List, [], _∷_, _++_, flatMap}
 use native.Mathlib.Omega.{arith}
 use borrow.Author.Tests.{le-ltb}
 use lib.ListN.{length}
-use Rattle.lifetimes.specs.Refusals.{Check, Outcome, Gives, Refuses, unless, NoneDue, next, end}
-use Rattle.lifetimes.specs.Lent.{roomCheck}
-use Rattle.lifetimes.proofs.RefusalLaws.{due-given, due-refused, given-due, refused-due, first-more, none-more}
+use Rattle.answers.specs.Refusals.{Check, Outcome, Gives, Refuses, unless, NoneDue, next, end}
+use Rattle.answers.specs.Lent.{roomCheck}
+use Rattle.answers.proofs.RefusalLaws.{due-given, due-refused, given-due, refused-due, first-more, none-more}
 use Rattle.sheet.specs.Text.{Records}
 use Rattle.sheet.specs.Reading.{sheetOf}
 use Rattle.borrowing_param.specs.Edges.{edgeWords}

@@ -5,10 +5,10 @@ use mathlib.Core.List.{List, [], _∷_, _++_}
 use native.Mathlib.Omega.{arith}
 use borrow.Author.Tests.{le-ltb}
 use lib.ListN.{length}
-use Rattle.lifetimes.specs.declared.answer.Refusal.the-variants.{Malformed, Duplicate, Undeclared, Full, NoSource}
-use Rattle.lifetimes.specs.declared.answer.Refusal.the-variants.{Ambiguous, Mismatch, OutOfRange, NoRoom, Unreadable, Retired}
-use Rattle.lifetimes.specs.Refusals.{next, end}
-use Rattle.lifetimes.specs.Lent.{roomCheck}
+use Rattle.answers.specs.declared.Refusal.the-variants.{Malformed, Duplicate, Undeclared, Full, NoSource}
+use Rattle.answers.specs.declared.Refusal.the-variants.{Ambiguous, Mismatch, OutOfRange, NoRoom, Unreadable, Retired}
+use Rattle.answers.specs.Refusals.{next, end}
+use Rattle.answers.specs.Lent.{roomCheck}
 use Rattle.sheet.specs.Reading.{sheetOf}
 use Rattle.borrowing_param.specs.SheetMethod.{sheetRefusals}
 use Rattle.borrowing_param.specs.Borrows.{sheetBorrows, roomChecks}

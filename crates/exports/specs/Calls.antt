@@ -5,8 +5,8 @@ use Prim.Native.Nat.{ℕ}
 use mathlib.Core.Path.{_≡_}
 use mathlib.Core.List.{List, [], _∷_, _++_}
 use lib.ListN.{length}
-use Rattle.lifetimes.specs.Refusals.{Outcome, Gives, Refuses, unless, numberOf, over}
-use Rattle.lifetimes.specs.Lent.{Slice, Fills, roomCheck}
+use Rattle.answers.specs.Refusals.{Outcome, Gives, Refuses, unless, numberOf, over}
+use Rattle.answers.specs.Lent.{Slice, Fills, roomCheck}
 use Rattle.sheet.specs.Reading.{sheetOf}
 use Rattle.borrowing_param.specs.SheetMethod.{sheetRefusals}
 use Rattle.borrowing_param.specs.Borrows.{Borrows, sheetBorrows, roomChecks, usedWords, answerWords, edgesWords}

@@ -1,11 +1,11 @@
 // A sheet's listing, with its length in a word beside it.
 ghost use Prim.Native.Nat.{ℕ};
 ghost use mathlib.Core.Path.{_≡_};
-ghost use Rattle.lifetimes.specs.Lent.{held, room, Fills};
-ghost use Rattle.lifetimes.specs.Refusals.{Refuses};
+ghost use Rattle.answers.specs.Lent.{held, room, Fills};
+ghost use Rattle.answers.specs.Refusals.{Refuses};
 ghost use Rattle.exports.specs.Calls.{listingTo, ListingAnswers};
-use lifetimes::Listed;
-use lifetimes::Refusal;
+use answers::Listed;
+use answers::Refusal;
 use listing::listing;
 
 // Write the listing of a sheet to the first slice and its length in bytes to the first word of the second. Refused as

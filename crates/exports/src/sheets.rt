@@ -3,13 +3,13 @@ ghost use Prim.Native.Nat.{ℕ, _≤_, _<_};
 ghost use mathlib.Core.Path.{_≡_};
 ghost use mathlib.Core.List.{[], _∷_, _++_};
 ghost use lib.ListN.{length, drop};
-ghost use Rattle.lifetimes.specs.Refusals.{Refuses};
-ghost use Rattle.lifetimes.specs.Lent.{held, room, left, Fills};
+ghost use Rattle.answers.specs.Refusals.{Refuses};
+ghost use Rattle.answers.specs.Lent.{held, room, left, Fills};
 ghost use Rattle.borrowing_param.specs.Borrows.{usedWords, answerWords, edgesWords};
 ghost use Rattle.exports.specs.Calls.{sheetTo, SheetAnswers};
+use answers::Refusal;
+use answers::Verdict;
 use borrowing_param::borrow_sheet;
-use lifetimes::Refusal;
-use lifetimes::Verdict;
 
 // Write a sheet's used lifetimes, ascending, to the first slice; the number of each parameter's answer to the second;
 // the edges, five words each in listing order, to the third; and to the fourth how many lifetimes, parameters and edges

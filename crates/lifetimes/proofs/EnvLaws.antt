@@ -11,13 +11,13 @@ use borrow.Author.Tests.{ltb-true, ltb-false, lt-ltb, le-ltb, not-false}
 use lib.Dec.{ltb}
 use lib.ListN.{length, replicate}
 use lib.Seq.{take-append-seam, take-suc-set}
-use Rattle.lifetimes.specs.declared.answer.Refusal.the-variants.{Full, OutOfRange}
+use Rattle.answers.specs.declared.Refusal.the-variants.{Full, OutOfRange}
 use Rattle.lifetimes.specs.declared.env.Bound.{Bound}
 use Rattle.lifetimes.specs.declared.env.LifetimeEnv.{LifetimeEnv}
-use Rattle.lifetimes.specs.Refusals.{Gives, unless, FirstDue, here, later, NoneDue, end, next}
+use Rattle.answers.specs.Refusals.{Gives, unless, FirstDue, here, later, NoneDue, end, next}
 use Rattle.lifetimes.specs.Env.{above, boundsOf, bothBelow, allBelow, limitChecks, envChecks, envOf, withBound}
 use Rattle.lifetimes.specs.Walk.{near, far}
-use Rattle.lifetimes.proofs.RefusalLaws.{given-due, none-first, none-rest}
+use Rattle.answers.proofs.RefusalLaws.{given-due, none-first, none-rest}
 
 pub all-below : (n : ℕ) (bs : List Bound) → allBelow n bs ≡ true → (b : Bound) → List·Memᴰ b bs → (b .longer < n) × (b .shorter < n)
 unfolding allBelow

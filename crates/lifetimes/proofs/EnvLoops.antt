@@ -11,19 +11,19 @@ use borrow.Author.Tests.{lt-ltb, le-ltb, le-leb, lt-leb, ltb-true}
 use lib.Dec.{ltb}
 use lib.ListN.{length, getD, drop, length-take, drop-of-length-le}
 use lib.Seq.{getD-take, drop-cons}
-use Rattle.lifetimes.specs.declared.answer.Refusal.{Refusal}
-use Rattle.lifetimes.specs.declared.answer.Refusal.the-variants.{Full, OutOfRange}
-use Rattle.lifetimes.specs.declared.answer.Verdict.{Verdict}
-use Rattle.lifetimes.specs.declared.answer.Verdict.the-variants.{Accepted, Refused}
+use Rattle.answers.specs.declared.Refusal.{Refusal}
+use Rattle.answers.specs.declared.Refusal.the-variants.{Full, OutOfRange}
+use Rattle.answers.specs.declared.Verdict.{Verdict}
+use Rattle.answers.specs.declared.Verdict.the-variants.{Accepted, Refused}
 use Rattle.lifetimes.specs.declared.env.Bound.{Bound}
 use Rattle.lifetimes.specs.declared.env.LifetimeEnv.{LifetimeEnv}
-use Rattle.lifetimes.specs.Refusals.{Check, check, unless, FirstDue, here, later, NoneDue, end, next}
-use Rattle.lifetimes.specs.Lent.{verdictOf}
+use Rattle.answers.specs.Refusals.{Check, check, unless, FirstDue, here, later, NoneDue, end, next}
+use Rattle.answers.specs.Lent.{verdictOf}
 use Rattle.lifetimes.specs.Env.{above, boundsOf, bothBelow, allBelow, envChecks, pushChecks, withBound, pushBound}
 use Rattle.lifetimes.specs.Env.{made}
 use Rattle.lifetimes.proofs.EnvLaws.{valid}
-use Rattle.lifetimes.proofs.RefusalLaws.{due-given, due-refused, refused-first, accepted-none, first-more}
-use Rattle.lifetimes.proofs.RefusalLaws.{first-after, none-more}
+use Rattle.answers.proofs.RefusalLaws.{due-given, due-refused, refused-first, accepted-none, first-more}
+use Rattle.answers.proofs.RefusalLaws.{first-after, none-more}
 
 -- ---- reading the bounds, from the first to the last
 

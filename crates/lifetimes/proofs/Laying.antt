@@ -7,20 +7,20 @@ use native.Mathlib.Omega.{arith}
 use native.Mathlib.Numerals.{add-one}
 use lib.ListN.{length, set, length-append}
 use lib.Seq.{sets}
-use Rattle.lifetimes.specs.Ranges.{ascending}
+use Rattle.answers.specs.Lists.{range}
 use Rattle.lifetimes.specs.Walk.{LastFirst, traversal, reachSet}
-use Rattle.lifetimes.specs.Reach.{endsFrom}
+use Rattle.answers.specs.Lists.{endsFrom}
 use Rattle.lifetimes.specs.Index.{Graph, Within, listsFrom, setsFrom, Measures, Lays}
 use Rattle.lifetimes.proofs.ReachLaws.{traversal-few}
-use Rattle.lifetimes.proofs.Copying.{sets-append}
+use Rattle.answers.proofs.Copying.{sets-append}
 
 -- the first of what is left, and nothing where nothing is left
-ascending-next : (x count : ℕ) → x < count → ascending x (count - x) ≡ x ∷ ascending (x + 1) (count - (x + 1))
-unfolding ascending
+ascending-next : (x count : ℕ) → x < count → range x (count - x) ≡ x ∷ range (x + 1) (count - (x + 1))
+unfolding range
 ascending-next x count h = let e : count - x ≡ suc (count - (x + 1)) = omega arith in rw (e, add-one x)
 
-ascending-none : (x count : ℕ) → count ≤ x → ascending x (count - x) ≡ []
-unfolding ascending
+ascending-none : (x count : ℕ) → count ≤ x → range x (count - x) ≡ []
+unfolding range
 ascending-none x count h = let e : count - x ≡ 0 = omega arith in rw e
 
 -- the list of a lifetime, and its set
@@ -113,7 +113,7 @@ module _ {g : Graph} {count : ℕ} {words₀ ends₀ reach₀ words ends reach :
 
 -- no list is longer than there are lifetimes, so as many words for each of them are enough
 pub lists-few : (g : Graph) (limit : ℕ) → Within g limit → (x n : ℕ) → x + n ≤ limit → length (flatten (listsFrom g x n)) ≤ limit * n
-unfolding flatten ascending
+unfolding flatten range
 lists-few g limit w x zero h = omega arith
 lists-few g limit w x (suc n) h =
     rw (length-append, mul-suc)

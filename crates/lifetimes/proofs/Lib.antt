@@ -2,8 +2,6 @@
 -- Of definitions:
 pub mod SetLaws
 pub mod WordLaws
-pub mod RefusalLaws
-pub mod Answering
 pub mod EnvLaws
 pub mod NeighbourLaws
 pub mod ReverseLaws
@@ -23,7 +21,6 @@ pub mod PairLaws
 pub mod Linking
 pub mod Skipping
 pub mod Walking
-pub mod Copying
 pub mod Laying
 -- Of walks by hand:
 pub mod LinkedView

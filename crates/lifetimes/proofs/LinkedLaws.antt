@@ -8,15 +8,15 @@ use native.Mathlib.Omega.{arith}
 use borrow.Author.Tests.{eq-eqb, ne-eqb, lt-ltb, le-ltb}
 use lib.ListN.{length, getD, drop, drop-of-length-le}
 use lib.Seq.{drop-cons}
-use Rattle.lifetimes.specs.declared.answer.Refusal.the-variants.{Mismatch}
+use Rattle.answers.specs.declared.Refusal.the-variants.{Mismatch}
 use Rattle.lifetimes.specs.declared.def_lifetime.DefLifetime.{DefLifetime}
 use Rattle.lifetimes.specs.declared.linked.LinkedWord.{LinkedWord}
 use Rattle.lifetimes.specs.declared.linked.LinkedWord.the-variants.{Word, Absent}
 use Rattle.lifetimes.specs.declared.linked.LinkedPair.{LinkedPair}
 use Rattle.lifetimes.specs.declared.linked.LinkedPair.the-variants as pair
-use Rattle.lifetimes.specs.Ranges.{ascending}
+use Rattle.answers.specs.Lists.{range}
 use Rattle.lifetimes.specs.Numbers.{defLifetime}
-use Rattle.lifetimes.specs.Refusals.{Gives, Refuses, unless}
+use Rattle.answers.specs.Refusals.{Gives, Refuses, unless}
 use Rattle.lifetimes.specs.Linked.{linkedWord, linkedPair, linkedAnswer, pairAnswer, pairsWithPlaces}
 
 module _ (words : List ℕ) (count : ℕ) where
@@ -64,12 +64,12 @@ module _ (words : List ℕ) (count : ℕ) where
             ⊎-elim (λ a. absurd (omega arith)) (λ b. absurd (omega arith)) later
 
     -- the pairs at n places from j on, to the last
-    pairs-from : (j n : ℕ) → j + n ≡ count → map (linkedPair words count) (ascending j n) ≡ pairsWithPlaces j (drop j words)
-    unfolding ascending pairsWithPlaces
+    pairs-from : (j n : ℕ) → j + n ≡ count → map (linkedPair words count) (range j n) ≡ pairsWithPlaces j (drop j words)
+    unfolding range pairsWithPlaces
     pairs-from j zero h = rw (drop-of-length-le words {i = j} (omega arith))
     pairs-from j (suc n) h = rw (drop-cons words j 0 (omega arith), pair-there j (omega arith), pairs-from (suc j) n (omega arith))
 
-    pub pairs-there : map (linkedPair words count) (ascending 0 count) ≡ pairsWithPlaces 0 words
+    pub pairs-there : map (linkedPair words count) (range 0 count) ≡ pairsWithPlaces 0 words
     pairs-there = pairs-from 0 count (omega arith)
 
   module _ (other : length words ≡ count → ⊥) where

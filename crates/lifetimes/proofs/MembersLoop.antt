@@ -10,11 +10,11 @@ use native.Mathlib.Omega.{arith}
 use lib.ListN.{length, set, length-set}
 use lib.Seq.{sets, sets-eq}
 use borrow.Author.Tests.{lt-ltb, le-ltb}
-use Rattle.lifetimes.specs.declared.answer.Refusal.the-variants.{NoRoom}
-use Rattle.lifetimes.specs.declared.answer.Listed.the-variants as listed
-use Rattle.lifetimes.specs.Ranges.{ascending, select}
-use Rattle.lifetimes.specs.Refusals.{Gives, Refuses, unless}
-use Rattle.lifetimes.specs.Lent.{counted, written}
+use Rattle.answers.specs.declared.Refusal.the-variants.{NoRoom}
+use Rattle.answers.specs.declared.Listed.the-variants as listed
+use Rattle.answers.specs.Lists.{range, filter}
+use Rattle.answers.specs.Refusals.{Gives, Refuses, unless}
+use Rattle.answers.specs.Lent.{counted, written}
 use Rattle.lifetimes.specs.Sets.{member, members, count, listMembers}
 
 -- ---- the members for a slice: refused where they are too many, all of them otherwise
@@ -35,19 +35,19 @@ too-short s slice e h =
 -- ---- the members from x on
 
 unfoldable pub left : ℕ → ℕ → List ℕ
-left s x = select (member s) (ascending x (64 - x))
+left s x = filter (member s) (range x (64 - x))
 
 module _ (s x : ℕ) (h : x < 64) where
-  row : ascending x (64 - x) ≡ x ∷ ascending (x + 1) (64 - (x + 1))
-  unfolding ascending
+  row : range x (64 - x) ≡ x ∷ range (x + 1) (64 - (x + 1))
+  unfolding range
   row = let e : 64 - x ≡ suc (64 - (x + 1)) = omega arith in rw (e, add-one x)
 
   left-member : member s x ≡ true → left s x ≡ x ∷ left s (x + 1)
-  unfolding left select
+  unfolding left filter
   left-member m = rw (row, m)
 
   left-other : member s x ≡ false → left s x ≡ left s (x + 1)
-  unfolding left select
+  unfolding left filter
   left-other m = rw (row, m)
 
 -- ---- the invariant: x is next, and the members before it stand in the slice's first places
@@ -93,7 +93,7 @@ module _ {s : ℕ} {entry out : List ℕ} {at x : ℕ} (inv : Listing s entry ou
 
   -- nothing is left
   done : 64 ≤ x → out ≡ sets entry 0 (members s)
-  unfolding left ascending select
+  unfolding left range filter
   done h = let e : x ≡ 64 = omega (arith, inv .within) in rw e at (inv .words)
 
   pub listing-end : {n : ℕ} → n ≡ count s → 64 ≤ x

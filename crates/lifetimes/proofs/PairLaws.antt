@@ -11,16 +11,16 @@ use borrow.Author.Tests.{eq-eqb, ne-eqb, lt-ltb, ltb-true}
 use lib.Dec.{ltb}
 use lib.ListN.{length, getD, drop, set, replicate, drop-of-length-le}
 use lib.Seq.{drop-cons, sets, sets-eq}
-use Rattle.lifetimes.specs.declared.answer.Refusal.{Refusal}
-use Rattle.lifetimes.specs.declared.answer.Refusal.the-variants.{Malformed}
-use Rattle.lifetimes.specs.declared.answer.Verdict.the-variants.{Accepted, Refused}
+use Rattle.answers.specs.declared.Refusal.{Refusal}
+use Rattle.answers.specs.declared.Refusal.the-variants.{Malformed}
+use Rattle.answers.specs.declared.Verdict.the-variants.{Accepted, Refused}
 use Rattle.lifetimes.specs.declared.env.Bound.{Bound}
 use Rattle.lifetimes.specs.declared.env.LifetimeEnv.{LifetimeEnv}
 use Rattle.lifetimes.specs.declared.env.Made.{Made}
-use Rattle.lifetimes.specs.Refusals.{FirstDue, here, later, NoneDue, next}
+use Rattle.answers.specs.Refusals.{FirstDue, here, later, NoneDue, next}
 use Rattle.lifetimes.specs.Env.{above, bothBelow, allBelow, limitChecks, pairsOf, newChecks, envOf, newEnv, made}
-use Rattle.lifetimes.proofs.RefusalLaws.{due-given, due-refused}
-use Rattle.lifetimes.proofs.Copying.{drop-replicate}
+use Rattle.answers.proofs.RefusalLaws.{due-given, due-refused}
+use Rattle.answers.proofs.Copying.{drop-replicate}
 
 -- ---- reading the pairs, from the first to the last
 

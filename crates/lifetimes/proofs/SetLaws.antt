@@ -18,25 +18,25 @@ use lib.ListN.{length, getD}
 use lib.Pow.{pow-pos, pow-lt, pow-mono, pow-add, shl-shr, shr-lt}
 use lib.Bits.{bitOr, or-shr, or-mod, or-lt, or-zero-r}
 use lib.Count.{ones, ones-step, ones-le}
-use Rattle.lifetimes.specs.Ranges.{ascending, select}
+use Rattle.answers.specs.Lists.{range, filter}
 use Rattle.lifetimes.specs.Sets.{member, insert, union, members, count, insertAll, setOf}
 
 -- ---- numbers in a row
 
-pub length-ascending : (x n : ℕ) → length (ascending x n) ≡ n
-unfolding ascending
+pub length-ascending : (x n : ℕ) → length (range x n) ≡ n
+unfolding range
 length-ascending x zero = refl
 length-ascending x (suc n) = ap suc (length-ascending (suc x) n)
 
-pub getD-ascending : (x n i d : ℕ) → i < n → getD (ascending x n) i d ≡ x + i
-unfolding ascending
+pub getD-ascending : (x n i d : ℕ) → i < n → getD (range x n) i d ≡ x + i
+unfolding range
 getD-ascending x zero i d h = absurd (omega arith)
 getD-ascending x (suc n) zero d h = omega arith
 getD-ascending x (suc n) (suc i) d h = let r = getD-ascending (suc x) n i d (omega arith) in omega arith
 
 -- what stands in the row: the numbers from x up to, not including, x + n
-pub ascending-has : (x n y : ℕ) → List·Memᴰ y (ascending x n) ↔ ((x ≤ y) × (y < x + n))
-unfolding ascending
+pub ascending-has : (x n y : ℕ) → List·Memᴰ y (range x n) ↔ ((x ≤ y) × (y < x + n))
+unfolding range
 ascending-has x zero y = (λ m. absurd (List·Memᴰ·not-nil m), λ h. absurd (omega arith))
 ascending-has x (suc n) y =
     let rest = ascending-has (suc x) n y in (
@@ -46,22 +46,22 @@ ascending-has x (suc n) y =
     )
 
 -- one more at the end
-pub ascending-snoc : (x n : ℕ) → ascending x (suc n) ≡ ascending x n ++ ((x + n) ∷ [])
-unfolding ascending
+pub ascending-snoc : (x n : ℕ) → range x (suc n) ≡ range x n ++ ((x + n) ∷ [])
+unfolding range
 ascending-snoc x zero = let e : x ≡ x + 0 = omega arith in ap (λ (k : ℕ). k ∷ []) e
 ascending-snoc x (suc n) =
     let e : suc x + n ≡ x + suc n = omega arith in
-    ap (λ (l : List ℕ). x ∷ l) (ascending-snoc (suc x) n ∙ ap (λ (k : ℕ). ascending (suc x) n ++ (k ∷ [])) e)
+    ap (λ (l : List ℕ). x ∷ l) (ascending-snoc (suc x) n ∙ ap (λ (k : ℕ). range (suc x) n ++ (k ∷ [])) e)
 
 -- ---- the entries that pass a test
 
-pub select-has : (f : ℕ → Bool) (l : List ℕ) (y : ℕ) → List·Memᴰ y (select f l) ↔ (List·Memᴰ y l × (f y ≡ true))
-unfolding select
+pub select-has : (f : ℕ → Bool) (l : List ℕ) (y : ℕ) → List·Memᴰ y (filter f l) ↔ (List·Memᴰ y l × (f y ≡ true))
+unfolding filter
 select-has f [] y = (λ m. absurd (List·Memᴰ·not-nil m), λ h. absurd (List·Memᴰ·not-nil (h .0)))
 select-has f (x ∷ l) y = go (f x) refl (select-has f l y)
   where
-    go : (t : Bool) → f x ≡ t → List·Memᴰ y (select f l) ↔ (List·Memᴰ y l × (f y ≡ true))
-        → List·Memᴰ y (cond t (x ∷ select f l) (select f l)) ↔ (List·Memᴰ y (x ∷ l) × (f y ≡ true))
+    go : (t : Bool) → f x ≡ t → List·Memᴰ y (filter f l) ↔ (List·Memᴰ y l × (f y ≡ true))
+        → List·Memᴰ y (cond t (x ∷ filter f l) (filter f l)) ↔ (List·Memᴰ y (x ∷ l) × (f y ≡ true))
     go true e rest = (
       λ m. ⊎-elim (λ q. (List·Memᴰ·head q, ap f q ∙ e)) (λ k. let r = rest .0 k in (List·Memᴰ·tail (r .0), r .1))
           (List·Memᴰ·cases-cons m),
@@ -72,39 +72,39 @@ select-has f (x ∷ l) y = go (f x) refl (select-has f l y)
       λ h. ⊎-elim (λ q. absurd (true≢false (sym (h .1) ∙ ap f q ∙ e))) (λ k. rest .1 (k, h .1)) (List·Memᴰ·cases-cons (h .0)),
     )
 
-pub select-append : (f : ℕ → Bool) (l m : List ℕ) → select f (l ++ m) ≡ select f l ++ select f m
-unfolding select
+pub select-append : (f : ℕ → Bool) (l m : List ℕ) → filter f (l ++ m) ≡ filter f l ++ filter f m
+unfolding filter
 select-append f [] m = refl
 select-append f (x ∷ l) m = go (f x) (select-append f l m)
   where
-    go : (t : Bool) → select f (l ++ m) ≡ select f l ++ select f m
-        → cond t (x ∷ select f (l ++ m)) (select f (l ++ m)) ≡ cond t (x ∷ select f l) (select f l) ++ select f m
+    go : (t : Bool) → filter f (l ++ m) ≡ filter f l ++ filter f m
+        → cond t (x ∷ filter f (l ++ m)) (filter f (l ++ m)) ≡ cond t (x ∷ filter f l) (filter f l) ++ filter f m
     go true r = ap (λ (k : List ℕ). x ∷ k) r
     go false r = r
 
-pub select-few : (f : ℕ → Bool) (l : List ℕ) → length (select f l) ≤ length l
-unfolding select
+pub select-few : (f : ℕ → Bool) (l : List ℕ) → length (filter f l) ≤ length l
+unfolding filter
 select-few f [] = omega arith
 select-few f (x ∷ l) = go (f x) (select-few f l)
   where
-    go : (t : Bool) → length (select f l) ≤ length l → length (cond t (x ∷ select f l) (select f l)) ≤ suc (length l)
+    go : (t : Bool) → length (filter f l) ≤ length l → length (cond t (x ∷ filter f l) (filter f l)) ≤ suc (length l)
     go true r = omega arith
     go false r = omega arith
 
 -- two tests that agree on the entries
-pub select-agree : (f g : ℕ → Bool) (l : List ℕ) → ((x : ℕ) → List·Memᴰ x l → f x ≡ g x) → select f l ≡ select g l
-unfolding select
+pub select-agree : (f g : ℕ → Bool) (l : List ℕ) → ((x : ℕ) → List·Memᴰ x l → f x ≡ g x) → filter f l ≡ filter g l
+unfolding filter
 select-agree f g [] h = refl
 select-agree f g (x ∷ l) h =
     rw (h x (List·Memᴰ·head refl), select-agree f g l (λ y m. h y (List·Memᴰ·tail m)))
 
 -- the entries selected stand in the order that they had
-select-pairwise : (f : ℕ → Bool) {l : List ℕ} → Pairwise _<_ l → Pairwise _<_ (select f l)
-unfolding select
+select-pairwise : (f : ℕ → Bool) {l : List ℕ} → Pairwise _<_ l → Pairwise _<_ (filter f l)
+unfolding filter
 select-pairwise f Pairwise·nil = Pairwise·nil
 select-pairwise f (Pairwise·cons {a = x} {l = l} h p) = go (f x) (select-pairwise f p)
   where
-    go : (t : Bool) → Pairwise _<_ (select f l) → Pairwise _<_ (cond t (x ∷ select f l) (select f l))
+    go : (t : Bool) → Pairwise _<_ (filter f l) → Pairwise _<_ (cond t (x ∷ filter f l) (filter f l))
     go true r = Pairwise·cons (λ y m. h y (∥∥₁-map m (λ d. select-has f l y .0 d .0))) r
     go false r = r
 
@@ -197,12 +197,12 @@ union-lt w s t hs ht = or-lt w s t hs ht
 pub members-has : (s x : ℕ) → List·Memᴰ x (members s) ↔ ((x < 64) × (member s x ≡ true))
 unfolding members
 members-has s x =
-    let tested = select-has (member s) (ascending 0 64) x in
+    let tested = select-has (member s) (range 0 64) x in
     let row = ascending-has 0 64 x in
     (λ m. let (k, e) = tested .0 m in let r = row .0 k in (omega arith, e), λ h. tested .1 (row .1 (omega arith, omega arith), h .1))
 
-ascending-pairwise : (x n : ℕ) → Pairwise _<_ (ascending x n)
-unfolding ascending
+ascending-pairwise : (x n : ℕ) → Pairwise _<_ (range x n)
+unfolding range
 ascending-pairwise x zero = Pairwise·nil
 ascending-pairwise x (suc n) =
     Pairwise·cons (λ y m. ∥∥₁-elim m le-prop (λ d. ascending-has (suc x) n y .0 d .0)) (ascending-pairwise (suc x) n)
@@ -217,19 +217,19 @@ members-once s = Pairwise·imp (λ a b h e. omega arith) (members-ascending s)
 
 pub members-few : (s : ℕ) → length (members s) ≤ 64
 unfolding members
-members-few s = omega (arith, select-few (member s) (ascending 0 64), length-ascending 0 64)
+members-few s = omega (arith, select-few (member s) (range 0 64), length-ascending 0 64)
 
 -- ---- how many
 
 -- one member more, counted over a row that has it once
-insert-before : (s x y n : ℕ) → x < y → select (member (insert s x)) (ascending y n) ≡ select (member s) (ascending y n)
+insert-before : (s x y n : ℕ) → x < y → filter (member (insert s x)) (range y n) ≡ filter (member s) (range y n)
 insert-before s x y n h =
-    select-agree (member (insert s x)) (member s) (ascending y n)
+    select-agree (member (insert s x)) (member s) (range y n)
     (λ z m. let r = ascending-has y n z .0 m in member-insert-other s x z (λ e. omega arith))
 
 insert-within : (s x y n : ℕ) → member s x ≡ false → y ≤ x → x < y + n
-    → length (select (member (insert s x)) (ascending y n)) ≡ length (select (member s) (ascending y n)) + 1
-unfolding ascending select
+    → length (filter (member (insert s x)) (range y n)) ≡ length (filter (member s) (range y n)) + 1
+unfolding range filter
 insert-within s x y zero m h k = absurd (omega arith)
 insert-within s x y (suc n) m h k = go (ℕ-discrete x y) (insert-within s x (suc y) n m)
   where
@@ -238,19 +238,19 @@ insert-within s x y (suc n) m h k = go (ℕ-discrete x y) (insert-within s x (su
     both false l l′ r = r
 
     go : Dec (x ≡ y)
-        → (suc y ≤ x → x < suc y + n → length (select (member (insert s x)) (ascending (suc y) n))
-        ≡ length (select (member s) (ascending (suc y) n)) + 1)
-        → length (cond (member (insert s x) y) (y ∷ select (member (insert s x)) (ascending (suc y) n))
-        (select (member (insert s x)) (ascending (suc y) n)))
-        ≡ length (cond (member s y) (y ∷ select (member s) (ascending (suc y) n)) (select (member s) (ascending (suc y) n))) + 1
+        → (suc y ≤ x → x < suc y + n → length (filter (member (insert s x)) (range (suc y) n))
+        ≡ length (filter (member s) (range (suc y) n)) + 1)
+        → length (cond (member (insert s x) y) (y ∷ filter (member (insert s x)) (range (suc y) n))
+        (filter (member (insert s x)) (range (suc y) n)))
+        ≡ length (cond (member s y) (y ∷ filter (member s) (range (suc y) n)) (filter (member s) (range (suc y) n))) + 1
     go (yes e) r = rw (← e, member-insert-same s x, m, insert-before s x (suc x) n (omega arith)) (omega arith)
     go (no a) r =
         rw (member-insert-other s x y a)
-        (both (member s y) (select (member (insert s x)) (ascending (suc y) n))
-        (select (member s) (ascending (suc y) n)) (r (omega arith) (omega arith)))
+        (both (member s y) (filter (member (insert s x)) (range (suc y) n))
+        (filter (member s) (range (suc y) n)) (r (omega arith) (omega arith)))
 
 pub count-empty : count 0 ≡ 0
-unfolding count members select ascending member
+unfolding count members filter range member
 count-empty = refl
 
 pub count-insert : (s x : ℕ) → x < 64 → member s x ≡ false → count (insert s x) ≡ count s + 1
@@ -259,23 +259,23 @@ count-insert s x h m = insert-within s x 0 64 m (omega arith) (omega arith)
 
 -- a row's numbers one higher, with a test that looks one lower
 select-shift : (f g : ℕ → Bool) (x n : ℕ) → ((y : ℕ) → f (suc y) ≡ g y)
-    → length (select f (ascending (suc x) n)) ≡ length (select g (ascending x n))
-unfolding ascending select
+    → length (filter f (range (suc x) n)) ≡ length (filter g (range x n))
+unfolding range filter
 select-shift f g x zero h = refl
 select-shift f g x (suc n) h = rw (h x) (go (g x) (select-shift f g (suc x) n h))
   where
-    go : (t : Bool) → length (select f (ascending (suc (suc x)) n)) ≡ length (select g (ascending (suc x) n))
-        → length (cond t (suc x ∷ select f (ascending (suc (suc x)) n)) (select f (ascending (suc (suc x)) n)))
-        ≡ length (cond t (x ∷ select g (ascending (suc x) n)) (select g (ascending (suc x) n)))
+    go : (t : Bool) → length (filter f (range (suc (suc x)) n)) ≡ length (filter g (range (suc x) n))
+        → length (cond t (suc x ∷ filter f (range (suc (suc x)) n)) (filter f (range (suc (suc x)) n)))
+        ≡ length (cond t (x ∷ filter g (range (suc x) n)) (filter g (range (suc x) n)))
     go true r = ap suc r
     go false r = r
 
-ones-row : (w s : ℕ) → s < 2 ^ w → ones s ≡ length (select (member s) (ascending 0 w))
-unfolding ascending select
+ones-row : (w s : ℕ) → s < 2 ^ w → ones s ≡ length (filter (member s) (range 0 w))
+unfolding range filter
 ones-row zero s h = omega (arith, ones-le 0 s h)
 ones-row (suc w) s h =
     rw (ones-step s, member-zero s, ones-row w (s / 2) (half-lt w s h), ← select-shift (member s) (member (s / 2)) 0 w (member-suc s))
-    (digit (s % 2) (select (member s) (ascending 1 w)) (omega arith))
+    (digit (s % 2) (filter (member s) (range 1 w)) (omega arith))
   where
     digit : (a : ℕ) (l : List ℕ) → a < 2 → a + length l ≡ length (cond (eqb a 1) (0 ∷ l) l)
     digit zero l k = omega arith
@@ -310,7 +310,7 @@ setOf-has l x =
 insert-same : (s x : ℕ) → ((y : ℕ) → y < 64 → x ≡ y → member s y ≡ true) → count (insert s x) ≡ count s
 unfolding count members
 insert-same s x h =
-    ap length (select-agree (member (insert s x)) (member s) (ascending 0 64)
+    ap length (select-agree (member (insert s x)) (member s) (range 0 64)
     (λ y m. go y (ascending-has 0 64 y .0 m .1) (ℕ-discrete x y)))
   where
     go : (y : ℕ) → y < 64 → Dec (x ≡ y) → member (insert s x) y ≡ member s y

@@ -1,32 +1,25 @@
 -- The main theorems, proved: for each statement of specs/Theorems.antt a term of exactly its type.
 use Prim.Native.Nat.{ℕ, _≤_, _<_}
-use mathlib.Core.Path.{refl, _∙_}
+use mathlib.Core.Path.{refl}
 use mathlib.Core.List.{List·Memᴰ}
 use native.Mathlib.Nat.{le-refl, le-trans}
 use native.Mathlib.Omega.{arith}
 use lib.IntN.{ℤ, pos}
 use lib.Signed.{_≤ℤ_, ≤ℤ-refl}
-use Rattle.lifetimes.specs.Refusals.{unless}
+use Rattle.answers.specs.Refusals.{unless}
 use Rattle.lifetimes.specs.Sets.{member, insert}
 use Rattle.lifetimes.specs.Env.{boundsOf, allBelow, envOf}
 use Rattle.lifetimes.specs.Walk.{Order, LastFirst, neighbours, unpushed, walkFor, walk, traversal, reachSet}
 use Rattle.lifetimes.specs.Reach.{listReach}
-use Rattle.lifetimes.specs.Theorems.{RefusedIfFirstDue, TraversalOrder, ReachIsOutlives, OutlivesIsForced}
+use Rattle.lifetimes.specs.Theorems.{TraversalOrder, ReachIsOutlives, OutlivesIsForced}
 use Rattle.lifetimes.specs.Theorems.{LinkedByPlace, ExamplesHold}
 use Rattle.lifetimes.proofs.SetLaws.{setOf-has}
-use Rattle.lifetimes.proofs.RefusalLaws.{due-given, due-refused, refused-due, given-due}
 use Rattle.lifetimes.proofs.EnvLaws.{valid, near-declared, far-declared}
 use Rattle.lifetimes.proofs.LinkedLaws.{word-there, word-past, pairs-there, pair-past, word-unlike, pair-unlike}
 use Rattle.lifetimes.proofs.IntegerLaws.{≤ℤ-trans, zero-one, not-one-zero}
 use Rattle.lifetimes.proofs.WalkLaws.{walk-nil, walk-seen, walk-new, pending-few}
 use Rattle.lifetimes.proofs.ReachLaws.{listed-toward, traversal-only, traversal-first, traversal-once}
 use Rattle.lifetimes.proofs.ReachLaws.{traversal-alone, outlives-forces, forced-outlives}
-
-pub refused-if-first-due : RefusedIfFirstDue
-refused-if-first-due A checks a = record {
-  refused = λ r. (refused-due a r checks, due-refused a);
-  given = λ b. (given-due a b checks, λ h. due-given a (h .0) ∙ rw (h .1));
-}
 
 pub traversal-order : TraversalOrder
 unfolding traversal

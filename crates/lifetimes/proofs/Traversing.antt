@@ -7,24 +7,25 @@ use native.Mathlib.Omega.{arith}
 use borrow.Author.Tests.{le-leb, lt-leb, le-ltb}
 use lib.ListN.{length, take, length-map}
 use lib.Seq.{sets, length-take-le}
-use Rattle.lifetimes.specs.declared.answer.Refusal.{Refusal}
-use Rattle.lifetimes.specs.declared.answer.Refusal.the-variants.{OutOfRange, NoRoom}
-use Rattle.lifetimes.specs.declared.answer.Verdict.the-variants as verdict
-use Rattle.lifetimes.specs.declared.answer.Listed.the-variants as listed
+use Rattle.answers.specs.declared.Refusal.{Refusal}
+use Rattle.answers.specs.declared.Refusal.the-variants.{OutOfRange, NoRoom}
+use Rattle.answers.specs.declared.Verdict.the-variants as verdict
+use Rattle.answers.specs.declared.Listed.the-variants as listed
 use Rattle.lifetimes.specs.declared.env.LifetimeEnv.{LifetimeEnv}
 use Rattle.lifetimes.specs.declared.reach.Lists.{Lists}
-use Rattle.lifetimes.specs.Ranges.{ascending}
-use Rattle.lifetimes.specs.Refusals.{FirstDue, here, later, NoneDue, end, next}
-use Rattle.lifetimes.specs.Lent.{counted, written}
+use Rattle.answers.specs.Lists.{range}
+use Rattle.answers.specs.Refusals.{FirstDue, here, later, NoneDue, end, next}
+use Rattle.answers.specs.Lent.{counted, written}
 use Rattle.lifetimes.specs.Env.{boundsOf, envChecks}
 use Rattle.lifetimes.specs.Walk.{Order, traversal, reachSet}
 use Rattle.lifetimes.specs.Index.{graphOf, listsFrom, Measures, Lays}
-use Rattle.lifetimes.specs.Reach.{listReach, allSets, noSets, reachSets, allLists, endsFrom, listsChecks}
+use Rattle.answers.specs.Lists.{endsFrom}
+use Rattle.lifetimes.specs.Reach.{listReach, allSets, noSets, reachSets, allLists, listsChecks}
 use Rattle.lifetimes.specs.Reach.{listWords, listEnds, listsAnswer}
 use Rattle.lifetimes.proofs.SetLaws.{length-ascending}
-use Rattle.lifetimes.proofs.RefusalLaws.{due-given, due-refused, first-more, first-after, none-more}
-use Rattle.lifetimes.proofs.Answering.{answers-refusal, answers-list, no-room, has-room}
-use Rattle.lifetimes.proofs.Copying.{sets-front, drop-replicate}
+use Rattle.answers.proofs.RefusalLaws.{due-given, due-refused, first-more, first-after, none-more}
+use Rattle.answers.proofs.LentLaws.{answers-refusal, answers-list, no-room, has-room}
+use Rattle.answers.proofs.Copying.{sets-front, drop-replicate}
 use Rattle.lifetimes.proofs.EnvLaws.{valid}
 use Rattle.lifetimes.proofs.Laying.{length-ends}
 
@@ -68,10 +69,10 @@ module _ (o : Order) (d : Bool) (e : LifetimeEnv) (x : ℕ) (slice : List ℕ) w
 
 -- the sets of all lifetimes, in an array of zeros
 sets-all : (d : Bool) (e : LifetimeEnv) → e .count ≤ 64 → (reach : List ℕ)
-    → reach ≡ sets noSets 0 (map (reachSet d (boundsOf e)) (ascending 0 (e .count))) → reach ≡ allSets d e
+    → reach ≡ sets noSets 0 (map (reachSet d (boundsOf e)) (range 0 (e .count))) → reach ≡ allSets d e
 unfolding allSets
 sets-all d e h reach is =
-    let all = map (reachSet d (boundsOf e)) (ascending 0 (e .count)) in
+    let all = map (reachSet d (boundsOf e)) (range 0 (e .count)) in
     let long : length all ≡ e .count = simp length-map (length-ascending 0 (e .count)) in
     is ∙ sets-front noSets all (omega (arith, long)) ∙ rw (long, drop-replicate {A = ℕ} (e .count) 64 0)
 

@@ -5,13 +5,13 @@ use mathlib.Core.Bool.{Bool, true, cond, _&&_, not}
 use mathlib.Core.List.{List, [], _∷_, _++_}
 use lib.Dec.{eqb, leb, ltb}
 use lib.ListN.{length, take, set, replicate}
-use Rattle.lifetimes.specs.declared.answer.Refusal.the-variants.{Malformed, Full, OutOfRange}
+use Rattle.answers.specs.declared.Refusal.the-variants.{Malformed, Full, OutOfRange}
 use Rattle.lifetimes.specs.declared.lifetime.Lifetime.{Lifetime}
 use Rattle.lifetimes.specs.declared.env.Bound.{Bound}
 use Rattle.lifetimes.specs.declared.env.LifetimeEnv.{LifetimeEnv}
 use Rattle.lifetimes.specs.declared.env.Made.{Made}
-use Rattle.lifetimes.specs.Refusals.{Check, check, Outcome, unless}
-use Rattle.lifetimes.specs.Lent.{verdictOf, resultOr}
+use Rattle.answers.specs.Refusals.{Check, check, Outcome, unless}
+use Rattle.answers.specs.Lent.{verdictOf, resultOr}
 
 -- l lasts at least as long as s
 abbrev pub above : ℕ → ℕ → Bound

@@ -16,11 +16,11 @@ use Rattle.lifetimes.specs.declared.walk.Next.{Next}
 use Rattle.lifetimes.specs.declared.walk.Next.the-variants.{Yield, Nothing}
 use Rattle.lifetimes.specs.declared.walk.Stepped.{Stepped}
 use Rattle.lifetimes.specs.declared.walk.Walked.{Walked}
-use Rattle.lifetimes.specs.Ranges.{ascending}
+use Rattle.answers.specs.Lists.{range}
 use Rattle.lifetimes.specs.Sets.{member}
 use Rattle.lifetimes.specs.Env.{above, boundsOf}
 use Rattle.lifetimes.specs.Walk.{near, far, Order, LastFirst, FirstFirst, traversal, reachSet}
-use Rattle.lifetimes.specs.Reach.{endsFrom}
+use Rattle.answers.specs.Lists.{endsFrom}
 
 -- a direction, and the bounds in the order in which they are linked
 pub record Graph : Type 0 where
@@ -126,10 +126,10 @@ pub record Complete (g : Graph) (start : ℕ) (held : List ℕ) (r : Walked) : T
 
 -- the lists of n lifetimes from x on, and their sets
 abbrev pub listsFrom : Graph → ℕ → ℕ → List (List ℕ)
-listsFrom g x n = map (traversal LastFirst (g .longer) (g .bounds)) (ascending x n)
+listsFrom g x n = map (traversal LastFirst (g .longer) (g .bounds)) (range x n)
 
 abbrev pub setsFrom : Graph → ℕ → ℕ → List ℕ
-setsFrom g x n = map (reachSet (g .longer) (g .bounds)) (ascending x n)
+setsFrom g x n = map (reachSet (g .longer) (g .bounds)) (range x n)
 
 abbrev pub Measurable : List ℕ → List ℕ → List ℕ → ℕ → ℕ → Type 0
 Measurable fars befores lasts declared count = ((g : Graph) × Indexed g fars befores lasts × Within g declared)

@@ -1,9 +1,6 @@
 -- Definitions that the contracts cite, and the statements of the main theorems.
-pub mod Ranges
 pub mod Numbers
 pub mod LoweredWords
-pub mod Refusals
-pub mod Lent
 pub mod Sets
 pub mod Env
 pub mod Walk

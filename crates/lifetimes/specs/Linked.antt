@@ -4,14 +4,14 @@ use mathlib.Core.Bool.{cond, not}
 use mathlib.Core.List.{List, [], _∷_}
 use lib.Dec.{eqb, ltb}
 use lib.ListN.{length, getD}
-use Rattle.lifetimes.specs.declared.answer.Refusal.the-variants.{Mismatch}
+use Rattle.answers.specs.declared.Refusal.the-variants.{Mismatch}
 use Rattle.lifetimes.specs.declared.def_lifetime.DefLifetime.{DefLifetime}
 use Rattle.lifetimes.specs.declared.linked.LinkedWord.{LinkedWord}
 use Rattle.lifetimes.specs.declared.linked.LinkedWord.the-variants.{Word, Absent, Refused}
 use Rattle.lifetimes.specs.declared.linked.LinkedPair.{LinkedPair}
 use Rattle.lifetimes.specs.declared.linked.LinkedPair.the-variants as pair
 use Rattle.lifetimes.specs.Numbers.{defLifetime}
-use Rattle.lifetimes.specs.Refusals.{Check, check, Outcome, Gives, Refuses, unless}
+use Rattle.answers.specs.Refusals.{Check, check, Outcome, Gives, Refuses, unless}
 
 -- refused where the words are not as many as the definition's lifetimes (7)
 abbrev pub linkedChecks : List ℕ → ℕ → List Check

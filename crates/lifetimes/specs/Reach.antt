@@ -4,13 +4,13 @@ use mathlib.Core.Bool.{Bool}
 use mathlib.Core.List.{List, [], _∷_, _++_, map, flatten}
 use lib.Dec.{leb}
 use lib.ListN.{length, replicate}
-use Rattle.lifetimes.specs.declared.answer.Refusal.the-variants.{OutOfRange}
+use Rattle.answers.specs.declared.Refusal.the-variants.{OutOfRange}
 use Rattle.lifetimes.specs.declared.env.LifetimeEnv.{LifetimeEnv}
 use Rattle.lifetimes.specs.declared.reach.ReachSets.{ReachSets}
 use Rattle.lifetimes.specs.declared.reach.Lists.{Lists}
-use Rattle.lifetimes.specs.Ranges.{ascending}
-use Rattle.lifetimes.specs.Refusals.{Check, check, Outcome, unless}
-use Rattle.lifetimes.specs.Lent.{counted, verdictOf, resultOr, roomCheck}
+use Rattle.answers.specs.Lists.{range, endsFrom}
+use Rattle.answers.specs.Refusals.{Check, check, Outcome, unless}
+use Rattle.answers.specs.Lent.{counted, verdictOf, resultOr, roomCheck}
 use Rattle.lifetimes.specs.Env.{boundsOf, envChecks}
 use Rattle.lifetimes.specs.Walk.{Order, LastFirst, traversal, reachSet}
 
@@ -28,7 +28,7 @@ listReach o d e start room = unless (listChecks o d e start room) (traversal o d
 
 -- All sets: that of the lifetime x at place x, and 0 at the places past the count
 unfoldable pub allSets : Bool → LifetimeEnv → List ℕ
-allSets d e = map (reachSet d (boundsOf e)) (ascending 0 (e .count)) ++ replicate (64 - e .count) 0
+allSets d e = map (reachSet d (boundsOf e)) (range 0 (e .count)) ++ replicate (64 - e .count) 0
 
 abbrev pub noSets : List ℕ
 noSets = replicate 64 0
@@ -41,12 +41,7 @@ reachSets d e = record {
 
 -- All lists: one after another, and where each of them ends
 unfoldable pub allLists : Bool → LifetimeEnv → List (List ℕ)
-allLists d e = map (traversal LastFirst d (boundsOf e)) (ascending 0 (e .count))
-
--- where each of some lists ends, laid one after another from a place on
-unfoldable pub endsFrom : ℕ → List (List ℕ) → List ℕ
-endsFrom at [] = []
-endsFrom at (l ∷ ls) = (at + length l) ∷ endsFrom (at + length l) ls
+allLists d e = map (traversal LastFirst d (boundsOf e)) (range 0 (e .count))
 
 -- those of the environment (4, 8), a slice too short (9)
 abbrev pub listsChecks : Bool → LifetimeEnv → ℕ → ℕ → List Check

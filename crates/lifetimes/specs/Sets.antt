@@ -7,9 +7,9 @@ use mathlib.Core.List.{List, [], _∷_}
 use lib.Bits.{bitOr}
 use lib.Dec.{eqb}
 use lib.ListN.{length}
-use Rattle.lifetimes.specs.Ranges.{ascending, select}
-use Rattle.lifetimes.specs.Refusals.{Outcome, unless}
-use Rattle.lifetimes.specs.Lent.{roomCheck}
+use Rattle.answers.specs.Lists.{range, filter}
+use Rattle.answers.specs.Refusals.{Outcome, unless}
+use Rattle.answers.specs.Lent.{roomCheck}
 
 abbrev pub empty : ℕ
 empty = 0
@@ -25,7 +25,7 @@ union s t = bitOr s t
 
 -- the members below 64, ascending
 unfoldable pub members : ℕ → List ℕ
-members s = select (member s) (ascending 0 64)
+members s = filter (member s) (range 0 64)
 
 unfoldable pub count : ℕ → ℕ
 count s = length (members s)

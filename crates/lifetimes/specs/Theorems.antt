@@ -6,30 +6,20 @@ use mathlib.Core.Path.{_≡_}
 use mathlib.Core.Logic.{_↔_}
 use mathlib.Core.List.{List, [], _∷_, map, List·Memᴰ, List·Nodup}
 use lib.ListN.{length, getD}
-use Rattle.lifetimes.specs.declared.answer.Refusal.{Refusal}
-use Rattle.lifetimes.specs.declared.answer.Refusal.the-variants.{Mismatch}
+use Rattle.answers.specs.declared.Refusal.the-variants.{Mismatch}
 use Rattle.lifetimes.specs.declared.env.Bound.{Bound}
 use Rattle.lifetimes.specs.declared.env.LifetimeEnv.{LifetimeEnv}
 use Rattle.lifetimes.specs.declared.linked.LinkedWord.the-variants.{Word, Absent}
 use Rattle.lifetimes.specs.declared.linked.LinkedPair.the-variants as pair
-use Rattle.lifetimes.specs.Ranges.{ascending}
+use Rattle.answers.specs.Lists.{range}
 use Rattle.lifetimes.specs.Numbers.{defLifetime}
-use Rattle.lifetimes.specs.Refusals.{Check, Gives, Refuses, unless, FirstDue, NoneDue}
+use Rattle.answers.specs.Refusals.{Gives, Refuses, NoneDue}
 use Rattle.lifetimes.specs.Sets.{empty, member, insert}
 use Rattle.lifetimes.specs.Env.{boundsOf, envChecks}
 use Rattle.lifetimes.specs.Walk.{neighbours, Order, push, walk, traversal, reachSet, Pending}
 use Rattle.lifetimes.specs.Outlives.{Outlives, Toward, ForcedAbove, ForcedAboveℤ}
 use Rattle.lifetimes.specs.Linked.{linkedWord, linkedPair, pairsWithPlaces}
 use Rattle.lifetimes.specs.Examples.{starred, Right}
-
--- Refusals ("Each is given in its condition only"): a call answers a refusal exactly if it is the first due in the
--- call's order, and gives its result exactly if none is due.
-pub record InOrderDue (A : Type 0) (checks : List Check) (a : A) : Type 0 where
-  pub refused : (r : Refusal) → (unless checks a ≡ Refuses r) ↔ FirstDue r checks
-  pub given : (b : A) → (unless checks a ≡ Gives b) ↔ (NoneDue checks × (a ≡ b))
-
-abbrev pub RefusedIfFirstDue : Type 1
-RefusedIfFirstDue = (A : Type 0) (checks : List Check) (a : A) → InOrderDue A checks a
 
 -- The traversals' order (01: "start with the lifetime itself, push a list in order and take the last pushed first; the
 -- walk passes over lifetimes already seen until one is yielded. Never more than 1 plus the bounds' number are
@@ -76,7 +66,7 @@ OutlivesIsForced =
 pub record LinksByPlace (words : List ℕ) (count : ℕ) : Type 0 where
   pub word : (j : ℕ) → j < count → linkedWord words count (defLifetime j) ≡ Gives (Word (getD words j 0))
   pub no-word : (j : ℕ) → count ≤ j → linkedWord words count (defLifetime j) ≡ Gives Absent
-  pub pairs : map (linkedPair words count) (ascending 0 count) ≡ pairsWithPlaces 0 words
+  pub pairs : map (linkedPair words count) (range 0 count) ≡ pairsWithPlaces 0 words
   pub no-pair : (j : ℕ) → count ≤ j → linkedPair words count j ≡ Gives pair.Absent
 
 abbrev pub LinkedByPlace : Type 0

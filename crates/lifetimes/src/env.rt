@@ -4,14 +4,14 @@ ghost use mathlib.Core.Bool.{true};
 ghost use mathlib.Core.List.{[]};
 ghost use Prim.Native.Nat.{_%_, _≤_, _<_};
 ghost use lib.ListN.{length};
-ghost use Rattle.lifetimes.specs.Refusals.{unless};
-ghost use Rattle.lifetimes.specs.Lent.{verdictOf, held};
+ghost use Rattle.answers.specs.Refusals.{unless};
+ghost use Rattle.answers.specs.Lent.{verdictOf, held};
 ghost use Rattle.lifetimes.specs.Env.{above, byteOf, bothBelow, allBelow, envChecks, isDeclared, pairsOf, envOf};
 ghost use Rattle.lifetimes.specs.Env.{newEnv, pushBound, made};
 ghost use Rattle.lifetimes.specs.Walk.{near, far};
-use super::answer::Refusal;
-use super::answer::Verdict;
 use super::lifetime::Lifetime;
+use answers::Refusal;
+use answers::Verdict;
 
 // One bound: the first lifetime lasts at least as long as the second. They are here by their numbers, a byte each: 256
 // bounds are then few enough bytes for an environment to be handed from call to call by value.

@@ -7,7 +7,7 @@ ghost use mathlib.Core.Bool.{cond};
 ghost use Prim.Native.Nat.{_-_, _<_};
 ghost use lib.ListN.{length};
 ghost use Rattle.lifetimes.specs.Env.{boundsOf};
-ghost use Rattle.lifetimes.specs.Lent.{left};
+ghost use Rattle.answers.specs.Lent.{left};
 ghost use Rattle.lifetimes.specs.Walk.{orderOf};
 ghost use Rattle.lifetimes.specs.Index.{graphIn, Fine, Zeros, Indexed};
 use super::env::LifetimeEnv;

@@ -5,10 +5,8 @@
 // right; a refused call answers one of its numbers (`Refusal`) and leaves every lent slice as it was.
 //
 // What is here, bottom up: the two kinds of lifetime (`lifetime`, `def_lifetime`), each also as static or not with its
-// lowered word (`maybe_static`); refusals and what a call answers (`answer`); sets of lifetimes (`set`); the
-// environment and its bounds (`env`); the index and the traversals over it (`index`, `walk`, `reach`); the lifetimes of
-// a definition paired with those of its use (`linked`).
-mod answer;
+// lowered word (`maybe_static`); sets of lifetimes (`set`); the environment and its bounds (`env`); the index and the
+// traversals over it (`index`, `walk`, `reach`); the lifetimes of a definition paired with those of its use (`linked`).
 mod def_lifetime;
 mod env;
 mod index;
@@ -19,9 +17,6 @@ mod reach;
 pub mod set;
 mod walk;
 
-pub use answer::Listed;
-pub use answer::Refusal;
-pub use answer::Verdict;
 pub use def_lifetime::DefLifetime;
 pub use env::Bound;
 pub use env::LifetimeEnv;

@@ -6,10 +6,10 @@
 // Words and lifetimes that are not as many are refused by 7 when they are asked for. The Rust only asserts that in a
 // debug build, and else cuts to the shorter.
 ghost use mathlib.Core.Path.{_≡_};
-ghost use Rattle.lifetimes.specs.Lent.{held};
+ghost use Rattle.answers.specs.Lent.{held};
 ghost use Rattle.lifetimes.specs.Linked.{linkedWord, linkedAnswer, linkedPair, pairAnswer};
-use super::answer::Refusal;
 use super::def_lifetime::DefLifetime;
+use answers::Refusal;
 
 // The lowered word that stands at the use for a lifetime of the definition; none for one that the definition has not.
 pub enum LinkedWord {

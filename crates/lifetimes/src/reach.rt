@@ -6,19 +6,19 @@ ghost use mathlib.Core.Bool.{true, false};
 ghost use Prim.Native.Nat.{_+_, _≤_, _<_};
 ghost use lib.ListN.{length, take};
 ghost use lib.Seq.{sets};
-ghost use Rattle.lifetimes.specs.Refusals.{NoneDue};
-ghost use Rattle.lifetimes.specs.Lent.{counted, held, room, left, Fills};
+ghost use Rattle.answers.specs.Refusals.{NoneDue};
+ghost use Rattle.answers.specs.Lent.{counted, held, room, left, Fills};
 ghost use Rattle.lifetimes.specs.Env.{boundsOf, envChecks};
 ghost use Rattle.lifetimes.specs.Walk.{LastFirst, FirstFirst, orderOf, traversal};
 ghost use Rattle.lifetimes.specs.Reach.{listReach, reachSets, listWords, listEnds, listsAnswer};
 ghost use Rattle.lifetimes.specs.Index.{Graph, Indexed, Within, Measurable, Measures, Fits, Layable, Lays};
-use super::answer::Listed;
-use super::answer::Refusal;
-use super::answer::Verdict;
 use super::env::LifetimeEnv;
 use super::index::link;
 use super::lifetime::Lifetime;
 use super::walk::walk;
+use answers::Listed;
+use answers::Refusal;
+use answers::Verdict;
 
 // The reach of all lifetimes: the set of the lifetime x at place x. Places past the count hold 0, and all do beside a
 // refusal.

@@ -5,11 +5,11 @@ ghost use mathlib.Core.Path.{_≡_};
 ghost use mathlib.Core.Bool.{cond};
 ghost use Prim.Native.Nat.{_<_};
 ghost use lib.Dec.{ltb};
-ghost use Rattle.lifetimes.specs.Lent.{counted, room, Fills};
+ghost use Rattle.answers.specs.Lent.{counted, room, Fills};
 ghost use Rattle.lifetimes.specs.Sets as sets;
-use super::answer::Listed;
-use super::answer::Refusal;
 use super::lifetime::Lifetime;
+use answers::Listed;
+use answers::Refusal;
 
 // The set without members.
 pub const EMPTY: u64 = 0;

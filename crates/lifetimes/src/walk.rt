@@ -4,7 +4,7 @@ ghost use Prim.Native.Nat.{_≤_};
 ghost use lib.ListN.{length};
 ghost use Rattle.lifetimes.specs.Index.{Graph, Chained, Indexed, Ready, Standing, Steps, Within, Walkable};
 ghost use Rattle.lifetimes.specs.Index.{Complete};
-ghost use Rattle.lifetimes.specs.Lent.{held, left};
+ghost use Rattle.answers.specs.Lent.{held, left};
 use super::lifetime::Lifetime;
 use super::set;
 

@@ -1,8 +1,8 @@
 -- 01's examples, crate by crate: those below have shown their own, the program's are computed here.
 use mathlib.Core.Path.{refl, ap}
 use mathlib.Core.List.{List, [], _∷_, _++_, map, flatMap, flatten}
-use Rattle.lifetimes.specs.Refusals.{unless}
-use Rattle.lifetimes.specs.Ranges as ranges
+use Rattle.answers.specs.Refusals.{unless}
+use Rattle.answers.specs.Lists as lists
 use Rattle.lifetimes.specs.Sets as sets
 use Rattle.lifetimes.specs.Env as env
 use Rattle.lifetimes.specs.Walk as walk
@@ -15,10 +15,10 @@ use Rattle.ast_lifetimes.specs.Examples as ast
 use Rattle.elision.specs.Steps as steps
 use Rattle.elision.specs.Rfc as rfc
 use Rattle.elision.specs.Examples as elision
-use Rattle.lowered_types.specs.LoweredTypes as types
-use Rattle.lowered_types.specs.Rows as rows
-use Rattle.hir_types.specs.Method as method
-use Rattle.hir_types.specs.Used as used
+use Rattle.types.specs.LoweredTypes as types
+use Rattle.types.specs.Rows as rows
+use Rattle.methods.specs.Method as method
+use Rattle.methods.specs.Used as used
 use Rattle.sheet.specs.Text as text
 use Rattle.sheet.specs.Reading as read
 use Rattle.sheet.specs.Reading.{sheetOf}
@@ -67,7 +67,7 @@ unfolding response unless listingOf listingChecks sheets.sheetRefusals sheets.lo
     types.readLowered method.typeChecks method.rowChecks method.paramChecks method.anyPast
     used.usedSet used.numbersOf new.created new.newVisitor map-of.listedTo map-of.listedEdges
     map-of.answersFrom brings.bring brings.anyDrawn brings.structEdges
-    listings.answersFrom env.envOf env.allBelow ranges.ascending ranges.select walk.reachSet walk.traversal walk.walk
+    listings.answersFrom env.envOf env.allBelow lists.range lists.filter walk.reachSet walk.traversal walk.walk
     walk.walkFor walk.unpushed walk.neighbours sets.member sets.insert sets.insertAll sets.members
 program-right = (refl, (refl, tt))
 

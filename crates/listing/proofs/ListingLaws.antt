@@ -8,10 +8,10 @@ use native.Mathlib.Nat.{zero-add}
 use native.Mathlib.Omega.{arith}
 use lib.ListN.{length, getD, length-append}
 use lib.Seq.{slice}
-use Rattle.lifetimes.specs.Ranges.{ascending}
-use Rattle.lifetimes.specs.Reach.{endsFrom}
+use Rattle.answers.specs.Lists.{range}
+use Rattle.answers.specs.Lists.{endsFrom}
 use Rattle.lifetimes.specs.Sets.{members}
-use Rattle.lowered_types.specs.LoweredTypes.{LoweredType}
+use Rattle.types.specs.LoweredTypes.{LoweredType}
 use Rattle.sheet.specs.Text.{line}
 use Rattle.borrowing_param.specs.declared.visitor.BorrowingParamVisitor.{BorrowingParamVisitor}
 use Rattle.borrowing_param.specs.Brings.{bring}
@@ -55,8 +55,8 @@ ends-ascend at size (l ∷ ls) past h =
 
 -- ---- numbered
 
-pub numbered-map : (f : ℕ → List ℕ) (x n : ℕ) → numbered x (map f (ascending x n)) ≡ flatMap (λ l. line (l ∷ f l)) (ascending x n)
-unfolding numbered ascending flatMap
+pub numbered-map : (f : ℕ → List ℕ) (x n : ℕ) → numbered x (map f (range x n)) ≡ flatMap (λ l. line (l ∷ f l)) (range x n)
+unfolding numbered range flatMap
 numbered-map f x zero = refl
 numbered-map f x (suc n) = ap (λ (t : List ℕ). line (x ∷ f x) ++ t) (numbered-map f (suc x) n)
 

@@ -10,26 +10,27 @@ use borrow.Author.Tests.{le-ltb, lt-ltb, ltb-true, ltb-false}
 use lib.Dec.{ltb}
 use lib.ListN.{length, getD, take, drop, length-append, length-map}
 use lib.Seq.{take-append-seam}
-use Rattle.lifetimes.specs.declared.answer.Refusal.{Refusal}
-use Rattle.lifetimes.specs.declared.answer.Refusal.the-variants.{NoRoom}
-use Rattle.lifetimes.specs.declared.answer.Listed.the-variants as listed
-use Rattle.lifetimes.specs.declared.answer.Verdict.the-variants as verdict
+use Rattle.answers.specs.declared.Refusal.{Refusal}
+use Rattle.answers.specs.declared.Refusal.the-variants.{NoRoom}
+use Rattle.answers.specs.declared.Listed.the-variants as listed
+use Rattle.answers.specs.declared.Verdict.the-variants as verdict
 use Rattle.lifetimes.specs.declared.env.LifetimeEnv.{LifetimeEnv}
 use Rattle.lifetimes.specs.declared.reach.Lists as reach
-use Rattle.lifetimes.specs.Refusals.{Check, Outcome, Gives, Refuses, FirstDue, here, NoneDue, next, end}
-use Rattle.lifetimes.specs.Lent.{written, verdictOf, resultOr, roomCheck}
-use Rattle.lifetimes.specs.Ranges.{ascending}
+use Rattle.answers.specs.Refusals.{Check, Outcome, Gives, Refuses, FirstDue, here, NoneDue, next, end}
+use Rattle.answers.specs.Lent.{written, verdictOf, resultOr, roomCheck}
+use Rattle.answers.specs.Lists.{range}
 use Rattle.lifetimes.specs.Sets as sets
 use Rattle.lifetimes.specs.Env.{boundsOf}
 use Rattle.lifetimes.specs.Walk.{LastFirst, traversal, reachSet}
-use Rattle.lifetimes.specs.Reach.{allSets, noSets, allLists, endsFrom, listsChecks, listWords, listEnds, listsAnswer}
-use Rattle.lifetimes.proofs.RefusalLaws.{due-given, due-refused, refused-first, accepted-none, none-first, none-rest}
-use Rattle.lifetimes.proofs.RefusalLaws.{none-more, none-split, first-behind}
+use Rattle.answers.specs.Lists.{endsFrom}
+use Rattle.lifetimes.specs.Reach.{allSets, noSets, allLists, listsChecks, listWords, listEnds, listsAnswer}
+use Rattle.answers.proofs.RefusalLaws.{due-given, due-refused, refused-first, accepted-none, none-first, none-rest}
+use Rattle.answers.proofs.RefusalLaws.{none-more, none-split, first-behind}
 use Rattle.lifetimes.proofs.SetLaws.{members-has, ascending-has, length-ascending}
 use Rattle.lifetimes.proofs.ReachLaws.{traversal-few}
 use Rattle.lifetimes.proofs.Laying.{length-ends}
-use Rattle.lowered_types.specs.LoweredTypes.{LoweredType}
-use Rattle.hir_types.specs.Method.{typesIn, structsAndParamsChecks}
+use Rattle.types.specs.LoweredTypes.{LoweredType}
+use Rattle.methods.specs.Method.{typesIn, structsAndParamsChecks}
 use Rattle.sheet.specs.Text.{line}
 use Rattle.borrowing_param.specs.declared.listed.BorrowMap.{BorrowMap}
 use Rattle.borrowing_param.specs.declared.visitor.LifetimeEdge.{LifetimeEdge}
@@ -103,17 +104,17 @@ module _ {env : LifetimeEnv} {used : ℕ} {structs params own given taken : List
   lists-few : length (flatten (allLists true env)) ≤ env .count * env .count
   unfolding allLists
   lists-few =
-      rw (flatten-map (traversal LastFirst true (boundsOf env)) (ascending 0 (env .count)))
+      rw (flatten-map (traversal LastFirst true (boundsOf env)) (range 0 (env .count)))
       (omega (
         arith,
         many,
         ap (λ (n : ℕ). env .count * n) (length-ascending 0 (env .count)),
       ))
     where
-      many : length (flatMap (traversal LastFirst true (boundsOf env)) (ascending 0 (env .count)))
-          ≤ env .count * length (ascending 0 (env .count))
+      many : length (flatMap (traversal LastFirst true (boundsOf env)) (range 0 (env .count)))
+          ≤ env .count * length (range 0 (env .count))
       many =
-          lines-short (traversal LastFirst true (boundsOf env)) (env .count) (ascending 0 (env .count))
+          lines-short (traversal LastFirst true (boundsOf env)) (env .count) (range 0 (env .count))
           (λ l m. traversal-few LastFirst true (boundsOf env) l (env .count) (bounds-within env (can .valid))
           (omega (arith, (ascending-has 0 (env .count) l) .0 m)))
 

@@ -10,7 +10,7 @@ use borrow.Author.Tests.{leb-true, leb-false}
 use lib.Dec.{leb}
 use lib.ListN.{length, getD, take, drop, set, length-append, length-set, drop-of-length-le}
 use lib.Seq.{drop-cons, set-out, set-comm, sets, length-sets, take-all, take-length}
-use Rattle.lifetimes.proofs.Copying.{sets-append, sets-out, sets-cut, Copying, copying-end}
+use Rattle.answers.proofs.Copying.{sets-append, sets-out, sets-cut, Copying, copying-end}
 use Rattle.sheet.specs.Text.{digits, following, line, newline, space}
 use Rattle.sheet.proofs.DigitLaws.{digits-single, digits-more}
 use Rattle.listing.specs.InnerPrint.{Prints, places, DigitsArePlaces}

@@ -5,9 +5,9 @@ use mathlib.Core.Path.{_≡_}
 use mathlib.Core.List.{List}
 use lib.ListN.{length}
 use native.Mathlib.Omega.{arith}
-use Rattle.lifetimes.specs.declared.answer.Refusal.{Refusal}
-use Rattle.lifetimes.specs.Refusals.{Outcome, Gives, Refuses, unless, FirstDue, NoneDue}
-use Rattle.lifetimes.proofs.RefusalLaws.{given-due, refused-due}
+use Rattle.answers.specs.declared.Refusal.{Refusal}
+use Rattle.answers.specs.Refusals.{Outcome, Gives, Refuses, unless, FirstDue, NoneDue}
+use Rattle.answers.proofs.RefusalLaws.{given-due, refused-due}
 use Rattle.sheet.specs.Reading.{sheetOf}
 use Rattle.listing.specs.Listing.{said, listingOf, listingChecks}
 use Rattle.listing.proofs.SheetListing.{fits-room, refusal-short}

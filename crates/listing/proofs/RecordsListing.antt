@@ -10,16 +10,16 @@ use borrow.Author.Tests.{le-ltb, not-false}
 use lib.Dec.{ltb}
 use lib.ListN.{length, take, drop, length-append, length-map}
 use lib.Seq.{take-append-seam}
-use Rattle.lifetimes.specs.declared.answer.Refusal.{Refusal}
-use Rattle.lifetimes.specs.declared.answer.Refusal.the-variants.{NoRoom}
-use Rattle.lifetimes.specs.declared.answer.Listed.the-variants as listed
-use Rattle.lifetimes.specs.declared.answer.Verdict.the-variants as verdict
+use Rattle.answers.specs.declared.Refusal.{Refusal}
+use Rattle.answers.specs.declared.Refusal.the-variants.{NoRoom}
+use Rattle.answers.specs.declared.Listed.the-variants as listed
+use Rattle.answers.specs.declared.Verdict.the-variants as verdict
 use Rattle.lifetimes.specs.declared.env.LifetimeEnv.{LifetimeEnv}
-use Rattle.lifetimes.specs.Refusals.{Check, check, Outcome, Gives, unless, FirstDue, NoneDue, next, end}
-use Rattle.lifetimes.specs.Lent.{written}
+use Rattle.answers.specs.Refusals.{Check, check, Outcome, Gives, unless, FirstDue, NoneDue, next, end}
+use Rattle.answers.specs.Lent.{written}
 use Rattle.lifetimes.specs.LoweredWords.{wordOf}
-use Rattle.lifetimes.proofs.RefusalLaws.{due-given, due-refused, first-more, none-first}
-use Rattle.records.proofs.VerdictLaws.{unless-after}
+use Rattle.answers.proofs.RefusalLaws.{due-given, due-refused, first-more, none-first}
+use Rattle.answers.proofs.VerdictLaws.{unless-after}
 use Rattle.ast_lifetimes.specs.declared.env.LifetimeEnv as ast-env
 use Rattle.ast_lifetimes.specs.declared.env.Made as ast-made
 use Rattle.ast_lifetimes.specs.Env as ast
@@ -29,9 +29,9 @@ use Rattle.elision.specs.Rfc as rfc
 use Rattle.elision.specs.Lowering.{words, recordsOf, measureChecks, roomChecks, measureRecords, lowerRecords, answered}
 use Rattle.elision.specs.Lowering.{ownWords, stepWords, returnWords}
 use Rattle.elision.proofs.SizeLaws.{lowered-self, lowered-steps, lowered-returns}
-use Rattle.hir_types.specs.declared.used.UsedLifetimes.{UsedLifetimes}
-use Rattle.hir_types.specs.declared.used.UsedLifetimes.the-variants as answer
-use Rattle.hir_types.specs.Used.{usedSet, usedAnswer}
+use Rattle.methods.specs.declared.used.UsedLifetimes.{UsedLifetimes}
+use Rattle.methods.specs.declared.used.UsedLifetimes.the-variants as answer
+use Rattle.methods.specs.Used.{usedSet, usedAnswer}
 use Rattle.sheet.specs.Text.{line, Records}
 use Rattle.sheet.specs.Shape.{sheetInShape, recordsChecks}
 use Rattle.sheet.proofs.Theorems.{shapes-are-short}

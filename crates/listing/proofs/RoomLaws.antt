@@ -10,12 +10,12 @@ use borrow.Author.Tests.{ltb-false, not-false}
 use Rattle.lifetimes.specs.declared.env.Bound.{Bound}
 use Rattle.lifetimes.specs.declared.env.LifetimeEnv.{LifetimeEnv}
 use Rattle.lifetimes.specs.declared.maybe_static.MaybeStatic.{MaybeStatic}
-use Rattle.lifetimes.specs.Ranges.{ascending}
-use Rattle.lifetimes.specs.Refusals.{NoneDue}
+use Rattle.answers.specs.Lists.{range}
+use Rattle.answers.specs.Refusals.{NoneDue}
 use Rattle.lifetimes.specs.LoweredWords.{wordOf}
 use Rattle.lifetimes.specs.Env.{boundsOf, envChecks}
 use Rattle.lifetimes.specs.Walk.{LastFirst, traversal}
-use Rattle.lifetimes.proofs.RefusalLaws.{none-first, none-rest, none-split}
+use Rattle.answers.proofs.RefusalLaws.{none-first, none-rest, none-split}
 use Rattle.lifetimes.proofs.EnvLaws.{all-below}
 use Rattle.lifetimes.proofs.ReachLaws.{traversal-only, traversal-few}
 use Rattle.lifetimes.proofs.SetLaws.{ascending-has, length-ascending}
@@ -127,7 +127,7 @@ module _ (env : LifetimeEnv) (valid : NoneDue (envChecks env)) where
       let below = all-below (env .declared) (boundsOf env) (not-false _ (none-first (none-rest (none-rest (none-rest valid))))) b m in
       omega (arith, declared, below .0)
 
-  longer-short : (l : ℕ) → List·Memᴰ l (ascending 0 (env .count)) → length (longerLine env l) ≤ 196
+  longer-short : (l : ℕ) → List·Memᴰ l (range 0 (env .count)) → length (longerLine env l) ≤ 196
   longer-short l m =
       let here : l < env .count = omega (arith, (ascending-has 0 (env .count) l) .0 m) in
       let few = traversal-few LastFirst true (boundsOf env) l (env .count) bounds-within here in
@@ -139,7 +139,7 @@ module _ (env : LifetimeEnv) (valid : NoneDue (envChecks env)) where
 
   all-longer-short : length (longerLines env) ≤ 12560
   all-longer-short =
-      let short = lines-short (longerLine env) 196 (ascending 0 (env .count)) longer-short in
+      let short = lines-short (longerLine env) 196 (range 0 (env .count)) longer-short in
       rw length-append (omega (arith, short, length-ascending 0 (env .count), lifetimes-few))
 
 -- ---- the whole

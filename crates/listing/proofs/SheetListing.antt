@@ -7,19 +7,19 @@ use native.Mathlib.Omega.{arith}
 use borrow.Author.Tests.{le-ltb, lt-ltb, ltb-false}
 use lib.ListN.{length, drop, length-append}
 use lib.Seq.{sets}
-use Rattle.lifetimes.specs.declared.answer.Refusal.{Refusal}
-use Rattle.lifetimes.specs.declared.answer.Refusal.the-variants.{Malformed, Duplicate, Undeclared, Full, NoSource}
-use Rattle.lifetimes.specs.declared.answer.Refusal.the-variants.{Ambiguous, Mismatch, OutOfRange, NoRoom, Unreadable, Retired}
-use Rattle.lifetimes.specs.declared.answer.Listed.{Listed}
-use Rattle.lifetimes.specs.declared.answer.Listed.the-variants as listed
-use Rattle.lifetimes.specs.declared.answer.Verdict.the-variants as verdict
-use Rattle.lifetimes.specs.Refusals.{Check, Outcome, Gives, Refuses, unless, numberOf, FirstDue, here, NoneDue, next}
-use Rattle.lifetimes.specs.Refusals.{end}
-use Rattle.lifetimes.specs.Lent.{counted, written, roomCheck}
-use Rattle.lifetimes.proofs.Copying.{sets-front}
-use Rattle.lifetimes.proofs.RefusalLaws.{due-given, due-refused, refused-due, given-due, none-first, none-split}
-use Rattle.lifetimes.proofs.RefusalLaws.{none-more, first-more, first-after}
-use Rattle.records.proofs.VerdictLaws.{unless-after}
+use Rattle.answers.specs.declared.Refusal.{Refusal}
+use Rattle.answers.specs.declared.Refusal.the-variants.{Malformed, Duplicate, Undeclared, Full, NoSource}
+use Rattle.answers.specs.declared.Refusal.the-variants.{Ambiguous, Mismatch, OutOfRange, NoRoom, Unreadable, Retired}
+use Rattle.answers.specs.declared.Listed.{Listed}
+use Rattle.answers.specs.declared.Listed.the-variants as listed
+use Rattle.answers.specs.declared.Verdict.the-variants as verdict
+use Rattle.answers.specs.Refusals.{Check, Outcome, Gives, Refuses, unless, numberOf, FirstDue, here, NoneDue, next}
+use Rattle.answers.specs.Refusals.{end}
+use Rattle.answers.specs.Lent.{counted, written, roomCheck}
+use Rattle.answers.proofs.Copying.{sets-front}
+use Rattle.answers.proofs.RefusalLaws.{due-given, due-refused, refused-due, given-due, none-first, none-split}
+use Rattle.answers.proofs.RefusalLaws.{none-more, first-more, first-after}
+use Rattle.answers.proofs.VerdictLaws.{unless-after}
 use Rattle.sheet.specs.declared.text.Text.{Text}
 use Rattle.sheet.specs.Text.{line, Records}
 use Rattle.sheet.specs.Reading.{sheetOf}

@@ -5,9 +5,9 @@ use mathlib.Core.List.{List, map}
 use lib.ListN.{length, getD}
 use native.Mathlib.Omega.{arith}
 use borrow.Author.Tests.{le-ltb}
-use Rattle.lifetimes.specs.Refusals.{Outcome, Gives, unless, next, end}
+use Rattle.answers.specs.Refusals.{Outcome, Gives, unless, next, end}
 use Rattle.lifetimes.specs.Examples as reach
-use Rattle.lifetimes.proofs.RefusalLaws.{due-given, due-refused, none-more}
+use Rattle.answers.proofs.RefusalLaws.{due-given, due-refused, none-more}
 use Rattle.lifetimes.proofs.Theorems as reach-proofs
 use Rattle.ast_lifetimes.specs.Examples as ast
 use Rattle.ast_lifetimes.proofs.Theorems as ast-proofs

@@ -7,10 +7,10 @@ use native.Mathlib.Omega.{arith}
 use borrow.Author.Tests.{ltb-true, ltb-false}
 use lib.Dec.{ltb}
 use lib.ListN.{length}
-use Rattle.lifetimes.specs.declared.answer.Refusal.the-variants.{NoRoom}
-use Rattle.lifetimes.specs.declared.answer.Verdict.the-variants.{Accepted}
-use Rattle.lifetimes.specs.Refusals.{here, NoneDue, next, end}
-use Rattle.lifetimes.proofs.RefusalLaws.{none-first, none-split, none-more, first-after}
+use Rattle.answers.specs.declared.Refusal.the-variants.{NoRoom}
+use Rattle.answers.specs.declared.Verdict.the-variants.{Accepted}
+use Rattle.answers.specs.Refusals.{here, NoneDue, next, end}
+use Rattle.answers.proofs.RefusalLaws.{none-first, none-split, none-more, first-after}
 use Rattle.borrowing_param.specs.declared.visitor.ParamBorrowInfo.{ParamBorrowInfo}
 use Rattle.borrowing_param.specs.Brings.{refuse}
 use Rattle.borrowing_param.specs.Edges.{width}

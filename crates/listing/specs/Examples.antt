@@ -4,7 +4,7 @@
 use Prim.Native.Nat.{ℕ}
 use mathlib.Core.Path.{_≡_}
 use mathlib.Core.List.{List, [], _∷_, _++_, map}
-use Rattle.lifetimes.specs.Refusals.{Outcome}
+use Rattle.answers.specs.Refusals.{Outcome}
 use Rattle.lifetimes.specs.Examples as reach
 use Rattle.ast_lifetimes.specs.Examples as ast
 use Rattle.elision.specs.Examples as elision

@@ -5,12 +5,12 @@ use mathlib.Core.Bool.{true}
 use mathlib.Core.List.{List, [], _∷_, _++_, flatMap}
 use lib.Dec.{ltb}
 use lib.ListN.{length}
-use Rattle.lifetimes.specs.declared.answer.Refusal.{Refusal}
-use Rattle.lifetimes.specs.declared.answer.Refusal.the-variants.{NoRoom}
+use Rattle.answers.specs.declared.Refusal.{Refusal}
+use Rattle.answers.specs.declared.Refusal.the-variants.{NoRoom}
 use Rattle.lifetimes.specs.declared.env.LifetimeEnv.{LifetimeEnv}
-use Rattle.lifetimes.specs.Ranges.{ascending}
-use Rattle.lifetimes.specs.Refusals.{Check, check, Outcome, Gives, Refuses, unless, numberOf}
-use Rattle.lifetimes.specs.Lent.{roomCheck}
+use Rattle.answers.specs.Lists.{range}
+use Rattle.answers.specs.Refusals.{Check, check, Outcome, Gives, Refuses, unless, numberOf}
+use Rattle.answers.specs.Lent.{roomCheck}
 use Rattle.lifetimes.specs.Env.{boundsOf}
 use Rattle.lifetimes.specs.Walk.{LastFirst, traversal}
 use Rattle.elision.specs.Rfc as rfc
@@ -46,7 +46,7 @@ abbrev pub longerLine : LifetimeEnv → ℕ → List ℕ
 longerLine env l = line (l ∷ traversal LastFirst true (boundsOf env) l)
 
 abbrev pub longerLines : LifetimeEnv → List ℕ
-longerLines env = longerHeading ++ flatMap (longerLine env) (ascending 0 (env .count))
+longerLines env = longerHeading ++ flatMap (longerLine env) (range 0 (env .count))
 
 -- "param answer": each parameter, from `param` on, and the number of its answer
 abbrev pub answerHeading : List ℕ

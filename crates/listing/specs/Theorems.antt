@@ -4,13 +4,13 @@ use mathlib.Core.Path.{_≡_}
 use mathlib.Core.Logic.{_⊎_, _↔_}
 use mathlib.Core.List.{List}
 use lib.ListN.{length, getD}
-use Rattle.lifetimes.specs.declared.answer.Refusal.{Refusal}
-use Rattle.lifetimes.specs.declared.answer.Refusal.the-variants.{NoRoom}
-use Rattle.lifetimes.specs.declared.answer.Verdict.the-variants.{Accepted}
-use Rattle.lifetimes.specs.Refusals.{Gives, FirstDue, NoneDue}
+use Rattle.answers.specs.declared.Refusal.{Refusal}
+use Rattle.answers.specs.declared.Refusal.the-variants.{NoRoom}
+use Rattle.answers.specs.declared.Verdict.the-variants.{Accepted}
+use Rattle.answers.specs.Refusals.{Gives, FirstDue, NoneDue}
 use Rattle.sheet.specs.Text.{Records}
 use Rattle.sheet.specs.Reading.{sheetOf}
-use Rattle.hir_types.specs.Method.{typesIn}
+use Rattle.methods.specs.Method.{typesIn}
 use Rattle.borrowing_param.specs.declared.visitor.BorrowingParamVisitor.{BorrowingParamVisitor}
 use Rattle.borrowing_param.specs.declared.visitor.ParamBorrowInfo.{ParamBorrowInfo}
 use Rattle.borrowing_param.specs.Edges.{width, edgesIn, edgesOf}

@@ -5,15 +5,15 @@
 // known that all fits.
 ghost use mathlib.Core.Path.{_≡_};
 ghost use lib.ListN.{length};
-ghost use Rattle.lifetimes.specs.Refusals.{Gives};
-ghost use Rattle.lifetimes.specs.Lent.{counted, held, room, left, Fills};
+ghost use Rattle.answers.specs.Refusals.{Gives};
+ghost use Rattle.answers.specs.Lent.{counted, held, room, left, Fills};
 ghost use Rattle.listing.specs.Listing as spec;
 ghost use Rattle.listing.specs.InnerListing.{listedSheet, Lists, ListsWithin, Ample};
 use super::sections::put_refusal;
 use super::within::Within;
 use super::within::list_within;
-use lifetimes::Listed;
-use lifetimes::Refusal;
+use answers::Listed;
+use answers::Refusal;
 
 // So many bytes take any answer of the program.
 pub const ROOM: usize = 131072;

@@ -6,7 +6,7 @@ ghost use Prim.Native.Nat.{_+_, _-_, _≤_, _<_, _^_, min};
 ghost use mathlib.Core.Path.{_≡_};
 ghost use lib.ListN.{length, set};
 ghost use mathlib.Core.List.{[], _∷_};
-ghost use Rattle.lifetimes.specs.Lent.{held, left};
+ghost use Rattle.answers.specs.Lent.{held, left};
 ghost use Rattle.sheet.specs.Text.{digits, following, line};
 ghost use Rattle.listing.specs.InnerPrint.{Prints, places};
 

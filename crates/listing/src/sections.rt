@@ -2,7 +2,7 @@
 ghost use Prim.Native.Nat.{_+_, _*_, _≤_, _<_, _^_};
 ghost use mathlib.Core.List.{_++_, flatMap};
 ghost use lib.ListN.{length};
-ghost use Rattle.lifetimes.specs.Lent.{held, left};
+ghost use Rattle.answers.specs.Lent.{held, left};
 ghost use Rattle.sheet.specs.Text.{line};
 ghost use Rattle.borrowing_param.specs.Edges.{width, edgesIn};
 ghost use Rattle.listing.specs.Listing.{countHeading, loweredHeading, longerHeading, answersFrom, answerLines};

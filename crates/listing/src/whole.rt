@@ -3,7 +3,7 @@ ghost use Prim.Native.Nat.{_*_, _≤_, _<_, _^_};
 ghost use mathlib.Core.Path.{_≡_};
 ghost use lib.ListN.{length, getD};
 ghost use Rattle.borrowing_param.specs.Edges.{width};
-ghost use Rattle.lifetimes.specs.Lent.{held, left};
+ghost use Rattle.answers.specs.Lent.{held, left};
 ghost use Rattle.listing.specs.InnerPrint.{Prints};
 ghost use Rattle.listing.specs.InnerSections.{Ascend};
 ghost use Rattle.listing.specs.InnerListing.{sections};

@@ -1,6 +1,6 @@
 // Writing: a line of numbers, one blank between; bytes as they are, counted.
 use super::scan;
-use lifetimes::Verdict;
+use answers::Verdict;
 
 // The first number of a line.
 pub(crate) fn first(number: usize) {

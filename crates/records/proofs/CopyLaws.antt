@@ -8,15 +8,15 @@ use borrow.Author.Tests.{leb-true, leb-false, ltb-true, ltb-false}
 use lib.Dec.{leb}
 use lib.ListN.{length, take}
 use lib.Seq.{sets, take-all, take-take, length-take-le}
-use Rattle.lifetimes.specs.declared.answer.Refusal.{Refusal}
-use Rattle.lifetimes.specs.declared.answer.Refusal.the-variants.{NoRoom}
-use Rattle.lifetimes.specs.declared.answer.Listed.{Listed}
-use Rattle.lifetimes.specs.declared.answer.Listed.the-variants as listed
-use Rattle.lifetimes.specs.Refusals.{Check, Outcome, Gives, Refuses, unless, FirstDue, here, later, end}
-use Rattle.lifetimes.specs.Lent.{counted, written, roomCheck}
-use Rattle.lifetimes.proofs.RefusalLaws.{due-given, refused-due, given-due, none-first}
-use Rattle.lifetimes.proofs.Answering.{answers-refusal, answers-list, no-room, has-room}
-use Rattle.lifetimes.proofs.Copying.{sets-front, Copying, copying-end}
+use Rattle.answers.specs.declared.Refusal.{Refusal}
+use Rattle.answers.specs.declared.Refusal.the-variants.{NoRoom}
+use Rattle.answers.specs.declared.Listed.{Listed}
+use Rattle.answers.specs.declared.Listed.the-variants as listed
+use Rattle.answers.specs.Refusals.{Check, Outcome, Gives, Refuses, unless, FirstDue, here, later, end}
+use Rattle.answers.specs.Lent.{counted, written, roomCheck}
+use Rattle.answers.proofs.RefusalLaws.{due-given, refused-due, given-due, none-first}
+use Rattle.answers.proofs.LentLaws.{answers-refusal, answers-list, no-room, has-room}
+use Rattle.answers.proofs.Copying.{sets-front, Copying, copying-end}
 use Rattle.records.specs.Copied.{copied}
 
 -- the first words, so many or all there are

@@ -1,6 +1,5 @@
--- Laws: verdicts of checks, what is read is what stands there, where a reading ends, the loop over a record's items,
+-- Laws: what is read is what stands there, where a reading ends, the loop over a record's items,
 -- copying words.
-pub mod VerdictLaws
 pub mod ReadingLaws
 pub mod EndLaws
 pub mod Shaping

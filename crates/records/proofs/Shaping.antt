@@ -7,8 +7,8 @@ use native.Mathlib.Numerals.{add-one, sub-one}
 use native.Mathlib.Omega.{arith}
 use lib.ListN.{length, drop, length-drop, drop-of-length-le}
 use borrow.Author.Tests.{le-leb, lt-leb}
-use Rattle.lifetimes.specs.declared.answer.Refusal.the-variants.{Malformed}
-use Rattle.lifetimes.specs.declared.answer.Verdict.the-variants.{Accepted, Refused}
+use Rattle.answers.specs.declared.Refusal.the-variants.{Malformed}
+use Rattle.answers.specs.declared.Verdict.the-variants.{Accepted, Refused}
 use Rattle.records.specs.declared.End.the-variants.{At, Missing}
 use Rattle.records.specs.Reading.{Reading, Read, Fails, onward, isRead, readAll, inShape, shapeVerdict}
 use Rattle.records.specs.Ends.{EndsAt, ends, missing}

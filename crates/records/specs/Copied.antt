@@ -2,8 +2,8 @@
 use Prim.Native.Nat.{ℕ}
 use mathlib.Core.List.{List, [], _∷_}
 use lib.ListN.{take}
-use Rattle.lifetimes.specs.Refusals.{Outcome, unless}
-use Rattle.lifetimes.specs.Lent.{roomCheck}
+use Rattle.answers.specs.Refusals.{Outcome, unless}
+use Rattle.answers.specs.Lent.{roomCheck}
 
 unfoldable pub copied : List ℕ → ℕ → ℕ → Outcome (List ℕ)
 copied words count room = unless (roomCheck room (take count words) ∷ []) (take count words)

@@ -1,12 +1,9 @@
--- For private functions only: where a reading ends that starts at a place of some words, and the verdict of some
--- checks. No public contract cites this file.
+-- For private functions only: where a reading ends that starts at a place of some words. No public contract cites this
+-- file.
 use Prim.Native.Nat.{ℕ, _≤_, _<_}
 use mathlib.Core.Path.{_≡_}
 use mathlib.Core.List.{List}
 use lib.ListN.{length, drop}
-use Rattle.lifetimes.specs.declared.answer.Verdict.{Verdict}
-use Rattle.lifetimes.specs.Refusals.{Check, unless}
-use Rattle.lifetimes.specs.Lent.{verdictOf}
 use Rattle.records.specs.declared.End.{End}
 use Rattle.records.specs.declared.End.the-variants.{At, Missing}
 use Rattle.records.specs.Reading.{Reading, Read, Fails}
@@ -16,7 +13,3 @@ pub data EndsAt {A : Type 0} (words : List ℕ) (at : ℕ) : Reading A → End �
   ends : {a : A} {rest : List ℕ} {next : ℕ} → drop next words ≡ rest → at < next → next ≤ length words
       → EndsAt words at (Read a rest) (At next)
   missing : EndsAt words at Fails Missing
-
--- the verdict of some checks
-abbrev pub judged : List Check → Verdict
-judged checks = verdictOf (unless checks (tt {0}))

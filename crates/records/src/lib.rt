@@ -6,11 +6,11 @@
 ghost use Prim.Native.Nat.{min};
 ghost use mathlib.Core.Path.{_≡_};
 ghost use lib.ListN.{length, drop};
-ghost use Rattle.lifetimes.specs.Lent.{counted, held, room, Fills};
+ghost use Rattle.answers.specs.Lent.{counted, held, room, Fills};
 ghost use Rattle.records.specs.Copied.{copied};
 ghost use Rattle.records.specs.Reading.{readLifetimes, endOf};
-use lifetimes::Listed;
-use lifetimes::Refusal;
+use answers::Listed;
+use answers::Refusal;
 
 // Where an item of a record ends: the place behind its last word. Missing where the words do not make one.
 pub enum End {

@@ -11,23 +11,23 @@ use borrow.Author.Tests.{le-leb, lt-leb, leb-true, leb-false, eq-eqb}
 use lib.Dec.{leb}
 use lib.ListN.{length, getD, take, drop, length-append}
 use lib.Seq.{sets, slice, drop-append-seam, drop-at, take-at}
-use Rattle.lifetimes.specs.declared.answer.Refusal.{Refusal}
-use Rattle.lifetimes.specs.declared.answer.Refusal.the-variants.{Malformed, NoRoom, Unreadable}
-use Rattle.lifetimes.specs.declared.answer.Verdict.{Verdict}
-use Rattle.lifetimes.specs.declared.answer.Verdict.the-variants as verdict
-use Rattle.lifetimes.specs.Refusals.{Check, Gives, Refuses, unless, FirstDue, NoneDue, end}
-use Rattle.lifetimes.specs.Lent.{written}
-use Rattle.lifetimes.proofs.RefusalLaws.{due-given, due-refused, given-due, refused-due, refused-first, accepted-none}
-use Rattle.lifetimes.proofs.RefusalLaws.{none-first, first-more, first-after, none-more}
-use Rattle.lifetimes.proofs.Answering.{no-room, has-room}
-use Rattle.lifetimes.proofs.Copying.{sets-front}
+use Rattle.answers.specs.declared.Refusal.{Refusal}
+use Rattle.answers.specs.declared.Refusal.the-variants.{Malformed, NoRoom, Unreadable}
+use Rattle.answers.specs.declared.Verdict.{Verdict}
+use Rattle.answers.specs.declared.Verdict.the-variants as verdict
+use Rattle.answers.specs.Refusals.{Check, Gives, Refuses, unless, FirstDue, NoneDue, end}
+use Rattle.answers.specs.Lent.{written}
+use Rattle.answers.proofs.RefusalLaws.{due-given, due-refused, given-due, refused-due, refused-first, accepted-none}
+use Rattle.answers.proofs.RefusalLaws.{none-first, first-more, first-after, none-more}
+use Rattle.answers.proofs.LentLaws.{no-room, has-room}
+use Rattle.answers.proofs.Copying.{sets-front}
 use Rattle.sheet.specs.declared.text.Text.{Text}
 use Rattle.sheet.specs.declared.lines.Judged.{Judged}
 use Rattle.sheet.specs.declared.lines.Judged.the-variants as judged
 use Rattle.sheet.specs.Text.{heading, line, Records, lists, wordsOf, text, mostWord, mostBytes}
 use Rattle.sheet.specs.Reading.{behind, LineStart, recordsOf, ten, linesBehind, sheetIn, sheetOf, isNone}
 use Rattle.sheet.specs.Reading.{allShort, textChecks}
-use Rattle.lifetimes.specs.Reach.{endsFrom}
+use Rattle.answers.specs.Lists.{endsFrom}
 use Rattle.sheet.specs.Answer.{answerOf, measured, withRoom, readWords, readEnds, readAnswer}
 use Rattle.sheet.specs.Shape.{recordsChecks, sheetChecks, sheetWords, sheetEnds, sheetAnswer}
 use Rattle.sheet.specs.Inner.{readFrom, TenAt, LinesRead, recordsVerdict, Counted}

@@ -12,14 +12,14 @@ use borrow.Author.Tests.{ne-eqb}
 use lib.Dec.{leb}
 use lib.ListN.{length, take, drop, set, length-append, length-set, drop-of-length-le}
 use lib.Seq.{drop-cons, sets, length-sets, take-suc-set, take-all}
-use Rattle.lifetimes.proofs.Copying.{sets-append}
+use Rattle.answers.proofs.Copying.{sets-append}
 use Rattle.sheet.specs.declared.lines.Read.{Read}
 use Rattle.sheet.specs.declared.lines.Read.the-variants as read
 use Rattle.sheet.specs.declared.lines.Judged.{Judged}
 use Rattle.sheet.specs.declared.lines.Judged.the-variants.{Good, TooLong}
 use Rattle.sheet.specs.Text.{line, mostWord, mostWords}
 use Rattle.sheet.specs.Reading.{LineStart, lineBefore, readLines, ten, allShort}
-use Rattle.lifetimes.specs.Reach.{endsFrom}
+use Rattle.answers.specs.Lists.{endsFrom}
 use Rattle.sheet.specs.Inner.{readFrom, NoLine, LineAt, LineRead, TenAt, judgedBy, LinesRead}
 use Rattle.sheet.proofs.SpellingLaws.{read-spelt}
 

@@ -9,30 +9,30 @@ use borrow.Author.Tests.{not-false, lt-ltb, le-ltb, le-leb, lt-leb}
 use lib.Dec.{leb}
 use lib.ListN.{length, getD, take, drop, length-append}
 use lib.Seq.{sets, slice, take-append-seam}
-use Rattle.lifetimes.specs.declared.answer.Refusal.{Refusal}
-use Rattle.lifetimes.specs.declared.answer.Refusal.the-variants.{Malformed, NoRoom}
-use Rattle.lifetimes.specs.declared.answer.Verdict.the-variants as verdict
-use Rattle.lifetimes.specs.declared.answer.Listed.{Listed}
-use Rattle.lifetimes.specs.declared.answer.Listed.the-variants.{Count, Refused}
-use Rattle.lifetimes.specs.Lent as lent
-use Rattle.lifetimes.specs.Lent.{written, isAccepted}
-use Rattle.lifetimes.proofs.Copying.{sets-front}
-use Rattle.lifetimes.specs.Refusals.{Refuses, unless, NoneDue}
-use Rattle.lifetimes.proofs.RefusalLaws.{due-given, none-first, none-rest}
-use Rattle.lifetimes.specs.declared.answer.Verdict.{Verdict}
+use Rattle.answers.specs.declared.Refusal.{Refusal}
+use Rattle.answers.specs.declared.Refusal.the-variants.{Malformed, NoRoom}
+use Rattle.answers.specs.declared.Verdict.the-variants as verdict
+use Rattle.answers.specs.declared.Listed.{Listed}
+use Rattle.answers.specs.declared.Listed.the-variants.{Count, Refused}
+use Rattle.answers.specs.Lent as lent
+use Rattle.answers.specs.Lent.{written, isAccepted}
+use Rattle.answers.proofs.Copying.{sets-front}
+use Rattle.answers.specs.Refusals.{Refuses, unless, NoneDue}
+use Rattle.answers.proofs.RefusalLaws.{due-given, none-first, none-rest}
+use Rattle.answers.specs.declared.Verdict.{Verdict}
 use Rattle.records.specs.Reading.{shapeVerdict}
 use Rattle.records.specs.Copied.{copied}
 use Rattle.records.proofs.CopyLaws.{copied-stores, copied-all, copied-none}
 use Rattle.ast_lifetimes.specs.Shapes.{namesInShape, boundsInShape}
 use Rattle.ast_lifetimes.specs.Types.{typesInShape}
 use Rattle.elision.specs.Steps.{selfInShape, stepsInShape}
-use Rattle.lowered_types.specs.declared.shapes.Shape.{Shape}
-use Rattle.lowered_types.specs.Rows.{methodInShape, methodShape, checksVerdict}
-use Rattle.lowered_types.proofs.ShapeLaws.{shape-verdict}
+use Rattle.types.specs.declared.shapes.Shape.{Shape}
+use Rattle.types.specs.Rows.{methodInShape, methodShape, checksVerdict}
+use Rattle.types.proofs.ShapeLaws.{shape-verdict}
 use Rattle.sheet.specs.Text.{Records, lists, wordsOf}
 use Rattle.sheet.specs.declared.text.Text.{Text}
 use Rattle.sheet.specs.Reading.{sheetOf, textChecks, allShort, readText}
-use Rattle.lifetimes.specs.Reach.{endsFrom}
+use Rattle.answers.specs.Lists.{endsFrom}
 use Rattle.sheet.specs.Answer.{answerOf, startOf, recordWords, measured}
 use Rattle.sheet.specs.Shape.{sheetInShape, sheetAnswer, sheetWords}
 use Rattle.sheet.specs.Inner.{recordAt, recordsAt, Laid, recordsVerdict, Counted, Roomy}

@@ -8,17 +8,17 @@ use native.Mathlib.Omega.{arith}
 use borrow.Author.Tests.{leb-true, le-leb, eqb-false}
 use lib.Dec.{leb}
 use lib.ListN.{length}
-use Rattle.lifetimes.specs.declared.answer.Refusal.the-variants.{Malformed, Unreadable, Retired}
-use Rattle.lifetimes.specs.Refusals.{Gives, Refuses, FirstDue, here, later, NoneDue, end, next}
-use Rattle.lifetimes.proofs.RefusalLaws.{due-given, due-refused, given-due, refused-due, first-more, first-after}
-use Rattle.lifetimes.proofs.RefusalLaws.{none-more}
+use Rattle.answers.specs.declared.Refusal.the-variants.{Malformed, Unreadable, Retired}
+use Rattle.answers.specs.Refusals.{Gives, Refuses, FirstDue, here, later, NoneDue, end, next}
+use Rattle.answers.proofs.RefusalLaws.{due-given, due-refused, given-due, refused-due, first-more, first-after}
+use Rattle.answers.proofs.RefusalLaws.{none-more}
 use Rattle.records.specs.Reading.{Reading, fewWords, inShape}
 use Rattle.records.proofs.ReadingLaws.{passed}
 use Rattle.ast_lifetimes.specs.Shapes.{namesInShape, boundsInShape}
 use Rattle.ast_lifetimes.specs.Types.{typesInShape, readType}
 use Rattle.elision.specs.Steps.{selfInShape, stepsInShape, readStep}
-use Rattle.lowered_types.specs.Rows.{forceInShape, rowsOf, readRow, readKnown, forced, methodInShape}
-use Rattle.lowered_types.proofs.ShapeLaws.{four-in-shape}
+use Rattle.types.specs.Rows.{forceInShape, rowsOf, readRow, readKnown, forced, methodInShape}
+use Rattle.types.proofs.ShapeLaws.{four-in-shape}
 use Rattle.sheet.specs.Text.{Records, lists, mostWords}
 use Rattle.sheet.specs.Reading.{allShort, sheetOf, textChecks, readText}
 use Rattle.sheet.specs.Shape.{sheetInShape, sheetChecks, readSheet}

@@ -11,8 +11,8 @@ use borrow.Author.Tests.{leb-true, leb-false, le-leb, eqb-true}
 use lib.Dec.{leb, eqb}
 use lib.ListN.{length, length-append, drop-of-length-le}
 use lib.Seq.{drop-cons}
-use Rattle.lifetimes.specs.declared.answer.Refusal.the-variants.{Malformed, Unreadable}
-use Rattle.lifetimes.specs.Refusals.{Gives, Refuses, unless}
+use Rattle.answers.specs.declared.Refusal.the-variants.{Malformed, Unreadable}
+use Rattle.answers.specs.Refusals.{Gives, Refuses, unless}
 use Rattle.sheet.specs.Text.{heading, line, following, Records, lists, wordsOf, text, mostWord, mostBytes}
 use Rattle.sheet.specs.Text.{mostWords}
 use Rattle.sheet.specs.Reading.{behind, LineStart, readLines, recordsOf, ten, linesBehind, sheetIn, sheetOf}

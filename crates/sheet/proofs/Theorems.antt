@@ -1,13 +1,13 @@
 -- The main theorems, proved: for each statement of specs/Theorems.antt a term of exactly its type.
 use mathlib.Core.List.{[], flatten, flatMap}
 use mathlib.Core.Path.{refl, ap}
-use Rattle.lifetimes.specs.Refusals.{unless}
+use Rattle.answers.specs.Refusals.{unless}
 use Rattle.records.specs.Reading.{inShape, itemsOf, readAll}
 use Rattle.ast_lifetimes.specs.Shapes.{namesInShape, boundsInShape, allNames}
 use Rattle.ast_lifetimes.specs.Types.{readType}
 use Rattle.elision.specs.Steps.{readStep}
-use Rattle.lowered_types.specs.LoweredTypes.{readLowered, readBare, readOpaque, readSlice, readStruct}
-use Rattle.lowered_types.specs.Rows.{methodInShape, readKnown}
+use Rattle.types.specs.LoweredTypes.{readLowered, readBare, readOpaque, readSlice, readStruct}
+use Rattle.types.specs.Rows.{methodInShape, readKnown}
 use Rattle.sheet.specs.Text.{lists, text, line, following, digits, digitsFor}
 use Rattle.sheet.specs.Reading.{recordsOf, readText, textChecks, sheetOf, sheetIn, linesBehind, ten, readLines}
 use Rattle.sheet.specs.Reading.{behind, allShort}

@@ -8,7 +8,7 @@ use native.Mathlib.Omega.{arith}
 use borrow.Author.Tests.{eq-eqb, ne-eqb}
 use lib.ListN.{length, getD, set, length-append}
 use lib.Seq.{drop-cons, sets, length-sets}
-use Rattle.lifetimes.proofs.Copying.{sets-append}
+use Rattle.answers.proofs.Copying.{sets-append}
 use Rattle.sheet.specs.Text.{newline, space}
 use Rattle.sheet.specs.Reading.{LineStart, WordStart, Behind, lineBefore, wordBefore, readLines}
 use Rattle.sheet.specs.declared.word.Found.{Found}

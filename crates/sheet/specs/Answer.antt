@@ -6,9 +6,9 @@ use mathlib.Core.List.{List, [], _∷_, _++_}
 use lib.Dec.{leb, ltb}
 use lib.ListN.{length, getD, replicate}
 use lib.Seq.{slice}
-use Rattle.lifetimes.specs.Refusals.{Check, Outcome, unless}
-use Rattle.lifetimes.specs.Lent.{verdictOf, resultOr, roomCheck}
-use Rattle.lifetimes.specs.Reach.{endsFrom}
+use Rattle.answers.specs.Refusals.{Check, Outcome, unless}
+use Rattle.answers.specs.Lent.{verdictOf, resultOr, roomCheck}
+use Rattle.answers.specs.Lists.{endsFrom}
 use Rattle.sheet.specs.declared.text.Text.{Text}
 use Rattle.sheet.specs.Text.{Records, lists, wordsOf}
 use Rattle.sheet.specs.Reading.{sheetOf, textChecks}

@@ -4,8 +4,8 @@ use Prim.Native.Nat.{ℕ}
 use mathlib.Core.Path.{_≡_}
 use mathlib.Core.List.{List, [], _∷_, _++_, flatten}
 use lib.ListN.{replicate}
-use Rattle.lifetimes.specs.declared.answer.Refusal.the-variants.{Malformed, Unreadable, Retired}
-use Rattle.lifetimes.specs.Refusals.{Outcome, Gives, Refuses}
+use Rattle.answers.specs.declared.Refusal.the-variants.{Malformed, Unreadable, Retired}
+use Rattle.answers.specs.Refusals.{Outcome, Gives, Refuses}
 use Rattle.sheet.specs.Text.{newline, space, heading, Records, text}
 use Rattle.sheet.specs.Reading.{recordsOf}
 

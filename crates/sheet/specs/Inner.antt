@@ -8,9 +8,9 @@ use mathlib.Core.List.{List, _∷_, _++_, flatten}
 use mathlib.Core.Option.{Option, none, some}
 use lib.ListN.{length, getD, drop}
 use lib.Seq.{sets, slice}
-use Rattle.lifetimes.specs.declared.answer.Verdict.{Verdict}
-use Rattle.lifetimes.specs.Refusals.{NoneDue}
-use Rattle.records.specs.Ends as checks
+use Rattle.answers.specs.declared.Verdict.{Verdict}
+use Rattle.answers.specs.Refusals.{NoneDue}
+use Rattle.answers.specs.Lent as answers
 use Rattle.sheet.specs.declared.word.Found.{Found}
 use Rattle.sheet.specs.declared.word.Found.the-variants as found
 use Rattle.sheet.specs.declared.lines.Read.{Read}
@@ -21,7 +21,7 @@ use Rattle.sheet.specs.Text.{Records, lists, wordsOf, mostWord}
 use Rattle.sheet.specs.Reading.{Place, LineStart, WordStart, Behind, continues, lineBefore, readLines, ten}
 use Rattle.sheet.specs.Reading.{allShort, sheetOf, textChecks}
 use Rattle.sheet.specs.Shape.{recordsChecks}
-use Rattle.lifetimes.specs.Reach.{endsFrom}
+use Rattle.answers.specs.Lists.{endsFrom}
 
 -- reading the bytes from an index on
 abbrev pub readFrom : Place → List ℕ → ℕ → Option (List (List ℕ))
@@ -102,7 +102,7 @@ pub record Laid (words ends : List ℕ) : Type 0 where
 
 -- the verdict of the first refusals of ten records
 abbrev pub recordsVerdict : Records → Verdict
-recordsVerdict r = checks.judged (recordsChecks r)
+recordsVerdict r = answers.judged (recordsChecks r)
 
 -- an accepted text, and where its records end
 pub record Counted (bytes ends : List ℕ) : Type 0 where

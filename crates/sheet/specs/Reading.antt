@@ -6,8 +6,8 @@ use mathlib.Core.List.{List, [], _∷_}
 use mathlib.Core.Option.{Option, none, some, Option·getD}
 use lib.Dec.{eqb, ltb, leb}
 use lib.ListN.{length, getD}
-use Rattle.lifetimes.specs.declared.answer.Refusal.the-variants.{Malformed, Unreadable}
-use Rattle.lifetimes.specs.Refusals.{Check, check, Outcome, unless}
+use Rattle.answers.specs.declared.Refusal.the-variants.{Malformed, Unreadable}
+use Rattle.answers.specs.Refusals.{Check, check, Outcome, unless}
 use Rattle.sheet.specs.Text.{newline, space, heading, Records, lists, mostWord, mostBytes, mostWords}
 
 -- what follows the bytes of a prefix, where the bytes begin with it

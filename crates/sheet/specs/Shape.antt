@@ -3,15 +3,15 @@
 use Prim.Native.Nat.{ℕ}
 use mathlib.Core.Bool.{Bool, _&&_}
 use mathlib.Core.List.{List, _++_}
-use Rattle.lifetimes.specs.Refusals.{Check, Outcome, unless}
+use Rattle.answers.specs.Refusals.{Check, Outcome, unless}
 use Rattle.ast_lifetimes.specs.Shapes.{namesInShape, boundsInShape}
 use Rattle.ast_lifetimes.specs.Types.{typesInShape}
 use Rattle.elision.specs.Steps.{selfInShape, stepsInShape}
-use Rattle.lowered_types.specs.Rows.{methodInShape, shapeChecks}
+use Rattle.types.specs.Rows.{methodInShape, shapeChecks}
 use Rattle.sheet.specs.declared.text.Text.{Text}
 use Rattle.sheet.specs.Text.{Records, lists, wordsOf}
 use Rattle.sheet.specs.Reading.{sheetOf, textChecks}
-use Rattle.lifetimes.specs.Reach.{endsFrom}
+use Rattle.answers.specs.Lists.{endsFrom}
 use Rattle.sheet.specs.Answer.{answerOf, withRoom}
 
 -- Whether all ten are in shape; the last four are those of a method (`structs`; `params` and `output` beside so many

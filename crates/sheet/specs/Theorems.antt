@@ -7,13 +7,13 @@ use mathlib.Core.Logic.{_↔_, _⊎_}
 use mathlib.Core.List.{List, [], _∷_, _++_, List·Memᴰ}
 use lib.ListN.{length, getD}
 use lib.Seq.{slice}
-use Rattle.lifetimes.specs.declared.answer.Refusal.{Refusal}
-use Rattle.lifetimes.specs.declared.answer.Refusal.the-variants.{Malformed, NoRoom, Unreadable, Retired}
-use Rattle.lifetimes.specs.Refusals.{Outcome, Gives, Refuses}
-use Rattle.lowered_types.specs.Rows.{forced}
+use Rattle.answers.specs.declared.Refusal.{Refusal}
+use Rattle.answers.specs.declared.Refusal.the-variants.{Malformed, NoRoom, Unreadable, Retired}
+use Rattle.answers.specs.Refusals.{Outcome, Gives, Refuses}
+use Rattle.types.specs.Rows.{forced}
 use Rattle.sheet.specs.Text.{digits, Records, lists, wordsOf, text, mostWord, mostBytes, mostWords, WordsUpTo}
 use Rattle.sheet.specs.Reading.{readText}
-use Rattle.lifetimes.specs.Reach.{endsFrom}
+use Rattle.answers.specs.Lists.{endsFrom}
 use Rattle.sheet.specs.Answer.{readWords, readEnds}
 use Rattle.sheet.specs.Shape.{sheetInShape, readSheet, sheetWords, sheetEnds}
 use Rattle.sheet.specs.Examples.{examples, sheetExamples, Right}

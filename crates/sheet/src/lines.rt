@@ -6,7 +6,7 @@ ghost use mathlib.Core.Bool.{cond};
 ghost use mathlib.Core.Path.{_≡_};
 ghost use lib.Dec.{leb};
 ghost use lib.ListN.{length, set};
-ghost use Rattle.lifetimes.specs.Lent.{held, left};
+ghost use Rattle.answers.specs.Lent.{held, left};
 ghost use Rattle.sheet.specs.declared.lines.Judged.the-variants.{TooLong};
 ghost use Rattle.sheet.specs.Text.{mostWords};
 ghost use Rattle.sheet.specs.Inner.{LineRead, LinesRead};

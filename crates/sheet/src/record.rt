@@ -1,7 +1,7 @@
 // The words of one record, where ten stand one after another.
 ghost use Prim.Native.Nat.{_<_};
 ghost use mathlib.Core.Path.{_≡_};
-ghost use Rattle.lifetimes.specs.Lent.{held};
+ghost use Rattle.answers.specs.Lent.{held};
 ghost use Rattle.sheet.specs.Answer.{recordWords, startOf};
 
 // The words of the record with a number, 0 to 9, in a slice where ten records end at these places: as `read_text` and

@@ -5,16 +5,16 @@
 ghost use Prim.Native.Nat.{_≤_};
 ghost use mathlib.Core.Path.{_≡_};
 ghost use lib.ListN.{length};
-ghost use Rattle.lifetimes.specs.Lent.{held, room, Fills};
+ghost use Rattle.answers.specs.Lent.{held, room, Fills};
 ghost use Rattle.sheet.specs.Shape.{sheetAnswer, sheetWords};
 ghost use Rattle.sheet.specs.Inner.{Roomy};
 use super::shapes::judge_laid;
 use super::text::Text;
 use super::text::refused;
 use super::text::scan;
-use lifetimes::Listed;
-use lifetimes::Refusal;
-use lifetimes::Verdict;
+use answers::Listed;
+use answers::Refusal;
+use answers::Verdict;
 use records::copy_words;
 
 // Read a sheet whose records are all in shape. The words of its ten records are written to a slice, one record after

@@ -5,16 +5,16 @@ ghost use mathlib.Core.Option.{none, some};
 ghost use lib.Dec.{leb};
 ghost use lib.ListN.{drop};
 ghost use lib.Seq.{sets};
-ghost use Rattle.lifetimes.specs.Refusals.{Refuses, NoneDue};
-ghost use Rattle.lifetimes.specs.Lent.{held, room, left, Fills};
+ghost use Rattle.answers.specs.Refusals.{Refuses, NoneDue};
+ghost use Rattle.answers.specs.Lent.{held, room, left, Fills};
 ghost use Rattle.sheet.specs.Text.{heading, wordsOf};
 ghost use Rattle.sheet.specs.Reading.{behind, sheetOf, textChecks};
 ghost use Rattle.sheet.specs.Answer.{answerOf, measured, readAnswer, readWords};
 use super::lines::Judged;
 use super::lines::lines;
 use super::shapes::both;
-use lifetimes::Refusal;
-use lifetimes::Verdict;
+use answers::Refusal;
+use answers::Verdict;
 
 // Whether a text is refused, and where the words of each of its ten records end, one record after another. Beside a
 // refusal all ends are 0.

@@ -1,6 +1,6 @@
 // One number of a line.
 ghost use mathlib.Core.Path.{_≡_};
-ghost use Rattle.lifetimes.specs.Lent.{held};
+ghost use Rattle.answers.specs.Lent.{held};
 ghost use Rattle.sheet.specs.Inner.{WordRead};
 
 // A number that stands at a place, and the place behind its digits; or none.

@@ -8,9 +8,9 @@ ghost use lib.ListN.{length};
 use super::bounds;
 use super::print;
 use super::scan;
+use answers::Listed;
+use answers::Verdict;
 use ast_lifetimes::LifetimeEnv;
-use lifetimes::Listed;
-use lifetimes::Verdict;
 
 // The longest slice that is lent for a list of names: more than the 32 words that one may have.
 const ROOM: usize = 40;

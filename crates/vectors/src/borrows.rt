@@ -2,10 +2,10 @@
 ghost use Prim.Native.Nat.{_≤_};
 ghost use lib.ListN.{length};
 use super::environments;
+use super::lowered;
 use super::print;
 use super::rooms;
 use super::scan;
-use super::types;
 use borrowing_param::Borrows;
 use borrowing_param::borrow_method;
 
@@ -15,7 +15,7 @@ pub(crate) fn borrow(words: &[usize], at: usize) -> usize
     requires { ⌜ at ≤ length (now words) ⌝ }
     ensures { λ r. ⌜ (at ≤ r) × (r ≤ length (now (words .entry))) ⌝ }
 {
-    let lengths = types::behind_method(words, at);
+    let lengths = lowered::behind_method(words, at);
     print_room(words, at, scan::record(words, lengths));
     print::end();
     scan::behind_record(words, lengths)

@@ -8,6 +8,7 @@ ghost use lib.ListN.{length};
 use super::ast;
 use super::print;
 use super::scan;
+use answers::Verdict;
 use elision::ElisionSource;
 use elision::Lifetimes;
 use elision::Lowered;
@@ -16,7 +17,6 @@ use elision::Seen;
 use elision::Stepped;
 use lifetimes::LoweredWord;
 use lifetimes::MaybeStatic;
-use lifetimes::Verdict;
 use records::End;
 
 // Kind 14: record of names, a lowerer made by hand, and a step: its kind, the number of generics (kind 0: the

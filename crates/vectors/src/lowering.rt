@@ -4,8 +4,8 @@ ghost use lib.ListN.{length};
 use super::print;
 use super::rooms;
 use super::scan;
+use answers::Verdict;
 use ast_lifetimes::LifetimeEnv;
-use lifetimes::Verdict;
 
 // The longest slice that is lent for the lowered `self`: more than the one word that it may have.
 const OWN: usize = 4;

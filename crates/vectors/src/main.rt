@@ -12,6 +12,7 @@ mod ast;
 mod borrows;
 mod bounds;
 mod environments;
+mod lowered;
 mod lowerer;
 mod lowering;
 mod print;
@@ -19,7 +20,6 @@ mod reach;
 mod rooms;
 mod scan;
 mod sheets;
-mod types;
 mod visits;
 mod words;
 
@@ -43,9 +43,9 @@ fn answer(kind: usize, words: &[usize], at: usize) -> usize
         7 => lowering::lower(words, at),
         8 => lowering::self_shape(words, at),
         9 => lowering::steps_shape(words, at),
-        10 => types::used_method_lifetimes(words, at),
-        11 => types::compute_for_struct_field(words, at),
-        12 => types::type_lifetimes(words, at),
+        10 => lowered::used_method_lifetimes(words, at),
+        11 => lowered::compute_for_struct_field(words, at),
+        12 => lowered::type_lifetimes(words, at),
         13 => visits::visit_params(words, at),
         14 => lowerer::step(words, at),
         15 => lowerer::finish(words, at),

@@ -1,7 +1,7 @@
 // Writing: a line of numbers, one blank between.
 use super::scan;
-use lifetimes::Listed;
-use lifetimes::Verdict;
+use answers::Listed;
+use answers::Verdict;
 
 // The first number of a line.
 pub(crate) fn first(number: usize) {

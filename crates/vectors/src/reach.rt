@@ -4,10 +4,10 @@ ghost use lib.ListN.{length};
 use super::environments;
 use super::print;
 use super::scan;
+use answers::Listed;
+use answers::Verdict;
 use lifetimes::Lifetime;
 use lifetimes::LifetimeEnv;
-use lifetimes::Listed;
-use lifetimes::Verdict;
 
 // Kind 16: an environment made by hand as in environments.rt. The number of `check`; and if it is 0, for each lifetime
 // up to the count the list of `all_longer_lifetimes` and the list of `all_shorter_lifetimes`, each with its length in

@@ -2,16 +2,16 @@
 ghost use Prim.Native.Nat.{_≤_};
 ghost use lib.ListN.{length};
 use super::environments;
+use super::lowered;
 use super::print;
 use super::rooms;
 use super::scan;
-use super::types;
+use answers::Verdict;
 use borrowing_param::BorrowingParamVisitor;
 use borrowing_param::EdgeAt;
 use borrowing_param::LifetimeEdge;
 use borrowing_param::ParamBorrowInfo;
 use borrowing_param::edge_at;
-use lifetimes::Verdict;
 use lifetimes::set;
 use records::End;
 
@@ -41,7 +41,7 @@ pub(crate) fn visit_params(words: &[usize], at: usize) -> usize
         print_visits(visitor, words, structs);
     }
     print::end();
-    behind_visits(words, types::behind_method(words, at))
+    behind_visits(words, lowered::behind_method(words, at))
 }
 
 // The place behind the length of the slice and the visits.
@@ -163,7 +163,7 @@ fn print_pair(def: usize, used: u64) {
     if used != 0 {
         print::next(def);
         print::next(set::count(used));
-        types::print_members(used);
+        lowered::print_members(used);
     }
 }
 

@@ -5,7 +5,7 @@ use native.Mathlib.Nat.{zero-add}
 use native.Mathlib.Omega.{arith}
 use borrow.Author.Needs.{needs}
 use lib.ListN.{length}
-use Rattle.lifetimes.proofs.Copying.{Copying, copying-start, copying-more}
+use Rattle.answers.proofs.Copying.{Copying, copying-start, copying-more}
 use Rattle.records.proofs.CopyLaws.{copy-refused, copy-done}
 use Rattle.records.proofs.copy_words.Statement.{statement}
 use Rattle.records.proofs.copy_words.Tie as tie

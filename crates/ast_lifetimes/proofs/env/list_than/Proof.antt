@@ -2,8 +2,8 @@
 use mathlib.Core.Path.{_≡_, sym, _∙_}
 use lib.ListN.{length, length-map}
 use borrow.Author.Needs.{needs}
-use Rattle.lifetimes.specs.Refusals.{NoneDue}
-use Rattle.lifetimes.proofs.RefusalLaws.{refused-first, accepted-none}
+use Rattle.answers.specs.Refusals.{NoneDue}
+use Rattle.answers.proofs.RefusalLaws.{refused-first, accepted-none}
 use Rattle.ast_lifetimes.specs.Env.{envChecks}
 use Rattle.ast_lifetimes.proofs.Listing.{few-names, than-refused, than-unknown, than-traversal}
 use Rattle.ast_lifetimes.proofs.env.list_than.Statement.{statement}

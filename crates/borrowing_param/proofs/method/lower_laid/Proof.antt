@@ -1,7 +1,7 @@
 -- `lower_laid` meets its contract: the ten slices are the records.
 use mathlib.Core.Path.{_≡_, sym, ap, subst, _∙_}
 use mathlib.Core.List.{[]}
-use Rattle.lifetimes.specs.Refusals.{NoneDue}
+use Rattle.answers.specs.Refusals.{NoneDue}
 use Rattle.lifetimes.specs.Env.{envOf, made}
 use Rattle.sheet.specs.Text.{Records}
 use Rattle.sheet.specs.Shape.{recordsChecks}

@@ -3,7 +3,7 @@ use native.Mathlib.Omega.{arith}
 use borrow.Author.Needs.{needs}
 use borrow.Author.Tests.{eq-eqb, ne-eqb, lt-ltb, le-ltb}
 use lib.ListN.{length}
-use Rattle.lifetimes.specs.Refusals.{unless}
+use Rattle.answers.specs.Refusals.{unless}
 use Rattle.lifetimes.specs.Linked.{linkedPair}
 use Rattle.lifetimes.proofs.linked.pair_of.Statement.{statement}
 use Rattle.lifetimes.proofs.linked.pair_of.Tie as tie

@@ -2,7 +2,7 @@
 use Prim.Native.Nat.{_-_}
 use native.Mathlib.Omega.{arith}
 use borrow.Author.Needs.{needs}
-use Rattle.lifetimes.proofs.Copying.{Copying, copying-start, copying-more, copying-end}
+use Rattle.answers.proofs.Copying.{Copying, copying-start, copying-more, copying-end}
 use Rattle.lifetimes.proofs.reach.copy_to.Statement.{statement}
 use Rattle.lifetimes.proofs.reach.copy_to.Tie as tie
 

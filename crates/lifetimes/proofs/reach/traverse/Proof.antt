@@ -2,10 +2,10 @@
 use mathlib.Core.Path.{refl, sym, _∙_}
 use native.Mathlib.Omega.{arith}
 use borrow.Author.Needs.{needs}
-use Rattle.lifetimes.specs.Refusals.{NoneDue}
+use Rattle.answers.specs.Refusals.{NoneDue}
 use Rattle.lifetimes.specs.Env.{envChecks}
 use Rattle.lifetimes.specs.Walk.{orderOf}
-use Rattle.lifetimes.proofs.RefusalLaws.{refused-first, accepted-none}
+use Rattle.answers.proofs.RefusalLaws.{refused-first, accepted-none}
 use Rattle.lifetimes.proofs.Traversing.{list-refused, list-past, list-short, list-given}
 use Rattle.lifetimes.proofs.reach.traverse.Statement.{statement}
 use Rattle.lifetimes.proofs.reach.traverse.Tie as tie

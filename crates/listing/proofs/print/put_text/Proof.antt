@@ -2,7 +2,7 @@
 use Prim.Native.Nat.{_-_}
 use native.Mathlib.Omega.{arith}
 use borrow.Author.Needs.{needs}
-use Rattle.lifetimes.proofs.Copying.{Copying, copying-start, copying-more}
+use Rattle.answers.proofs.Copying.{Copying, copying-start, copying-more}
 use Rattle.listing.proofs.Printing.{text-end}
 use Rattle.listing.proofs.print.put_text.Statement.{statement}
 use Rattle.listing.proofs.print.put_text.Tie as tie

@@ -2,7 +2,7 @@
 use mathlib.Core.Path.{_≡_, sym, subst}
 use lib.ListN.{length}
 use Rattle.sheet.specs.Text.{Records}
-use Rattle.lifetimes.specs.Refusals.{NoneDue}
+use Rattle.answers.specs.Refusals.{NoneDue}
 use Rattle.sheet.specs.Shape.{recordsChecks}
 use Rattle.sheet.specs.Inner.{recordsAt}
 use Rattle.borrowing_param.specs.InnerSheet.{records}

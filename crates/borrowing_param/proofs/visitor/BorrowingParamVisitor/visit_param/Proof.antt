@@ -1,6 +1,6 @@
 -- `visit_param` meets its contract: each way out is a law of proofs/Visiting.antt.
 use mathlib.Core.Path.{ap, sym, _∙_}
-use Rattle.lowered_types.proofs.FoundLaws.{found-told, missing-told}
+use Rattle.types.proofs.FoundLaws.{found-told, missing-told}
 use Rattle.borrowing_param.specs.declared.visitor.Visited.{Visited}
 use Rattle.borrowing_param.specs.Visit.{outcome, state}
 use Rattle.borrowing_param.proofs.Visiting.{nowhere-refused, records-refused, records-accepted, parts-there}

@@ -5,11 +5,11 @@ use native.Mathlib.Omega.{arith}
 use borrow.Author.Needs.{needs}
 use borrow.Author.Tests.{leb-true, leb-false, not-true, not-false}
 use lib.ListN.{length, length-map}
-use Rattle.lifetimes.specs.Refusals.{NoneDue}
+use Rattle.answers.specs.Refusals.{NoneDue}
 use Rattle.lifetimes.specs.Env.{envChecks}
 use Rattle.lifetimes.specs.Walk.{LastFirst}
 use Rattle.lifetimes.specs.Index.{graphOf, Fits}
-use Rattle.lifetimes.proofs.RefusalLaws.{refused-first, accepted-none}
+use Rattle.answers.proofs.RefusalLaws.{refused-first, accepted-none}
 use Rattle.lifetimes.proofs.EnvLaws.{Valid, valid}
 use Rattle.lifetimes.proofs.IndexLaws.{bounds-length, bounds-fine, bounds-within, zeros}
 use Rattle.lifetimes.proofs.Traversing.{lists-refused, lists-no-ends, lists-no-words, lists-given}

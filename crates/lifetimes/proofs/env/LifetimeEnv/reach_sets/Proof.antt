@@ -3,11 +3,11 @@ use mathlib.Core.Path.{_≡_, refl, sym, _∙_}
 use native.Mathlib.Omega.{arith}
 use borrow.Author.Needs.{needs}
 use lib.ListN.{length, length-map}
-use Rattle.lifetimes.specs.Refusals.{NoneDue}
+use Rattle.answers.specs.Refusals.{NoneDue}
 use Rattle.lifetimes.specs.Env.{envChecks}
 use Rattle.lifetimes.specs.Walk.{LastFirst}
 use Rattle.lifetimes.specs.Index.{graphOf}
-use Rattle.lifetimes.proofs.RefusalLaws.{refused-first, accepted-none}
+use Rattle.answers.proofs.RefusalLaws.{refused-first, accepted-none}
 use Rattle.lifetimes.proofs.EnvLaws.{Valid, valid}
 use Rattle.lifetimes.proofs.IndexLaws.{bounds-length, bounds-fine, bounds-within, zeros}
 use Rattle.lifetimes.proofs.Traversing.{sets-refused, sets-given}

@@ -1,6 +1,0 @@
--- The main theorem: a term of exactly the type that specs/Theorems.antt states, and nothing else.
-use Rattle.lowered_types.specs.Theorems.{LifetimesInOrder}
-use Rattle.lowered_types.proofs.LifetimeLaws.{in-order}
-
-pub lifetimes-in-order : LifetimesInOrder
-lifetimes-in-order = in-order

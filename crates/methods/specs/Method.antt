@@ -1,0 +1,103 @@
+-- The refusal of a *method* (01's word for an environment with the records `structs`, `params`, `output` and `force`):
+-- the first due in one ordered list of checks.
+use Prim.Native.Nat.{ℕ, suc}
+use mathlib.Core.Bool.{Bool, false, not, _&&_, _||_}
+use mathlib.Core.List.{List, [], _∷_, _++_, flatMap}
+use lib.Dec.{eqb, leb}
+use lib.ListN.{length, getD, take, drop}
+use Rattle.answers.specs.declared.Refusal.the-variants.{Malformed, Full, Mismatch, OutOfRange}
+use Rattle.lifetimes.specs.declared.maybe_static.MaybeStatic.{MaybeStatic}
+use Rattle.lifetimes.specs.declared.maybe_static.MaybeStatic.the-variants.{Static, NonStatic}
+use Rattle.lifetimes.specs.declared.env.LifetimeEnv.{LifetimeEnv}
+use Rattle.answers.specs.declared.Verdict.{Verdict}
+use Rattle.answers.specs.Refusals.{Check, check, unless}
+use Rattle.answers.specs.Lent.{verdictOf}
+use Rattle.lifetimes.specs.Env.{envChecks}
+use Rattle.types.specs.declared.types.Kind.{Kind}
+use Rattle.types.specs.declared.types.Kind.the-variants.{Plain, Opaque, Struct, Slice}
+use Rattle.types.specs.LoweredTypes.{LoweredType, lifetimesOf}
+use Rattle.types.specs.Rows.{Row, rowWith, rowsOf, typesOf, structsInShape, paramsInShape, methodInShape}
+use Rattle.types.specs.Rows.{shapeChecks}
+
+-- By place: 4 and 7
+
+-- the row with a number
+abbrev pub rowAt : List Row → ℕ → Row
+rowAt rows row = getD rows row (rowWith 0 [])
+
+-- a struct type whose words are not as many as the lifetimes of its row
+abbrev pub misfit : List Row → Kind → ℕ → Bool
+misfit rows Plain n = false
+misfit rows Opaque n = false
+misfit rows (Struct row) n = not (eqb n (rowAt rows row .lifetimes))
+misfit rows Slice n = false
+
+abbrev pub misfits : List Row → LoweredType → Bool
+misfits rows t = misfit rows (t .kind) (length (t .path))
+
+-- at each type 7
+unfoldable pub typeChecks : List Row → List LoweredType → List Check
+typeChecks rows [] = []
+typeChecks rows (t ∷ ts) = check (misfits rows t) Mismatch ∷ typeChecks rows ts
+
+-- at each row, so many before it: a 33rd (4), then its fields
+unfoldable pub rowChecks : List Row → ℕ → List Row → List Check
+rowChecks rows number [] = []
+rowChecks rows number (row ∷ more) =
+    check (leb 32 number) Full ∷ (typeChecks rows (row .fields) ++ rowChecks rows (suc number) more)
+
+-- at each parameter: a 17th (4), then 7
+unfoldable pub paramChecks : List Row → ℕ → List LoweredType → List Check
+paramChecks rows number [] = []
+paramChecks rows number (t ∷ ts) =
+    check (leb 16 number) Full ∷ check (misfits rows t) Mismatch ∷ paramChecks rows (suc number) ts
+
+-- the types of a method's parameters and of its output
+abbrev pub typesIn : List ℕ → List ℕ → List LoweredType
+typesIn structs words = typesOf (length (rowsOf structs)) words
+
+abbrev pub placeChecks : List ℕ → List ℕ → List ℕ → List Check
+placeChecks structs params output =
+    rowChecks (rowsOf structs) 0 (rowsOf structs)
+    ++ (paramChecks (rowsOf structs) 0 (typesIn structs params)
+    ++ typeChecks (rowsOf structs) (typesIn structs output))
+
+-- Two records alone, as those of a method whatever else it has: 1 over both, then 4 and 7 by place
+
+abbrev pub structsAndParamsChecks : List ℕ → List ℕ → List Check
+structsAndParamsChecks structs params =
+    check (not (structsInShape structs && paramsInShape (length (rowsOf structs)) params)) Malformed
+    ∷ (rowChecks (rowsOf structs) 0 (rowsOf structs)
+    ++ paramChecks (rowsOf structs) 0 (typesIn structs params))
+
+abbrev pub structsAndParamsVerdict : List ℕ → List ℕ → Verdict
+structsAndParamsVerdict structs params = verdictOf (unless (structsAndParamsChecks structs params) (tt {0}))
+
+-- The output's lifetimes: none is past the count (8)
+
+abbrev pub outputLifetimes : List ℕ → List ℕ → List MaybeStatic
+outputLifetimes structs output = flatMap lifetimesOf (typesIn structs output)
+
+abbrev pub isPast : ℕ → MaybeStatic → Bool
+isPast count Static = false
+isPast count (NonStatic l) = leb count (l .0)
+
+unfoldable pub anyPast : ℕ → List MaybeStatic → Bool
+anyPast count [] = false
+anyPast count (m ∷ ms) = isPast count m || anyPast count ms
+
+-- First 1 over the four records, then 13. Of the environment's checks the first two are limits (4: a 65th lifetime, a
+-- 257th bound); they stand where its records would. The others (8: more declared than there are, a bound past the
+-- declared) stand with the 8 of the output
+
+abbrev pub methodChecks : LifetimeEnv → List ℕ → List ℕ → List ℕ → List ℕ → List Check
+methodChecks env structs params output force =
+    shapeChecks (methodInShape structs params output force) force
+    ++ (take 2 (envChecks env)
+    ++ (placeChecks structs params output
+    ++ (drop 2 (envChecks env)
+    ++ (check (anyPast (env .count) (outputLifetimes structs output)) OutOfRange ∷ []))))
+
+abbrev pub methodVerdict : LifetimeEnv → List ℕ → List ℕ → List ℕ → List ℕ → Verdict
+methodVerdict env structs params output force =
+    verdictOf (unless (methodChecks env structs params output force) (tt {0}))
