@@ -1,4 +1,5 @@
 -- Laws of the definitions, and what proofs of several crates share.
+pub mod ListLaws
 pub mod RefusalLaws
 pub mod VerdictLaws
 pub mod LentLaws

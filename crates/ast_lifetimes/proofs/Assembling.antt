@@ -15,7 +15,7 @@ use Rattle.lifetimes.specs.declared.env.Bound.{Bound}
 use Rattle.lifetimes.specs.Numbers.{lifetime}
 use Rattle.answers.specs.Lists.{range}
 use Rattle.lifetimes.specs.Env.{above, byteOf, allBelow}
-use Rattle.lifetimes.proofs.SetLaws.{length-ascending}
+use Rattle.answers.proofs.ListLaws.{length-range}
 use Rattle.answers.proofs.Copying.{Copying, copying-more, drop-replicate}
 use Rattle.ast_lifetimes.specs.Env.{envOf}
 use Rattle.ast_lifetimes.specs.Inner.{sidesOf}
@@ -38,7 +38,7 @@ abbrev side : List ℕ → List ℕ → ℕ → Bound
 side longs shorts i = above (getD longs i 0) (getD shorts i 0)
 
 length-sides : (n : ℕ) (longs shorts : List ℕ) → length (sidesOf n longs shorts) ≡ n
-length-sides n longs shorts = rw (length-map, length-ascending 0 n)
+length-sides n longs shorts = rw (length-map, length-range 0 n)
 
 -- what is left to store, stored from here, gives what all sides give from the array's start
 pub record Storing (longs shorts : List ℕ) (pushed : ℕ) (bounds : List Bound) (i : ℕ) : Type 0 where

@@ -16,7 +16,8 @@ use Rattle.answers.specs.Lists.{range}
 use Rattle.lifetimes.specs.Sets.{empty, member, insert, union}
 use Rattle.lifetimes.specs.Env.{above}
 use Rattle.lifetimes.specs.Outlives.{Outlives, itself}
-use Rattle.lifetimes.proofs.SetLaws.{member-empty, member-insert-same, member-insert-true, member-union, ascending-snoc}
+use Rattle.answers.proofs.ListLaws.{range-snoc}
+use Rattle.lifetimes.proofs.SetLaws.{member-empty, member-insert-same, member-insert-true, member-union}
 use Rattle.lifetimes.proofs.OutlivesLaws.{least, outlives-added}
 use Rattle.ast_lifetimes.specs.Inner.{sidesOf, Reaches, Joins}
 
@@ -135,7 +136,7 @@ starting-more {now} {x} inv h s e = record {
 -- one bound more of two arrays of sides
 pub sides-next : (n : ℕ) (longs shorts : List ℕ)
     → sidesOf (n + 1) longs shorts ≡ sidesOf n longs shorts ++ (above (getD longs n 0) (getD shorts n 0) ∷ [])
-sides-next n longs shorts = rw (add-one n, ascending-snoc 0 n, map-append, zero-add n)
+sides-next n longs shorts = rw (add-one n, range-snoc 0 n, map-append, zero-add n)
 
 -- the loop of `close`: the sets of the first bounds
 pub closing-start : (named : ℕ) (longs shorts reach : List ℕ) → Reaches [] named reach → Reaches (sidesOf 0 longs shorts) named reach

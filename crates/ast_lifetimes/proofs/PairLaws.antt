@@ -17,7 +17,7 @@ use Rattle.lifetimes.specs.declared.env.Bound.{Bound}
 use Rattle.answers.specs.Lists.{range}
 use Rattle.answers.specs.Refusals.{unless}
 use Rattle.lifetimes.specs.Env.{above}
-use Rattle.lifetimes.proofs.SetLaws.{ascending-snoc}
+use Rattle.answers.proofs.ListLaws.{range-snoc}
 use Rattle.ast_lifetimes.specs.Shapes.{Pair, pair, pairsOf}
 use Rattle.ast_lifetimes.specs.Env.{place, allPairChecks, boundsFor}
 use Rattle.answers.specs.Lent.{judged}
@@ -48,7 +48,7 @@ map-row f g x (suc n) h = rw (h x (omega arith), map-row f g (suc x) n (λ i k. 
 pub sides-more : (n : ℕ) (longs shorts : List ℕ) (l s : ℕ) → n < length longs → n < length shorts
     → sidesOf (suc n) (set longs n l) (set shorts n s) ≡ sidesOf n longs shorts ++ (above l s ∷ [])
 sides-more n longs shorts l s h k =
-    let row : range 0 (suc n) ≡ range 0 n ++ (n ∷ []) = rw (ascending-snoc, zero-add) in
+    let row : range 0 (suc n) ≡ range 0 n ++ (n ∷ []) = rw (range-snoc, zero-add) in
     let same : sidesOf n (set longs n l) (set shorts n s) ≡ sidesOf n longs shorts =
     map-row (side (set longs n l) (set shorts n s)) (side longs shorts) 0 n
     (λ i q. rw (getD-set-other longs n i l 0 (λ e. omega arith), getD-set-other shorts n i s 0 (λ e. omega arith))) in

@@ -28,7 +28,7 @@ use Rattle.lifetimes.specs.Walk.{reachSet}
 use Rattle.lifetimes.specs.Reach.{allSets, noSets, reachSets}
 use Rattle.answers.proofs.RefusalLaws.{due-given, given-due, refused-due, none-first, none-rest, none-split}
 use Rattle.answers.proofs.RefusalLaws.{none-more}
-use Rattle.lifetimes.proofs.SetLaws.{length-ascending}
+use Rattle.answers.proofs.ListLaws.{length-range}
 use Rattle.methods.specs.declared.used.UsedLifetimes.{UsedLifetimes}
 use Rattle.methods.specs.declared.used.UsedLifetimes.the-variants as answer
 use Rattle.methods.specs.Method.{outputLifetimes, isPast, anyPast, placeChecks, methodChecks}
@@ -46,7 +46,7 @@ at-place f x (suc n) zero h = ap f (omega arith)
 at-place f x (suc n) (suc i) h = let e : suc x + i ≡ x + suc i = omega arith in at-place f (suc x) n i (omega arith) ∙ ap f e
 
 pub places : (f : ℕ → ℕ) (n : ℕ) → length (map f (range 0 n)) ≡ n
-places f n = rw length-map (length-ascending 0 n)
+places f n = rw length-map (length-range 0 n)
 
 -- ---- the loop of `keep_used`
 

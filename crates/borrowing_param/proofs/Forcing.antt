@@ -20,7 +20,8 @@ use Rattle.lifetimes.specs.Sets.{empty, member, members, setOf}
 use Rattle.lifetimes.specs.Env.{boundsOf, envChecks}
 use Rattle.lifetimes.specs.Walk.{LastFirst, reachSet}
 use Rattle.answers.proofs.RefusalLaws.{due-given, none-first, none-more, none-split}
-use Rattle.lifetimes.proofs.SetLaws.{members-has, ascending-has, select-has}
+use Rattle.answers.proofs.ListLaws.{range-has, filter-has}
+use Rattle.lifetimes.proofs.SetLaws.{members-has}
 use Rattle.lifetimes.proofs.Theorems.{reach-is-outlives, outlives-is-forced}
 use Rattle.types.specs.declared.types.Kind.{Kind}
 use Rattle.types.specs.declared.types.Kind.the-variants.{Plain, Opaque, Struct, Slice}
@@ -114,7 +115,7 @@ once-from f x (suc n) = go (f x) (once-from f (suc x) n)
     go : (t : Bool) → Once (filter f (range (suc x) n))
         → Once (cond t (x ∷ filter f (range (suc x) n)) (filter f (range (suc x) n)))
     go true r = (
-      λ m. let k = (ascending-has (suc x) n x) .0 ((select-has f (range (suc x) n) x) .0
+      λ m. let k = (range-has (suc x) n x) .0 ((filter-has f (range (suc x) n) x) .0
           m .0) in omega (arith, k .0),
       r,
     )

@@ -16,7 +16,8 @@ use Rattle.lifetimes.specs.declared.env.LifetimeEnv.{LifetimeEnv}
 use Rattle.answers.specs.Refusals.{NoneDue}
 use Rattle.answers.specs.Lists.{range}
 use Rattle.lifetimes.specs.Sets.{member}
-use Rattle.lifetimes.proofs.SetLaws.{length-ascending, getD-ascending, ascending-has, members-has}
+use Rattle.answers.proofs.ListLaws.{length-range, getD-range, range-has}
+use Rattle.lifetimes.proofs.SetLaws.{members-has}
 use Rattle.types.specs.LoweredTypes.{LoweredType}
 use Rattle.methods.specs.Method.{typesIn, methodChecks}
 use Rattle.borrowing_param.specs.declared.visitor.ParamBorrowInfo.{ParamBorrowInfo}
@@ -120,10 +121,10 @@ module _ (structs params : List ℕ) (v : BorrowingParamVisitor) (words : List �
   total = turn-sums v types 0 types itself
 
   number : (i : ℕ) → i < length types → getD (inTurn structs params) i 0 ≡ i
-  number i h = getD-ascending 0 (length types) i 0 h ∙ zero-add i
+  number i h = getD-range 0 (length types) i 0 h ∙ zero-add i
 
   size : length (inTurn structs params) ≡ length types
-  size = length-ascending 0 (length types)
+  size = length-range 0 (length types)
 
   -- what was brought before the visit with the number i
   stands : (i : ℕ)
@@ -211,4 +212,4 @@ as-visited env structs params output force none words =
     turn = inTurn structs params
 
     within : (p : ℕ) → List·Memᴰ p (inTurn structs params) → p < length (typesIn structs params)
-    within p m = omega (arith, (ascending-has 0 (length (typesIn structs params)) p) .0 m .1)
+    within p m = omega (arith, (range-has 0 (length (typesIn structs params)) p) .0 m .1)

@@ -240,13 +240,13 @@ module _ (used : ℕ) where
   unfolding member
   none-past x h = rw (div-eq-of-lt h)
 
-  select-past : (x n : ℕ) → used < 2 ^ x → filter (member used) (range x n) ≡ []
+  filter-past : (x n : ℕ) → used < 2 ^ x → filter (member used) (range x n) ≡ []
   unfolding range filter
-  select-past x zero h = refl
-  select-past x (suc n) h = rw (none-past x h) (select-past (suc x) n (omega (arith, pow-suc 2 x)))
+  filter-past x zero h = refl
+  filter-past x (suc n) h = rw (none-past x h) (filter-past (suc x) n (omega (arith, pow-suc 2 x)))
 
   pub used-end : {limit : ℕ} → Below used limit → (l : ℕ) → limit ≤ l → usedFrom used l ≡ []
-  used-end {limit} b l h = select-past l (64 - l) (omega (arith, b .1, pow-le-pow-right {n = 2} (omega arith) h))
+  used-end {limit} b l h = filter-past l (64 - l) (omega (arith, b .1, pow-le-pow-right {n = 2} (omega arith) h))
 
   module _ (l : ℕ) (h : l < 64) where
     row : range l (64 - l) ≡ l ∷ range (l + 1) (64 - (l + 1))

@@ -11,7 +11,9 @@ use lib.Dec.{eqb}
 use lib.ListN.{length, getD, drop, set, drop-of-length-le}
 use lib.Seq.{drop-cons, getD-set-other}
 use Rattle.lifetimes.specs.Env.{above}
+use Rattle.answers.specs.Lists.{filter}
 use Rattle.lifetimes.specs.Walk.{neighbours}
+use Rattle.lifetimes.proofs.NeighbourLaws.{neighbours-cons}
 use Rattle.lifetimes.specs.Index.{Graph, nearAt, farAt, lastOf, back, chain, chains}
 
 pub at-mem : {A : Type 0} (l : List A) (j : ℕ) (d : A) → j < length l → List·Memᴰ (getD l j d) l
@@ -46,11 +48,11 @@ chain-more g j = rw (eq-eqb (nearAt g j) (nearAt g j) refl, back-chain g j (near
 back-pushed : (g : Graph) (x : ℕ) (q : List ℕ) (i : ℕ) → i ≤ length (g .bounds)
     → reverseAux (neighbours (g .longer) (drop i (g .bounds)) x) (back g i x ++ q)
     ≡ reverseAux (neighbours (g .longer) (g .bounds) x) q
-unfolding back neighbours
+unfolding back
 back-pushed g x q zero h = refl
 back-pushed g x q (suc i) h =
     go (eqb (nearAt g i) x) refl
-    (rw (drop-cons (g .bounds) i (above 0 0) (omega arith)) at (back-pushed g x q i (omega arith)))
+    (rw (drop-cons (g .bounds) i (above 0 0) (omega arith), neighbours-cons) at (back-pushed g x q i (omega arith)))
   where
     go : (t : Bool) → eqb (nearAt g i) x ≡ t
         → reverseAux
@@ -64,7 +66,7 @@ back-pushed g x q (suc i) h =
 
 pub last-pushed : (g : Graph) (x : ℕ) (q : List ℕ)
     → chain g (lastOf g (length (g .bounds)) x) ++ q ≡ reverseAux (neighbours (g .longer) (g .bounds) x) q
-unfolding neighbours
+unfolding neighbours filter
 last-pushed g x q =
     let none : drop (length (g .bounds)) (g .bounds) ≡ [] = drop-of-length-le (g .bounds) {i = length (g .bounds)} (le-refl _) in
     rw (← back-chain g (length (g .bounds)) x) (rw none at (back-pushed g x q (length (g .bounds)) (le-refl _)))

@@ -17,16 +17,13 @@ use Rattle.lifetimes.specs.declared.env.LifetimeEnv.{LifetimeEnv}
 use Rattle.answers.specs.Refusals.{Gives, unless, FirstDue, here, later, NoneDue, end, next}
 use Rattle.lifetimes.specs.Env.{above, boundsOf, bothBelow, allBelow, limitChecks, envChecks, envOf, withBound}
 use Rattle.lifetimes.specs.Walk.{near, far}
+use Rattle.answers.proofs.ListLaws.{all-has}
 use Rattle.answers.proofs.RefusalLaws.{given-due, none-first, none-rest}
 
 pub all-below : (n : ℕ) (bs : List Bound) → allBelow n bs ≡ true → (b : Bound) → List·Memᴰ b bs → (b .longer < n) × (b .shorter < n)
-unfolding allBelow
-all-below n [] h b k = absurd (List·Memᴰ·not-nil k)
-all-below n (a ∷ bs) h b k =
-    let both = (and-eq-true-iff (bothBelow n a) (allBelow n bs)) .0 h in
-    let here = (and-eq-true-iff (ltb (a .longer) n) (ltb (a .shorter) n)) .0 (both .0) in
-    ⊎-elim (λ e. rw e (ltb-true (a .longer) n (here .0), ltb-true (a .shorter) n (here .1)))
-    (all-below n bs (both .1) b) (List·Memᴰ·cases-cons k)
+all-below n bs h b k =
+    let both = (and-eq-true-iff (ltb (b .longer) n) (ltb (b .shorter) n)) .0 (all-has (bothBelow n) bs h b k) in
+    (ltb-true (b .longer) n (both .0), ltb-true (b .shorter) n (both .1))
 
 -- what holds of an environment on which no refusal is due
 pub record Valid (e : LifetimeEnv) : Type 0 where

@@ -11,6 +11,7 @@ use borrow.Author.Tests.{lt-ltb, le-ltb, le-leb, lt-leb, ltb-true}
 use lib.Dec.{ltb}
 use lib.ListN.{length, getD, drop, length-take, drop-of-length-le}
 use lib.Seq.{getD-take, drop-cons}
+use Rattle.answers.specs.Lists.{all}
 use Rattle.answers.specs.declared.Refusal.{Refusal}
 use Rattle.answers.specs.declared.Refusal.the-variants.{Full, OutOfRange}
 use Rattle.answers.specs.declared.Verdict.{Verdict}
@@ -52,17 +53,17 @@ checking-start e a b c =
 
 module _ {e : LifetimeEnv} {i : ℕ} (inv : Checking e i) where
   pub checking-end : e .pushed ≤ i → Accepted ≡ verdictOf (unless (envChecks e) e)
-  unfolding unless allBelow
+  unfolding unless all
   checking-end h = rw (inv .left, bounds-read e i h)
 
   module _ (full : length (e .bounds) ≡ 256) (h : i < e .pushed) where
     pub checking-refused : bothBelow (e .declared) (getD (e .bounds) i (above 0 0)) ≡ false
         → Refused OutOfRange ≡ verdictOf (unless (envChecks e) e)
-    unfolding unless allBelow
+    unfolding unless all
     checking-refused f = rw (inv .left, bound-read e i full (inv .few) h, f)
 
     pub checking-more : bothBelow (e .declared) (getD (e .bounds) i (above 0 0)) ≡ true → Checking e (i + 1)
-    unfolding allBelow
+    unfolding all
     checking-more t = record { few = inv .few; left = inv .left ∙ rw (bound-read e i full (inv .few) h, t) }
 
 -- ---- `push_bound`

@@ -15,13 +15,13 @@ use Rattle.lifetimes.proofs.ReachLaws.{traversal-few}
 use Rattle.answers.proofs.Copying.{sets-append}
 
 -- the first of what is left, and nothing where nothing is left
-ascending-next : (x count : ℕ) → x < count → range x (count - x) ≡ x ∷ range (x + 1) (count - (x + 1))
+range-next : (x count : ℕ) → x < count → range x (count - x) ≡ x ∷ range (x + 1) (count - (x + 1))
 unfolding range
-ascending-next x count h = let e : count - x ≡ suc (count - (x + 1)) = omega arith in rw (e, add-one x)
+range-next x count h = let e : count - x ≡ suc (count - (x + 1)) = omega arith in rw (e, add-one x)
 
-ascending-none : (x count : ℕ) → count ≤ x → range x (count - x) ≡ []
+range-none : (x count : ℕ) → count ≤ x → range x (count - x) ≡ []
 unfolding range
-ascending-none x count h = let e : count - x ≡ 0 = omega arith in rw e
+range-none x count h = let e : count - x ≡ 0 = omega arith in rw e
 
 -- the list of a lifetime, and its set
 abbrev pub listOf : Graph → ℕ → List ℕ
@@ -39,10 +39,10 @@ module _ (g : Graph) (count : ℕ) where
   setsLeft x = setsFrom g x (count - x)
 
   lists-next : (x : ℕ) → x < count → listsLeft x ≡ listOf g x ∷ listsLeft (x + 1)
-  lists-next x h = rw (ascending-next x count h)
+  lists-next x h = rw (range-next x count h)
 
   sets-next : (x : ℕ) → x < count → setsLeft x ≡ setAt g x ∷ setsLeft (x + 1)
-  sets-next x h = rw (ascending-next x count h)
+  sets-next x h = rw (range-next x count h)
 
   words-next : (x : ℕ) → x < count → flatten (listsLeft x) ≡ listOf g x ++ flatten (listsLeft (x + 1))
   unfolding flatten
@@ -69,7 +69,7 @@ module _ {g : Graph} {count : ℕ} {reach₀ reach : List ℕ} {x total : ℕ} (
   pub measuring-end : count ≤ x → Measures g count reach₀ reach total
   unfolding flatten
   measuring-end h =
-      let none = ascending-none x count h in
+      let none = range-none x count h in
       record { total = omega (arith, rw none at (inv .total-left)); reach = (rw none at (inv .reach-left)) }
 
 -- `lay`
@@ -104,7 +104,7 @@ module _ {g : Graph} {count : ℕ} {words₀ ends₀ reach₀ words ends reach :
   pub laying-end : count ≤ x → Lays g count words₀ ends₀ reach₀ words ends reach at
   unfolding flatten endsFrom
   laying-end h =
-      let none = ascending-none x count h in
+      let none = range-none x count h in
       record {
         measures = measuring-end (inv .measuring) h;
         words = (rw none at (inv .words-left));

@@ -2,34 +2,38 @@
 -- which it lacks), `push` (members and length), `unpushed` (what is left to push). Not here: the walk (WalkLaws), what
 -- outlives what (OutlivesLaws).
 use Prim.Native.Nat.{ℕ, suc, _+_, _≤_}
-use mathlib.Core.Bool.{Bool, true, false, cond}
+use mathlib.Core.Bool.{Bool, true, false, cond, not}
 use mathlib.Core.Path.{_≡_, refl, sym, ap}
 use mathlib.Core.Logic.{_⊎_, inl, inr, ⊎-elim}
-use mathlib.Core.List.{List, [], _∷_, _++_, reverseAux, List·Memᴰ, List·Memᴰ·head, List·Memᴰ·tail, List·Memᴰ·cases-cons}
-use mathlib.Core.List.{List·Memᴰ·not-nil}
+use mathlib.Core.List.{List, [], _∷_, _++_, map, reverseAux, List·Memᴰ, List·Memᴰ·head, List·Memᴰ·tail, List·Memᴰ·cases-cons}
+use mathlib.Core.List.{List·Memᴰ·not-nil, List·Memᴰ·append-cases}
 use native.Mathlib.Omega.{arith}
 use borrow.Author.Tests.{eq-eqb, ne-eqb, eqb-true, eqb-false}
 use lib.Dec.{eqb}
 use lib.ListN.{length, length-append, length-reverseAux}
+use Rattle.answers.specs.Lists.{filter, count}
+use Rattle.answers.proofs.ListLaws.{in-left, in-right, in-map, map-in, filter-has, filter-none, count-few}
 use Rattle.lifetimes.specs.declared.env.Bound.{Bound}
 use Rattle.lifetimes.specs.Sets.{member, insert}
 use Rattle.lifetimes.specs.Walk.{near, far, neighbours, Order, LastFirst, FirstFirst, push, unpushed}
 use Rattle.lifetimes.proofs.SetLaws.{member-insert-same, member-insert-other}
 
+-- by one bound more at the front
+pub neighbours-cons : (d : Bool) (b : Bound) (bs : List Bound) (x : ℕ)
+    → neighbours d (b ∷ bs) x ≡ cond (eqb (near d b) x) (far d b ∷ neighbours d bs x) (neighbours d bs x)
+unfolding neighbours filter
+neighbours-cons d b bs x = go (eqb (near d b) x)
+  where
+    go : (t : Bool)
+        → map (far d) (cond t (b ∷ filter (λ c. eqb (near d c) x) bs) (filter (λ c. eqb (near d c) x) bs))
+        ≡ cond t (far d b ∷ neighbours d bs x) (neighbours d bs x)
+    go true = refl
+    go false = refl
+
 -- the far side of a bound is in the list of its near side, and the list has nothing else
 pub neighbours-has : (d : Bool) (bs : List Bound) (b : Bound) → List·Memᴰ b bs → List·Memᴰ (far d b) (neighbours d bs (near d b))
 unfolding neighbours
-neighbours-has d [] b m = absurd (List·Memᴰ·not-nil m)
-neighbours-has d (a ∷ bs) b m =
-    ⊎-elim here (λ k. there (eqb (near d a) (near d b)) (neighbours-has d bs b k)) (List·Memᴰ·cases-cons m)
-  where
-    here : b ≡ a → List·Memᴰ (far d b) (neighbours d (a ∷ bs) (near d b))
-    here e = rw (eq-eqb (near d a) (near d b) (ap (near d) (sym e))) (List·Memᴰ·head (ap (far d) e))
-
-    there : (t : Bool) → List·Memᴰ (far d b) (neighbours d bs (near d b))
-        → List·Memᴰ (far d b) (cond t (far d a ∷ neighbours d bs (near d b)) (neighbours d bs (near d b)))
-    there true k = List·Memᴰ·tail k
-    there false k = k
+neighbours-has d bs b m = in-map (far d) _ b ((filter-has _ bs b) .1 (m, eq-eqb (near d b) (near d b) refl))
 
 -- the bound by which y is in the list of x
 pub record Between (d : Bool) (bs : List Bound) (x y : ℕ) : Type 0 where
@@ -40,26 +44,16 @@ pub record Between (d : Bool) (bs : List Bound) (x y : ℕ) : Type 0 where
 
 pub neighbours-only : (d : Bool) (bs : List Bound) (x y : ℕ) → List·Memᴰ y (neighbours d bs x) → Between d bs x y
 unfolding neighbours
-neighbours-only d [] x y m = absurd (List·Memᴰ·not-nil m)
-neighbours-only d (a ∷ bs) x y m = go (eqb (near d a) x) refl (neighbours-only d bs x y) m
-  where
-    more : Between d bs x y → Between d (a ∷ bs) x y
-    more h = record { bound = h .bound; among = List·Memᴰ·tail (h .among); from = h .from; to = h .to }
-
-    go : (t : Bool) → eqb (near d a) x ≡ t → (List·Memᴰ y (neighbours d bs x) → Between d bs x y)
-        → List·Memᴰ y (cond t (far d a ∷ neighbours d bs x) (neighbours d bs x)) → Between d (a ∷ bs) x y
-    go true h r m =
-        ⊎-elim (λ e. record { bound = a; among = List·Memᴰ·head refl; from = eqb-true (near d a) x h; to = sym e })
-        (λ k. more (r k)) (List·Memᴰ·cases-cons m)
-    go false h r m = more (r m)
+neighbours-only d bs x y m =
+    let image = map-in (far d) _ y m in
+    let passed = (filter-has (λ b. eqb (near d b) x) bs (image .0)) .0 (image .1) in
+    record { bound = image .0; among = passed .0; from = eqb-true _ x (passed .1); to = sym (image .2) }
 
 -- a lifetime that is no bound's near side has no neighbours
 pub neighbours-none : (d : Bool) (bs : List Bound) (x : ℕ) → ((b : Bound) → List·Memᴰ b bs → near d b ≡ x → ⊥)
     → neighbours d bs x ≡ []
 unfolding neighbours
-neighbours-none d [] x h = refl
-neighbours-none d (b ∷ bs) x h =
-    rw (ne-eqb (near d b) x (h b (List·Memᴰ·head refl))) (neighbours-none d bs x (λ c k. h c (List·Memᴰ·tail k)))
+neighbours-none d bs x h = rw (filter-none (λ b. eqb (near d b) x) bs (λ b m. ne-eqb (near d b) x (h b m)))
 
 -- members of what is pending after a push
 pub reversed-in : {A : Type 0} {y : A} (l p : List A) → List·Memᴰ y (reverseAux l p) → List·Memᴰ y l ⊎ List·Memᴰ y p
@@ -76,31 +70,17 @@ reversed-new : {y : ℕ} (l p : List ℕ) → List·Memᴰ y l → List·Memᴰ 
 reversed-new [] p m = absurd (List·Memᴰ·not-nil m)
 reversed-new (x ∷ l) p m = ⊎-elim (λ e. reversed-old l (x ∷ p) (List·Memᴰ·head e)) (reversed-new l (x ∷ p)) (List·Memᴰ·cases-cons m)
 
-joined-in : {y : ℕ} (l p : List ℕ) → List·Memᴰ y (l ++ p) → List·Memᴰ y l ⊎ List·Memᴰ y p
-joined-in [] p m = inr m
-joined-in (x ∷ l) p m =
-    ⊎-elim (λ e. inl (List·Memᴰ·head e)) (λ k. ⊎-elim (λ h. inl (List·Memᴰ·tail h)) (λ h. inr h) (joined-in l p k))
-    (List·Memᴰ·cases-cons m)
-
-joined-old : {y : ℕ} (l p : List ℕ) → List·Memᴰ y p → List·Memᴰ y (l ++ p)
-joined-old [] p m = m
-joined-old (x ∷ l) p m = List·Memᴰ·tail (joined-old l p m)
-
-joined-new : {y : ℕ} (l p : List ℕ) → List·Memᴰ y l → List·Memᴰ y (l ++ p)
-joined-new [] p m = absurd (List·Memᴰ·not-nil m)
-joined-new (x ∷ l) p m = ⊎-elim (λ e. List·Memᴰ·head e) (λ k. List·Memᴰ·tail (joined-new l p k)) (List·Memᴰ·cases-cons m)
-
 pub push-in : (o : Order) {y : ℕ} (l p : List ℕ) → List·Memᴰ y (push o l p) → List·Memᴰ y l ⊎ List·Memᴰ y p
 push-in LastFirst l p m = reversed-in l p m
-push-in FirstFirst l p m = joined-in l p m
+push-in FirstFirst l p m = List·Memᴰ·append-cases l m
 
 pub push-old : (o : Order) {y : ℕ} (l p : List ℕ) → List·Memᴰ y p → List·Memᴰ y (push o l p)
 push-old LastFirst l p m = reversed-old l p m
-push-old FirstFirst l p m = joined-old l p m
+push-old FirstFirst l p m = in-right l p m
 
 pub push-new : (o : Order) {y : ℕ} (l p : List ℕ) → List·Memᴰ y l → List·Memᴰ y (push o l p)
 push-new LastFirst l p m = reversed-new l p m
-push-new FirstFirst l p m = joined-new l p m
+push-new FirstFirst l p m = in-left l p m
 
 pub push-nil : (o : Order) (p : List ℕ) → push o [] p ≡ p
 push-nil LastFirst p = refl
@@ -113,29 +93,26 @@ length-push FirstFirst l p = length-append l p
 -- what is left to push: at most every bound; to see a lifetime is to push its list
 pub unpushed-all : (d : Bool) (bs : List Bound) (s : ℕ) → unpushed d bs s ≤ length bs
 unfolding unpushed
-unpushed-all d [] s = omega arith
-unpushed-all d (b ∷ bs) s = go (member s (near d b)) (unpushed-all d bs s)
-  where
-    go : (t : Bool) → unpushed d bs s ≤ length bs → cond t (unpushed d bs s) (suc (unpushed d bs s)) ≤ suc (length bs)
-    go true h = omega arith
-    go false h = omega arith
+unpushed-all d bs s = count-few _ bs
 
 pub unpushed-insert : (d : Bool) (bs : List Bound) (s x : ℕ) → member s x ≡ false
     → unpushed d bs (insert s x) + length (neighbours d bs x) ≡ unpushed d bs s
-unfolding unpushed neighbours
+unfolding unpushed neighbours count filter
 unpushed-insert d [] s x h = refl
-unpushed-insert d (b ∷ bs) s x h = go (eqb (near d b) x) refl (unpushed-insert d bs s x h)
+unpushed-insert d (b ∷ bs) s x h = rw (neighbours-cons d b bs x) (go (eqb (near d b) x) refl (unpushed-insert d bs s x h))
   where
-    go : (t : Bool) → eqb (near d b) x ≡ t → unpushed d bs (insert s x) + length (neighbours d bs x) ≡ unpushed d bs s
-        → cond (member (insert s x) (near d b)) (unpushed d bs (insert s x)) (suc (unpushed d bs (insert s x)))
+    left : ℕ
+    left = unpushed d bs (insert s x)
+
+    go : (t : Bool) → eqb (near d b) x ≡ t → left + length (neighbours d bs x) ≡ unpushed d bs s
+        → cond (not (member (insert s x) (near d b))) (suc left) left
         + length (cond t (far d b ∷ neighbours d bs x) (neighbours d bs x))
-        ≡ cond (member s (near d b)) (unpushed d bs s) (suc (unpushed d bs s))
+        ≡ cond (not (member s (near d b))) (suc (unpushed d bs s)) (unpushed d bs s)
     go true e r = rw (eqb-true (near d b) x e, member-insert-same s x, h) (omega arith)
     go false e r = rw (member-insert-other s x (near d b) (λ q. eqb-false (near d b) x e (sym q))) (same (member s (near d b)))
       where
-        same : (t : Bool)
-            → cond t (unpushed d bs (insert s x)) (suc (unpushed d bs (insert s x))) + length (neighbours d bs x)
-            ≡ cond t (unpushed d bs s) (suc (unpushed d bs s))
+        same : (t : Bool) → cond (not t) (suc left) left + length (neighbours d bs x)
+            ≡ cond (not t) (suc (unpushed d bs s)) (unpushed d bs s)
         same true = r
         same false = omega arith
 

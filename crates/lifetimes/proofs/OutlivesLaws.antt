@@ -6,6 +6,7 @@ use mathlib.Core.Path.{_≡_, refl, ap, subst}
 use mathlib.Core.Logic.{_⊎_, inl, inr, ⊎-elim, _↔_}
 use mathlib.Core.List.{List, [], _∷_, _++_, map, List·Memᴰ, List·Memᴰ·head, List·Memᴰ·tail, List·Memᴰ·cases-cons}
 use mathlib.Core.List.{List·Memᴰ·not-nil, List·Memᴰ·append-cases, List·Memᴰ·eq-of-singleton}
+use Rattle.answers.proofs.ListLaws.{in-left, in-right, in-map}
 use Rattle.lifetimes.specs.declared.env.Bound.{Bound}
 use Rattle.lifetimes.specs.Walk.{near, far}
 use Rattle.lifetimes.specs.Outlives.{Outlives, itself, by-bound, through, Toward}
@@ -26,14 +27,10 @@ outlives-more bs cs sub = least bs (Outlives cs) (λ x. itself) (λ x y z p q. t
 abbrev pub turned : Bound → Bound
 turned b = record { longer = b .shorter; shorter = b .longer }
 
-map-has : {A B : Type 0} (f : A → B) (l : List A) (a : A) → List·Memᴰ a l → List·Memᴰ (f a) (map f l)
-map-has f [] a m = absurd (List·Memᴰ·not-nil m)
-map-has f (x ∷ l) a m = ⊎-elim (λ e. List·Memᴰ·head (ap f e)) (λ k. List·Memᴰ·tail (map-has f l a k)) (List·Memᴰ·cases-cons m)
-
 turned-there : (bs : List Bound) {x y : ℕ} → Outlives bs x y → Outlives (map turned bs) y x
 turned-there bs =
     least bs (λ x y. Outlives (map turned bs) y x) (λ x. itself) (λ x y z p q. through q p)
-    (λ b k. by-bound (map-has turned bs b k))
+    (λ b k. by-bound (in-map turned bs b k))
 
 turned-twice : (bs : List Bound) → map turned (map turned bs) ≡ bs
 turned-twice [] = refl
@@ -63,25 +60,17 @@ module _ (bs : List Bound) (b : Bound) where
       ⊎-elim (λ k. inl (by-bound k)) (λ k. let e = List·Memᴰ·eq-of-singleton k in inr (rw e itself, rw e itself))
       (List·Memᴰ·append-cases bs m)
 
-  append-left : (cs ds : List Bound) (a : Bound) → List·Memᴰ a cs → List·Memᴰ a (cs ++ ds)
-  append-left [] ds a m = absurd (List·Memᴰ·not-nil m)
-  append-left (c ∷ cs) ds a m = ⊎-elim (λ e. List·Memᴰ·head e) (λ k. List·Memᴰ·tail (append-left cs ds a k)) (List·Memᴰ·cases-cons m)
-
-  append-last : (cs : List Bound) → List·Memᴰ b (cs ++ (b ∷ []))
-  append-last [] = List·Memᴰ·head refl
-  append-last (c ∷ cs) = List·Memᴰ·tail (append-last cs)
-
   pub outlives-added : (x y : ℕ) → Outlives (bs ++ (b ∷ [])) x y
       ↔ (Outlives bs x y ⊎ (Outlives bs (b .shorter) y × Outlives bs x (b .longer)))
   unfolding Added
   outlives-added x y = (least (bs ++ (b ∷ [])) Added (λ z. inl itself) added-trans added-bound, back)
     where
       old : {u v : ℕ} → Outlives bs u v → Outlives (bs ++ (b ∷ [])) u v
-      old = outlives-more bs (bs ++ (b ∷ [])) (append-left bs (b ∷ []))
+      old = outlives-more bs (bs ++ (b ∷ [])) (λ a. in-left bs (b ∷ []))
 
       back : Outlives bs x y ⊎ (Outlives bs (b .shorter) y × Outlives bs x (b .longer)) → Outlives (bs ++ (b ∷ [])) x y
       back (inl h) = old h
-      back (inr h) = through (old (h .1)) (through (by-bound (append-last bs)) (old (h .0)))
+      back (inr h) = through (old (h .1)) (through (by-bound (in-right bs (b ∷ []) (List·Memᴰ·head refl))) (old (h .0)))
 
 -- the direction
 pub toward-itself : (d : Bool) (bs : List Bound) (x : ℕ) → Toward d bs x x

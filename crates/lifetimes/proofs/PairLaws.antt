@@ -11,6 +11,7 @@ use borrow.Author.Tests.{eq-eqb, ne-eqb, lt-ltb, ltb-true}
 use lib.Dec.{ltb}
 use lib.ListN.{length, getD, drop, set, replicate, drop-of-length-le}
 use lib.Seq.{drop-cons, sets, sets-eq}
+use Rattle.answers.specs.Lists.{all}
 use Rattle.answers.specs.declared.Refusal.{Refusal}
 use Rattle.answers.specs.declared.Refusal.the-variants.{Malformed}
 use Rattle.answers.specs.declared.Verdict.the-variants.{Accepted, Refused}
@@ -67,17 +68,17 @@ below-start limit words e = record { at = at-start words e; left = refl }
 
 module _ {limit : ℕ} {words : List ℕ} {i : ℕ} (inv : Below limit words i) where
   pub below-end : length words ≤ i → true ≡ allBelow limit (pairsOf words)
-  unfolding allBelow
+  unfolding all
   below-end h = rw (inv .left, pairs-end words i h)
 
   module _ (h : i < length words) where
     pub below-refused : bothBelow limit (above (getD words i 0) (getD words (i + 1) 0)) ≡ false
         → false ≡ allBelow limit (pairsOf words)
-    unfolding allBelow
+    unfolding all
     below-refused f = rw (inv .left, pair-read (inv .at) h, f)
 
     pub below-more : bothBelow limit (above (getD words i 0) (getD words (i + 1) 0)) ≡ true → Below limit words (i + 2)
-    unfolding allBelow
+    unfolding all
     below-more t = record { at = pair-next (inv .at) h; left = inv .left ∙ rw (pair-read (inv .at) h, t) }
 
 -- ---- `filled`
@@ -98,7 +99,7 @@ module _ {words : List ℕ} {bounds : List Bound} {pushed i : ℕ} (inv : Fillin
   module _ (h : i < length words) where
     sides-here : (bothBelow 256 (above (getD words i 0) (getD words (i + 1) 0)) ≡ true)
         × (allBelow 256 (pairsOf (drop (i + 2) words)) ≡ true)
-    unfolding allBelow
+    unfolding all
     sides-here = (and-eq-true-iff _ _) .0 (rw (pair-read (inv .at) h) at (inv .small))
 
     pub filling-small : (getD words i 0 < 256) × (getD words (i + 1) 0 < 256)
@@ -162,7 +163,7 @@ module _ (declared count : ℕ) (words : List ℕ) where
 -- ---- a larger limit
 
 pub below-larger : (m n : ℕ) → m ≤ n → (bs : List Bound) → allBelow m bs ≡ true → allBelow n bs ≡ true
-unfolding allBelow
+unfolding all
 below-larger m n h [] e = refl
 below-larger m n h (b ∷ bs) e =
     let both = (and-eq-true-iff (bothBelow m b) (allBelow m bs)) .0 e in

@@ -9,12 +9,13 @@ use native.Mathlib.Omega.{arith}
 use lib.Dec.{eqb}
 use lib.ListN.{length, getD, length-reverse}
 use lib.Seq.{getD-take}
+use Rattle.answers.specs.Lists.{filter}
 use Rattle.lifetimes.specs.declared.env.Bound.{Bound}
 use Rattle.lifetimes.specs.declared.env.LifetimeEnv.{LifetimeEnv}
 use Rattle.lifetimes.specs.Env.{above, boundsOf}
 use Rattle.lifetimes.specs.Walk.{near, far, neighbours, Order, LastFirst, FirstFirst, orderOf, push}
 use Rattle.lifetimes.specs.Index.{linkedIn, Fine}
-use Rattle.lifetimes.proofs.NeighbourLaws.{reversed-in}
+use Rattle.lifetimes.proofs.NeighbourLaws.{neighbours-cons, reversed-in}
 
 -- the places of a list that is reversed in front of another: past it the other, before that the list backwards
 module _ {A : Type 0} where
@@ -61,9 +62,10 @@ linked-at true e i at all h is =
 -- a lifetime's list is reversed with the bounds, and a list that is reversed twice is pushed in its own order
 neighbours-reversed : (d : Bool) (bs cs : List Bound) (x : ℕ)
     → neighbours d (reverseAux bs cs) x ≡ reverseAux (neighbours d bs x) (neighbours d cs x)
-unfolding neighbours
+unfolding neighbours filter
 neighbours-reversed d [] cs x = refl
-neighbours-reversed d (b ∷ bs) cs x = neighbours-reversed d bs (b ∷ cs) x ∙ go (eqb (near d b) x)
+neighbours-reversed d (b ∷ bs) cs x =
+    neighbours-reversed d bs (b ∷ cs) x ∙ rw (neighbours-cons d b cs x, neighbours-cons d b bs x) (go (eqb (near d b) x))
   where
     go : (t : Bool) → reverseAux (neighbours d bs x) (cond t (far d b ∷ neighbours d cs x) (neighbours d cs x))
         ≡ reverseAux (cond t (far d b ∷ neighbours d bs x) (neighbours d bs x)) (neighbours d cs x)
@@ -72,7 +74,7 @@ neighbours-reversed d (b ∷ bs) cs x = neighbours-reversed d bs (b ∷ cs) x �
 
 pub push-linked : (o : Order) (d : Bool) (bs : List Bound) (x : ℕ) (p : List ℕ)
     → push LastFirst (neighbours d (linkedIn o bs) x) p ≡ push o (neighbours d bs x) p
-unfolding neighbours
+unfolding neighbours filter
 push-linked LastFirst d bs x p = refl
 push-linked FirstFirst d bs x p =
     rw (neighbours-reversed d bs [] x, reverseAux-eq (reverse (neighbours d bs x)) p, reverse-reverse (neighbours d bs x))

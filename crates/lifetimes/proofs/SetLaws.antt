@@ -1,6 +1,5 @@
--- Laws of specs/Lists.antt and specs/Sets.antt, over plain values.
--- In order: numbers in a row, the entries that pass a test, membership and one member more, union, the
--- members in ascending order, how many, the set of a list. Assumes nothing.
+-- Laws of specs/Sets.antt, over plain values. In order: membership and one member more, union, the members in ascending
+-- order, how many, the set of a list.
 use Prim.Native.Nat.{ℕ, zero, suc, _+_, _-_, _/_, _%_, _^_, _≤_, _<_}
 use mathlib.Core.Bool.{Bool, true, false, cond, _||_, true≢false, false≢true}
 use mathlib.Core.Logic.{_⊎_, inl, inr, ⊎-elim, _↔_, ∥∥₁-elim, ∥∥₁-map}
@@ -19,94 +18,9 @@ use lib.Pow.{pow-pos, pow-lt, pow-mono, pow-add, shl-shr, shr-lt}
 use lib.Bits.{bitOr, or-shr, or-mod, or-lt, or-zero-r}
 use lib.Count.{ones, ones-step, ones-le}
 use Rattle.answers.specs.Lists.{range, filter}
+use Rattle.answers.proofs.ListLaws.{length-range, range-has, range-pairwise, filter-has, filter-append, filter-few, filter-agree}
+use Rattle.answers.proofs.ListLaws.{filter-pairwise}
 use Rattle.lifetimes.specs.Sets.{member, insert, union, members, count, insertAll, setOf}
-
--- ---- numbers in a row
-
-pub length-ascending : (x n : ℕ) → length (range x n) ≡ n
-unfolding range
-length-ascending x zero = refl
-length-ascending x (suc n) = ap suc (length-ascending (suc x) n)
-
-pub getD-ascending : (x n i d : ℕ) → i < n → getD (range x n) i d ≡ x + i
-unfolding range
-getD-ascending x zero i d h = absurd (omega arith)
-getD-ascending x (suc n) zero d h = omega arith
-getD-ascending x (suc n) (suc i) d h = let r = getD-ascending (suc x) n i d (omega arith) in omega arith
-
--- what stands in the row: the numbers from x up to, not including, x + n
-pub ascending-has : (x n y : ℕ) → List·Memᴰ y (range x n) ↔ ((x ≤ y) × (y < x + n))
-unfolding range
-ascending-has x zero y = (λ m. absurd (List·Memᴰ·not-nil m), λ h. absurd (omega arith))
-ascending-has x (suc n) y =
-    let rest = ascending-has (suc x) n y in (
-      λ m. ⊎-elim (λ (e : y ≡ x). (omega arith, omega arith)) (λ k. let r = rest .0 k in (omega arith, omega arith))
-          (List·Memᴰ·cases-cons m),
-      λ h. elim (ℕ-discrete y x) [ yes e ↦ List·Memᴰ·head e | no a ↦ List·Memᴰ·tail (rest .1 (omega arith, omega arith)) ],
-    )
-
--- one more at the end
-pub ascending-snoc : (x n : ℕ) → range x (suc n) ≡ range x n ++ ((x + n) ∷ [])
-unfolding range
-ascending-snoc x zero = let e : x ≡ x + 0 = omega arith in ap (λ (k : ℕ). k ∷ []) e
-ascending-snoc x (suc n) =
-    let e : suc x + n ≡ x + suc n = omega arith in
-    ap (λ (l : List ℕ). x ∷ l) (ascending-snoc (suc x) n ∙ ap (λ (k : ℕ). range (suc x) n ++ (k ∷ [])) e)
-
--- ---- the entries that pass a test
-
-pub select-has : (f : ℕ → Bool) (l : List ℕ) (y : ℕ) → List·Memᴰ y (filter f l) ↔ (List·Memᴰ y l × (f y ≡ true))
-unfolding filter
-select-has f [] y = (λ m. absurd (List·Memᴰ·not-nil m), λ h. absurd (List·Memᴰ·not-nil (h .0)))
-select-has f (x ∷ l) y = go (f x) refl (select-has f l y)
-  where
-    go : (t : Bool) → f x ≡ t → List·Memᴰ y (filter f l) ↔ (List·Memᴰ y l × (f y ≡ true))
-        → List·Memᴰ y (cond t (x ∷ filter f l) (filter f l)) ↔ (List·Memᴰ y (x ∷ l) × (f y ≡ true))
-    go true e rest = (
-      λ m. ⊎-elim (λ q. (List·Memᴰ·head q, ap f q ∙ e)) (λ k. let r = rest .0 k in (List·Memᴰ·tail (r .0), r .1))
-          (List·Memᴰ·cases-cons m),
-      λ h. ⊎-elim (λ q. List·Memᴰ·head q) (λ k. List·Memᴰ·tail (rest .1 (k, h .1))) (List·Memᴰ·cases-cons (h .0)),
-    )
-    go false e rest = (
-      λ m. let r = rest .0 m in (List·Memᴰ·tail (r .0), r .1),
-      λ h. ⊎-elim (λ q. absurd (true≢false (sym (h .1) ∙ ap f q ∙ e))) (λ k. rest .1 (k, h .1)) (List·Memᴰ·cases-cons (h .0)),
-    )
-
-pub select-append : (f : ℕ → Bool) (l m : List ℕ) → filter f (l ++ m) ≡ filter f l ++ filter f m
-unfolding filter
-select-append f [] m = refl
-select-append f (x ∷ l) m = go (f x) (select-append f l m)
-  where
-    go : (t : Bool) → filter f (l ++ m) ≡ filter f l ++ filter f m
-        → cond t (x ∷ filter f (l ++ m)) (filter f (l ++ m)) ≡ cond t (x ∷ filter f l) (filter f l) ++ filter f m
-    go true r = ap (λ (k : List ℕ). x ∷ k) r
-    go false r = r
-
-pub select-few : (f : ℕ → Bool) (l : List ℕ) → length (filter f l) ≤ length l
-unfolding filter
-select-few f [] = omega arith
-select-few f (x ∷ l) = go (f x) (select-few f l)
-  where
-    go : (t : Bool) → length (filter f l) ≤ length l → length (cond t (x ∷ filter f l) (filter f l)) ≤ suc (length l)
-    go true r = omega arith
-    go false r = omega arith
-
--- two tests that agree on the entries
-pub select-agree : (f g : ℕ → Bool) (l : List ℕ) → ((x : ℕ) → List·Memᴰ x l → f x ≡ g x) → filter f l ≡ filter g l
-unfolding filter
-select-agree f g [] h = refl
-select-agree f g (x ∷ l) h =
-    rw (h x (List·Memᴰ·head refl), select-agree f g l (λ y m. h y (List·Memᴰ·tail m)))
-
--- the entries selected stand in the order that they had
-select-pairwise : (f : ℕ → Bool) {l : List ℕ} → Pairwise _<_ l → Pairwise _<_ (filter f l)
-unfolding filter
-select-pairwise f Pairwise·nil = Pairwise·nil
-select-pairwise f (Pairwise·cons {a = x} {l = l} h p) = go (f x) (select-pairwise f p)
-  where
-    go : (t : Bool) → Pairwise _<_ (filter f l) → Pairwise _<_ (cond t (x ∷ filter f l) (filter f l))
-    go true r = Pairwise·cons (λ y m. h y (∥∥₁-map m (λ d. select-has f l y .0 d .0))) r
-    go false r = r
 
 -- ---- membership, and one member more
 
@@ -197,35 +111,29 @@ union-lt w s t hs ht = or-lt w s t hs ht
 pub members-has : (s x : ℕ) → List·Memᴰ x (members s) ↔ ((x < 64) × (member s x ≡ true))
 unfolding members
 members-has s x =
-    let tested = select-has (member s) (range 0 64) x in
-    let row = ascending-has 0 64 x in
+    let tested = filter-has (member s) (range 0 64) x in
+    let row = range-has 0 64 x in
     (λ m. let (k, e) = tested .0 m in let r = row .0 k in (omega arith, e), λ h. tested .1 (row .1 (omega arith, omega arith), h .1))
-
-ascending-pairwise : (x n : ℕ) → Pairwise _<_ (range x n)
-unfolding range
-ascending-pairwise x zero = Pairwise·nil
-ascending-pairwise x (suc n) =
-    Pairwise·cons (λ y m. ∥∥₁-elim m le-prop (λ d. ascending-has (suc x) n y .0 d .0)) (ascending-pairwise (suc x) n)
 
 -- each is less than those after it
 pub members-ascending : (s : ℕ) → Pairwise _<_ (members s)
 unfolding members
-members-ascending s = select-pairwise (member s) (ascending-pairwise 0 64)
+members-ascending s = filter-pairwise (member s) (range-pairwise 0 64)
 
 pub members-once : (s : ℕ) → List·Nodup (members s)
 members-once s = Pairwise·imp (λ a b h e. omega arith) (members-ascending s)
 
 pub members-few : (s : ℕ) → length (members s) ≤ 64
 unfolding members
-members-few s = omega (arith, select-few (member s) (range 0 64), length-ascending 0 64)
+members-few s = omega (arith, filter-few (member s) (range 0 64), length-range 0 64)
 
 -- ---- how many
 
 -- one member more, counted over a row that has it once
 insert-before : (s x y n : ℕ) → x < y → filter (member (insert s x)) (range y n) ≡ filter (member s) (range y n)
 insert-before s x y n h =
-    select-agree (member (insert s x)) (member s) (range y n)
-    (λ z m. let r = ascending-has y n z .0 m in member-insert-other s x z (λ e. omega arith))
+    filter-agree (member (insert s x)) (member s) (range y n)
+    (λ z m. let r = range-has y n z .0 m in member-insert-other s x z (λ e. omega arith))
 
 insert-within : (s x y n : ℕ) → member s x ≡ false → y ≤ x → x < y + n
     → length (filter (member (insert s x)) (range y n)) ≡ length (filter (member s) (range y n)) + 1
@@ -310,8 +218,8 @@ setOf-has l x =
 insert-same : (s x : ℕ) → ((y : ℕ) → y < 64 → x ≡ y → member s y ≡ true) → count (insert s x) ≡ count s
 unfolding count members
 insert-same s x h =
-    ap length (select-agree (member (insert s x)) (member s) (range 0 64)
-    (λ y m. go y (ascending-has 0 64 y .0 m .1) (ℕ-discrete x y)))
+    ap length (filter-agree (member (insert s x)) (member s) (range 0 64)
+    (λ y m. go y (range-has 0 64 y .0 m .1) (ℕ-discrete x y)))
   where
     go : (y : ℕ) → y < 64 → Dec (x ≡ y) → member (insert s x) y ≡ member s y
     go y l (yes e) = member-insert-keeps s x y (h y l e) ∙ sym (h y l e)

@@ -6,6 +6,7 @@ use native.Mathlib.Nat.{le-refl, le-trans}
 use native.Mathlib.Omega.{arith}
 use lib.IntN.{ℤ, pos}
 use lib.Signed.{_≤ℤ_, ≤ℤ-refl}
+use Rattle.answers.specs.Lists.{all, filter, count}
 use Rattle.answers.specs.Refusals.{unless}
 use Rattle.lifetimes.specs.Sets.{member, insert}
 use Rattle.lifetimes.specs.Env.{boundsOf, allBelow, envOf}
@@ -77,5 +78,5 @@ linked-by-place words count = (
 )
 
 pub examples-hold : ExamplesHold
-unfolding listReach unless allBelow envOf traversal walk walkFor unpushed neighbours member insert
+unfolding listReach unless all filter count envOf traversal walk walkFor unpushed neighbours member insert
 examples-hold = (refl, (refl, (refl, (refl, (refl, tt)))))

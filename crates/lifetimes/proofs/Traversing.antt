@@ -22,7 +22,7 @@ use Rattle.lifetimes.specs.Index.{graphOf, listsFrom, Measures, Lays}
 use Rattle.answers.specs.Lists.{endsFrom}
 use Rattle.lifetimes.specs.Reach.{listReach, allSets, noSets, reachSets, allLists, listsChecks}
 use Rattle.lifetimes.specs.Reach.{listWords, listEnds, listsAnswer}
-use Rattle.lifetimes.proofs.SetLaws.{length-ascending}
+use Rattle.answers.proofs.ListLaws.{length-range}
 use Rattle.answers.proofs.RefusalLaws.{due-given, due-refused, first-more, first-after, none-more}
 use Rattle.answers.proofs.LentLaws.{answers-refusal, answers-list, no-room, has-room}
 use Rattle.answers.proofs.Copying.{sets-front, drop-replicate}
@@ -73,7 +73,7 @@ sets-all : (d : Bool) (e : LifetimeEnv) → e .count ≤ 64 → (reach : List �
 unfolding allSets
 sets-all d e h reach is =
     let all = map (reachSet d (boundsOf e)) (range 0 (e .count)) in
-    let long : length all ≡ e .count = simp length-map (length-ascending 0 (e .count)) in
+    let long : length all ≡ e .count = simp length-map (length-range 0 (e .count)) in
     is ∙ sets-front noSets all (omega (arith, long)) ∙ rw (long, drop-replicate {A = ℕ} (e .count) 64 0)
 
 module _ (d : Bool) (e : LifetimeEnv) where
@@ -112,7 +112,7 @@ module _ (d : Bool) (e : LifetimeEnv) (words ends : List ℕ) where
   module _ (none : NoneDue (envChecks e)) where
     ends-long : length (endsFrom 0 (allLists d e)) ≡ e .count
     unfolding allLists
-    ends-long = length-ends 0 (listsFrom (graphOf d e) 0 (e .count)) ∙ simp length-map (length-ascending 0 (e .count))
+    ends-long = length-ends 0 (listsFrom (graphOf d e) 0 (e .count)) ∙ simp length-map (length-range 0 (e .count))
 
     pub lists-no-ends : length ends < e .count → ListsAre (record { listed = listed.Refused NoRoom; sets = noSets }) words ends
     lists-no-ends h = lists-by (first-after none (no-room (length ends) (endsFrom 0 (allLists d e)) (omega (arith, ends-long))))

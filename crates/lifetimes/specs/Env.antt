@@ -10,6 +10,7 @@ use Rattle.lifetimes.specs.declared.lifetime.Lifetime.{Lifetime}
 use Rattle.lifetimes.specs.declared.env.Bound.{Bound}
 use Rattle.lifetimes.specs.declared.env.LifetimeEnv.{LifetimeEnv}
 use Rattle.lifetimes.specs.declared.env.Made.{Made}
+use Rattle.answers.specs.Lists.{all}
 use Rattle.answers.specs.Refusals.{Check, check, Outcome, unless}
 use Rattle.answers.specs.Lent.{verdictOf, resultOr}
 
@@ -29,9 +30,8 @@ boundsOf e = take (e .pushed) (e .bounds)
 abbrev pub bothBelow : ℕ → Bound → Bool
 bothBelow n b = ltb (b .longer) n && ltb (b .shorter) n
 
-unfoldable pub allBelow : ℕ → List Bound → Bool
-allBelow n [] = true
-allBelow n (b ∷ bs) = bothBelow n b && allBelow n bs
+abbrev pub allBelow : ℕ → List Bound → Bool
+allBelow n bs = all (bothBelow n) bs
 
 -- A 65th lifetime, a 257th bound (4); more declared than there are, a bound past the declared (8)
 abbrev pub limitChecks : ℕ → ℕ → ℕ → List Bound → List Check

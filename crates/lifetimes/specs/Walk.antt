@@ -3,11 +3,12 @@
 -- their numbers. Not here: that the fuel never runs out, so that the plain equations hold (Theorems.TraversalOrder),
 -- and what is listed (Theorems.ReachIsOutlives).
 use Prim.Native.Nat.{ℕ, zero, suc, _+_}
-use mathlib.Core.Bool.{Bool, true, false, cond}
+use mathlib.Core.Bool.{Bool, true, false, cond, not}
 use mathlib.Core.Path.{_≡_}
-use mathlib.Core.List.{List, [], _∷_, _++_, reverseAux}
+use mathlib.Core.List.{List, [], _∷_, _++_, map, reverseAux}
 use lib.Dec.{eqb}
 use lib.ListN.{length}
+use Rattle.answers.specs.Lists.{filter, count}
 use Rattle.lifetimes.specs.declared.env.Bound.{Bound}
 use Rattle.lifetimes.specs.Sets.{empty, member, insert, setOf}
 
@@ -23,8 +24,7 @@ far false b = b .shorter
 -- 01: "A lifetime's `longer` list is the longer sides of the bounds where it is the shorter, in push order; `shorter`
 -- likewise."
 unfoldable pub neighbours : Bool → List Bound → ℕ → List ℕ
-neighbours d [] x = []
-neighbours d (b ∷ bs) x = cond (eqb (near d b) x) (far d b ∷ neighbours d bs x) (neighbours d bs x)
+neighbours d bs x = map (far d) (filter (λ b. eqb (near d b) x) bs)
 
 -- Which of a list that is pushed is taken first. HIR: the last pushed. AST: the first of the list, so that it goes
 -- depth first in list order.
@@ -42,8 +42,7 @@ push FirstFirst l pending = l ++ pending
 
 -- how many bounds have a near side that was not yet seen: what can still be pushed
 unfoldable pub unpushed : Bool → List Bound → ℕ → ℕ
-unpushed d [] seen = 0
-unpushed d (b ∷ bs) seen = cond (member seen (near d b)) (unpushed d bs seen) (suc (unpushed d bs seen))
+unpushed d bs seen = count (λ b. not (member seen (near d b))) bs
 
 -- The next pending entry is passed over if it was seen; else it is listed, marked as seen, and its list is pushed. At
 -- most `fuel` entries are taken.

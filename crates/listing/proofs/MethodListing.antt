@@ -26,7 +26,8 @@ use Rattle.answers.specs.Lists.{endsFrom}
 use Rattle.lifetimes.specs.Reach.{allSets, noSets, allLists, listsChecks, listWords, listEnds, listsAnswer}
 use Rattle.answers.proofs.RefusalLaws.{due-given, due-refused, refused-first, accepted-none, none-first, none-rest}
 use Rattle.answers.proofs.RefusalLaws.{none-more, none-split, first-behind}
-use Rattle.lifetimes.proofs.SetLaws.{members-has, ascending-has, length-ascending}
+use Rattle.answers.proofs.ListLaws.{range-has, length-range}
+use Rattle.lifetimes.proofs.SetLaws.{members-has}
 use Rattle.lifetimes.proofs.ReachLaws.{traversal-few}
 use Rattle.lifetimes.proofs.Laying.{length-ends}
 use Rattle.types.specs.LoweredTypes.{LoweredType}
@@ -108,7 +109,7 @@ module _ {env : LifetimeEnv} {used : ℕ} {structs params own given taken : List
       (omega (
         arith,
         many,
-        ap (λ (n : ℕ). env .count * n) (length-ascending 0 (env .count)),
+        ap (λ (n : ℕ). env .count * n) (length-range 0 (env .count)),
       ))
     where
       many : length (flatMap (traversal LastFirst true (boundsOf env)) (range 0 (env .count)))
@@ -116,11 +117,11 @@ module _ {env : LifetimeEnv} {used : ℕ} {structs params own given taken : List
       many =
           lines-short (traversal LastFirst true (boundsOf env)) (env .count) (range 0 (env .count))
           (λ l m. traversal-few LastFirst true (boundsOf env) l (env .count) (bounds-within env (can .valid))
-          (omega (arith, (ascending-has 0 (env .count) l) .0 m)))
+          (omega (arith, (range-has 0 (env .count) l) .0 m)))
 
   lists-many : length (allLists true env) ≡ env .count
   unfolding allLists
-  lists-many = rw length-map (length-ascending 0 (env .count))
+  lists-many = rw length-map (length-range 0 (env .count))
 
   pub lists-short : (lists : List ℕ) {edges : ℕ} {out : List ℕ} → length lists < env .count * env .count
       → ListsWithin listing ((4096 ≤ length lists) × (20480 ≤ edges)) out within.Short out

@@ -18,7 +18,7 @@ use Rattle.lifetimes.specs.Walk.{LastFirst, traversal}
 use Rattle.answers.proofs.RefusalLaws.{none-first, none-rest, none-split}
 use Rattle.lifetimes.proofs.EnvLaws.{all-below}
 use Rattle.lifetimes.proofs.ReachLaws.{traversal-only, traversal-few}
-use Rattle.lifetimes.proofs.SetLaws.{ascending-has, length-ascending}
+use Rattle.answers.proofs.ListLaws.{range-has, length-range}
 use Rattle.ast_lifetimes.specs.Env as ast
 use Rattle.ast_lifetimes.proofs.AcceptedLaws.{accepted-names}
 use Rattle.elision.specs.Steps.{receiverOf, stepsOf}
@@ -129,7 +129,7 @@ module _ (env : LifetimeEnv) (valid : NoneDue (envChecks env)) where
 
   longer-short : (l : ℕ) → List·Memᴰ l (range 0 (env .count)) → length (longerLine env l) ≤ 196
   longer-short l m =
-      let here : l < env .count = omega (arith, (ascending-has 0 (env .count) l) .0 m) in
+      let here : l < env .count = omega (arith, (range-has 0 (env .count) l) .0 m) in
       let few = traversal-few LastFirst true (boundsOf env) l (env .count) bounds-within here in
       let small = below-from 100 (traversal LastFirst true (boundsOf env) l)
       (λ y k. let z : y < env .count = traversal-only LastFirst true (boundsOf env) l (λ y. y < env .count)
@@ -140,7 +140,7 @@ module _ (env : LifetimeEnv) (valid : NoneDue (envChecks env)) where
   all-longer-short : length (longerLines env) ≤ 12560
   all-longer-short =
       let short = lines-short (longerLine env) 196 (range 0 (env .count)) longer-short in
-      rw length-append (omega (arith, short, length-ascending 0 (env .count), lifetimes-few))
+      rw length-append (omega (arith, short, length-range 0 (env .count), lifetimes-few))
 
 -- ---- the whole
 
