@@ -86,10 +86,11 @@ module _ {A : Type 0} (test : A → Bool) where
       go true e rest = (λ h. (y, List·Memᴰ·head refl, e), λ s. refl)
       go false e rest = (
         λ h. let s = rest .0 h in (s .0, List·Memᴰ·tail (s .1), s .2),
-        λ s. rest .1
-            (s .0,
-            ⊎-elim (λ q. absurd (true≢false (sym (s .2) ∙ ap test q ∙ e))) (λ k. k) (List·Memᴰ·cases-cons (s .1)),
-            s .2),
+        λ s. rest .1 (
+          s .0,
+          ⊎-elim (λ q. absurd (true≢false (sym (s .2) ∙ ap test q ∙ e))) (λ k. k) (List·Memᴰ·cases-cons (s .1)),
+          s .2,
+        ),
       )
 
   pub any-append : (l m : List A) → any test (l ++ m) ≡ any test l || any test m

@@ -2,16 +2,16 @@
 -- 256, each between names.
 use Prim.Native.Nat.{ℕ, suc, _+_, _≤_}
 use mathlib.Core.Bool.{true, not}
-use mathlib.Core.Path.{_≡_, refl, sym, _∙_}
+use mathlib.Core.Path.{_≡_, refl, sym, _∙_, ap}
 use mathlib.Core.List.{List, [], _∷_, _++_}
 use native.Mathlib.Omega.{arith}
 use borrow.Author.Tests.{leb-false, le-ltb, lt-ltb}
 use lib.ListN.{length, length-append, length-map}
 use lib.Seq.{take-append-seam}
 use Rattle.answers.specs.declared.Refusal.the-variants.{OutOfRange}
-use Rattle.lifetimes.specs.declared.env.Bound.{Bound}
+use Rattle.lifetimes.specs.declared.bounds.Bound.{Bound}
 use Rattle.answers.specs.Refusals.{check, NoneDue, next, end}
-use Rattle.lifetimes.specs.Env.{allBelow}
+use Rattle.lifetimes.specs.Bounds.{allBelow, boundsFrom}
 use Rattle.answers.proofs.RefusalLaws.{accepted-none, none-first, none-rest, none-split}
 use Rattle.answers.specs.declared.Verdict.the-variants.{Accepted}
 use Rattle.ast_lifetimes.specs.declared.env.Counts.{Counts}
@@ -19,7 +19,8 @@ use Rattle.ast_lifetimes.specs.Inner.{sidesOf, Built}
 use Rattle.ast_lifetimes.specs.Shapes.{implNames, methodNames, Pair, implPairs, methodPairs}
 use Rattle.ast_lifetimes.specs.Env.{nameChecks, allPairChecks, namesOf, boundsOf, envOf, envChecks, allNamesOf}
 use Rattle.ast_lifetimes.specs.Env.{impliedPairs, placeChecks, methodBounds}
-use Rattle.ast_lifetimes.proofs.Building.{Under, under-below, under-append, under-wider, pairs-under}
+use Rattle.lifetimes.proofs.BoundsLaws.{below-larger, below-append, bounds-made}
+use Rattle.ast_lifetimes.proofs.Building.{pairs-below}
 
 names-few : (before names : List ℕ) → NoneDue (nameChecks before names) → length before ≤ 32 → length before + length names ≤ 32
 unfolding nameChecks
@@ -70,17 +71,17 @@ module _ (names bounds types : List ℕ) (n : NoneDue (placeChecks names bounds 
       let c = pairs-few (allNamesOf names) (impls + owns) (impliedPairs names bounds types) (parts .4) (omega (arith, b)) in
       rw (length-append, length-append, length-map, length-map, length-map) c
 
-  accepted-under : Under (length (allNamesOf names)) (methodBounds names bounds types)
-  accepted-under =
+  accepted-below : allBelow (length (allNamesOf names)) (methodBounds names bounds types) ≡ true
+  accepted-below =
       let wide : length (implNames names) ≤ length (allNamesOf names) = rw length-append (omega arith) in
-      under-append
-      (under-append
-      (under-wider wide (pairs-under (implNames names) 0 (implPairs bounds) (parts .1)))
-      (pairs-under (allNamesOf names) impls (methodPairs bounds) (parts .3)))
-      (pairs-under (allNamesOf names) (impls + owns) (impliedPairs names bounds types) (parts .4))
+      below-append _ _ _
+      (below-append _ _ _
+      (below-larger _ _ wide _ (pairs-below (implNames names) 0 (implPairs bounds) (parts .1)))
+      (pairs-below (allNamesOf names) impls (methodPairs bounds) (parts .3)))
+      (pairs-below (allNamesOf names) (impls + owns) (impliedPairs names bounds types) (parts .4))
 
   pub accepted-small : allBelow 255 (methodBounds names bounds types) ≡ true
-  accepted-small = under-below _ (under-wider (omega (arith, accepted-names)) accepted-under)
+  accepted-small = below-larger _ 255 (omega (arith, accepted-names)) _ accepted-below
 
   pub accepted-names-of : namesOf (envOf (allNamesOf names) (methodBounds names bounds types)) ≡ allNamesOf names
   unfolding envOf
@@ -88,20 +89,16 @@ module _ (names bounds types : List ℕ) (n : NoneDue (placeChecks names bounds 
 
   pub accepted-bounds-of : boundsOf (envOf (allNamesOf names) (methodBounds names bounds types)) ≡ methodBounds names bounds types
   unfolding envOf
-  accepted-bounds-of = take-append-seam (methodBounds names bounds types) _
+  accepted-bounds-of = bounds-made (methodBounds names bounds types)
 
   pub accepted-valid : NoneDue (envChecks (envOf (allNamesOf names) (methodBounds names bounds types)))
-  unfolding envOf
+  unfolding envOf boundsFrom
   accepted-valid =
       let below : allBelow (length (allNamesOf names))
       (boundsOf (envOf (allNamesOf names) (methodBounds names bounds types))) ≡ true =
-      rw (take-append-seam (methodBounds names bounds types)) (under-below (methodBounds names bounds types) accepted-under) in
+      rw accepted-bounds-of accepted-below in
       next (le-ltb 32 (length (allNamesOf names)) accepted-names)
-      (next (le-ltb 256 (length (methodBounds names bounds types)) accepted-pushed)
-      (next {c = check
-      (not
-      (allBelow (length (allNamesOf names))
-      (boundsOf (envOf (allNamesOf names) (methodBounds names bounds types))))) OutOfRange} (rw below) end))
+      (next (le-ltb 256 (length (methodBounds names bounds types)) accepted-pushed) (next (ap not below) end))
 
 -- the sides that `build` leaves in its arrays
 pub built-small : {names bounds types declared longs shorts : List ℕ} {r : Counts}

@@ -11,15 +11,16 @@ use native.Mathlib.Omega.{arith}
 use lib.ListN.{length, getD, take, set, replicate, length-map, length-replicate}
 use lib.Seq.{sets, sets-eq, length-take-le}
 use Rattle.lifetimes.specs.declared.lifetime.Lifetime.{Lifetime}
-use Rattle.lifetimes.specs.declared.env.Bound.{Bound}
+use Rattle.lifetimes.specs.declared.bounds.Bound.{Bound}
+use Rattle.lifetimes.specs.declared.bounds.Bounds.{Bounds}
 use Rattle.lifetimes.specs.Numbers.{lifetime}
 use Rattle.answers.specs.Lists.{range}
-use Rattle.lifetimes.specs.Env.{above, byteOf, allBelow}
+use Rattle.lifetimes.specs.Bounds.{above, byteOf, allBelow, boundsFrom}
 use Rattle.answers.proofs.ListLaws.{length-range}
 use Rattle.answers.proofs.Copying.{Copying, copying-more, drop-replicate}
 use Rattle.ast_lifetimes.specs.Env.{envOf}
 use Rattle.ast_lifetimes.specs.Inner.{sidesOf}
-use Rattle.ast_lifetimes.proofs.Building.{Under, below-under, under-sides}
+use Rattle.ast_lifetimes.proofs.Building.{sides-below}
 
 -- ---- `copy_names`
 
@@ -32,7 +33,7 @@ names-more inv full h = rw zero-add at (copying-more inv full h)
 in-front : {A : Type 0} (m : ℕ) (x : A) (l : List A) → length l ≤ m → sets (replicate m x) 0 l ≡ l ++ replicate (m - length l) x
 in-front m x l h = sets-eq l (replicate m x) 0 (rw (length-replicate, zero-add) h) ∙ rw (zero-add, drop-replicate (length l) m x)
 
--- ---- the loop of `assembled`
+-- ---- the loop of `joined`
 
 abbrev side : List ℕ → List ℕ → ℕ → Bound
 side longs shorts i = above (getD longs i 0) (getD shorts i 0)
@@ -43,19 +44,19 @@ length-sides n longs shorts = rw (length-map, length-range 0 n)
 -- what is left to store, stored from here, gives what all sides give from the array's start
 pub record Storing (longs shorts : List ℕ) (pushed : ℕ) (bounds : List Bound) (i : ℕ) : Type 0 where
   pub here : i ≤ pushed
-  pub small : Under 255 (sidesOf pushed longs shorts)
+  pub small : allBelow 255 (sidesOf pushed longs shorts) ≡ true
   pub stored : sets bounds i (map (side longs shorts) (range i (pushed - i))) ≡ sets (replicate 256 (above 0 0)) 0
       (sidesOf pushed longs shorts)
 
 pub storing-start : (longs shorts : List ℕ) (pushed : ℕ) → allBelow 255 (sidesOf pushed longs shorts) ≡ true
     → Storing longs shorts pushed (replicate 256 (above 0 0)) 0
 storing-start longs shorts pushed small =
-    record { here = omega arith; small = below-under (sidesOf pushed longs shorts) small; stored = rw sub-zero }
+    record { here = omega arith; small = small; stored = rw sub-zero }
 
 module _ {longs shorts : List ℕ} {pushed : ℕ} {bounds : List Bound} {i : ℕ} (inv : Storing longs shorts pushed bounds i) where
   -- the sides of the next bound are bytes
   pub storing-small : i < pushed → (getD longs i 0 < 255) × (getD shorts i 0 < 255)
-  storing-small h = under-sides 255 0 pushed longs shorts (inv .small) i (omega arith) (omega arith)
+  storing-small h = sides-below 255 pushed longs shorts (inv .small) i h
 
   pub storing-more : i < pushed → {l s : Lifetime} → l ≡ lifetime (getD longs i 0) → s ≡ lifetime (getD shorts i 0)
       → {b : Bound} → b ≡ above (byteOf (l .0)) (byteOf (s .0))
@@ -75,15 +76,18 @@ module _ {longs shorts : List ℕ} {pushed : ℕ} {bounds : List Bound} {i : ℕ
       rw none at (inv .stored)
       ∙ in-front 256 (above 0 0) (sidesOf pushed longs shorts) (rw (length-sides pushed longs shorts) few)
 
-  -- the environment of the names and the bounds in the arrays
-  pub assembled-env : pushed ≤ 256 → pushed ≤ i → (declared : List ℕ) {named : ℕ} → named ≤ 32 → length declared ≡ 32
-      → {names : List ℕ} → names ≡ sets (replicate 32 0) 0 (take named declared)
-      → record { names = names; named = named; pushed = pushed; bounds = bounds }
-      ≡ envOf (take named declared) (sidesOf pushed longs shorts)
-  unfolding envOf
-  assembled-env few h declared {named} room size copied =
-      let n : length (take named declared) ≡ named = length-take-le named declared (omega arith) in
-      let front : sets (replicate 32 0) 0 (take named declared) ≡ take named declared
-      ++ replicate (32 - length (take named declared)) 0 =
-      in-front 32 0 (take named declared) (omega arith) in
-      rw (copied ∙ front, all-stored few h, n, length-sides pushed longs shorts)
+  pub joined-bounds : pushed ≤ 256 → pushed ≤ i → record { pushed = pushed; list = bounds } ≡ boundsFrom (sidesOf pushed longs shorts)
+  unfolding boundsFrom
+  joined-bounds few h = rw (all-stored few h, length-sides pushed longs shorts)
+
+-- the environment of the names in an array, and of the bounds
+pub assembled-env : (declared : List ℕ) {named : ℕ} (bs : List Bound) → named ≤ 32 → length declared ≡ 32 → {names : List ℕ}
+    → names ≡ sets (replicate 32 0) 0 (take named declared) → {b : Bounds} → b ≡ boundsFrom bs
+    → record { names = names; named = named; bounds = b } ≡ envOf (take named declared) bs
+unfolding envOf
+assembled-env declared {named} bs room size copied joined =
+    let n : length (take named declared) ≡ named = length-take-le named declared (omega arith) in
+    let front : sets (replicate 32 0) 0 (take named declared) ≡ take named declared
+    ++ replicate (32 - length (take named declared)) 0 =
+    in-front 32 0 (take named declared) (omega arith) in
+    rw (copied ∙ front, joined, n)

@@ -15,19 +15,21 @@ use Rattle.answers.specs.declared.Refusal.{Refusal}
 use Rattle.answers.specs.declared.Refusal.the-variants.{Malformed}
 use Rattle.answers.specs.declared.Verdict.{Verdict}
 use Rattle.answers.specs.declared.Verdict.the-variants.{Accepted, Refused}
-use Rattle.lifetimes.specs.declared.env.Bound.{Bound}
-use Rattle.answers.specs.Lists.{range}
+use Rattle.lifetimes.specs.declared.bounds.Bound.{Bound}
+use Rattle.answers.specs.Lists.{range, all}
+use Rattle.answers.proofs.ListLaws.{range-has, in-map}
+use Rattle.lifetimes.proofs.BoundsLaws.{all-below, below-larger, below-append}
 use Rattle.answers.specs.Refusals.{Check, unless, FirstDue, NoneDue, next}
-use Rattle.lifetimes.specs.Env.{above, bothBelow, allBelow}
+use Rattle.lifetimes.specs.Bounds.{above, bothBelow, allBelow}
 use Rattle.answers.proofs.RefusalLaws.{due-given, due-refused, refused-first, accepted-none}
 use Rattle.ast_lifetimes.specs.declared.implied.Implied.{Implied}
 use Rattle.ast_lifetimes.specs.declared.env.Counts.{Counts}
 use Rattle.ast_lifetimes.specs.declared.env.LifetimeEnv.{LifetimeEnv}
 use Rattle.records.specs.Reading.{shapeVerdict, fewWords}
-use Rattle.ast_lifetimes.specs.Shapes.{allNames, namesInShape, implNames, methodNames, Pair, pairsOf}
+use Rattle.ast_lifetimes.specs.Shapes.{isName, namesInShape, implNames, methodNames, Pair, pairsOf}
 use Rattle.ast_lifetimes.specs.Shapes.{boundsInShape, implPairs, methodPairs}
 use Rattle.ast_lifetimes.specs.Types.{TypeName, typesInShape, typesOf}
-use Rattle.ast_lifetimes.specs.Env.{nameChecks, allPairChecks, boundsFor, allImplied, envOf, allNamesOf}
+use Rattle.ast_lifetimes.specs.Env.{isDeclared, nameChecks, allPairChecks, boundsFor, allImplied, envOf, allNamesOf}
 use Rattle.ast_lifetimes.specs.Env.{explicitBounds, impliedPairs, placeChecks, methodBounds, fromMethodItem, made}
 use Rattle.answers.specs.Lent.{judged}
 use Rattle.ast_lifetimes.specs.Inner.{sidesOf, Declares, Pushes, encodeAll, Below, Extends, Built}
@@ -50,9 +52,9 @@ names-say : (names : List ℕ) → namesInShape names ≡ true → NamesSay name
 unfolding namesInShape
 names-say [] e = let z : _≡_ {A = ℕ} 0 1 = cc in absurd (omega arith)
 names-say (w ∷ ws) e =
-    let p = (and-eq-true-iff (fewWords (w ∷ ws)) (leb w (length ws) && allNames ws)) .0 e in
+    let p = (and-eq-true-iff (fewWords (w ∷ ws)) (leb w (length ws) && all isName ws)) .0 e in
     let few : length (w ∷ ws) ≤ 1024 = leb-true (length (w ∷ ws)) 1024 (p .0) in
-    let fits : w ≤ length ws = leb-true w (length ws) (((and-eq-true-iff (leb w (length ws)) (allNames ws)) .0 (p .1)) .0) in
+    let fits : w ≤ length ws = leb-true w (length ws) (((and-eq-true-iff (leb w (length ws)) (all isName ws)) .0 (p .1)) .0) in
     let a : 1 + w ≡ suc w = omega arith in
     let b : 1 + (suc (length ws) - 1) ≡ suc (length ws) = omega arith in
     record {
@@ -142,49 +144,20 @@ shaped names bounds types h =
 
 -- ---- accepted pairs are between names
 
-pub data Under (n : ℕ) : List Bound → Type 0 where
-  none : Under n []
-  more : {b : Bound} {bs : List Bound} → b .longer < n → b .shorter < n → Under n bs → Under n (b ∷ bs)
+pub pairs-below : (names : List ℕ) (pushed : ℕ) (ps : List Pair) → NoneDue (allPairChecks names pushed ps)
+    → allBelow (length names) (boundsFor names ps) ≡ true
+unfolding allPairChecks all
+pairs-below names pushed [] d = refl
+pairs-below names pushed (p ∷ ps) (next a (next b (next c d))) =
+    rw (not-false (isDeclared names (p .longer)) a, not-false (isDeclared names (p .shorter)) b)
+    (pairs-below names (suc pushed) ps d)
 
-pub below-under : {n : ℕ} (bs : List Bound) → allBelow n bs ≡ true → Under n bs
-unfolding allBelow
-below-under [] e = none
-below-under {n} (b ∷ bs) e =
-    let both = (and-eq-true-iff (bothBelow n b) (allBelow n bs)) .0 e in
-    let sides = (and-eq-true-iff (ltb (b .longer) n) (ltb (b .shorter) n)) .0 (both .0) in
-    more (ltb-true (b .longer) n (sides .0)) (ltb-true (b .shorter) n (sides .1)) (below-under bs (both .1))
-
-pub under-below : {n : ℕ} (bs : List Bound) → Under n bs → allBelow n bs ≡ true
-unfolding allBelow
-under-below [] none = refl
-under-below {n} (b ∷ bs) (more l s u) = rw (lt-ltb (b .longer) n l, lt-ltb (b .shorter) n s, under-below bs u)
-
-pub under-append : {n : ℕ} {bs cs : List Bound} → Under n bs → Under n cs → Under n (bs ++ cs)
-under-append none v = v
-under-append (more l s u) v = more l s (under-append u v)
-
-pub under-wider : {m n : ℕ} {bs : List Bound} → m ≤ n → Under m bs → Under n bs
-under-wider h none = none
-under-wider h (more {b} l s u) = more {b = b} (omega (arith, h, l)) (omega (arith, h, s)) (under-wider h u)
-
-pub pairs-under : (names : List ℕ) (pushed : ℕ) (ps : List Pair) → NoneDue (allPairChecks names pushed ps)
-    → Under (length names) (boundsFor names ps)
-unfolding allPairChecks
-pairs-under names pushed [] d = none
-pairs-under names pushed (p ∷ ps) (next a (next b (next c d))) =
-    more (ltb-true _ _ (not-false _ a)) (ltb-true _ _ (not-false _ b)) (pairs-under names (suc pushed) ps d)
-
-pub under-sides : (m x n : ℕ) (longs shorts : List ℕ)
-    → Under m (map (λ i. above (getD longs i 0) (getD shorts i 0)) (range x n)) → (i : ℕ) → x ≤ i → i < x + n
+-- the sides of the first bounds, by their place
+pub sides-below : (m n : ℕ) (longs shorts : List ℕ) → allBelow m (sidesOf n longs shorts) ≡ true → (i : ℕ) → i < n
     → (getD longs i 0 < m) × (getD shorts i 0 < m)
-unfolding range
-under-sides m x zero longs shorts u i h k = absurd (omega arith)
-under-sides m x (suc n) longs shorts (more l s u) i h k = go (ℕ-discrete i x) (under-sides m (suc x) n longs shorts u i)
-  where
-    go : Dec (i ≡ x) → (suc x ≤ i → i < suc x + n → (getD longs i 0 < m) × (getD shorts i 0 < m))
-        → (getD longs i 0 < m) × (getD shorts i 0 < m)
-    go (yes e) f = rw e (l, s)
-    go (no d) f = f (omega arith) (omega arith)
+sides-below m n longs shorts e i h =
+    all-below m (sidesOf n longs shorts) e (above (getD longs i 0) (getD shorts i 0))
+    (in-map (λ k. above (getD longs k 0) (getD shorts k 0)) (range 0 n) i ((range-has 0 n i) .1 (omega arith, omega arith)))
 
 -- ---- what stands in the arrays
 
@@ -250,7 +223,7 @@ module _ (names bounds types : List ℕ) where
     pub shaped : Shaped names bounds types
     pub named : Stand (implNames names) (getD names 0 0) declared
     pub sides : Sides (boundsFor (implNames names) (implPairs bounds)) (getD bounds 0 0) longs shorts
-    pub under : Under (length (implNames names)) (boundsFor (implNames names) (implPairs bounds))
+    pub under : allBelow (length (implNames names)) (boundsFor (implNames names) (implPairs bounds)) ≡ true
     pub left : judged (placeChecks names bounds types) ≡ judged left₂
 
   -- and all names are declared
@@ -258,7 +231,7 @@ module _ (names bounds types : List ℕ) where
     pub shaped : Shaped names bounds types
     pub named : Stand (allNamesOf names) (length names - 1) declared
     pub sides : Sides (boundsFor (implNames names) (implPairs bounds)) (getD bounds 0 0) longs shorts
-    pub under : Under (length (implNames names)) (boundsFor (implNames names) (implPairs bounds))
+    pub under : allBelow (length (implNames names)) (boundsFor (implNames names) (implPairs bounds)) ≡ true
     pub left : judged (placeChecks names bounds types) ≡ judged left₃
 
   -- and all pairs are pushed
@@ -266,7 +239,7 @@ module _ (names bounds types : List ℕ) where
     pub shaped : Shaped names bounds types
     pub named : Stand (allNamesOf names) (length names - 1) declared
     pub sides : Sides (explicitBounds names bounds) ((length bounds - 1) / 2) longs shorts
-    pub under : Under (length names - 1) (explicitBounds names bounds)
+    pub under : allBelow (length names - 1) (explicitBounds names bounds) ≡ true
     pub left : judged (placeChecks names bounds types) ≡ judged left₄
 
 abbrev stopped : Verdict → Counts
@@ -321,7 +294,7 @@ module _ {names bounds types : List ℕ} where
       shaped = i .shaped;
       named = i .named;
       sides = sides-pushed refl (zero-add _ ∙ i .shaped .in-bounds .impls) impl-pairs e;
-      under = pairs-under (implNames names) 0 (implPairs bounds) (accepted-none (tt {0}) _ (sym (impl-pairs .verdict) ∙ e));
+      under = pairs-below (implNames names) 0 (implPairs bounds) (accepted-none (tt {0}) _ (sym (impl-pairs .verdict) ∙ e));
       left = stage-accepted _ _ _ (i .left) (impl-pairs .verdict) e;
     }
 
@@ -369,23 +342,23 @@ module _ {names bounds types : List ℕ} where
         rw (length-append (implNames names) (methodNames names), i .shaped .in-names .impls)
         (i .shaped .in-names .all) in
         let few : length (implNames names) ≤ length names - 1 = omega (arith, i .shaped .in-names .impls, i .shaped .in-names .all) in
-        let own : Under (length names - 1) (boundsFor (allNamesOf names) (methodPairs bounds)) =
-        rw many at (pairs-under (allNamesOf names) (length (implPairs bounds)) (methodPairs bounds)
+        let own : allBelow (length names - 1) (boundsFor (allNamesOf names) (methodPairs bounds)) ≡ true =
+        rw many at (pairs-below (allNamesOf names) (length (implPairs bounds)) (methodPairs bounds)
         (accepted-none (tt {0}) _ (sym pairs-verdict ∙ e))) in
         record {
           shaped = i .shaped;
           named = i .named;
           sides = sides-pushed (i .sides .bounds) (i .shaped .in-bounds .all) method-pairs e;
-          under = under-append (under-wider few (i .under)) own;
+          under = below-append _ _ _ (below-larger _ _ few _ (i .under)) own;
           left = stage-accepted _ _ _ (i .left) pairs-verdict e;
         }
 
   -- what the types imply
   module _ {declared longs shorts : List ℕ} (i : AllBound names bounds types declared longs shorts) where
-    pub all-below : Below (length names - 1) ((length bounds - 1) / 2) longs shorts
-    all-below k h =
-        let u : Under (length names - 1) (sidesOf ((length bounds - 1) / 2) longs shorts) = rw (i .sides .bounds) (i .under) in
-        under-sides (length names - 1) 0 ((length bounds - 1) / 2) longs shorts u k (omega arith) (omega arith)
+    pub bound-below : Below (length names - 1) ((length bounds - 1) / 2) longs shorts
+    bound-below k h =
+        let u : allBelow (length names - 1) (sidesOf ((length bounds - 1) / 2) longs shorts) ≡ true = rw (i .sides .bounds) (i .under) in
+        sides-below (length names - 1) ((length bounds - 1) / 2) longs shorts u k (omega arith)
 
     module _ {longs₁ shorts₁ reach₁ : List ℕ} {r : Implied}
         (x : (ts : List TypeName) → encodeAll ts ≡ types

@@ -3,11 +3,11 @@
 use Prim.Native.Nat.{ℕ, zero, suc, _+_}
 use mathlib.Core.Bool.{Bool, true, false, cond, _&&_}
 use mathlib.Core.Path.{_≡_, refl, sym, ap, _∙_}
-use mathlib.Core.List.{List, [], _∷_, _++_, map, map-append, append-nil, append-assoc}
+use mathlib.Core.List.{List, [], _∷_, _++_, map, map-append, append-nil, append-assoc, flatMap}
 use native.Mathlib.Nat.{add-zero}
 use native.Mathlib.Omega.{arith}
 use lib.ListN.{length, length-append, length-map}
-use Rattle.lifetimes.specs.declared.env.Bound.{Bound}
+use Rattle.lifetimes.specs.declared.bounds.Bound.{Bound}
 use Rattle.answers.specs.Refusals.{Check, Outcome, Gives, Refuses, unless, bind}
 use Rattle.ast_lifetimes.specs.declared.env.LifetimeEnv.{LifetimeEnv}
 use Rattle.ast_lifetimes.specs.Shapes.{namesInShape, implNames, methodNames, Pair, boundsInShape, implPairs}
@@ -16,7 +16,7 @@ use Rattle.ast_lifetimes.specs.Types.{TypeName, Other, Named, Reference,
 use Rattle.ast_lifetimes.specs.Env.{nameChecks, pairChecks, allPairChecks, boundOf, boundsFor, Behind, Ref}
 use Rattle.ast_lifetimes.specs.Env.{Nothing, behind, pathPairs, implied, allImplied, envOf, allNamesOf}
 use Rattle.ast_lifetimes.specs.Env.{explicitBounds, impliedPairs, methodBounds, placeChecks, fromMethodItem}
-use Rattle.ast_lifetimes.specs.Entries.{Entry, Name, Bounded, Path, paths, allPaths, entries, State, state, fold}
+use Rattle.ast_lifetimes.specs.Entries.{Entry, Name, Bounded, Path, paths, entries, State, state, fold}
 use Rattle.ast_lifetimes.specs.Entries.{declare, push, step, built}
 use Rattle.ast_lifetimes.proofs.PairLaws.{allPairChecks-append}
 
@@ -117,12 +117,12 @@ fold-paths names b bs (Result t u) =
     (fold-paths names Nothing bs t) (fold-paths names Nothing (bs ++ boundsFor names (implied names Nothing bs t)) u)
 
 fold-types : (names : List ℕ) (bs : List Bound) (ts : List TypeName)
-    → fold step (state names bs) (allPaths ts) ≡ unless (allPairChecks names (length bs) (allImplied names bs ts))
+    → fold step (state names bs) (flatMap (paths Nothing) ts) ≡ unless (allPairChecks names (length bs) (allImplied names bs ts))
     (state names (bs ++ boundsFor names (allImplied names bs ts)))
-unfolding allPaths allImplied fold allPairChecks unless
+unfolding flatMap allImplied fold allPairChecks unless
 fold-types names bs [] = rw (append-nil bs)
 fold-types names bs (t ∷ ts) =
-    pairs-both names bs (paths Nothing t) (allPaths ts) (implied names Nothing bs t)
+    pairs-both names bs (paths Nothing t) (flatMap (paths Nothing) ts) (implied names Nothing bs t)
     (allImplied names (bs ++ boundsFor names (implied names Nothing bs t)) ts)
     (fold-paths names Nothing bs t) (fold-types names (bs ++ boundsFor names (implied names Nothing bs t)) ts)
 

@@ -10,7 +10,7 @@ use lib.ListN.{length, length-append}
 use Rattle.answers.specs.declared.Refusal.{Refusal}
 use Rattle.answers.specs.declared.Verdict.{Verdict}
 use Rattle.answers.specs.declared.Verdict.the-variants.{Accepted, Refused}
-use Rattle.lifetimes.specs.declared.env.Bound.{Bound}
+use Rattle.lifetimes.specs.declared.bounds.Bound.{Bound}
 use Rattle.answers.specs.Refusals.{unless}
 use Rattle.answers.proofs.RefusalLaws.{accepted-none, none-first, none-rest}
 use Rattle.ast_lifetimes.specs.declared.implied.Implied.{Implied}

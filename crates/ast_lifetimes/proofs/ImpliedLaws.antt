@@ -2,7 +2,7 @@
 -- loop of `push_types`.
 use Prim.Native.Nat.{ℕ, zero, suc, _+_, _-_, _≤_, _<_}
 use mathlib.Core.Path.{_≡_, refl, sym, ap, _∙_}
-use mathlib.Core.List.{List, [], _∷_, _++_, append-assoc, append-nil, map-append}
+use mathlib.Core.List.{List, [], _∷_, _++_, append-assoc, append-nil, map-append, flatMap}
 use native.Mathlib.Nat.{zero-add, suc-add}
 use native.Mathlib.Omega.{arith}
 use native.Mathlib.Numerals.{add-one}
@@ -11,7 +11,7 @@ use lib.ListN.{length, getD, take, drop, length-append, length-drop}
 use lib.Seq.{drop-cons, drop-drop, drop-at, take-at, take-nil, slice}
 use Rattle.answers.specs.declared.Refusal.{Refusal}
 use Rattle.answers.specs.declared.Verdict.the-variants.{Accepted, Refused}
-use Rattle.lifetimes.specs.declared.env.Bound.{Bound}
+use Rattle.lifetimes.specs.declared.bounds.Bound.{Bound}
 use Rattle.ast_lifetimes.specs.declared.implied.Implied.{Implied}
 use Rattle.ast_lifetimes.specs.Shapes.{Pair}
 use Rattle.ast_lifetimes.specs.Types.{TypeName, Other, Named, Reference, Option, Result}
@@ -88,7 +88,7 @@ data Turn (names : List ℕ) (b : Behind) (bs : List Bound) (words : List ℕ) (
 module _ (names : List ℕ) (b : Behind) (bs : List Bound) (words : List ℕ) (at : ℕ) where
   turn : (pending : List TypeName) → drop at words ≡ encodeAll pending → at < length words
       → Turn names b bs words at (pendingPairs names b bs pending)
-  unfolding encodeAll encode pendingPairs implied
+  unfolding flatMap encode pendingPairs implied
   turn [] e h = absurd (let z = ap length e in omega (arith, length-drop at words))
   turn (Other ∷ ts) e h =
       let p = peel words at 0 (encodeAll ts) e in
@@ -175,7 +175,7 @@ encode-long (Result t u) = omega arith
 
 pending-none : (words : List ℕ) (at : ℕ) → length words ≤ at → (pending : List TypeName)
     → drop at words ≡ encodeAll pending → pending ≡ []
-unfolding encodeAll
+unfolding flatMap
 pending-none words at h [] e = refl
 pending-none words at h (t ∷ ts) e =
     absurd (omega (arith, encode-long t, length-append (encode t) (encodeAll ts), ap length e, length-drop at words))

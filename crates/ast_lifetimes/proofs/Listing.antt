@@ -28,7 +28,7 @@ use Rattle.answers.proofs.VerdictLaws.{unless-after}
 
 -- an environment whose names are all its lifetimes, with the same bounds
 abbrev pub hirOf : LifetimeEnv → hir.LifetimeEnv
-hirOf e = record { declared = e .named; count = e .named; pushed = e .pushed; bounds = e .bounds }
+hirOf e = record { declared = e .named; count = e .named; bounds = e .bounds }
 
 module _ (e : LifetimeEnv) (none : NoneDue (envChecks e)) where
   pub few-names : e .named ≤ 32
@@ -36,8 +36,7 @@ module _ (e : LifetimeEnv) (none : NoneDue (envChecks e)) where
 
   hir-none : NoneDue (lifetimes.envChecks (hirOf e))
   hir-none =
-      none-due (e .named) (e .named) (e .pushed) (boundsOf e) (omega (arith, few-names))
-      (ltb-false 256 (e .pushed) (none-first (none-rest none))) (omega arith)
+      none-due (hirOf e) (omega (arith, few-names)) (ltb-false 256 (e .bounds .pushed) (none-first (none-rest none))) (omega arith)
       (not-false _ (none-first (none-rest (none-rest none))))
 
 module _ (d : Bool) (e : LifetimeEnv) (word : ℕ) (slice : List ℕ) where

@@ -11,10 +11,10 @@ use native.Mathlib.Omega.{arith}
 use native.Mathlib.Numerals.{add-one}
 use lib.ListN.{length, getD, set, length-set}
 use lib.Seq.{getD-set-same, getD-set-other}
-use Rattle.lifetimes.specs.declared.env.Bound.{Bound}
+use Rattle.lifetimes.specs.declared.bounds.Bound.{Bound}
 use Rattle.answers.specs.Lists.{range}
 use Rattle.lifetimes.specs.Sets.{empty, member, insert, union}
-use Rattle.lifetimes.specs.Env.{above}
+use Rattle.lifetimes.specs.Bounds.{above}
 use Rattle.lifetimes.specs.Outlives.{Outlives, itself}
 use Rattle.answers.proofs.ListLaws.{range-snoc}
 use Rattle.lifetimes.proofs.SetLaws.{member-empty, member-insert-same, member-insert-true, member-union}

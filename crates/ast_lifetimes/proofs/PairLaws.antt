@@ -13,10 +13,10 @@ use Rattle.answers.specs.declared.Refusal.{Refusal}
 use Rattle.answers.specs.declared.Refusal.the-variants.{Undeclared, Full}
 use Rattle.answers.specs.declared.Verdict.{Verdict}
 use Rattle.answers.specs.declared.Verdict.the-variants.{Accepted, Refused}
-use Rattle.lifetimes.specs.declared.env.Bound.{Bound}
+use Rattle.lifetimes.specs.declared.bounds.Bound.{Bound}
 use Rattle.answers.specs.Lists.{range}
 use Rattle.answers.specs.Refusals.{unless}
-use Rattle.lifetimes.specs.Env.{above}
+use Rattle.lifetimes.specs.Bounds.{above}
 use Rattle.answers.proofs.ListLaws.{range-snoc}
 use Rattle.ast_lifetimes.specs.Shapes.{Pair, pair, pairsOf}
 use Rattle.ast_lifetimes.specs.Env.{place, allPairChecks, boundsFor}

@@ -1,35 +1,33 @@
 -- What a path implies: the code's test by sets is the definition's by lists, and the loop of `push_path`.
 use Prim.Native.Nat.{ℕ, suc, _+_, _≤_, _<_}
 use mathlib.Core.Bool.{Bool, true, false, cond, _&&_, not, true≢false}
-use mathlib.Core.Path.{_≡_, refl, sym, _∙_}
+use mathlib.Core.Path.{_≡_, refl, sym, subst, _∙_}
 use mathlib.Core.Logic.{_↔_, ⊎-elim}
 use mathlib.Core.List.{List, [], _∷_, _++_, map, List·Memᴰ, List·Memᴰ·head, List·Memᴰ·tail, List·Memᴰ·cases-cons}
 use mathlib.Core.List.{List·Memᴰ·not-nil}
 use native.Mathlib.Omega.{arith}
 use native.Mathlib.Numerals.{add-one}
-use borrow.Author.Tests.{eqb-true, eqb-false, ltb-true}
+use borrow.Author.Tests.{eqb-true, eq-eqb, ltb-true}
 use lib.Dec.{eqb}
 use lib.ListN.{length, getD}
 use lib.Seq.{slice, slice-cons, slice-empty}
-use Rattle.lifetimes.specs.declared.env.Bound.{Bound}
-use Rattle.answers.specs.Lists.{filter}
+use Rattle.lifetimes.specs.declared.bounds.Bound.{Bound}
+use Rattle.answers.specs.Lists.{any, filter}
+use Rattle.answers.proofs.ListLaws.{any-has}
 use Rattle.lifetimes.specs.Sets.{empty, member}
 use Rattle.lifetimes.specs.Walk.{FirstFirst, traversal}
 use Rattle.lifetimes.proofs.SetLaws.{member-empty}
 use Rattle.lifetimes.proofs.ReachLaws.{listed-toward}
 use Rattle.ast_lifetimes.specs.Shapes.{isName, pair}
-use Rattle.ast_lifetimes.specs.Env.{place, isDeclared, reachOf, has, among, pathPairs}
+use Rattle.ast_lifetimes.specs.Env.{place, isDeclared, reachOf, among, pathPairs}
 use Rattle.ast_lifetimes.specs.Inner.{Reaches, outlivedBy, isImplied}
 
--- `has` is membership
-has-mem : (x : ℕ) (l : List ℕ) → (has x l ≡ true) ↔ List·Memᴰ x l
-unfolding has
-has-mem x [] = (λ h. absurd (true≢false (sym h)), λ m. absurd (List·Memᴰ·not-nil m))
-has-mem x (y ∷ l) = go (eqb x y) refl (has-mem x l)
-  where
-    go : (t : Bool) → eqb x y ≡ t → (has x l ≡ true) ↔ List·Memᴰ x l → (cond t true (has x l) ≡ true) ↔ List·Memᴰ x (y ∷ l)
-    go true e r = (λ h. List·Memᴰ·head (eqb-true x y e), λ m. refl)
-    go false e r = (λ h. List·Memᴰ·tail (r .0 h), λ m. ⊎-elim (λ q. absurd (eqb-false x y e q)) (r .1) (List·Memᴰ·cases-cons m))
+-- a number that is equal to some entry of a list is in it
+in-list : (x : ℕ) (l : List ℕ) → (any (eqb x) l ≡ true) ↔ List·Memᴰ x l
+in-list x l = (
+  λ h. let found = (any-has (eqb x) l) .0 h in subst (λ (y : ℕ). List·Memᴰ y l) (sym (eqb-true x _ (found .2))) (found .1),
+  λ m. (any-has (eqb x) l) .1 (x, m, eq-eqb x x refl),
+)
 
 -- two tests that say the same are equal
 same-test : (p q : Bool) → (p ≡ true) ↔ (q ≡ true) → p ≡ q
@@ -39,23 +37,23 @@ same-test false false h = refl
 
 module _ (names : List ℕ) (bs : List Bound) (reach : List ℕ) (reaches : Reaches bs (length names) reach) (r : ℕ) where
   -- the set that is taken has the members of `longer_than` the reference
-  taken-has : (x : ℕ) → member (outlivedBy names reach r) x ≡ has x (reachOf true names bs r)
+  taken-has : (x : ℕ) → member (outlivedBy names reach r) x ≡ any (eqb x) (reachOf true names bs r)
   taken-has x = go (isDeclared names r) refl
     where
       go : (t : Bool) → isDeclared names r ≡ t
           → member (cond t (getD reach (place names r) 0) empty) x
-          ≡ has x (cond t (traversal FirstFirst true bs (place names r)) [])
+          ≡ any (eqb x) (cond t (traversal FirstFirst true bs (place names r)) [])
       go true e = same-test _ _ (
-        λ h. (has-mem x (traversal FirstFirst true bs (place names r))) .1
+        λ h. (in-list x (traversal FirstFirst true bs (place names r))) .1
             ((listed-toward FirstFirst true bs (place names r) x) .1
             ((reaches (place names r) (ltb-true (place names r) (length names) e) x) .0 h)),
         λ h. (reaches (place names r) (ltb-true (place names r) (length names) e) x) .1
             ((listed-toward FirstFirst true bs (place names r) x) .0
-            ((has-mem x (traversal FirstFirst true bs (place names r))) .0 h)),
+            ((in-list x (traversal FirstFirst true bs (place names r))) .0 h)),
       )
-      go false e = none x (has-mem x [])
+      go false e = none x (in-list x [])
         where
-          none : (y : ℕ) → (has y [] ≡ true) ↔ List·Memᴰ y [] → member empty y ≡ has y []
+          none : (y : ℕ) → (any (eqb y) [] ≡ true) ↔ List·Memᴰ y [] → member empty y ≡ any (eqb y) []
           none y h = same-test _ _ (λ k. absurd (true≢false (sym k ∙ member-empty y)), λ k. absurd (List·Memᴰ·not-nil (h .0 k)))
 
   pub implied-test : (word : ℕ) → isImplied names (outlivedBy names reach r) word ≡ (isName word && not (among names bs r word))

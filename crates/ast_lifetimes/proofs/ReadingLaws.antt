@@ -2,7 +2,7 @@
 use Prim.Native.Nat.{ℕ, zero, suc}
 use mathlib.Core.Bool.{true}
 use mathlib.Core.Path.{_≡_, refl}
-use mathlib.Core.List.{List, [], _∷_, _++_, append-assoc}
+use mathlib.Core.List.{List, [], _∷_, _++_, append-assoc, flatMap}
 use lib.Dec.{eqb}
 use borrow.Author.Tests.{eqb-true}
 use Rattle.records.specs.Reading.{Read, readWord, readLifetimes}
@@ -41,5 +41,5 @@ read-encoded n words {t} {rest} e = holds-read (TypeIn words) t rest (rw e at (t
 
 -- The words of the types of a record in shape are all its words
 pub types-encoded : (words : List ℕ) → typesInShape words ≡ true → encodeAll (typesOf words) ≡ words
-unfolding encodeAll
+unfolding flatMap
 types-encoded words e = items-encoded (λ number. readType 8) encode (λ number. type-read 8) encodeAll refl (λ t ts. refl) words e

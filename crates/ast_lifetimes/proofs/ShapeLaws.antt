@@ -13,29 +13,30 @@ use lib.Seq.{drop-cons}
 use Rattle.answers.specs.declared.Refusal.the-variants.{Malformed}
 use Rattle.answers.specs.declared.Verdict.the-variants.{Accepted, Refused}
 use Rattle.records.specs.Reading.{shapeVerdict}
-use Rattle.ast_lifetimes.specs.Shapes.{allNames, namesInShape, boundsInShape}
+use Rattle.answers.specs.Lists.{all}
+use Rattle.ast_lifetimes.specs.Shapes.{isName, namesInShape, boundsInShape}
 
 -- ---- `all_names`
 
 -- what is left decides
 pub record Naming (words : List ℕ) (i : ℕ) : Type 0 where
-  pub left : allNames (drop 1 words) ≡ allNames (drop i words)
+  pub left : all isName (drop 1 words) ≡ all isName (drop i words)
 
 pub naming-start : (words : List ℕ) → Naming words 1
 naming-start words = record { left = refl }
 
 module _ {words : List ℕ} {i : ℕ} (inv : Naming words i) where
-  pub naming-end : length words ≤ i → true ≡ allNames (drop 1 words)
-  unfolding allNames
+  pub naming-end : length words ≤ i → true ≡ all isName (drop 1 words)
+  unfolding all
   naming-end h = rw (inv .left, drop-of-length-le words {i = i} h)
 
   module _ (h : i < length words) where
-    pub naming-refused : getD words i 0 < 2 → false ≡ allNames (drop 1 words)
-    unfolding allNames
+    pub naming-refused : getD words i 0 < 2 → false ≡ all isName (drop 1 words)
+    unfolding all
     naming-refused k = rw (inv .left, drop-cons words i 0 h, lt-leb 2 (getD words i 0) k)
 
     pub naming-more : 2 ≤ getD words i 0 → Naming words (i + 1)
-    unfolding allNames
+    unfolding all
     naming-more k = record { left = inv .left ∙ rw (add-one, drop-cons words i 0 h, le-leb 2 (getD words i 0) k) }
 
 -- ---- `names_shape`
@@ -58,7 +59,7 @@ names-over (w ∷ words) few h = rw (le-leb (length (w ∷ words)) 1024 few, lt-
 
 -- the other tests passed, the names decide
 pub names-decide : (words : List ℕ) {t : Bool} → (length words ≡ 0 → ⊥) → length words ≤ 1024
-    → getD words 0 0 ≤ length words - 1 → allNames (drop 1 words) ≡ t
+    → getD words 0 0 ≤ length words - 1 → all isName (drop 1 words) ≡ t
     → shapeVerdict t ≡ shapeVerdict (namesInShape words)
 unfolding namesInShape
 names-decide [] some few h e = absurd (some refl)

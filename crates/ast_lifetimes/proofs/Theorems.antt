@@ -6,9 +6,10 @@ use lib.Seq.{take-append-seam}
 use Rattle.answers.specs.Lists as lists
 use Rattle.answers.specs.Refusals as refusals
 use Rattle.lifetimes.specs.Sets as sets
-use Rattle.lifetimes.specs.Env as hir
+use Rattle.lifetimes.specs.Bounds as bounds
 use Rattle.lifetimes.specs.Walk as walk
 use Rattle.answers.proofs.RefusalLaws.{given-due, none-rest}
+use Rattle.lifetimes.proofs.BoundsLaws.{bounds-made}
 use Rattle.lifetimes.proofs.ReachLaws.{listed-toward, traversal-once}
 use Rattle.records.specs.Reading as reading
 use Rattle.ast_lifetimes.specs.declared.env.LifetimeEnv.{LifetimeEnv}
@@ -27,7 +28,7 @@ built-in-order names bounds types = record {
   folded = entry-laws.built-in-order names bounds types;
   names-first = λ e h. sym (ap (λ (d : LifetimeEnv). env.namesOf d) (given e h)) ∙ take-append-seam (env.allNamesOf names) _;
   bounds-then = λ e h. sym (ap (λ (d : LifetimeEnv). env.boundsOf d) (given e h))
-      ∙ take-append-seam (env.methodBounds names bounds types) _;
+      ∙ bounds-made (env.methodBounds names bounds types);
 }
   where
     given : (e : LifetimeEnv) → env.fromMethodItem names bounds types ≡ refusals.Gives e
@@ -67,8 +68,8 @@ listed-depth-first longer names bs word h = record {
 }
 
 pub examples-hold : ExamplesHold
-unfolding env.fromMethodItem env.envOf env.listThan env.place env.nameChecks env.allPairChecks env.has env.implied
-    env.allImplied shapes.namesInShape shapes.allNames shapes.boundsInShape shapes.pairsOf types.readType
-    reading.readAll reading.inShape reading.itemsOf refusals.unless hir.allBelow lists.filter walk.traversal walk.walk
+unfolding env.fromMethodItem env.envOf env.listThan env.place env.nameChecks env.allPairChecks env.implied
+    env.allImplied shapes.namesInShape shapes.boundsInShape shapes.pairsOf types.readType
+    reading.readAll reading.inShape reading.itemsOf refusals.unless lists.all lists.any lists.count bounds.boundsFrom lists.filter walk.traversal walk.walk
     walk.walkFor walk.unpushed walk.neighbours sets.member sets.insert
 examples-hold = (refl, (refl, (refl, (refl, tt))))

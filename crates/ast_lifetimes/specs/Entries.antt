@@ -1,16 +1,16 @@
 -- A method's environment built entry by entry, each in view of what the entries before it left, to the first refusal.
 -- Theorems.BuiltInOrder: this is what `from_method_item` gives.
 use Prim.Native.Nat.{ℕ}
-use mathlib.Core.List.{List, [], _∷_, _++_, map}
+use mathlib.Core.List.{List, [], _∷_, _++_, map, flatMap}
 use lib.Dec.{leb}
 use lib.ListN.{length}
 use Rattle.answers.specs.declared.Refusal.the-variants.{Duplicate, Full}
-use Rattle.lifetimes.specs.declared.env.Bound.{Bound}
+use Rattle.lifetimes.specs.declared.bounds.Bound.{Bound}
 use Rattle.answers.specs.Refusals.{check, Outcome, Gives, bind, unless}
 use Rattle.ast_lifetimes.specs.declared.env.LifetimeEnv.{LifetimeEnv}
 use Rattle.ast_lifetimes.specs.Shapes.{implNames, methodNames, Pair, implPairs, methodPairs}
 use Rattle.ast_lifetimes.specs.Types.{TypeName, Other, Named, Reference, Option, Result, typesOf}
-use Rattle.ast_lifetimes.specs.Env.{isDeclared, pairChecks, boundOf, Behind, Ref, Nothing, behind, pathPairs}
+use Rattle.ast_lifetimes.specs.Env.{mostNames, isDeclared, pairChecks, boundOf, Behind, Ref, Nothing, behind, pathPairs}
 use Rattle.ast_lifetimes.specs.Env.{envOf}
 
 -- what the records say, in order: a name; a bound between two names; a path behind a named reference, with its
@@ -32,10 +32,6 @@ paths b (Reference word t) = paths (behind word) t
 paths b (Option t) = paths Nothing t
 paths b (Result t u) = paths Nothing t ++ paths Nothing u
 
-unfoldable pub allPaths : List TypeName → List Entry
-allPaths [] = []
-allPaths (t ∷ ts) = paths Nothing t ++ allPaths ts
-
 -- 01: "impl names, impl bounds, method names, method bounds", then the types
 abbrev pub entries : List ℕ → List ℕ → List ℕ → List Entry
 entries names bounds types =
@@ -43,7 +39,7 @@ entries names bounds types =
     ++ (map Bounded (implPairs bounds)
     ++ (map Name (methodNames names)
     ++ (map Bounded (methodPairs bounds)
-    ++ allPaths (typesOf types))))
+    ++ flatMap (paths Nothing) (typesOf types))))
 
 -- the names and bounds so far
 pub record State : Type 0 where
@@ -61,7 +57,7 @@ fold step a (b ∷ bs) = bind (step a b) (λ next. fold step next bs)
 -- one name more: refused as a 33rd (4) or declared again (2)
 abbrev pub declare : State → ℕ → Outcome State
 declare s name =
-    unless (check (leb 32 (length (s .names))) Full ∷ check (isDeclared (s .names) name) Duplicate ∷ [])
+    unless (check (leb mostNames (length (s .names))) Full ∷ check (isDeclared (s .names) name) Duplicate ∷ [])
     (state (s .names ++ (name ∷ [])) (s .bounds))
 
 -- one bound more: refused where a side is not declared yet (3) or as a 257th (4)

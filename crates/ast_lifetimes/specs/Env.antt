@@ -1,22 +1,27 @@
 -- The AST's environment, as `from_method_item` builds it: names in order of declaration, and bounds between them by
 -- number.
 use Prim.Native.Nat.{ℕ, suc, _+_, _-_}
-use mathlib.Core.Bool.{Bool, true, false, cond, _&&_, not}
+use mathlib.Core.Bool.{Bool, true, cond, _&&_, not}
 use mathlib.Core.List.{List, [], _∷_, _++_, map}
 use lib.Dec.{eqb, leb, ltb}
 use lib.ListN.{length, take, replicate}
-use Rattle.answers.specs.declared.Refusal.the-variants.{Malformed, Duplicate, Undeclared, Full, OutOfRange}
-use Rattle.lifetimes.specs.declared.env.Bound.{Bound}
-use Rattle.answers.specs.Lists.{filter}
+use Rattle.answers.specs.declared.Refusal.the-variants.{Malformed, Duplicate, Undeclared, Full}
+use Rattle.lifetimes.specs.declared.bounds.Bound.{Bound}
+use Rattle.answers.specs.Lists.{any, filter}
 use Rattle.answers.specs.Refusals.{Check, check, Outcome, unless}
 use Rattle.answers.specs.Lent.{verdictOf, resultOr, roomCheck}
-use Rattle.lifetimes.specs.Env.{above, allBelow}
+use Rattle.lifetimes.specs.Limits.{mostBounds}
+use Rattle.lifetimes.specs.Bounds.{above, listOf, boundsFrom, boundsChecks}
 use Rattle.lifetimes.specs.Walk.{FirstFirst, traversal}
 use Rattle.ast_lifetimes.specs.declared.env.LifetimeEnv.{LifetimeEnv}
 use Rattle.ast_lifetimes.specs.declared.env.Made.{Made}
 use Rattle.ast_lifetimes.specs.Shapes.{isName, namesInShape, implNames, methodNames, Pair, pair, boundsInShape}
 use Rattle.ast_lifetimes.specs.Shapes.{implPairs, methodPairs}
 use Rattle.ast_lifetimes.specs.Types.{TypeName, Other, Named, Reference, Option, Result, typesInShape, typesOf}
+
+-- 01: "all names, at most 32"
+abbrev pub mostNames : ℕ
+mostNames = 32
 
 -- Names
 
@@ -33,7 +38,7 @@ isDeclared names word = ltb (place names word) (length names)
 unfoldable pub nameChecks : List ℕ → List ℕ → List Check
 nameChecks before [] = []
 nameChecks before (name ∷ names) =
-    check (leb 32 (length before)) Full
+    check (leb mostNames (length before)) Full
     ∷ check (isDeclared before name) Duplicate
     ∷ nameChecks (before ++ (name ∷ [])) names
 
@@ -44,7 +49,7 @@ abbrev pub pairChecks : List ℕ → ℕ → Pair → List Check
 pairChecks names pushed p =
     check (not (isDeclared names (p .longer))) Undeclared
     ∷ check (not (isDeclared names (p .shorter))) Undeclared
-    ∷ check (leb 256 pushed) Full
+    ∷ check (leb mostBounds pushed) Full
     ∷ []
 
 unfoldable pub allPairChecks : List ℕ → ℕ → List Pair → List Check
@@ -62,10 +67,6 @@ boundsFor names ps = map (boundOf names) ps
 abbrev pub reachOf : Bool → List ℕ → List Bound → ℕ → List ℕ
 reachOf longer names bs word = cond (isDeclared names word) (traversal FirstFirst longer bs (place names word)) []
 
-unfoldable pub has : ℕ → List ℕ → Bool
-has x [] = false
-has x (y ∷ l) = cond (eqb x y) true (has x l)
-
 -- Implied bounds (`extend_implicit_lifetime_bounds`)
 
 -- what a type stands behind: a named reference, or none
@@ -79,7 +80,7 @@ behind word = cond (isName word) (Ref word) Nothing
 
 -- a path's named lifetimes that are not among `longer_than` R, each longer than R
 abbrev pub among : List ℕ → List Bound → ℕ → ℕ → Bool
-among names bs r word = isDeclared names word && has (place names word) (reachOf true names bs r)
+among names bs r word = isDeclared names word && any (eqb (place names word)) (reachOf true names bs r)
 
 abbrev pub pathPairs : List ℕ → List Bound → ℕ → List ℕ → List Pair
 pathPairs names bs r lifetimes =
@@ -107,24 +108,19 @@ abbrev pub namesOf : LifetimeEnv → List ℕ
 namesOf e = take (e .named) (e .names)
 
 abbrev pub boundsOf : LifetimeEnv → List Bound
-boundsOf e = take (e .pushed) (e .bounds)
+boundsOf e = listOf (e .bounds)
 
--- an environment with these names and bounds in the first places of its arrays
+-- an environment with these names in the first places of its array, and these bounds
 unfoldable pub envOf : List ℕ → List Bound → LifetimeEnv
 envOf names bs = record {
-  names = names ++ replicate (32 - length names) 0;
+  names = names ++ replicate (mostNames - length names) 0;
   named = length names;
-  pushed = length bs;
-  bounds = bs ++ replicate (256 - length bs) (above 0 0);
+  bounds = boundsFrom bs;
 }
 
 -- a value made by hand: a 33rd name, a 257th bound (4), a bound past the names (8)
 abbrev pub envChecks : LifetimeEnv → List Check
-envChecks e =
-    check (ltb 32 (e .named)) Full
-    ∷ check (ltb 256 (e .pushed)) Full
-    ∷ check (not (allBelow (e .named) (boundsOf e))) OutOfRange
-    ∷ []
+envChecks e = check (ltb mostNames (e .named)) Full ∷ boundsChecks (e .named) (e .bounds)
 
 -- `from_method_item`: shape; then impl names, impl bounds, method names, method bounds, and what the types imply. An
 -- impl bound sees impl names only
@@ -177,7 +173,7 @@ abbrev pub extendChecks : LifetimeEnv → List ℕ → List Check
 extendChecks e types =
     check (not (typesInShape types)) Malformed
     ∷ envChecks e
-    ++ allPairChecks (namesOf e) (e .pushed) (impliedOn e types)
+    ++ allPairChecks (namesOf e) (e .bounds .pushed) (impliedOn e types)
 
 unfoldable pub extendImplied : LifetimeEnv → List ℕ → Outcome LifetimeEnv
 extendImplied e types = unless (extendChecks e types) (extendedWith e types)

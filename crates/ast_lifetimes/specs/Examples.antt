@@ -5,9 +5,9 @@ use mathlib.Core.Bool.{true}
 use mathlib.Core.Path.{_≡_}
 use mathlib.Core.List.{List, [], _∷_}
 use Rattle.answers.specs.declared.Refusal.the-variants.{Duplicate}
-use Rattle.lifetimes.specs.declared.env.Bound.{Bound}
+use Rattle.lifetimes.specs.declared.bounds.Bound.{Bound}
 use Rattle.answers.specs.Refusals.{Outcome, Gives, Refuses, over}
-use Rattle.lifetimes.specs.Env.{above}
+use Rattle.lifetimes.specs.Bounds.{above}
 use Rattle.ast_lifetimes.specs.declared.env.LifetimeEnv.{LifetimeEnv}
 use Rattle.ast_lifetimes.specs.Env.{boundsOf, envOf, fromMethodItem, listThan}
 

@@ -4,22 +4,22 @@ use Prim.Native.Nat.{ℕ, _+_, _≤_, _<_}
 use mathlib.Core.Bool.{Bool, true, cond, _&&_, not}
 use mathlib.Core.Path.{_≡_}
 use mathlib.Core.Logic.{_↔_}
-use mathlib.Core.List.{List, [], _∷_, _++_, map}
+use mathlib.Core.List.{List, [], _∷_, _++_, map, flatMap}
 use lib.ListN.{length, getD, take, drop}
 use Rattle.answers.specs.declared.Verdict.{Verdict}
 use Rattle.answers.specs.declared.Verdict.the-variants.{Accepted}
-use Rattle.lifetimes.specs.declared.env.Bound.{Bound}
+use Rattle.lifetimes.specs.declared.bounds.Bound.{Bound}
 use Rattle.answers.specs.Lists.{range}
 use Rattle.answers.specs.Lent.{judged}
-use Rattle.lifetimes.specs.Env.{above}
+use Rattle.lifetimes.specs.declared.bounds.Bounds.{Bounds}
+use Rattle.lifetimes.specs.Bounds.{above, listOf}
 use Rattle.lifetimes.specs.Sets.{empty, member}
 use Rattle.lifetimes.specs.Outlives.{Outlives}
 use Rattle.ast_lifetimes.specs.declared.env.Counts.{Counts}
-use Rattle.ast_lifetimes.specs.declared.env.LifetimeEnv.{LifetimeEnv}
 use Rattle.ast_lifetimes.specs.declared.implied.Implied.{Implied}
 use Rattle.ast_lifetimes.specs.Shapes.{isName, Pair}
 use Rattle.ast_lifetimes.specs.Types as types
-use Rattle.ast_lifetimes.specs.Env.{place, isDeclared, nameChecks, allPairChecks, boundsFor, boundsOf, allNamesOf}
+use Rattle.ast_lifetimes.specs.Env.{place, isDeclared, nameChecks, allPairChecks, boundsFor, allNamesOf}
 use Rattle.ast_lifetimes.specs.Env.{placeChecks, methodBounds}
 
 -- the first n bounds, from their longer and their shorter sides
@@ -52,9 +52,8 @@ encode (types.Reference word t) = 2 ∷ word ∷ encode t
 encode (types.Option t) = 3 ∷ encode t
 encode (types.Result t u) = 4 ∷ encode t ++ encode u
 
-unfoldable pub encodeAll : List types.TypeName → List ℕ
-encodeAll [] = []
-encodeAll (t ∷ ts) = encode t ++ encodeAll ts
+abbrev pub encodeAll : List types.TypeName → List ℕ
+encodeAll ts = flatMap encode ts
 
 -- the sides of the first bounds are numbers of names
 abbrev pub Below : ℕ → ℕ → List ℕ → List ℕ → Type 0
@@ -94,8 +93,8 @@ pub record Built (names bounds types declared longs shorts : List ℕ) (r : Coun
   pub named : r .verdict ≡ Accepted → take (r .named) declared ≡ allNamesOf names
   pub bounded : r .verdict ≡ Accepted → sidesOf (r .pushed) longs shorts ≡ methodBounds names bounds types
 
--- the sides of an environment's bounds, in two arrays
-pub record Splits (e : LifetimeEnv) (longs shorts : List ℕ) : Type 0 where
+-- the sides of bounds, in two arrays
+pub record Splits (b : Bounds) (longs shorts : List ℕ) : Type 0 where
   pub size-longs : length longs ≡ 256
   pub size-shorts : length shorts ≡ 256
-  pub sides : sidesOf (e .pushed) longs shorts ≡ boundsOf e
+  pub sides : sidesOf (b .pushed) longs shorts ≡ listOf b

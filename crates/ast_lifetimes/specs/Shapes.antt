@@ -1,25 +1,22 @@
 -- The shape of the records `names`, `bounds` and `types` (refusal 1, 01's "torn"), and what a record in shape says.
 -- A record that is not in shape says something too, so that every definition here is total; it is never looked at.
 use Prim.Native.Nat.{ℕ, _/_, _%_}
-use mathlib.Core.Bool.{Bool, true, false, _&&_}
+use mathlib.Core.Bool.{Bool, false, _&&_}
 use mathlib.Core.List.{List, [], _∷_}
 use lib.Dec.{eqb, leb}
 use lib.ListN.{length, take, drop}
+use Rattle.answers.specs.Lists.{all}
 use Rattle.records.specs.Reading.{fewWords}
 
 -- A declared lifetime word: 0 'static, 1 anonymous, 2 or more a name
 abbrev pub isName : ℕ → Bool
 isName word = leb 2 word
 
-unfoldable pub allNames : List ℕ → Bool
-allNames [] = true
-allNames (word ∷ words) = isName word && allNames words
-
 -- `names`: how many of the names are the impl's, then all names
 
 unfoldable pub namesInShape : List ℕ → Bool
 namesInShape [] = false
-namesInShape (impls ∷ names) = fewWords (impls ∷ names) && (leb impls (length names) && allNames names)
+namesInShape (impls ∷ names) = fewWords (impls ∷ names) && (leb impls (length names) && all isName names)
 
 abbrev pub implNames : List ℕ → List ℕ
 implNames [] = []

@@ -8,10 +8,10 @@ ghost use Rattle.answers.specs.Lent.{held, left};
 ghost use Rattle.records.specs.Reading.{shapeVerdict};
 ghost use Rattle.ast_lifetimes.specs.Shapes.{boundsInShape, pair, pairsOf};
 ghost use Rattle.ast_lifetimes.specs.Inner.{Pushes};
-use super::env::LifetimeEnv;
 use super::names::position;
 use answers::Refusal;
 use answers::Verdict;
+use lifetimes::Bounds;
 use records::End;
 
 // Whether the record `bounds` is in shape: how many pairs are the impl's, then pairs. Refused by 1.
@@ -58,7 +58,7 @@ pub(crate) fn push_pair(
     if named <= short {
         return Verdict::Refused(Refusal::Undeclared);
     }
-    if LifetimeEnv::MAX_BOUNDS <= pushed {
+    if Bounds::MAX <= pushed {
         return Verdict::Refused(Refusal::Full);
     }
     longs[pushed] = long as u8;

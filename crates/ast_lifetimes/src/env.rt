@@ -6,8 +6,8 @@ ghost use Prim.Native.Nat.{_≤_};
 ghost use lib.ListN.{length, take};
 ghost use lib.Seq.{sets};
 ghost use Rattle.answers.specs.Refusals.{NoneDue, unless};
-ghost use Rattle.answers.specs.Lent.{counted, verdictOf, held, room, left, Fills};
-ghost use Rattle.lifetimes.specs.Env.{allBelow};
+ghost use Rattle.answers.specs.Lent.{counted, judged, held, room, left, Fills};
+ghost use Rattle.lifetimes.specs.Bounds.{allBelow, boundsFrom};
 ghost use mathlib.Core.Bool.{_&&_};
 ghost use Rattle.records.specs.Reading.{shapeVerdict};
 ghost use Rattle.ast_lifetimes.specs.Shapes.{namesInShape, boundsInShape};
@@ -27,15 +27,15 @@ use answers::Listed;
 use answers::Refusal;
 use answers::Verdict;
 use lifetimes::Bound;
+use lifetimes::Bounds;
 use lifetimes::Lifetime;
 
-// The names of a method in order of declaration, the first `named` of the array: a name's number is its place. The
-// bounds in push order, the first `pushed`.
+// The names of a method in order of declaration, the first `named` of the array: a name's number is its place. And the
+// bounds between them.
 pub struct LifetimeEnv {
     pub names: [usize; LifetimeEnv::MAX_NAMES],
     pub named: usize,
-    pub pushed: usize,
-    pub bounds: [Bound; LifetimeEnv::MAX_BOUNDS],
+    pub bounds: Bounds,
 }
 
 // An environment; beside a refusal, the one that the call says.
@@ -55,11 +55,19 @@ impl LifetimeEnv {
     // How many names an environment may have.
     pub const MAX_NAMES: usize = 32;
 
-    // How many bounds it may have.
-    pub const MAX_BOUNDS: usize = 256;
-
     // How deep a type may be nested, the outermost counting 1.
     pub const MAX_NESTING: usize = 8;
+
+    // The environment without names, which stands beside a refusal.
+    pub fn none() -> LifetimeEnv
+        ensures answer { λ r. ⌜ r ≡ envOf [] [] ⌝ }
+    {
+        LifetimeEnv {
+            names: [0usize; LifetimeEnv::MAX_NAMES],
+            named: 0,
+            bounds: Bounds::none(),
+        }
+    }
 
     // The environment of a method, from its records: impl names, impl bounds, method names, method bounds, then what
     // the types imply. Refused by 1 over all three records, then by 2, 3, 4 at the first bad place, with an environment
@@ -112,28 +120,13 @@ impl LifetimeEnv {
     // Whether this can be an environment: refused by 4 (33rd name, 257th bound) or 8 (a bound past the names). A caller
     // can build any value.
     pub fn check(self) -> Verdict
-        ensures answer { λ r. ⌜ r ≡ verdictOf (unless (envChecks self) self) ⌝ }
+        ensures answer { λ r. ⌜ r ≡ judged (envChecks self) ⌝ }
     {
         let named = self.named;
-        let pushed = self.pushed;
         if LifetimeEnv::MAX_NAMES < named {
             return Verdict::Refused(Refusal::Full);
         }
-        if LifetimeEnv::MAX_BOUNDS < pushed {
-            return Verdict::Refused(Refusal::Full);
-        }
-        let mut i = 0;
-        while i < pushed {
-            let b = self.bounds[i];
-            if named <= b.longer as usize {
-                return Verdict::Refused(Refusal::OutOfRange);
-            }
-            if named <= b.shorter as usize {
-                return Verdict::Refused(Refusal::OutOfRange);
-            }
-            i += 1;
-        }
-        Verdict::Accepted
+        self.bounds.check(named)
     }
 
     // Write the numbers of the names that outlive a name to a slice, itself first, depth first in list order; nothing
@@ -166,7 +159,6 @@ fn list_than(env: LifetimeEnv, name: usize, longer: bool, out: &mut [usize]) -> 
     }
     let names = env.names;
     let named = env.named;
-    let pushed = env.pushed;
     let at = position(&names, named, name);
     if named <= at {
         return Listed::Count(0);
@@ -175,7 +167,6 @@ fn list_than(env: LifetimeEnv, name: usize, longer: bool, out: &mut [usize]) -> 
     let hir = lifetimes::LifetimeEnv {
         declared: named,
         count: named,
-        pushed,
         bounds,
     };
     hir.depth_first_lifetimes(Lifetime::new(at), longer, out)
@@ -186,16 +177,17 @@ fn extended(env: LifetimeEnv, types: &[usize]) -> Made
     requires { ⌜ NoneDue (envChecks env) × (typesInShape (now types) ≡ true) ⌝ }
     ensures { λ r. ⌜ r
         ≡ made env
-        (unless (allPairChecks (namesOf env) (env .pushed) (impliedOn env (held types)))
+        (unless (allPairChecks (namesOf env) (env .bounds .pushed) (impliedOn env (held types)))
         (extendedWith env (held types))) ⌝ }
 {
     let names = env.names;
     let named = env.named;
-    let pushed = env.pushed;
-    let mut longs = [0u8; 256];
-    let mut shorts = [0u8; 256];
-    let mut reach = [0u64; 32];
-    split(env, &mut longs, &mut shorts);
+    let bounds = env.bounds;
+    let pushed = bounds.pushed;
+    let mut longs = [0u8; Bounds::MAX];
+    let mut shorts = [0u8; Bounds::MAX];
+    let mut reach = [0u64; LifetimeEnv::MAX_NAMES];
+    split(bounds, &mut longs, &mut shorts);
     close(&longs, &shorts, pushed, named, &mut reach);
     let implied = push_types(
         types,
@@ -217,15 +209,15 @@ fn extended(env: LifetimeEnv, types: &[usize]) -> Made
     }
 }
 
-// The sides of an environment's bounds, in two arrays.
-fn split(env: LifetimeEnv, longs: &mut [u8; 256], shorts: &mut [u8; 256])
-    requires { ⌜ (env .pushed ≤ 256) × (length (now longs) ≡ 256) × (length (now shorts) ≡ 256) ⌝ }
-    ensures { λ _. ⌜ Splits env (left longs) (left shorts) ⌝ }
+// The sides of bounds, in two arrays.
+fn split(bounds: Bounds, longs: &mut [u8; 256], shorts: &mut [u8; 256])
+    requires { ⌜ (bounds .pushed ≤ 256) × (length (now longs) ≡ 256) × (length (now shorts) ≡ 256) ⌝ }
+    ensures { λ _. ⌜ Splits bounds (left longs) (left shorts) ⌝ }
 {
-    let pushed = env.pushed;
+    let pushed = bounds.pushed;
     let mut i = 0;
     while i < pushed {
-        let b = env.bounds[i];
+        let b = bounds.list[i];
         longs[i] = b.longer;
         shorts[i] = b.shorter;
         i += 1;
@@ -323,20 +315,9 @@ fn build(
 fn refused(verdict: Verdict) -> Made
     ensures { λ r. ⌜ r ≡ record { verdict = verdict; env = envOf [] [] } ⌝ }
 {
-    let names = [0usize; LifetimeEnv::MAX_NAMES];
-    let none = Bound {
-        longer: 0,
-        shorter: 0,
-    };
-    let bounds = [none; LifetimeEnv::MAX_BOUNDS];
     Made {
         verdict,
-        env: LifetimeEnv {
-            names,
-            named: 0,
-            pushed: 0,
-            bounds,
-        },
+        env: LifetimeEnv::none(),
     }
 }
 
@@ -353,27 +334,36 @@ fn assembled(
     requires { ⌜ allBelow 255 (sidesOf pushed (now longs) (now shorts)) ≡ true ⌝ }
     ensures { λ r. ⌜ r ≡ envOf (take named (held declared)) (sidesOf pushed (held longs) (held shorts)) ⌝ }
 {
-    let none = Bound {
-        longer: 0,
-        shorter: 0,
-    };
-    let mut bounds = [none; LifetimeEnv::MAX_BOUNDS];
-    let mut i = 0;
-    while i < pushed {
-        bounds[i] = Bound::new(
-            Lifetime::new(longs[i] as usize),
-            Lifetime::new(shorts[i] as usize),
-        );
-        i += 1;
-    }
+    let bounds = joined(longs, shorts, pushed);
     let mut names = [0usize; LifetimeEnv::MAX_NAMES];
     copy_names(declared, named, &mut names);
     LifetimeEnv {
         names,
         named,
-        pushed,
         bounds,
     }
+}
+
+// The first bounds of two arrays of sides.
+fn joined(longs: &[u8; 256], shorts: &[u8; 256], pushed: usize) -> Bounds
+    requires { ⌜ (pushed ≤ 256) × (length (now longs) ≡ 256) × (length (now shorts) ≡ 256) ⌝ }
+    requires { ⌜ allBelow 255 (sidesOf pushed (now longs) (now shorts)) ≡ true ⌝ }
+    ensures { λ r. ⌜ r ≡ boundsFrom (sidesOf pushed (held longs) (held shorts)) ⌝ }
+{
+    let none = Bound {
+        longer: 0,
+        shorter: 0,
+    };
+    let mut list = [none; Bounds::MAX];
+    let mut i = 0;
+    while i < pushed {
+        list[i] = Bound::new(
+            Lifetime::new(longs[i] as usize),
+            Lifetime::new(shorts[i] as usize),
+        );
+        i += 1;
+    }
+    Bounds { pushed, list }
 }
 
 // Copy the first names of an array to the first places of another.

@@ -4,9 +4,10 @@ ghost use mathlib.Core.List.{[], _∷_};
 ghost use Prim.Native.Nat.{_≤_};
 ghost use lib.ListN.{length, take, drop};
 ghost use lib.Seq.{slice};
+ghost use Rattle.answers.specs.Lists.{all};
 ghost use Rattle.answers.specs.Lent.{held, left};
 ghost use Rattle.records.specs.Reading.{shapeVerdict};
-ghost use Rattle.ast_lifetimes.specs.Shapes.{namesInShape, allNames};
+ghost use Rattle.ast_lifetimes.specs.Shapes.{isName, namesInShape};
 ghost use Rattle.ast_lifetimes.specs.Env.{place};
 ghost use Rattle.ast_lifetimes.specs.Inner.{Declares};
 use super::env::LifetimeEnv;
@@ -37,7 +38,7 @@ pub fn names_shape(names: &[usize]) -> Verdict
 
 // Whether all words but the first are names.
 fn all_names(words: &[usize]) -> bool
-    ensures { λ r. ⌜ r ≡ allNames (drop 1 (held words)) ⌝ }
+    ensures { λ r. ⌜ r ≡ all isName (drop 1 (held words)) ⌝ }
 {
     let mut i = 1;
     while i < words.len() {

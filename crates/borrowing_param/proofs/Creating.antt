@@ -19,7 +19,7 @@ use Rattle.lifetimes.specs.declared.maybe_static.MaybeStatic.the-variants.{NonS
 use Rattle.lifetimes.specs.declared.env.LifetimeEnv.{LifetimeEnv}
 use Rattle.lifetimes.specs.declared.reach.ReachSets.{ReachSets}
 use Rattle.lifetimes.specs.Numbers.{lifetime}
-use Rattle.answers.specs.Lists.{range}
+use Rattle.answers.specs.Lists.{range, any}
 use Rattle.answers.specs.Refusals.{Check, check, Outcome, Gives, Refuses, unless, FirstDue, NoneDue}
 use Rattle.answers.specs.Lent.{resultOr}
 use Rattle.lifetimes.specs.Sets.{member}
@@ -95,7 +95,7 @@ module _ {used : ℕ} {sets draws₀ draws : List ℕ} {i : ℕ} (inv : Keeping 
 
 not-past : (count : ℕ) (ms : List MaybeStatic) → anyPast count ms ≡ false → (k : ℕ)
     → List·Memᴰ (NonStatic (lifetime k)) ms → k < count
-unfolding anyPast
+unfolding any
 not-past count [] e k m = absurd (List·Memᴰ·not-nil m)
 not-past count (x ∷ ms) e k m = go (isPast count x) refl e (not-past count ms)
   where

@@ -52,6 +52,7 @@ use Rattle.borrowing_param.proofs.Drawing.{bring-few}
 use Rattle.borrowing_param.proofs.Storing.{Storing, storing-start, storing-end, storing-fits, storing-part}
 use Rattle.borrowing_param.proofs.Storing.{usedFrom, used-all, used-end, used-here, used-not}
 use Rattle.borrowing_param.proofs.Visiting.{known-reads, number-is, parts-type}
+use Rattle.answers.specs.Lists.{numbered}
 
 -- ---- the types of a record in shape
 
@@ -80,7 +81,7 @@ types-listed rows params shape =
 
 params-few : (rows : List Row) (number : ℕ) (ts : List LoweredType) → number ≤ 16 → NoneDue (paramChecks rows number ts)
     → number + length ts ≤ 16
-unfolding paramChecks
+unfolding numbered
 params-few rows number [] h n = omega arith
 params-few rows number (t ∷ ts) h (next k (next l n)) =
     omega (arith, params-few rows (suc number) ts (omega (arith, leb-false 16 number k)) n)

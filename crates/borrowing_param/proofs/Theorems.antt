@@ -1,9 +1,10 @@
 -- The main theorems, proved: for each statement of specs/Theorems.antt a term of exactly its type.
 use mathlib.Core.Path.{refl}
-use mathlib.Core.List.{flatMap, flatten}
+use mathlib.Core.List.{flatMap, flatten, filterMap}
 use Rattle.answers.specs.Lists as lists
 use Rattle.answers.specs.Refusals as refusals
 use Rattle.lifetimes.specs.Sets as sets
+use Rattle.lifetimes.specs.Bounds as bounds
 use Rattle.lifetimes.specs.Env as env
 use Rattle.lifetimes.specs.Walk as walk
 use Rattle.records.specs.Reading as reading
@@ -14,7 +15,6 @@ use Rattle.elision.specs.Steps as steps
 use Rattle.elision.specs.Rfc as rfc
 use Rattle.types.specs.LoweredTypes as types
 use Rattle.types.specs.Rows as rows
-use Rattle.methods.specs.Method as method
 use Rattle.methods.specs.Used as used
 use Rattle.sheet.specs.Text as text
 use Rattle.sheet.specs.Reading as read
@@ -56,15 +56,15 @@ sheets-give-methods bytes none = sheet-method bytes none
 pub examples-hold : ExamplesHold
 unfolding new.created new.newVisitor map.listedTo map.listedEdges map.answersFrom map.borrowMap visit-param.visitParam
     visit.visit visit.afterVisits brings.bring brings.anyDrawn brings.structEdges brings.notes used.usedSet
-    used.numbersOf method.typeChecks method.rowChecks method.paramChecks method.anyPast
+    filterMap lists.numbered lists.any lists.all lists.count
     rows.readKnown rows.readTypes rows.readRow rows.methodInShape types.readOpaque types.readStruct types.readSlice
     types.readBare types.readLowered reading.readAll reading.inShape reading.itemsOf refusals.unless env.envOf
-    env.allBelow lists.range lists.filter walk.reachSet walk.traversal walk.walk walk.walkFor walk.unpushed
+    bounds.boundsFrom lists.range lists.filter walk.reachSet walk.traversal walk.walk walk.walkFor walk.unpushed
     walk.neighbours sets.member sets.insert sets.insertAll sets.members flatMap
     sheets.lowerSheet sheets.sheetRefusals sheets.loweringChecks shape.sheetChecks read.textChecks read.sheetOf read.sheetIn
     read.linesBehind read.ten read.readLines read.behind read.allShort flatten text.text text.line text.following
     text.digits text.digitsFor
-    shape.sheetInShape shapes.namesInShape shapes.allNames shapes.boundsInShape shapes.pairsOf ast-types.readType
-    steps.readStep ast.nameChecks ast.allPairChecks ast.has ast.implied ast.allImplied ast.envOf ast.place
-    rfc.throughout rfc.anonymous rfc.hasSelfType rfc.ownFrom
+    shape.sheetInShape shapes.namesInShape shapes.boundsInShape shapes.pairsOf ast-types.readType
+    steps.readStep ast.nameChecks ast.allPairChecks ast.implied ast.allImplied ast.envOf ast.place
+    rfc.throughout rfc.ownFrom
 examples-hold = ((refl, (refl, tt)), (refl, (refl, (refl, (refl, (refl, (refl, (refl, (refl, (refl, (refl, (refl, (refl, (refl, (refl, (refl, (refl, (refl, (refl, (refl, (refl, (refl, (refl, (refl, (refl, (refl, (refl, (refl, (refl, (refl, (refl, (refl, tt))))))))))))))))))))))))))))))))

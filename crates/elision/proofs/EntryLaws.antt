@@ -15,7 +15,7 @@ use Rattle.answers.specs.declared.Verdict.the-variants as verdict
 use Rattle.lifetimes.specs.declared.maybe_static.MaybeStatic.{MaybeStatic}
 use Rattle.answers.specs.Refusals.{Check, check, Outcome, Gives, Refuses, unless, FirstDue, NoneDue, here, later}
 use Rattle.answers.specs.Refusals.{next, end}
-use Rattle.answers.specs.Lent.{roomCheck, verdictOf, Slice, held, left, room, Stays}
+use Rattle.answers.specs.Lent.{roomCheck, verdictOf, judged, Slice, held, left, room, Stays}
 use Rattle.lifetimes.specs.LoweredWords.{wordOf}
 use Rattle.lifetimes.specs.Env.{envOf}
 use Rattle.lifetimes.specs.Env as hirenv
@@ -308,19 +308,19 @@ module _ {e : ast.LifetimeEnv} {self steps returns : List ℕ} {m : Lowering} (h
 -- ---- `finish`
 
 module _ (e : ast.LifetimeEnv) (count : ℕ) where
-  pub finish-env : {v : Verdict} {r : Refusal} {x : hir.Made} → v ≡ verdictOf (unless (envChecks e) e)
+  pub finish-env : {v : Verdict} {r : Refusal} {x : hir.Made} → v ≡ judged (envChecks e)
       → v ≡ verdict.Refused r → x ≡ record { verdict = verdict.Refused r; env = envOf 0 0 [] }
       → x ≡ hirenv.made (envOf 0 0 []) (finishEnv e count)
   unfolding finishEnv
   finish-env {v} {r} a b h =
       let f : FirstDue r (envChecks e ++ hirenv.envChecks (finished e count)) =
-      first-more _ (refused-first e r (envChecks e) (sym a ∙ b)) in
+      first-more _ (refused-first (tt {0}) r (envChecks e) (sym a ∙ b)) in
       rw (due-refused (finished e count) f) h
 
-  module _ {v : Verdict} (valid : v ≡ verdictOf (unless (envChecks e) e)) (fine : v ≡ verdict.Accepted) {w : Verdict}
-      (checked : w ≡ verdictOf (unless (hirenv.envChecks (finished e count)) (finished e count))) where
+  module _ {v : Verdict} (valid : v ≡ judged (envChecks e)) (fine : v ≡ verdict.Accepted) {w : Verdict}
+      (checked : w ≡ judged (hirenv.envChecks (finished e count))) where
     checks-none : NoneDue (envChecks e)
-    checks-none = accepted-none e (envChecks e) (sym valid ∙ fine)
+    checks-none = accepted-none (tt {0}) (envChecks e) (sym valid ∙ fine)
 
     pub finish-refused : {r : Refusal} {x : hir.Made} → w ≡ verdict.Refused r
         → x ≡ record { verdict = verdict.Refused r; env = envOf 0 0 [] }
@@ -329,7 +329,7 @@ module _ (e : ast.LifetimeEnv) (count : ℕ) where
     finish-refused {r} b h =
         let f : FirstDue r (envChecks e ++ hirenv.envChecks (finished e count)) =
         first-after checks-none
-        (refused-first (finished e count) r (hirenv.envChecks (finished e count)) (sym checked ∙ b)) in
+        (refused-first (tt {0}) r (hirenv.envChecks (finished e count)) (sym checked ∙ b)) in
         rw (due-refused (finished e count) f) h
 
     pub finish-given : w ≡ verdict.Accepted → record { verdict = verdict.Accepted; env = finished e count }
@@ -338,5 +338,5 @@ module _ (e : ast.LifetimeEnv) (count : ℕ) where
     finish-given b =
         let f : NoneDue (envChecks e ++ hirenv.envChecks (finished e count)) =
         none-more checks-none
-        (accepted-none (finished e count) (hirenv.envChecks (finished e count)) (sym checked ∙ b)) in
+        (accepted-none (tt {0}) (hirenv.envChecks (finished e count)) (sym checked ∙ b)) in
         rw (due-given (finished e count) f)

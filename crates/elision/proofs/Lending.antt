@@ -3,7 +3,7 @@
 use Prim.Native.Nat.{ℕ}
 use mathlib.Core.Bool.{Bool, true, and-eq-true-iff}
 use mathlib.Core.Path.{_≡_, refl, sym, _∙_}
-use mathlib.Core.List.{List, [], _∷_, _++_, map}
+use mathlib.Core.List.{List, [], _∷_, _++_, map, flatMap}
 use native.Mathlib.Omega.{arith}
 use borrow.Author.Tests.{eqb-true, le-leb}
 use lib.Dec.{eqb, leb}
@@ -40,7 +40,7 @@ step-read (kind ∷ words) =
     fails))
 
 pub steps-whole : (words : List ℕ) → stepsInShape words ≡ true → allWords (stepsOf words) ≡ words
-unfolding allWords
+unfolding flatMap
 steps-whole words e = items-encoded (λ number. readStep) wordsOf (λ number. step-read) allWords refl (λ a items. refl) words e
 
 -- ---- a step is read back from its words

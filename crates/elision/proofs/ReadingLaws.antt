@@ -27,6 +27,7 @@ use Rattle.elision.specs.Machine.{Answer, answer, inTurn, fits, lowerSte
 use Rattle.elision.proofs.RfcLaws.{count-more, own-again, occurrences-last}
 use Rattle.elision.proofs.Recording.{one-fits}
 use Rattle.elision.proofs.Taking.{step-fits}
+use Rattle.answers.specs.Lists.{count}
 
 module _ (names : List ℕ) (self : Receiver) where
   pub elided-is : (st : Standing) → makes st ≡ true → (before : List Occurrence)
@@ -61,7 +62,7 @@ module _ (names : List ℕ) (self : Receiver) where
 
 anonymous-grows : (before behind : List Occurrence) (o : Occurrence) → isNew o ≡ true
     → anonymous before < anonymous (before ++ (o ∷ behind))
-unfolding anonymous
+unfolding count
 anonymous-grows [] behind o h = rw h (omega arith)
 anonymous-grows (p ∷ before) behind o h = go (isNew p) (anonymous-grows before behind o h)
   where
@@ -161,7 +162,7 @@ module _ (names : List ℕ) (self : Receiver) where
       rw (append-assoc before (i ∷ []) l) at all
 
   none-few : length names ≤ 64 → countOf names [] ≤ 64
-  unfolding anonymous
+  unfolding count
   none-few h = omega arith
 
   first-few : countOf names (selfOccurrences self) ≤ 64 → countOf names (occurrences self []) ≤ 64

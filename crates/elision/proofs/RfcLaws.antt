@@ -32,6 +32,7 @@ use Rattle.elision.specs.Rfc.{stepChecks, inputs, outputs, Method, metho
 use Rattle.elision.specs.Machine.{visit, Answer, answer, inTurn, visited, lowers, fromSource, lowerWord}
 use Rattle.elision.specs.Machine.{lowerWords, lowered, valuesIn, laid, wordsStep, lowerStep, unused, firstOr}
 use Rattle.elision.specs.Machine.{selfRef, lowerSelf, runSteps, runMethod}
+use Rattle.answers.specs.Lists.{any, count}
 
 -- ---- what each of a list brings, over joined lists
 
@@ -98,7 +99,7 @@ module _ {X Y S : Type 0} (step : X → S → Outcome (Answer S)) (item : X → 
 -- ---- one lifetime
 
 anonymous-last : (l : List Occurrence) (o : Occurrence) → anonymous (l ++ (o ∷ [])) ≡ anonymous l + cond (isNew o) 1 0
-unfolding anonymous
+unfolding count
 anonymous-last [] o = go (isNew o)
   where
     go : (t : Bool) → cond t 1 0 ≡ 0 + cond t 1 0
@@ -262,12 +263,12 @@ abbrev pub itemOf : Bool → Step → Item
 itemOf out step = record { output = out; step = step }
 
 has-other : (l : List Item) (i : Item) → isSelfType (i .step) ≡ false → hasSelfType (l ++ (i ∷ [])) ≡ hasSelfType l
-unfolding hasSelfType
+unfolding any
 has-other [] i h = rw h
 has-other (j ∷ l) i h = rw (has-other l i h)
 
 has-self : (l : List Item) (i : Item) → isSelfType (i .step) ≡ true → hasSelfType (l ++ (i ∷ [])) ≡ true
-unfolding hasSelfType
+unfolding any
 has-self [] i h = rw h
 has-self (j ∷ l) i h = go (isSelfType (j .step)) (has-self l i h)
   where
@@ -283,7 +284,7 @@ module _ (names : List ℕ) (self : Receiver) where
   own-other before (j ∷ l) i h = rw (own-other (before ++ (j ∷ [])) l i h)
 
   pub own-again : (before l m : List Item) → hasSelfType l ≡ true → ownFrom names self before (l ++ m) ≡ ownFrom names self before l
-  unfolding ownFrom hasSelfType
+  unfolding ownFrom any
   own-again before [] m h = let z : _≡_ {A = ℕ} 0 1 = cc in absurd (omega arith)
   own-again before (j ∷ l) m h = go (isSelfType (j .step)) (own-again (before ++ (j ∷ [])) l m) h
     where
@@ -300,7 +301,7 @@ module _ (names : List ℕ) (self : Receiver) where
 
   own-first : (before l m : List Item) → hasSelfType l ≡ false
       → ownFrom names self before (l ++ m) ≡ ownFrom names self (before ++ l) m
-  unfolding ownFrom hasSelfType
+  unfolding ownFrom any
   own-first before [] m h = rw append-nil
   own-first before (j ∷ l) m h = go (isSelfType (j .step)) (own-first (before ++ (j ∷ [])) l m) h
     where
@@ -406,7 +407,7 @@ module _ (names : List ℕ) (self : Receiver) where
 -- ---- the first step, and the whole method
 
 unused-seen : (names : List ℕ) → unused names .seen ≡ seenOf names NoSelf []
-unfolding unused throughout anonymous fromPositions
+unfolding unused throughout count fromPositions
 unused-seen names = rw add-zero
 
 self-ref-said : (names : List ℕ) (word : ℕ)
@@ -434,7 +435,7 @@ self-ref-said names word =
 pub self-said : (names : List ℕ) (self : Receiver)
     → lowerSelf names self ≡ unless (checks names self [] (selfOccurrences self))
     (answer (values names self [] (selfOccurrences self)) (stateOf names self []))
-unfolding unused unless throughout anonymous hasSelfType ownFrom fromPositions
+unfolding unused unless throughout count any ownFrom fromPositions
 self-said names NoSelf = rw add-zero
 self-said names (SelfRef word) = rw (self-ref-said names word)
 

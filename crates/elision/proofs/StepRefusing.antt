@@ -32,6 +32,7 @@ use Rattle.elision.specs.Machine.{laid, lowerStep, fits, oneStep, unused
 use Rattle.elision.specs.StepChecks.{anonymousIn, sourceDue, anonymousCheck, wordChecks, lookedUp, standingOf}
 use Rattle.elision.specs.StepChecks.{stepChecks, readChecks, wordedChecks}
 use Rattle.elision.proofs.RfcLaws.{after-gives, in-turn, unmade, cond-not}
+use Rattle.answers.specs.Lists.{count}
 
 -- ---- what is given unless a check is due
 
@@ -118,7 +119,7 @@ module _ (names : List ℕ) (st : Standing) where
       (lowers st (NonStatic (lifetime (place names (suc (suc k))))) (s .source) (s .count)) (Refuses Undeclared))
 
 anonymous-checked : (names : List ℕ) (st : Standing) (s : Seen) → AsChecked names st 1 s
-unfolding lowerWord unless anonymousIn
+unfolding lowerWord unless count
 anonymous-checked names Input s = rw add-zero
 anonymous-checked names Aside s = rw add-zero
 anonymous-checked names Output s = rw add-zero (from-source (s .source) s)
@@ -153,7 +154,7 @@ module _ (names : List ℕ) (st : Standing) where
 
   -- the anonymous ones are counted, where they make lifetimes
   behind-count : makes st ≡ true → (s : Seen) (words : List ℕ) → seenBehind names st s words .count + 0 ≡ s .count + anonymousIn words
-  unfolding seenBehind anonymousIn
+  unfolding seenBehind count
   behind-count m s [] = refl
   behind-count m s (word ∷ words) =
       behind-count m (passed names st word s) words
@@ -171,7 +172,7 @@ behind-source names s (word ∷ words) = behind-source names (passed names Outpu
 -- the checks at a word, by what is seen there, are those in view of the words before it
 checks-behind : (names : List ℕ) (st : Standing) (s : Seen) (before : List ℕ) (word : ℕ)
     → wordChecks names st (seenBehind names st s before) [] word ≡ wordChecks names st s before word
-unfolding anonymousIn
+unfolding count
 checks-behind names Input s before word = rw (behind-count names Input refl s before)
 checks-behind names Aside s before word = rw (behind-count names Aside refl s before)
 checks-behind names Output s before word = rw (behind-source names s before)

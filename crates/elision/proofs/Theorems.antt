@@ -2,7 +2,8 @@
 use mathlib.Core.Path.{refl, sym, ap, _∙_}
 use native.Mathlib.Omega.{arith}
 use Rattle.answers.specs.Refusals as refusals
-use Rattle.lifetimes.specs.Env as hir
+use Rattle.lifetimes.specs.Bounds as hir
+use Rattle.answers.specs.Lists as lists
 use Rattle.answers.proofs.RefusalLaws.{due-given, due-refused, refused-due, given-due}
 use Rattle.records.specs.Reading as reading
 use Rattle.ast_lifetimes.specs.Env as env
@@ -64,7 +65,7 @@ step-refused-if-first-due names out s = record {
 }
 
 pub examples-hold : ExamplesHold
-unfolding lowering.lowerRecords env.envOf env.place hir.allBelow refusals.unless rfc.throughout rfc.anonymous
-    rfc.hasSelfType rfc.ownFrom steps.readStep reading.readAll reading.inShape reading.itemsOf
+unfolding lowering.lowerRecords env.envOf env.place lists.all hir.boundsFrom refusals.unless rfc.throughout lists.count
+    lists.any rfc.ownFrom steps.readStep reading.readAll reading.inShape reading.itemsOf
     machine.inTurn machine.lowerWord machine.lowerStep machine.oneStep machine.wordedStep machine.unused
 examples-hold = ((refl, (refl, (refl, (refl, (refl, tt))))), (refl, (refl, (refl, tt))))

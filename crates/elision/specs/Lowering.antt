@@ -50,7 +50,7 @@ lowerChecks e self steps returns own given taken =
 
 -- `finish`: all lifetimes, declared and new, and the bounds of the AST environment
 abbrev pub finished : ast.LifetimeEnv → ℕ → hir.LifetimeEnv
-finished e count = record { declared = e .named; count = count; pushed = e .pushed; bounds = e .bounds }
+finished e count = record { declared = e .named; count = count; bounds = e .bounds }
 
 -- by hand: the AST environment's refusals, then those of the environment itself (a 65th lifetime 4, more names than
 -- lifetimes 8)

@@ -12,6 +12,7 @@ use Rattle.answers.specs.declared.Refusal.the-variants.{Undeclared, Full, NoSou
 use Rattle.lifetimes.specs.declared.maybe_static.MaybeStatic.{MaybeStatic}
 use Rattle.lifetimes.specs.declared.maybe_static.MaybeStatic.the-variants.{Static, NonStatic}
 use Rattle.lifetimes.specs.Numbers.{lifetime}
+use Rattle.answers.specs.Lists.{any, count}
 use Rattle.answers.specs.Refusals.{Check, check, Outcome, Gives, Refuses, unless}
 use Rattle.ast_lifetimes.specs.Shapes.{isName}
 use Rattle.ast_lifetimes.specs.Env.{place, isDeclared}
@@ -44,9 +45,8 @@ abbrev pub isNew : Occurrence → Bool
 isNew o = makes (o .standing) && eqb (o .word) 1
 
 -- how many new lifetimes some occurrences make
-unfoldable pub anonymous : List Occurrence → ℕ
-anonymous [] = 0
-anonymous (o ∷ l) = cond (isNew o) (suc (anonymous l)) (anonymous l)
+abbrev pub anonymous : List Occurrence → ℕ
+anonymous l = count isNew l
 
 -- how many lifetimes there are, the declared ones and the new ones of some occurrences
 abbrev pub countOf : List ℕ → List Occurrence → ℕ
@@ -155,9 +155,8 @@ isSelfType (Lifetime word) = false
 isSelfType (Generics g words) = false
 isSelfType (SelfType words) = true
 
-unfoldable pub hasSelfType : List Item → Bool
-hasSelfType [] = false
-hasSelfType (i ∷ l) = isSelfType (i .step) || hasSelfType l
+abbrev pub hasSelfType : List Item → Bool
+hasSelfType l = any (λ i. isSelfType (i .step)) l
 
 -- the occurrences of a step: kind 2 has some at its first use only, and they are no positions; "words of later uses
 -- aren't looked up"

@@ -6,6 +6,7 @@ use mathlib.Core.Bool.{Bool, true, false, cond, _&&_, not}
 use mathlib.Core.List.{List, [], _∷_}
 use lib.Dec.{eqb, leb}
 use Rattle.answers.specs.declared.Refusal.the-variants.{Malformed, Undeclared, Full, NoSource, Ambiguous}
+use Rattle.answers.specs.Lists.{count}
 use Rattle.answers.specs.Refusals.{Check, check}
 use Rattle.records.specs.Reading.{Reading, Read, Fails}
 use Rattle.ast_lifetimes.specs.Shapes.{isName}
@@ -22,9 +23,8 @@ use Rattle.elision.specs.Rfc.{throughout, standingIn, padded}
 use Rattle.elision.specs.Machine.{fits}
 
 -- how many of some words are anonymous
-unfoldable pub anonymousIn : List ℕ → ℕ
-anonymousIn [] = 0
-anonymousIn (word ∷ words) = cond (eqb word 1) (suc (anonymousIn words)) (anonymousIn words)
+abbrev pub anonymousIn : List ℕ → ℕ
+anonymousIn words = count (λ word. eqb word 1) words
 
 -- in the output an anonymous word has no source (5), or several positions (6)
 abbrev pub sourceDue : ElisionSource → Bool → Check

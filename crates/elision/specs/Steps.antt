@@ -2,7 +2,7 @@
 -- steps and returns.
 use Prim.Native.Nat.{ℕ}
 use mathlib.Core.Bool.{Bool, cond}
-use mathlib.Core.List.{List, [], _∷_, _++_}
+use mathlib.Core.List.{List, [], _∷_, _++_, flatMap}
 use lib.Dec.{eqb, leb}
 use lib.ListN.{length}
 use Rattle.records.specs.Reading.{Reading, Read, Fails, onward, readWord, readLifetimes, inShape, itemsOf}
@@ -35,9 +35,8 @@ wordsOf (Lifetime l) = 0 ∷ l ∷ []
 wordsOf (Generics g ls) = 1 ∷ g ∷ length ls ∷ ls
 wordsOf (SelfType ls) = 2 ∷ length ls ∷ ls
 
-unfoldable pub allWords : List Step → List ℕ
-allWords [] = []
-allWords (step ∷ steps) = wordsOf step ++ allWords steps
+abbrev pub allWords : List Step → List ℕ
+allWords steps = flatMap wordsOf steps
 
 -- one step after another, to the end of the record
 abbrev pub stepsInShape : List ℕ → Bool

@@ -20,7 +20,6 @@ use super::steps::self_shape;
 use super::steps::steps_shape;
 use answers::Refusal;
 use answers::Verdict;
-use lifetimes::Bound;
 use records::End;
 
 // What `lower` answers: how many words each slice was written, and the method's environment. Refused, none, and an
@@ -68,7 +67,6 @@ pub fn measure(
     if let Verdict::Refused(refusal) = verdict {
         return refused_lowering(refusal);
     }
-    let pushed = env.pushed;
     let bounds = env.bounds;
     Lowering {
         verdict: Verdict::Accepted,
@@ -78,7 +76,6 @@ pub fn measure(
         env: lifetimes::LifetimeEnv {
             declared: named,
             count: totals.count,
-            pushed,
             bounds,
         },
     }
@@ -142,12 +139,10 @@ pub fn finish(lowerer: Lowerer, env: ast_lifetimes::LifetimeEnv) -> lifetimes::M
     let seen = lowerer.seen;
     let count = seen.count;
     let declared = env.named;
-    let pushed = env.pushed;
     let bounds = env.bounds;
     let hir = lifetimes::LifetimeEnv {
         declared,
         count,
-        pushed,
         bounds,
     };
     let verdict = hir.check();
@@ -164,19 +159,9 @@ pub fn finish(lowerer: Lowerer, env: ast_lifetimes::LifetimeEnv) -> lifetimes::M
 fn refused_env(refusal: Refusal) -> lifetimes::Made
     ensures { λ r. ⌜ r ≡ record { verdict = Verdict.Refused refusal; env = envOf 0 0 [] } ⌝ }
 {
-    let none = Bound {
-        longer: 0,
-        shorter: 0,
-    };
-    let bounds = [none; lifetimes::LifetimeEnv::MAX_BOUNDS];
     lifetimes::Made {
         verdict: Verdict::Refused(refusal),
-        env: lifetimes::LifetimeEnv {
-            declared: 0,
-            count: 0,
-            pushed: 0,
-            bounds,
-        },
+        env: lifetimes::LifetimeEnv::none(),
     }
 }
 
@@ -281,22 +266,12 @@ fn refused_lowering(refusal: Refusal) -> Lowering
     ensures { λ r. ⌜ r
         ≡ record { verdict = Verdict.Refused refusal; selves = 0; steps = 0; returns = 0; env = envOf 0 0 [] } ⌝ }
 {
-    let none = Bound {
-        longer: 0,
-        shorter: 0,
-    };
-    let bounds = [none; lifetimes::LifetimeEnv::MAX_BOUNDS];
     Lowering {
         verdict: Verdict::Refused(refusal),
         selves: 0,
         steps: 0,
         returns: 0,
-        env: lifetimes::LifetimeEnv {
-            declared: 0,
-            count: 0,
-            pushed: 0,
-            bounds,
-        },
+        env: lifetimes::LifetimeEnv::none(),
     }
 }
 

@@ -10,7 +10,7 @@ use borrow.Author.Tests.{eq-eqb, eqb-true}
 use lib.Dec.{eqb}
 use lib.ListN.{length, getD, drop, set, drop-of-length-le}
 use lib.Seq.{drop-cons, getD-set-other}
-use Rattle.lifetimes.specs.Env.{above}
+use Rattle.lifetimes.specs.Bounds.{above}
 use Rattle.answers.specs.Lists.{filter}
 use Rattle.lifetimes.specs.Walk.{neighbours}
 use Rattle.lifetimes.proofs.NeighbourLaws.{neighbours-cons}

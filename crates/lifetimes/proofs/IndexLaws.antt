@@ -12,16 +12,16 @@ use Rattle.lifetimes.proofs.EnvLaws.{Valid, far-declared}
 use Rattle.lifetimes.proofs.ReverseLaws.{linked-in}
 
 module _ {e : LifetimeEnv} (v : Valid e) where
-  pub bounds-length : length (e .bounds) ≡ 256 → length (boundsOf e) ≡ e .pushed
+  pub bounds-length : length (e .bounds .list) ≡ 256 → length (boundsOf e) ≡ e .bounds .pushed
   bounds-length full = simp length-take (omega (arith, v .few))
 
-  pub bounds-fine : length (e .bounds) ≡ 256 → Fine (boundsOf e)
+  pub bounds-fine : length (e .bounds .list) ≡ 256 → Fine (boundsOf e)
   bounds-fine full = record {
     few = omega (arith, bounds-length full, v .few);
     small = λ b k. let h = v .below b k in omega (arith, h, v .declares, v .counted);
   }
 
-  pub bounds-within : (o : Order) (d : Bool) (n : ℕ) → e .declared ≤ n → Within (graphIn o d e) n
+  pub bounds-within : (o : Order) (d : Bool) (n : ℕ) → e .declared ≤ n → Within (graphIn o d (boundsOf e)) n
   bounds-within o d n h b k = omega (arith, far-declared d v b (linked-in o (boundsOf e) k))
 
 pub zeros : (n : ℕ) → Zeros (replicate n 0)

@@ -2,6 +2,7 @@
 -- Of definitions:
 pub mod SetLaws
 pub mod WordLaws
+pub mod BoundsLaws
 pub mod EnvLaws
 pub mod NeighbourLaws
 pub mod ReverseLaws
@@ -16,7 +17,6 @@ pub mod LinkedLaws
 pub mod Theorems
 -- Of loops:
 pub mod MembersLoop
-pub mod EnvLoops
 pub mod PairLaws
 pub mod Linking
 pub mod Skipping

@@ -9,8 +9,8 @@ use native.Mathlib.Numerals.{add-one}
 use borrow.Author.Tests.{eq-eqb, ne-eqb}
 use lib.ListN.{length, getD, set, length-set}
 use lib.Seq.{getD-set-same, getD-set-other}
-use Rattle.lifetimes.specs.declared.env.Bound.{Bound}
-use Rattle.lifetimes.specs.Env.{above}
+use Rattle.lifetimes.specs.declared.bounds.Bound.{Bound}
+use Rattle.lifetimes.specs.Bounds.{above}
 use Rattle.lifetimes.specs.Walk.{near, far}
 use Rattle.lifetimes.specs.Index.{Fine, Graph, nearAt, farAt, lastOf, Zeros, Indexed}
 use Rattle.lifetimes.proofs.ChainLaws.{at-mem}

@@ -13,7 +13,7 @@ use lib.Dec.{eqb}
 use lib.ListN.{length, length-append, length-reverseAux}
 use Rattle.answers.specs.Lists.{filter, count}
 use Rattle.answers.proofs.ListLaws.{in-left, in-right, in-map, map-in, filter-has, filter-none, count-few}
-use Rattle.lifetimes.specs.declared.env.Bound.{Bound}
+use Rattle.lifetimes.specs.declared.bounds.Bound.{Bound}
 use Rattle.lifetimes.specs.Sets.{member, insert}
 use Rattle.lifetimes.specs.Walk.{near, far, neighbours, Order, LastFirst, FirstFirst, push, unpushed}
 use Rattle.lifetimes.proofs.SetLaws.{member-insert-same, member-insert-other}

@@ -1,7 +1,7 @@
 -- Pairs longer, shorter as words: how a loop reads them, and the loops of `pairs_below` and `filled`. Then the answers
 -- of `LifetimeEnv::new`.
 use Prim.Native.Nat.{ℕ, suc, _+_, _-_, _/_, _%_, _≤_, _<_}
-use mathlib.Core.Bool.{true, false, and-eq-true-iff}
+use mathlib.Core.Bool.{Bool, true, false, and-eq-true-iff}
 use mathlib.Core.Path.{_≡_, refl, ap, _∙_}
 use mathlib.Core.List.{List, [], _∷_, _++_}
 use native.Mathlib.Nat.{zero-add}
@@ -13,24 +13,34 @@ use lib.ListN.{length, getD, drop, set, replicate, drop-of-length-le}
 use lib.Seq.{drop-cons, sets, sets-eq}
 use Rattle.answers.specs.Lists.{all}
 use Rattle.answers.specs.declared.Refusal.{Refusal}
-use Rattle.answers.specs.declared.Refusal.the-variants.{Malformed}
+use Rattle.answers.specs.declared.Refusal.the-variants.{Malformed, Full, OutOfRange}
 use Rattle.answers.specs.declared.Verdict.the-variants.{Accepted, Refused}
-use Rattle.lifetimes.specs.declared.env.Bound.{Bound}
+use Rattle.lifetimes.specs.declared.bounds.Bound.{Bound}
+use Rattle.lifetimes.specs.declared.bounds.Bounds.{Bounds}
 use Rattle.lifetimes.specs.declared.env.LifetimeEnv.{LifetimeEnv}
 use Rattle.lifetimes.specs.declared.env.Made.{Made}
 use Rattle.answers.specs.Refusals.{FirstDue, here, later, NoneDue, next}
-use Rattle.lifetimes.specs.Env.{above, bothBelow, allBelow, limitChecks, pairsOf, newChecks, envOf, newEnv, made}
+use Rattle.lifetimes.specs.Bounds.{above, boundsFrom, bothBelow, allBelow}
+use Rattle.lifetimes.specs.Env.{boundsOf, envChecks, pairsOf, newChecks, envOf, newEnv, made}
+use Rattle.lifetimes.proofs.BoundsLaws.{bounds-made}
+use Rattle.lifetimes.proofs.EnvLaws.{lifetimes-due, bounds-due, declared-due, side-due, none-due}
 use Rattle.answers.proofs.RefusalLaws.{due-given, due-refused}
 use Rattle.answers.proofs.Copying.{drop-replicate}
 
 -- ---- reading the pairs, from the first to the last
 
--- at most a bound for every two words
+-- at most a bound for every two words, and one for each two if no word is left over
 pairs-few : (words : List ℕ) → length (pairsOf words) + length (pairsOf words) ≤ length words
 unfolding pairsOf
 pairs-few [] = omega arith
 pairs-few (l ∷ []) = omega arith
 pairs-few (l ∷ s ∷ words) = let r = pairs-few words in omega arith
+
+pairs-many : (words : List ℕ) → length words ≤ length (pairsOf words) + length (pairsOf words) + 1
+unfolding pairsOf
+pairs-many [] = omega arith
+pairs-many (l ∷ []) = omega arith
+pairs-many (l ∷ s ∷ words) = let r = pairs-many words in omega arith
 
 pairs-end : (words : List ℕ) (i : ℕ) → length words ≤ i → pairsOf (drop i words) ≡ []
 unfolding pairsOf
@@ -128,46 +138,68 @@ module _ {words : List ℕ} {bounds : List Bound} {pushed i : ℕ} (inv : Fillin
         ∙ sets-eq (pairsOf words) (replicate 256 (above 0 0)) 0 (omega (arith, pairs-few words))
         ∙ rw (zero-add, drop-replicate (length (pairsOf words)) 256 (above 0 0))
 
-    pub filling-end : length words ≤ i → (declared count : ℕ)
-        → record { declared = declared; count = count; pushed = pushed; bounds = bounds } ≡ envOf declared count (pairsOf words)
-    unfolding envOf
-    filling-end h declared count =
+    pub filling-end : length words ≤ i → record { pushed = pushed; list = bounds } ≡ boundsFrom (pairsOf words)
+    unfolding boundsFrom
+    filling-end h =
         let all : pushed ≡ length (pairsOf words) = omega (arith, inv .places, ap length (pairs-end words i h)) in
         rw (all, all-stored h)
 
 -- ---- `LifetimeEnv::new`
 
 module _ (declared count : ℕ) (words : List ℕ) where
+  abbrev asked : LifetimeEnv
+  asked = envOf declared count (pairsOf words)
+
   refused-by : {r : Refusal} {m : Made} → FirstDue r (newChecks declared count words)
       → m ≡ record { verdict = Refused r; env = envOf 0 0 [] } → m ≡ made (envOf 0 0 []) (newEnv declared count words)
   unfolding newEnv
-  refused-by f e = rw (due-refused (envOf declared count (pairsOf words)) f) e
+  refused-by f e = rw (due-refused asked f) e
 
   pub new-half : {m : Made} → length words % 2 ≡ 1
       → m ≡ record { verdict = Refused Malformed; env = envOf 0 0 [] } → m ≡ made (envOf 0 0 []) (newEnv declared count words)
   new-half h e = refused-by (here (eq-eqb (length words % 2) 1 h) refl) e
 
   module _ (even : length words % 2 ≡ 1 → ⊥) where
-    pub new-refused : {r : Refusal} {m : Made} → FirstDue r (limitChecks declared count (length words / 2) (pairsOf words))
+    new-refused : {r : Refusal} {m : Made} → FirstDue r (envChecks asked)
         → m ≡ record { verdict = Refused r; env = envOf 0 0 [] } → m ≡ made (envOf 0 0 []) (newEnv declared count words)
     new-refused f e = refused-by (later (ne-eqb (length words % 2) 1 even) f) e
 
-    pub new-given : {e : LifetimeEnv} → NoneDue (limitChecks declared count (length words / 2) (pairsOf words))
-        → e ≡ envOf declared count (pairsOf words)
-        → record { verdict = Accepted; env = e } ≡ made (envOf 0 0 []) (newEnv declared count words)
-    unfolding newEnv
-    new-given n e =
-        let none : NoneDue (newChecks declared count words) = next (ne-eqb (length words % 2) 1 even) n in
-        rw (due-given (envOf declared count (pairsOf words)) none, e)
+    pub new-lifetimes : {m : Made} → 64 < count → m ≡ record { verdict = Refused Full; env = envOf 0 0 [] }
+        → m ≡ made (envOf 0 0 []) (newEnv declared count words)
+    unfolding envOf
+    new-lifetimes h e = new-refused (lifetimes-due asked h) e
 
--- ---- a larger limit
+    module _ (lifetimes : count ≤ 64) where
+      pub new-bounds : {m : Made} → 256 < length words / 2 → m ≡ record { verdict = Refused Full; env = envOf 0 0 [] }
+          → m ≡ made (envOf 0 0 []) (newEnv declared count words)
+      unfolding envOf boundsFrom
+      new-bounds h e = new-refused (bounds-due asked lifetimes (omega (arith, pairs-many words))) e
 
-pub below-larger : (m n : ℕ) → m ≤ n → (bs : List Bound) → allBelow m bs ≡ true → allBelow n bs ≡ true
-unfolding all
-below-larger m n h [] e = refl
-below-larger m n h (b ∷ bs) e =
-    let both = (and-eq-true-iff (bothBelow m b) (allBelow m bs)) .0 e in
-    let sides = (and-eq-true-iff (ltb (b .longer) m) (ltb (b .shorter) m)) .0 (both .0) in
-    let l : b .longer < n = omega (arith, ltb-true (b .longer) m (sides .0)) in
-    let s : b .shorter < n = omega (arith, ltb-true (b .shorter) m (sides .1)) in
-    rw (lt-ltb (b .longer) n l, lt-ltb (b .shorter) n s, below-larger m n h bs (both .1))
+      module _ (few : length words / 2 ≤ 256) where
+        few-pairs : length (pairsOf words) ≤ 256
+        few-pairs = omega (arith, pairs-few words)
+
+        pub new-declared : {m : Made} → count < declared → m ≡ record { verdict = Refused OutOfRange; env = envOf 0 0 [] }
+            → m ≡ made (envOf 0 0 []) (newEnv declared count words)
+        unfolding envOf boundsFrom
+        new-declared h e = new-refused (declared-due asked lifetimes few-pairs h) e
+
+        module _ (declares : declared ≤ count) where
+          sides : {t : Bool} → allBelow declared (pairsOf words) ≡ t → allBelow declared (boundsOf asked) ≡ t
+          unfolding envOf
+          sides h = rw (bounds-made (pairsOf words)) h
+
+          pub new-outside : {m : Made} → allBelow declared (pairsOf words) ≡ false
+              → m ≡ record { verdict = Refused OutOfRange; env = envOf 0 0 [] }
+              → m ≡ made (envOf 0 0 []) (newEnv declared count words)
+          unfolding envOf boundsFrom
+          new-outside h e = new-refused (side-due asked lifetimes few-pairs declares (sides h)) e
+
+          pub new-given : {b : Bounds} → allBelow declared (pairsOf words) ≡ true → b ≡ boundsFrom (pairsOf words)
+              → record { verdict = Accepted; env = record { declared = declared; count = count; bounds = b } }
+              ≡ made (envOf 0 0 []) (newEnv declared count words)
+          unfolding newEnv envOf boundsFrom
+          new-given h e =
+              let none : NoneDue (newChecks declared count words) =
+              next (ne-eqb (length words % 2) 1 even) (none-due asked lifetimes few-pairs declares (sides h)) in
+              rw (due-given asked none, e)

@@ -10,9 +10,9 @@ use lib.Dec.{eqb}
 use lib.ListN.{length, getD, length-reverse}
 use lib.Seq.{getD-take}
 use Rattle.answers.specs.Lists.{filter}
-use Rattle.lifetimes.specs.declared.env.Bound.{Bound}
-use Rattle.lifetimes.specs.declared.env.LifetimeEnv.{LifetimeEnv}
-use Rattle.lifetimes.specs.Env.{above, boundsOf}
+use Rattle.lifetimes.specs.declared.bounds.Bound.{Bound}
+use Rattle.lifetimes.specs.declared.bounds.Bounds.{Bounds}
+use Rattle.lifetimes.specs.Bounds.{above, listOf}
 use Rattle.lifetimes.specs.Walk.{near, far, neighbours, Order, LastFirst, FirstFirst, orderOf, push}
 use Rattle.lifetimes.specs.Index.{linkedIn, Fine}
 use Rattle.lifetimes.proofs.NeighbourLaws.{neighbours-cons, reversed-in}
@@ -51,13 +51,13 @@ pub place-below : (ast : Bool) (n i at : ℕ) → i < n → at ≡ cond ast (n -
 place-below true n i at h is = omega arith
 place-below false n i at h is = omega arith
 
-pub linked-at : (ast : Bool) (e : LifetimeEnv) (i at : ℕ) → length (boundsOf e) ≡ e .pushed → i < e .pushed
-    → at ≡ cond ast (e .pushed - 1 - i) i
-    → getD (linkedIn (orderOf ast) (boundsOf e)) i (above 0 0) ≡ getD (e .bounds) at (above 0 0)
-linked-at false e i at all h is = rw is (getD-take (e .pushed) (e .bounds) i (above 0 0) h)
-linked-at true e i at all h is =
-    rw (is, getD-reverse (boundsOf e) i (above 0 0) (omega arith), all)
-    (getD-take (e .pushed) (e .bounds) (e .pushed - 1 - i) (above 0 0) (omega arith))
+pub linked-at : (ast : Bool) (b : Bounds) (i at : ℕ) → length (listOf b) ≡ b .pushed → i < b .pushed
+    → at ≡ cond ast (b .pushed - 1 - i) i
+    → getD (linkedIn (orderOf ast) (listOf b)) i (above 0 0) ≡ getD (b .list) at (above 0 0)
+linked-at false b i at all h is = rw is (getD-take (b .pushed) (b .list) i (above 0 0) h)
+linked-at true b i at all h is =
+    rw (is, getD-reverse (listOf b) i (above 0 0) (omega arith), all)
+    (getD-take (b .pushed) (b .list) (b .pushed - 1 - i) (above 0 0) (omega arith))
 
 -- a lifetime's list is reversed with the bounds, and a list that is reversed twice is pushed in its own order
 neighbours-reversed : (d : Bool) (bs cs : List Bound) (x : ℕ)

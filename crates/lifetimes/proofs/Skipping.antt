@@ -10,7 +10,7 @@ use lib.ListN.{length, getD}
 use Rattle.lifetimes.specs.declared.lifetime.Lifetime.{Lifetime}
 use Rattle.lifetimes.specs.declared.walk.Next.the-variants.{Yield, Nothing}
 use Rattle.lifetimes.specs.Sets.{member}
-use Rattle.lifetimes.specs.Env.{above}
+use Rattle.lifetimes.specs.Bounds.{above}
 use Rattle.lifetimes.specs.Index.{Graph, nearAt, chain, chains, pending, skip, Chained, Ready, Steps}
 use Rattle.lifetimes.proofs.ChainLaws.{at-mem, last-le, chain-more}
 

@@ -9,7 +9,9 @@ use lib.Signed.{_≤ℤ_, ≤ℤ-refl}
 use Rattle.answers.specs.Lists.{all, filter, count}
 use Rattle.answers.specs.Refusals.{unless}
 use Rattle.lifetimes.specs.Sets.{member, insert}
-use Rattle.lifetimes.specs.Env.{boundsOf, allBelow, envOf}
+use Rattle.lifetimes.specs.Bounds.{allBelow}
+use Rattle.lifetimes.specs.Bounds.{boundsFrom}
+use Rattle.lifetimes.specs.Env.{boundsOf, envOf}
 use Rattle.lifetimes.specs.Walk.{Order, LastFirst, neighbours, unpushed, walkFor, walk, traversal, reachSet}
 use Rattle.lifetimes.specs.Reach.{listReach}
 use Rattle.lifetimes.specs.Theorems.{TraversalOrder, ReachIsOutlives, OutlivesIsForced}
@@ -78,5 +80,5 @@ linked-by-place words count = (
 )
 
 pub examples-hold : ExamplesHold
-unfolding listReach unless all filter count envOf traversal walk walkFor unpushed neighbours member insert
+unfolding listReach unless all filter count envOf boundsFrom traversal walk walkFor unpushed neighbours member insert
 examples-hold = (refl, (refl, (refl, (refl, (refl, tt)))))

@@ -12,7 +12,7 @@ use mathlib.Core.List.{List·Memᴰ·not-nil, List·Nodup, nodup-nil, nodup-cons
 use native.Mathlib.Decide.{ℕ-discrete}
 use native.Mathlib.Omega.{arith}
 use lib.ListN.{length}
-use Rattle.lifetimes.specs.declared.env.Bound.{Bound}
+use Rattle.lifetimes.specs.declared.bounds.Bound.{Bound}
 use Rattle.lifetimes.specs.Sets.{empty, member, insert}
 use Rattle.lifetimes.specs.Walk.{near, far, neighbours, Order, LastFirst, push, unpushed, walkFor, walk, Pending}
 use Rattle.lifetimes.specs.Walk.{at-start, passed-over, listed}

@@ -5,9 +5,10 @@ use mathlib.Core.Bool.{Bool, true}
 use mathlib.Core.Path.{_≡_}
 use mathlib.Core.List.{List, [], _∷_}
 use Rattle.answers.specs.declared.Refusal.the-variants.{OutOfRange}
-use Rattle.lifetimes.specs.declared.env.Bound.{Bound}
+use Rattle.lifetimes.specs.declared.bounds.Bound.{Bound}
 use Rattle.answers.specs.Refusals.{Outcome, Gives, Refuses}
-use Rattle.lifetimes.specs.Env.{above, envOf}
+use Rattle.lifetimes.specs.Bounds.{above}
+use Rattle.lifetimes.specs.Env.{envOf}
 use Rattle.lifetimes.specs.Walk.{LastFirst, FirstFirst}
 use Rattle.lifetimes.specs.Reach.{listReach}
 

@@ -10,7 +10,7 @@ use mathlib.Core.List.{List, [], _∷_, _++_, map, flatten, reverse, List·Mem�
 use lib.Dec.{eqb, leb}
 use lib.ListN.{length, getD, take}
 use lib.Seq.{sets}
-use Rattle.lifetimes.specs.declared.env.Bound.{Bound}
+use Rattle.lifetimes.specs.declared.bounds.Bound.{Bound}
 use Rattle.lifetimes.specs.declared.env.LifetimeEnv.{LifetimeEnv}
 use Rattle.lifetimes.specs.declared.walk.Next.{Next}
 use Rattle.lifetimes.specs.declared.walk.Next.the-variants.{Yield, Nothing}
@@ -18,7 +18,8 @@ use Rattle.lifetimes.specs.declared.walk.Stepped.{Stepped}
 use Rattle.lifetimes.specs.declared.walk.Walked.{Walked}
 use Rattle.answers.specs.Lists.{range}
 use Rattle.lifetimes.specs.Sets.{member}
-use Rattle.lifetimes.specs.Env.{above, boundsOf}
+use Rattle.lifetimes.specs.Bounds.{above}
+use Rattle.lifetimes.specs.Env.{boundsOf}
 use Rattle.lifetimes.specs.Walk.{near, far, Order, LastFirst, FirstFirst, traversal, reachSet}
 use Rattle.answers.specs.Lists.{endsFrom}
 
@@ -36,8 +37,8 @@ abbrev pub linkedIn : Order → List Bound → List Bound
 linkedIn LastFirst bs = bs
 linkedIn FirstFirst bs = reverse bs
 
-abbrev pub graphIn : Order → Bool → LifetimeEnv → Graph
-graphIn o d e = record { longer = d; bounds = linkedIn o (boundsOf e) }
+abbrev pub graphIn : Order → Bool → List Bound → Graph
+graphIn o d bs = record { longer = d; bounds = linkedIn o bs }
 
 abbrev pub nearAt : Graph → ℕ → ℕ
 nearAt g j = near (g .longer) (getD (g .bounds) j (above 0 0))

@@ -1,7 +1,9 @@
 -- Definitions that the contracts cite, and the statements of the main theorems.
 pub mod Numbers
 pub mod LoweredWords
+pub mod Limits
 pub mod Sets
+pub mod Bounds
 pub mod Env
 pub mod Walk
 pub mod Outlives

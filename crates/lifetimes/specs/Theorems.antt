@@ -7,7 +7,7 @@ use mathlib.Core.Logic.{_↔_}
 use mathlib.Core.List.{List, [], _∷_, map, List·Memᴰ, List·Nodup}
 use lib.ListN.{length, getD}
 use Rattle.answers.specs.declared.Refusal.the-variants.{Mismatch}
-use Rattle.lifetimes.specs.declared.env.Bound.{Bound}
+use Rattle.lifetimes.specs.declared.bounds.Bound.{Bound}
 use Rattle.lifetimes.specs.declared.env.LifetimeEnv.{LifetimeEnv}
 use Rattle.lifetimes.specs.declared.linked.LinkedWord.the-variants.{Word, Absent}
 use Rattle.lifetimes.specs.declared.linked.LinkedPair.the-variants as pair

@@ -9,7 +9,7 @@ use mathlib.Core.List.{List, [], _∷_, _++_, map, reverseAux}
 use lib.Dec.{eqb}
 use lib.ListN.{length}
 use Rattle.answers.specs.Lists.{filter, count}
-use Rattle.lifetimes.specs.declared.env.Bound.{Bound}
+use Rattle.lifetimes.specs.declared.bounds.Bound.{Bound}
 use Rattle.lifetimes.specs.Sets.{empty, member, insert, setOf}
 
 -- the side of a bound that a traversal in this direction comes from, and the side that it goes to

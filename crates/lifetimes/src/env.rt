@@ -2,69 +2,25 @@
 ghost use mathlib.Core.Path.{_≡_};
 ghost use mathlib.Core.Bool.{true};
 ghost use mathlib.Core.List.{[]};
-ghost use Prim.Native.Nat.{_%_, _≤_, _<_};
+ghost use Prim.Native.Nat.{_%_, _*_, _≤_};
 ghost use lib.ListN.{length};
-ghost use Rattle.answers.specs.Refusals.{unless};
-ghost use Rattle.answers.specs.Lent.{verdictOf, held};
-ghost use Rattle.lifetimes.specs.Env.{above, byteOf, bothBelow, allBelow, envChecks, isDeclared, pairsOf, envOf};
-ghost use Rattle.lifetimes.specs.Env.{newEnv, pushBound, made};
-ghost use Rattle.lifetimes.specs.Walk.{near, far};
+ghost use Rattle.answers.specs.Lent.{judged, held};
+ghost use Rattle.lifetimes.specs.Limits.{mostBounds};
+ghost use Rattle.lifetimes.specs.Bounds.{above, allBelow, boundsFrom};
+ghost use Rattle.lifetimes.specs.Env.{envChecks, isDeclared, pairsOf, envOf, newEnv, pushBound, made};
+use super::bounds::Bounds;
+use super::bounds::bound_of;
+use super::bounds::numbers_below;
 use super::lifetime::Lifetime;
 use answers::Refusal;
 use answers::Verdict;
 
-// One bound: the first lifetime lasts at least as long as the second. They are here by their numbers, a byte each: 256
-// bounds are then few enough bytes for an environment to be handed from call to call by value.
-pub struct Bound {
-    pub longer: u8,
-    pub shorter: u8,
-}
-
-impl Bound {
-    // The bound of two lifetimes. Every number above 254 is kept as 255, which is past all lifetimes of any
-    // environment.
-    pub fn new(longer: Lifetime, shorter: Lifetime) -> Bound
-        ensures answer { λ r. ⌜ r ≡ above (byteOf (longer .0)) (byteOf (shorter .0)) ⌝ }
-    {
-        bound_of(byte_of(longer.index()), byte_of(shorter.index()))
-    }
-
-    // Whether both sides are numbered below a limit.
-    fn both_below(self, limit: usize) -> bool
-        ensures { λ r. ⌜ r ≡ bothBelow limit self ⌝ }
-    {
-        numbers_below(self.longer as usize, self.shorter as usize, limit)
-    }
-
-    // The side that a traversal in this direction comes from.
-    pub(crate) fn near(self, longer: bool) -> usize
-        ensures { λ r. ⌜ r ≡ near longer self ⌝ }
-    {
-        if longer {
-            return self.shorter as usize;
-        }
-        self.longer as usize
-    }
-
-    // The side that it goes to.
-    pub(crate) fn far(self, longer: bool) -> usize
-        ensures { λ r. ⌜ r ≡ far longer self ⌝ }
-    {
-        if longer {
-            return self.longer as usize;
-        }
-        self.shorter as usize
-    }
-}
-
-// How many lifetimes are declared, how many there are in all, and the bounds in push order: the first `pushed` of the
-// array. The declared ones come first; the others are elided. The Rust has two lists at each lifetime instead of the
-// one.
+// How many lifetimes are declared, how many there are in all, and the bounds. The declared ones come first; the others
+// are elided. The Rust has two lists at each lifetime instead of the one.
 pub struct LifetimeEnv {
     pub declared: usize,
     pub count: usize,
-    pub pushed: usize,
-    pub bounds: [Bound; LifetimeEnv::MAX_BOUNDS],
+    pub bounds: Bounds,
 }
 
 // An environment; beside a refusal, the one that the call says.
@@ -77,8 +33,16 @@ impl LifetimeEnv {
     // How many lifetimes an environment may have, declared and elided.
     pub const MAX_LIFETIMES: usize = 64;
 
-    // How many bounds it may have.
-    pub const MAX_BOUNDS: usize = 256;
+    // The environment without lifetimes, which stands beside a refusal.
+    pub fn none() -> LifetimeEnv
+        ensures answer { λ r. ⌜ r ≡ envOf 0 0 [] ⌝ }
+    {
+        LifetimeEnv {
+            declared: 0,
+            count: 0,
+            bounds: Bounds::none(),
+        }
+    }
 
     // An environment made by hand, from a list of pairs longer, shorter. Refused by 1 (half a pair), 4 (65th lifetime,
     // 257th bound), 8 (more declared than there are, a side past the declared), with an environment without lifetimes
@@ -92,7 +56,7 @@ impl LifetimeEnv {
         if LifetimeEnv::MAX_LIFETIMES < count {
             return refused(Refusal::Full);
         }
-        if LifetimeEnv::MAX_BOUNDS < pairs.len() / 2 {
+        if Bounds::MAX < pairs.len() / 2 {
             return refused(Refusal::Full);
         }
         if count < declared {
@@ -103,19 +67,24 @@ impl LifetimeEnv {
         }
         Made {
             verdict: Verdict::Accepted,
-            env: filled(declared, count, pairs),
+            env: LifetimeEnv {
+                declared,
+                count,
+                bounds: filled(pairs),
+            },
         }
     }
 
-    // The environment with one bound more, at the end. Refused by 4 and 8 as every environment is, by 4 for a 257th
-    // bound, by 8 for a side past the declared, with the environment as it was beside the refusal.
+    // The environment with one bound more, at the end. Refused as every environment is, by 4 for a 257th bound, by 8
+    // for a side past the declared, with the environment as it was beside the refusal.
     pub fn push_bound(self, longer: Lifetime, shorter: Lifetime) -> Made
         ensures answer { λ r. ⌜ r ≡ made self (pushBound self (above (longer .0) (shorter .0))) ⌝ }
     {
-        let mut env = self;
-        let at = env.pushed;
-        let declared = env.declared;
-        if LifetimeEnv::MAX_BOUNDS <= at {
+        let declared = self.declared;
+        let count = self.count;
+        let mut bounds = self.bounds;
+        let at = bounds.pushed;
+        if Bounds::MAX <= at {
             return Made {
                 verdict: Verdict::Refused(Refusal::Full),
                 env: self,
@@ -133,11 +102,15 @@ impl LifetimeEnv {
                 env: self,
             };
         }
-        env.bounds[at] = bound_of(from, to);
-        env.pushed = at + 1;
+        bounds.list[at] = bound_of(from, to);
+        bounds.pushed = at + 1;
         Made {
             verdict: Verdict::Accepted,
-            env,
+            env: LifetimeEnv {
+                declared,
+                count,
+                bounds,
+            },
         }
     }
 
@@ -150,69 +123,22 @@ impl LifetimeEnv {
 
     // Whether this can be an environment: refused by 4 (65th lifetime, 257th bound) or 8 (more declared than there are,
     // a bound past the declared). A caller can build any value, so whoever is handed an environment asks this first.
-    // Reads each bound once.
     pub fn check(self) -> Verdict
-        ensures answer { λ r. ⌜ r ≡ verdictOf (unless (envChecks self) self) ⌝ }
+        ensures answer { λ r. ⌜ r ≡ judged (envChecks self) ⌝ }
     {
         let declared = self.declared;
         let count = self.count;
-        let pushed = self.pushed;
         if LifetimeEnv::MAX_LIFETIMES < count {
             return Verdict::Refused(Refusal::Full);
         }
-        if LifetimeEnv::MAX_BOUNDS < pushed {
-            return Verdict::Refused(Refusal::Full);
-        }
+        let verdict = self.bounds.check(declared);
+        let Verdict::Accepted = verdict else {
+            return verdict;
+        };
         if count < declared {
             return Verdict::Refused(Refusal::OutOfRange);
         }
-        let mut i = 0;
-        while i < pushed {
-            let b = self.bounds[i];
-            if !b.both_below(declared) {
-                return Verdict::Refused(Refusal::OutOfRange);
-            }
-            i += 1;
-        }
         Verdict::Accepted
-    }
-}
-
-// Whether two numbers are below a limit.
-fn numbers_below(longer: usize, shorter: usize, limit: usize) -> bool
-    ensures { λ r. ⌜ r ≡ bothBelow limit (above longer shorter) ⌝ }
-{
-    longer < limit && shorter < limit
-}
-
-// A number as a byte keeps it.
-fn byte_of(number: usize) -> usize
-    ensures { λ r. ⌜ (r ≡ byteOf number) × (r < 256) ⌝ }
-{
-    if number < 255 {
-        return number;
-    }
-    255
-}
-
-// The bound of two lifetimes, by their numbers.
-fn bound_of(longer: usize, shorter: usize) -> Bound
-    requires { ⌜ (longer < 256) × (shorter < 256) ⌝ }
-    ensures { λ r. ⌜ r ≡ above longer shorter ⌝ }
-{
-    Bound {
-        longer: longer as u8,
-        shorter: shorter as u8,
-    }
-}
-
-// What stands in the array past the bounds.
-fn no_bound() -> Bound
-    ensures { λ r. ⌜ r ≡ above 0 0 ⌝ }
-{
-    Bound {
-        longer: 0,
-        shorter: 0,
     }
 }
 
@@ -220,15 +146,9 @@ fn no_bound() -> Bound
 fn refused(refusal: Refusal) -> Made
     ensures { λ r. ⌜ r ≡ record { verdict = Verdict.Refused refusal; env = envOf 0 0 [] } ⌝ }
 {
-    let bounds = [no_bound(); LifetimeEnv::MAX_BOUNDS];
     Made {
         verdict: Verdict::Refused(refusal),
-        env: LifetimeEnv {
-            declared: 0,
-            count: 0,
-            pushed: 0,
-            bounds,
-        },
+        env: LifetimeEnv::none(),
     }
 }
 
@@ -247,24 +167,19 @@ fn pairs_below(pairs: &[usize], limit: usize) -> bool
     true
 }
 
-// The environment with these pairs for bounds.
-fn filled(declared: usize, count: usize, pairs: &[usize]) -> LifetimeEnv
-    requires { ⌜ (length (now pairs) % 2 ≡ 0) × (length (now pairs) ≤ 512)
+// The bounds that these pairs are.
+fn filled(pairs: &[usize]) -> Bounds
+    requires { ⌜ (length (now pairs) % 2 ≡ 0) × (length (now pairs) ≤ 2 * mostBounds)
         × (allBelow 256 (pairsOf (now pairs)) ≡ true) ⌝ }
-    ensures { λ r. ⌜ r ≡ envOf declared count (pairsOf (held pairs)) ⌝ }
+    ensures { λ r. ⌜ r ≡ boundsFrom (pairsOf (held pairs)) ⌝ }
 {
-    let mut bounds = [no_bound(); LifetimeEnv::MAX_BOUNDS];
+    let mut list = [bound_of(0, 0); Bounds::MAX];
     let mut pushed = 0;
     let mut i = 0;
     while i < pairs.len() {
-        bounds[pushed] = bound_of(pairs[i], pairs[i + 1]);
+        list[pushed] = bound_of(pairs[i], pairs[i + 1]);
         pushed += 1;
         i += 2;
     }
-    LifetimeEnv {
-        declared,
-        count,
-        pushed,
-        bounds,
-    }
+    Bounds { pushed, list }
 }

@@ -1,4 +1,4 @@
-// The index of an environment: for each lifetime its neighbours, in the order in which a traversal takes them.
+// The index of bounds: for each lifetime its neighbours, in the order in which a traversal takes them.
 //
 // A list is pushed in order and its last entry is taken first, so each list is needed backwards: a chain that is linked
 // at its head. Made once for all traversals in a direction, in one pass over the bounds.
@@ -6,33 +6,33 @@ ghost use mathlib.Core.Path.{_≡_};
 ghost use mathlib.Core.Bool.{cond};
 ghost use Prim.Native.Nat.{_-_, _<_};
 ghost use lib.ListN.{length};
-ghost use Rattle.lifetimes.specs.Env.{boundsOf};
+ghost use Rattle.lifetimes.specs.Bounds.{listOf};
 ghost use Rattle.answers.specs.Lent.{left};
 ghost use Rattle.lifetimes.specs.Walk.{orderOf};
 ghost use Rattle.lifetimes.specs.Index.{graphIn, Fine, Zeros, Indexed};
-use super::env::LifetimeEnv;
+use super::bounds::Bounds;
 
 // For each bound its far side, and the bound before it with the same near side; for each lifetime the last bound whose
 // near side it is. A bound's number is its place counted from 1, and 0 stands for none. The bounds are linked in push
 // order, or, for the AST's order, from the last to the first.
 pub(crate) fn link(
-    env: LifetimeEnv,
+    bounds: Bounds,
     ast: bool,
     longer: bool,
     far: &mut [u8; 256],
     before: &mut [u16; 256],
     last: &mut [u16; 64],
 )
-    requires { ⌜ Fine (boundsOf env) × (length (boundsOf env) ≡ env .pushed) ⌝ }
+    requires { ⌜ Fine (listOf bounds) × (length (listOf bounds) ≡ bounds .pushed) ⌝ }
     requires { ⌜ Zeros (now last) ⌝ }
     requires { ⌜ (length (now far) ≡ 256) × (length (now before) ≡ 256) × (length (now last) ≡ 64) ⌝ }
-    ensures { λ _. ⌜ Indexed (graphIn (orderOf ast) longer env) (left far) (left before) (left last) ⌝ }
+    ensures { λ _. ⌜ Indexed (graphIn (orderOf ast) longer (listOf bounds)) (left far) (left before) (left last) ⌝ }
 {
-    let n = env.pushed;
+    let n = bounds.pushed;
     let mut i = 0;
     while i < n {
         let at = place(ast, n, i);
-        let b = env.bounds[at];
+        let b = bounds.list[at];
         let x = b.near(longer);
         let y = b.far(longer);
         let older = last[x];

@@ -5,8 +5,10 @@
 // right; a refused call answers one of its numbers (`Refusal`) and leaves every lent slice as it was.
 //
 // What is here, bottom up: the two kinds of lifetime (`lifetime`, `def_lifetime`), each also as static or not with its
-// lowered word (`maybe_static`); sets of lifetimes (`set`); the environment and its bounds (`env`); the index and the
-// traversals over it (`index`, `walk`, `reach`); the lifetimes of a definition paired with those of its use (`linked`).
+// lowered word (`maybe_static`); sets of lifetimes (`set`); bounds (`bounds`); the environment (`env`); the index and
+// the traversals over it (`index`, `walk`, `reach`); the lifetimes of a definition paired with those of its use
+// (`linked`).
+mod bounds;
 mod def_lifetime;
 mod env;
 mod index;
@@ -17,8 +19,9 @@ mod reach;
 pub mod set;
 mod walk;
 
+pub use bounds::Bound;
+pub use bounds::Bounds;
 pub use def_lifetime::DefLifetime;
-pub use env::Bound;
 pub use env::LifetimeEnv;
 pub use env::Made;
 pub use lifetime::Lifetime;

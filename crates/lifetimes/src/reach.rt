@@ -79,7 +79,7 @@ impl LifetimeEnv {
         let mut far = [0u8; 256];
         let mut before = [0u16; 256];
         let mut last = [0u16; 64];
-        link(self, false, longer, &mut far, &mut before, &mut last);
+        link(self.bounds, false, longer, &mut far, &mut before, &mut last);
         measure(&far, &before, &last, declared, count, &mut sets);
         ReachSets {
             verdict: Verdict::Accepted,
@@ -114,7 +114,7 @@ impl LifetimeEnv {
         let mut far = [0u8; 256];
         let mut before = [0u16; 256];
         let mut last = [0u16; 64];
-        link(self, false, longer, &mut far, &mut before, &mut last);
+        link(self.bounds, false, longer, &mut far, &mut before, &mut last);
         if !all_fit(&far, &before, &last, declared, count, words.len()) {
             return Lists {
                 listed: Listed::Refused(Refusal::NoRoom),
@@ -178,7 +178,7 @@ fn list(env: LifetimeEnv, ast: bool, longer: bool, start: usize, items: &mut [us
     let mut far = [0u8; 256];
     let mut before = [0u16; 256];
     let mut last = [0u16; 64];
-    link(env, ast, longer, &mut far, &mut before, &mut last);
+    link(env.bounds, ast, longer, &mut far, &mut before, &mut last);
     let limit = limit_of(declared, count, start);
     walk(&far, &before, &last, limit, start, items).count
 }

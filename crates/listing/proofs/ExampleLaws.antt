@@ -1,9 +1,10 @@
 -- 01's examples, crate by crate: those below have shown their own, the program's are computed here.
 use mathlib.Core.Path.{refl, ap}
-use mathlib.Core.List.{List, [], _∷_, _++_, map, flatMap, flatten}
+use mathlib.Core.List.{List, [], _∷_, _++_, map, flatMap, flatten, filterMap}
 use Rattle.answers.specs.Refusals.{unless}
 use Rattle.answers.specs.Lists as lists
 use Rattle.lifetimes.specs.Sets as sets
+use Rattle.lifetimes.specs.Bounds as bounds
 use Rattle.lifetimes.specs.Env as env
 use Rattle.lifetimes.specs.Walk as walk
 use Rattle.lifetimes.specs.Examples as reach
@@ -17,7 +18,6 @@ use Rattle.elision.specs.Rfc as rfc
 use Rattle.elision.specs.Examples as elision
 use Rattle.types.specs.LoweredTypes as types
 use Rattle.types.specs.Rows as rows
-use Rattle.methods.specs.Method as method
 use Rattle.methods.specs.Used as used
 use Rattle.sheet.specs.Text as text
 use Rattle.sheet.specs.Reading as read
@@ -59,15 +59,15 @@ unfolding response unless listingOf listingChecks sheets.sheetRefusals sheets.lo
     read.sheetOf
     read.sheetIn read.linesBehind read.ten read.readLines read.behind read.allShort flatten flatMap text.line
     text.following text.digits text.digitsFor
-    shape.sheetInShape rows.methodInShape shapes.namesInShape shapes.allNames shapes.boundsInShape shapes.pairsOf
+    shape.sheetInShape rows.methodInShape shapes.namesInShape shapes.boundsInShape shapes.pairsOf
     ast-types.readType steps.readStep reading.readAll reading.inShape reading.itemsOf
-    declared.nameChecks declared.allPairChecks declared.has declared.implied declared.allImplied declared.envOf
-    declared.place rfc.throughout rfc.anonymous rfc.hasSelfType rfc.ownFrom
+    declared.nameChecks declared.allPairChecks declared.implied declared.allImplied declared.envOf
+    declared.place rfc.throughout rfc.ownFrom
     rows.readKnown rows.readTypes rows.readRow types.readOpaque types.readStruct types.readSlice types.readBare
-    types.readLowered method.typeChecks method.rowChecks method.paramChecks method.anyPast
-    used.usedSet used.numbersOf new.created new.newVisitor map-of.listedTo map-of.listedEdges
+    types.readLowered lists.numbered lists.any lists.all lists.count
+    used.usedSet filterMap new.created new.newVisitor map-of.listedTo map-of.listedEdges
     map-of.answersFrom brings.bring brings.anyDrawn brings.structEdges
-    listings.answersFrom env.envOf env.allBelow lists.range lists.filter walk.reachSet walk.traversal walk.walk
+    listings.answersFrom env.envOf bounds.boundsFrom lists.range lists.filter walk.reachSet walk.traversal walk.walk
     walk.walkFor walk.unpushed walk.neighbours sets.member sets.insert sets.insertAll sets.members
 program-right = (refl, (refl, tt))
 

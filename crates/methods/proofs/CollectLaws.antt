@@ -2,7 +2,7 @@
 use Prim.Native.Nat.{ℕ, suc, _+_, _-_, _≤_, _<_}
 use mathlib.Core.Bool.{Bool, true, false, cond, _||_}
 use mathlib.Core.Path.{_≡_, refl, sym, ap, subst, _∙_}
-use mathlib.Core.List.{List, [], _∷_, _++_, map, flatMap}
+use mathlib.Core.List.{List, [], _∷_, _++_, map, flatMap, filterMap, filterMap-append}
 use native.Mathlib.Numerals.{add-one}
 use native.Mathlib.Omega.{arith}
 use lib.Dec.{leb, ltb}
@@ -26,63 +26,48 @@ use Rattle.types.specs.Rows.{readKnown, readTypes}
 use Rattle.types.proofs.FoundLaws.{Found, path-inside}
 use Rattle.methods.specs.declared.output.Collected.{Collected}
 use Rattle.methods.specs.declared.output.Collected.the-variants.{Set, Past}
-use Rattle.methods.specs.Method.{anyPast}
-use Rattle.methods.specs.Used.{numbersOf}
+use Rattle.methods.specs.Method.{isPast, anyPast}
+use Rattle.methods.specs.Used.{number, numbersOf}
 use Rattle.methods.specs.Inner.{CollectIs, within, past, PathThere, TypesCollect}
 use Rattle.records.proofs.ReadingLaws.{fails-read}
 use Rattle.methods.proofs.PassLaws.{known-read, same-found, Next, types-next, types-none}
+use Rattle.answers.specs.Lists.{any}
+use Rattle.answers.proofs.ListLaws.{any-append}
 
 -- ---- one list after another
-
-numbers-append : (l m : List MaybeStatic) → numbersOf (l ++ m) ≡ numbersOf l ++ numbersOf m
-unfolding numbersOf
-numbers-append [] m = refl
-numbers-append (Static ∷ l) m = numbers-append l m
-numbers-append (NonStatic k ∷ l) m = ap (λ (n : List ℕ). k .0 ∷ n) (numbers-append l m)
-
-past-append : (count : ℕ) (l m : List MaybeStatic) → anyPast count (l ++ m) ≡ anyPast count l || anyPast count m
-unfolding anyPast
-past-append count [] m = refl
-past-append count (Static ∷ l) m = past-append count l m
-past-append count (NonStatic k ∷ l) m = go (leb count (k .0)) (past-append count l m)
-  where
-    go : (b : Bool) → anyPast count (l ++ m) ≡ anyPast count l || anyPast count m
-        → b || anyPast count (l ++ m) ≡ (b || anyPast count l) || anyPast count m
-    go true e = refl
-    go false e = e
 
 pub collect-then : {count s t : ℕ} {l m : List MaybeStatic} {r : Collected} → CollectIs count s l (Set t)
     → CollectIs count t m r → CollectIs count s (l ++ m) r
 collect-then {count} {s} {t} {l} {m} (within h e) (within {more = all} k f) =
-    within {more = all} (rw (past-append count l m, h) k) (rw (numbers-append l m, insertAll-append, ← e) f)
-collect-then {count} {s} {t} {l} {m} (within h e) (past k) = past (rw (past-append count l m, h) k)
+    within {more = all} (rw (any-append (isPast count) l m, h) k) (rw (filterMap-append number l m, insertAll-append, ← e) f)
+collect-then {count} {s} {t} {l} {m} (within h e) (past k) = past (rw (any-append (isPast count) l m, h) k)
 
 pub collect-stops : {count s : ℕ} {l : List MaybeStatic} (m : List MaybeStatic) → CollectIs count s l Past
     → CollectIs count s (l ++ m) Past
-collect-stops {count} {s} {l} m (past h) = past (rw (past-append count l m, h))
+collect-stops {count} {s} {l} m (past h) = past (rw (any-append (isPast count) l m, h))
 
 pub collect-told : {count s : ℕ} {l : List MaybeStatic} {r q : Collected} → CollectIs count s l r → r ≡ q → CollectIs count s l q
 collect-told {count} {s} {l} h e = subst (CollectIs count s l) e h
 
 pub collect-none : (count s : ℕ) → CollectIs count s [] (Set s)
-unfolding numbersOf insertAll anyPast
+unfolding filterMap insertAll any
 collect-none count s = within refl refl
 
 -- ---- one lifetime
 
 module _ (count s : ℕ) where
   pub collect-static : {m : MaybeStatic} → m ≡ Static → CollectIs count s (m ∷ []) (Set s)
-  unfolding numbersOf insertAll anyPast
+  unfolding filterMap insertAll any
   collect-static e = rw e (within refl refl)
 
   module _ {m : MaybeStatic} {l : Lifetime} (e : m ≡ NonStatic l) where
     pub collect-past : count ≤ l .0 → CollectIs count s (m ∷ []) Past
-    unfolding anyPast
+    unfolding any
     collect-past h = rw e (past (rw (le-leb count (l .0) h)))
 
     pub collect-one : count ≤ 64 → l .0 < count → {t : ℕ} → t ≡ cond (ltb (l .0) 64) (insert s (l .0)) s
         → CollectIs count s (m ∷ []) (Set t)
-    unfolding numbersOf insertAll anyPast
+    unfolding filterMap insertAll any
     collect-one few h q = rw e (within (rw (lt-leb count (l .0) h)) (q ∙ rw (lt-ltb (l .0) 64 (omega arith))))
 
 -- ---- a type's own lifetime

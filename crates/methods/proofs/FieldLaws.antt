@@ -49,6 +49,7 @@ use Rattle.methods.specs.Inner.{RowStands, Indexes, TypesSkip, FieldIs, 
 use Rattle.methods.proofs.PassLaws.{known-read, same-found, types-next, types-none, types-length}
 use Rattle.methods.proofs.PassLaws.{Items, items-start, NextItem, items-next, RowParts, row-parts}
 use Rattle.answers.proofs.Copying.{drop-replicate}
+use Rattle.answers.specs.Lists.{numbered}
 
 -- ---- `skip_types`
 
@@ -194,7 +195,7 @@ module _ {structs : List ℕ} {row field : ℕ} where
 -- ---- `pairs_of`
 
 pairs-few : (declared j : ℕ) (path : List ℕ) → length (pairsFrom declared j path) ≤ length path
-unfolding pairsFrom
+unfolding numbered
 pairs-few declared j [] = omega arith
 pairs-few declared j (word ∷ path) =
     go (filledBy declared j (defFromWord word)) (one (defFromWord word)) (pairs-few declared (suc j) path)
@@ -247,7 +248,7 @@ module _ {path : List ℕ} {declared : ℕ} {pairs : List FieldPair} {n i : ℕ}
   inv = l .pairing
 
   here : pairsFrom declared i (drop i path) ≡ filledBy declared i m ++ pairsFrom declared (i + 1) (drop (i + 1) path)
-  unfolding pairsFrom
+  unfolding numbered
   here = rw (l .word, add-one i, drop-cons path i 0 (l .inside))
 
   skipped : filledBy declared i m ≡ [] → Pairing path declared pairs n (i + 1)
@@ -283,7 +284,7 @@ module _ {path : List ℕ} {declared : ℕ} {pairs : List FieldPair} {n i : ℕ}
 module _ {path : List ℕ} {declared : ℕ} {pairs : List FieldPair} {n i : ℕ} (inv : Pairing path declared pairs n i) where
   all-stored : length path ≤ 16 → length path ≤ i → (n ≡ length (pairsFrom declared 0 path))
       × (pairs ≡ placed (pairsFrom declared 0 path))
-  unfolding pairsFrom
+  unfolding numbered
   all-stored few h =
       let z : drop i path ≡ [] = drop-of-length-le path {i = i} h in
       let c : n + 0 ≡ length (pairsFrom declared 0 path) = rw z at (inv .counts) in
@@ -313,14 +314,13 @@ module _ {path : List ℕ} {declared : ℕ} {pairs : List FieldPair} {n i : ℕ}
 
 type-linked : (rows : List Row) (types : List LoweredType) (j : ℕ) → NoneDue (typeChecks rows types)
     → misfits rows (fieldIn types j) ≡ false
-unfolding typeChecks
 type-linked rows [] j n = refl
 type-linked rows (t ∷ types) zero n = none-first n
 type-linked rows (t ∷ types) (suc j) n = type-linked rows types j (none-rest n)
 
 row-linked : (rows : List Row) (number : ℕ) (more : List Row) (k : ℕ) → NoneDue (rowChecks rows number more)
     → NoneDue (typeChecks rows (rowAt more k .fields))
-unfolding rowChecks typeChecks
+unfolding numbered
 row-linked rows number [] k n = end
 row-linked rows number (row ∷ more) zero n =
     none-split (typeChecks rows (row .fields)) (rowChecks rows (suc number) more) (none-rest n) .0

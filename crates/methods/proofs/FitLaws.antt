@@ -26,6 +26,7 @@ use Rattle.methods.specs.Inner.{Holding, misfitIn, FitIs, fits, unfit, T
 use Rattle.records.proofs.ReadingLaws.{fails-read}
 use Rattle.methods.proofs.PassLaws.{known-read, same-found, Next, types-next, types-none}
 use Rattle.methods.proofs.PassLaws.{types-first, types-length}
+use Rattle.answers.specs.Lists.{numbered}
 
 -- ---- one type
 
@@ -40,7 +41,7 @@ same-misfit rows n lifetimes h Slice count k = refl
 -- what a check of one type says
 one-judged : (rows : List Row) (t : LoweredType) (b : Bool) → misfits rows t ≡ b
     → judged (typeChecks rows (t ∷ [])) ≡ cond b (Refused Mismatch) Accepted
-unfolding typeChecks unless
+unfolding unless
 one-judged rows t true e = rw e
 one-judged rows t false e = rw e
 
@@ -119,7 +120,6 @@ module _ {words : List ℕ} {from count : ℕ} {lifetimes : List ℕ} {at i : �
 
     both-judged : (rows : List Row) (t : LoweredType) (more types : List LoweredType) → types ≡ t ∷ more
         → judged (typeChecks rows types) ≡ judged (typeChecks rows (t ∷ []) ++ typeChecks rows more)
-    unfolding typeChecks
     both-judged rows t more types e = rw e
 
     pub fitting-stops : {r : Fit} → TypeFits words at lifetimes r → r ≡ Misfit → TypesFit words from count lifetimes Misfit
@@ -150,7 +150,7 @@ module _ {words : List ℕ} {from count : ℕ} {lifetimes : List ℕ} {at i : �
     }
 
   pub fitting-end : count ≤ i → TypesFit words from count lifetimes (To at)
-  unfolding typeChecks unless
+  unfolding unless
   fitting-end h rows n types rest few k reads =
       let l = inv .onto rows n types rest few k reads in
       let z : count - i ≡ 0 = omega arith in
@@ -163,7 +163,7 @@ module _ {words : List ℕ} {from count : ℕ} {lifetimes : List ℕ} {at i : �
 -- those before the 17th decide, then a 17th is too many
 params-few : (rows : List Row) (number : ℕ) (types : List LoweredType) → number + length types ≤ 16
     → judged (paramChecks rows number types) ≡ judged (typeChecks rows types)
-unfolding typeChecks paramChecks unless
+unfolding numbered unless
 params-few rows number [] h = refl
 params-few rows number (t ∷ types) h =
     rw (lt-leb 16 number (omega arith)) (go (misfits rows t) (params-few rows (suc number) types (omega arith)))
@@ -175,7 +175,7 @@ params-few rows number (t ∷ types) h =
 
 params-many : (rows : List Row) (number k : ℕ) (types : List LoweredType) → number + k ≡ 16 → k < length types
     → judged (paramChecks rows number types) ≡ judged (typeChecks rows (take k types) ++ (check true Full ∷ []))
-unfolding typeChecks paramChecks unless
+unfolding numbered unless
 params-many rows number k [] e h = absurd (omega arith)
 params-many rows number zero (t ∷ types) e h = rw (le-leb 16 number (omega arith))
 params-many rows number (suc k) (t ∷ types) e h =

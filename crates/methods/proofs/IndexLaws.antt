@@ -23,6 +23,7 @@ use Rattle.methods.specs.Method.{rowAt, typeChecks, rowChecks}
 use Rattle.methods.specs.Inner.{Holding, TypesFit, Indexes}
 use Rattle.methods.proofs.PassLaws.{Items, items-start, NextItem, items-next, RowParts, row-parts}
 use Rattle.methods.proofs.FitLaws.{fit-goes, fit-stops}
+use Rattle.answers.specs.Lists.{numbered}
 
 -- the rows that are left to check, and what the array holds of those that were
 pub record Indexing (structs lifetimes : List ℕ) (at number : ℕ) : Type 0 where
@@ -79,7 +80,7 @@ module _ {structs lifetimes : List ℕ} {at number : ℕ} (inv : Indexing struct
     row-here = parts .here
 
     pub indexing-full : 32 ≤ number → Indexes structs lifetimes (Refused Full)
-    unfolding rowChecks unless
+    unfolding numbered unless
     indexing-full k =
         refused-index structs lifetimes (inv .size)
         (sym (inv .same ∙ rw (rows-next, le-leb 32 number k)))
@@ -97,7 +98,7 @@ module _ {structs lifetimes : List ℕ} {at number : ℕ} (inv : Indexing struct
       judged-row : judged (rowChecks (rowsOf structs) 0 (rowsOf structs))
           ≡ judged (typeChecks (rowsOf structs) (rowAt (rowsOf structs) number .fields) ++ rowChecks (rowsOf structs)
           (suc number) (drop (number + 1) (rowsOf structs)))
-      unfolding rowChecks unless
+      unfolding numbered unless
       judged-row = inv .same ∙ rw (rows-next, lt-leb 32 number k)
 
       module _ {r : Fit} (f : TypesFit structs (at + 2) (getD structs (at + 1) 0) (set lifetimes number (getD structs at 0)) r) where
@@ -133,7 +134,7 @@ module _ {structs lifetimes : List ℕ} {at number : ℕ} (inv : Indexing struct
             }
 
   pub indexing-end : length (rowsOf structs) ≤ number → Indexes structs lifetimes Accepted
-  unfolding rowChecks unless
+  unfolding numbered unless
   indexing-end h =
       let z : number ≡ length (rowsOf structs) = omega (arith, inv .before) in
       record {

@@ -14,7 +14,7 @@ use Rattle.answers.specs.declared.Listed.the-variants as listed
 use Rattle.lifetimes.specs.declared.env.LifetimeEnv.{LifetimeEnv}
 use Rattle.answers.specs.Refusals.{Check, check, Refuses, unless, NoneDue}
 use Rattle.answers.specs.Lent.{verdictOf}
-use Rattle.lifetimes.specs.Env.{envChecks}
+use Rattle.lifetimes.specs.Env.{limitChecks, rangeChecks, envChecks}
 use Rattle.lifetimes.specs.Sets.{setOf}
 use Rattle.answers.proofs.RefusalLaws.{due-given, accepted-none, none-first}
 use Rattle.records.specs.Reading.{Read}
@@ -89,27 +89,16 @@ module _ {structs params output lifetimes : List ℕ} {rows inputs outputs : ℕ
 
 -- ---- the whole
 
--- a verdict does not depend on what would be given
-same-verdict : {A B : Type 0} (checks : List Check) (a : A) (b : B) → verdictOf (unless checks a) ≡ verdictOf (unless checks b)
-unfolding unless
-same-verdict [] a b = refl
-same-verdict (c ∷ checks) a b = go (c .due) (same-verdict checks a b)
-  where
-    go : (t : Bool) → verdictOf (unless checks a) ≡ verdictOf (unless checks b)
-        → verdictOf (cond t (Refuses (c .refusal)) (unless checks a)) ≡ verdictOf (cond t (Refuses (c .refusal)) (unless checks b))
-    go true e = refl
-    go false e = e
-
 -- the checks behind those of the shape
 abbrev outside : LifetimeEnv → List ℕ → List ℕ → List Check
 outside env structs output = check (anyPast (env .count) (outputLifetimes structs output)) OutOfRange ∷ []
 
 abbrev behindPlaces : LifetimeEnv → List ℕ → List ℕ → List Check
-behindPlaces env structs output = drop 2 (envChecks env) ++ outside env structs output
+behindPlaces env structs output = rangeChecks env ++ outside env structs output
 
 abbrev behindShape : LifetimeEnv → List ℕ → List ℕ → List ℕ → List Check
 behindShape env structs params output =
-    take 2 (envChecks env) ++ (placeChecks structs params output ++ behindPlaces env structs output)
+    limitChecks env ++ (placeChecks structs params output ++ behindPlaces env structs output)
 
 -- what a shape says
 module _ (structs params output force : List ℕ) {sh : Shape} (q : sh ≡ methodShape structs params output force) where
@@ -166,19 +155,19 @@ module _ {env : LifetimeEnv} {structs params output force : List ℕ} {sh : Shap
     judge-lifetimes h =
         refused-judges (sym (past-shape structs params output force q a env ∙ rw (lt-ltb 64 (env .count) h))) refl
 
-    pub judge-bounds : env .count ≤ 64 → 256 < env .pushed → Judges env structs params output force (only (Refused Full))
+    pub judge-bounds : env .count ≤ 64 → 256 < env .bounds .pushed → Judges env structs params output force (only (Refused Full))
     unfolding unless
     judge-bounds lifetimes h =
         refused-judges
         (sym (past-shape structs params output force q a env
-        ∙ rw (le-ltb 64 (env .count) lifetimes, lt-ltb 256 (env .pushed) h))) refl
+        ∙ rw (le-ltb 64 (env .count) lifetimes, lt-ltb 256 (env .bounds .pushed) h))) refl
 
 -- a method in shape and within the limits, with a verdict over its places
 pub record Judging (env : LifetimeEnv) (structs params output force : List ℕ) (sh : Shape) (v : Verdict) : Type 0 where
   pub shape : sh ≡ methodShape structs params output force
   pub accepted : sh .verdict ≡ Accepted
   pub lifetimes : env .count ≤ 64
-  pub bounds : env .pushed ≤ 256
+  pub bounds : env .bounds .pushed ≤ 256
   pub by-place : v ≡ judged (placeChecks structs params output)
 
 module _ {env : LifetimeEnv} {structs params output force : List ℕ} {sh : Shape} {v : Verdict}
@@ -188,7 +177,7 @@ module _ {env : LifetimeEnv} {structs params output force : List ℕ} {sh : Shap
   unfolding unless
   past-limits =
       past-shape structs params output force (j .shape) (j .accepted) env
-      ∙ rw (le-ltb 64 (env .count) (j .lifetimes), le-ltb 256 (env .pushed) (j .bounds))
+      ∙ rw (le-ltb 64 (env .count) (j .lifetimes), le-ltb 256 (env .bounds .pushed) (j .bounds))
 
   pub judge-place : {r : Refusal} → v ≡ Refused r → Judges env structs params output force (only v)
   judge-place k =
@@ -197,27 +186,25 @@ module _ {env : LifetimeEnv} {structs params output force : List ℕ} {sh : Shap
       (sym (j .by-place) ∙ k)))
       k
 
-  module _ (b : v ≡ Accepted) {w : Verdict} (y : w ≡ verdictOf (unless (envChecks env) env)) where
+  module _ (b : v ≡ Accepted) {w : Verdict} (y : w ≡ judged (envChecks env)) where
     past-places : judged (methodChecks env structs params output force) ≡ judged (behindPlaces env structs output)
     past-places =
         past-limits ∙ judged-after (placeChecks structs params output) (behindPlaces env structs output)
         (sym (j .by-place) ∙ b)
 
-    env-judged : w ≡ judged (drop 2 (envChecks env))
+    env-judged : w ≡ judged (rangeChecks env)
     unfolding unless
-    env-judged =
-        y ∙ rw (le-ltb 64 (env .count) (j .lifetimes), le-ltb 256 (env .pushed) (j .bounds))
-        (same-verdict (drop 2 (envChecks env)) env (tt {0}))
+    env-judged = y ∙ rw (le-ltb 64 (env .count) (j .lifetimes), le-ltb 256 (env .bounds .pushed) (j .bounds))
 
     pub judge-env : {r : Refusal} → w ≡ Refused r → Judges env structs params output force (only w)
     judge-env k =
         refused-judges
-        (k ∙ sym (past-places ∙ judged-stays (drop 2 (envChecks env)) (outside env structs output) (sym env-judged ∙ k)))
+        (k ∙ sym (past-places ∙ judged-stays (rangeChecks env) (outside env structs output) (sym env-judged ∙ k)))
         k
 
     module _ (d : w ≡ Accepted) {t : Collected} (z : TypesCollect output 0 (sh .outputs) (env .count) 0 t) where
       past-env : judged (methodChecks env structs params output force) ≡ judged (outside env structs output)
-      past-env = past-places ∙ judged-after (drop 2 (envChecks env)) (outside env structs output) (sym env-judged ∙ d)
+      past-env = past-places ∙ judged-after (rangeChecks env) (outside env structs output) (sym env-judged ∙ d)
 
       collected : CollectIs (env .count) 0 (outputLifetimes structs output) t
       collected =

@@ -22,6 +22,7 @@ use Rattle.methods.specs.declared.fields.FieldPair.{FieldPair}
 use Rattle.methods.specs.Method.{rowAt}
 use Rattle.methods.specs.Fields.{fieldAt, fieldPair, filledBy, pairsFrom, fieldChecks, fieldPairs}
 use Rattle.methods.specs.Theorems.{ByDef, FilledBy, FieldPairsAre}
+use Rattle.answers.specs.Lists.{numbered}
 
 module _ (declared : ℕ) where
   -- one word
@@ -51,7 +52,7 @@ module _ (declared : ℕ) where
 
   pairs-from : (at j k : ℕ) (path : List ℕ) → List·Memᴰ (fieldPair j k) (pairsFrom declared at path)
       → (i : ℕ) × (j ≡ at + i) × (i < length path) × (defFromWord (getD path i 0) ≡ NonStatic (defLifetime k)) × (k < declared)
-  unfolding pairsFrom
+  unfolding numbered
   pairs-from at j k [] m = absurd (List·Memᴰ·not-nil m)
   pairs-from at j k (word ∷ path) m =
       ⊎-elim
@@ -61,7 +62,7 @@ module _ (declared : ℕ) where
 
   pairs-to : (at i k : ℕ) (path : List ℕ) → i < length path → defFromWord (getD path i 0) ≡ NonStatic (defLifetime k)
       → k < declared → List·Memᴰ (fieldPair (at + i) k) (pairsFrom declared at path)
-  unfolding pairsFrom
+  unfolding numbered
   pairs-to at i k [] h e l = absurd (omega arith)
   pairs-to at zero k (word ∷ path) h e l =
       let z : at + 0 ≡ at = omega arith in
@@ -73,7 +74,7 @@ module _ (declared : ℕ) where
   -- they ascend
 
   pairs-ascend : (at : ℕ) (path : List ℕ) → Pairwise ByDef (pairsFrom declared at path)
-  unfolding pairsFrom
+  unfolding numbered
   pairs-ascend at [] = Pairwise·nil
   pairs-ascend at (word ∷ path) = go (defFromWord word) (pairs-ascend (suc at) path)
     where

@@ -1,8 +1,10 @@
 -- The main theorems: for each statement of specs/Theorems.antt a term of exactly its type, and nothing else.
 use mathlib.Core.Path.{refl}
 use mathlib.Core.List as list
+use Rattle.answers.specs.Lists as lists
 use Rattle.answers.specs.Refusals as refusals
 use Rattle.lifetimes.specs.Sets as sets
+use Rattle.lifetimes.specs.Bounds as bounds
 use Rattle.lifetimes.specs.Env as env
 use Rattle.records.specs.Reading as reading
 use Rattle.types.specs.LoweredTypes as types
@@ -24,8 +26,7 @@ pub field-pairs-are : FieldPairsAre
 field-pairs-are = pairs-are
 
 pub examples-hold : ExamplesHold
-unfolding used.usedSet used.numbersOf fields.fieldPairs fields.pairsFrom method.typeChecks
-    method.rowChecks method.paramChecks method.anyPast rows.readKnown rows.readTypes rows.readRow rows.methodInShape
+unfolding used.usedSet list.filterMap fields.fieldPairs lists.numbered lists.any lists.all rows.readKnown rows.readTypes rows.readRow rows.methodInShape
     types.readOpaque types.readStruct types.readSlice types.readBare types.readLowered reading.readAll reading.inShape
-    reading.itemsOf refusals.unless sets.insert sets.insertAll env.allBelow env.envOf list.flatMap
+    reading.itemsOf refusals.unless sets.insert sets.insertAll bounds.boundsFrom env.envOf list.flatMap
 examples-hold = (refl, (refl, (refl, (refl, (refl, (refl, (refl, (refl, (refl, (refl, (refl, (refl, (refl, tt)))))))))))))

@@ -31,18 +31,19 @@ use Rattle.methods.specs.Used.{numbersOf, outputNumbers, usedSet}
 use Rattle.methods.specs.Theorems.{UsedLifetimesAre, ForceIsRetired}
 use Rattle.methods.proofs.PassLaws.{known-read, types-next, types-none}
 use Rattle.methods.proofs.MethodLaws.{types-read}
+use mathlib.Core.List.{filterMap}
 
 -- ---- the numbers of those that are not static
 
 numbers-from : (l : List MaybeStatic) (k : ℕ) → List·Memᴰ k (numbersOf l) → List·Memᴰ (NonStatic (lifetime k)) l
-unfolding numbersOf
+unfolding filterMap
 numbers-from [] k m = absurd (List·Memᴰ·not-nil m)
 numbers-from (Static ∷ l) k m = List·Memᴰ·tail (numbers-from l k m)
 numbers-from (NonStatic x ∷ l) k m =
     ⊎-elim (λ e. List·Memᴰ·head (rw e)) (λ r. List·Memᴰ·tail (numbers-from l k r)) (List·Memᴰ·cases-cons m)
 
 numbers-to : (l : List MaybeStatic) (k : ℕ) → List·Memᴰ (NonStatic (lifetime k)) l → List·Memᴰ k (numbersOf l)
-unfolding numbersOf
+unfolding filterMap
 numbers-to [] k m = absurd (List·Memᴰ·not-nil m)
 numbers-to (Static ∷ l) k m =
     ⊎-elim (λ e. let z : _≡_ {A = ℕ} 0 1 = cc in absurd (omega arith)) (numbers-to l k) (List·Memᴰ·cases-cons m)
@@ -51,7 +52,7 @@ numbers-to (NonStatic x ∷ l) k m =
     (λ r. List·Memᴰ·tail (numbers-to l k r)) (List·Memᴰ·cases-cons m)
 
 numbers-few : (l : List MaybeStatic) → length (numbersOf l) ≤ length l
-unfolding numbersOf
+unfolding filterMap
 numbers-few [] = omega arith
 numbers-few (Static ∷ l) = omega (arith, numbers-few l)
 numbers-few (NonStatic x ∷ l) = omega (arith, numbers-few l)

@@ -1,6 +1,6 @@
 -- `compute_for_struct_field`: for one struct-typed field of a row, each lifetime of the field's definition with the
 -- outer row's lifetime that fills it.
-use Prim.Native.Nat.{ℕ, suc, _-_}
+use Prim.Native.Nat.{ℕ, _-_}
 use mathlib.Core.Bool.{Bool, true, false, cond, not, _&&_}
 use mathlib.Core.List.{List, [], _∷_, _++_}
 use lib.Dec.{ltb}
@@ -10,6 +10,7 @@ use Rattle.lifetimes.specs.declared.maybe_static.MaybeStaticDef.{MaybeStaticDef
 use Rattle.lifetimes.specs.declared.maybe_static.MaybeStaticDef.the-variants.{Static, NonStatic}
 use Rattle.lifetimes.specs.Numbers.{defLifetime}
 use Rattle.lifetimes.specs.LoweredWords.{defFromWord}
+use Rattle.answers.specs.Lists.{numbered}
 use Rattle.answers.specs.Refusals.{Check, check, Outcome, Gives, Refuses, unless}
 use Rattle.types.specs.declared.types.Kind.{Kind}
 use Rattle.types.specs.declared.types.Kind.the-variants.{Plain, Opaque, Struct, Slice}
@@ -44,9 +45,8 @@ filledBy declared j Static = []
 filledBy declared j (NonStatic l) = cond (ltb (l .0) declared) (fieldPair j (l .0) ∷ []) []
 
 -- the pairs of some path words, the first for the lifetime numbered j
-unfoldable pub pairsFrom : ℕ → ℕ → List ℕ → List FieldPair
-pairsFrom declared j [] = []
-pairsFrom declared j (word ∷ words) = filledBy declared j (defFromWord word) ++ pairsFrom declared (suc j) words
+abbrev pub pairsFrom : ℕ → ℕ → List ℕ → List FieldPair
+pairsFrom declared j words = numbered (λ k word. filledBy declared k (defFromWord word)) j words
 
 -- 1 over the record and for a row or field that is not there, or a field of another type; then 4 and 7 by place
 abbrev pub fieldChecks : List ℕ → ℕ → ℕ → List Check

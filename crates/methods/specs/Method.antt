@@ -1,23 +1,31 @@
 -- The refusal of a *method* (01's word for an environment with the records `structs`, `params`, `output` and `force`):
 -- the first due in one ordered list of checks.
-use Prim.Native.Nat.{ℕ, suc}
-use mathlib.Core.Bool.{Bool, false, not, _&&_, _||_}
-use mathlib.Core.List.{List, [], _∷_, _++_, flatMap}
+use Prim.Native.Nat.{ℕ}
+use mathlib.Core.Bool.{Bool, false, not, _&&_}
+use mathlib.Core.List.{List, [], _∷_, _++_, map, flatMap}
 use lib.Dec.{eqb, leb}
-use lib.ListN.{length, getD, take, drop}
+use lib.ListN.{length, getD}
 use Rattle.answers.specs.declared.Refusal.the-variants.{Malformed, Full, Mismatch, OutOfRange}
 use Rattle.lifetimes.specs.declared.maybe_static.MaybeStatic.{MaybeStatic}
 use Rattle.lifetimes.specs.declared.maybe_static.MaybeStatic.the-variants.{Static, NonStatic}
 use Rattle.lifetimes.specs.declared.env.LifetimeEnv.{LifetimeEnv}
 use Rattle.answers.specs.declared.Verdict.{Verdict}
-use Rattle.answers.specs.Refusals.{Check, check, unless}
-use Rattle.answers.specs.Lent.{verdictOf}
-use Rattle.lifetimes.specs.Env.{envChecks}
+use Rattle.answers.specs.Lists.{any, numbered}
+use Rattle.answers.specs.Refusals.{Check, check}
+use Rattle.answers.specs.Lent.{judged}
+use Rattle.lifetimes.specs.Env.{limitChecks, rangeChecks}
 use Rattle.types.specs.declared.types.Kind.{Kind}
 use Rattle.types.specs.declared.types.Kind.the-variants.{Plain, Opaque, Struct, Slice}
 use Rattle.types.specs.LoweredTypes.{LoweredType, lifetimesOf}
 use Rattle.types.specs.Rows.{Row, rowWith, rowsOf, typesOf, structsInShape, paramsInShape, methodInShape}
 use Rattle.types.specs.Rows.{shapeChecks}
+
+-- 01: "at most 32 rows", "at most 16 types" in `params`
+abbrev pub mostRows : ℕ
+mostRows = 32
+
+abbrev pub mostParams : ℕ
+mostParams = 16
 
 -- By place: 4 and 7
 
@@ -36,21 +44,18 @@ abbrev pub misfits : List Row → LoweredType → Bool
 misfits rows t = misfit rows (t .kind) (length (t .path))
 
 -- at each type 7
-unfoldable pub typeChecks : List Row → List LoweredType → List Check
-typeChecks rows [] = []
-typeChecks rows (t ∷ ts) = check (misfits rows t) Mismatch ∷ typeChecks rows ts
+abbrev pub typeChecks : List Row → List LoweredType → List Check
+typeChecks rows ts = map (λ t. check (misfits rows t) Mismatch) ts
 
 -- at each row, so many before it: a 33rd (4), then its fields
-unfoldable pub rowChecks : List Row → ℕ → List Row → List Check
-rowChecks rows number [] = []
-rowChecks rows number (row ∷ more) =
-    check (leb 32 number) Full ∷ (typeChecks rows (row .fields) ++ rowChecks rows (suc number) more)
+abbrev pub rowChecks : List Row → ℕ → List Row → List Check
+rowChecks rows number l =
+    numbered (λ before row. check (leb mostRows before) Full ∷ typeChecks rows (row .fields)) number l
 
 -- at each parameter: a 17th (4), then 7
-unfoldable pub paramChecks : List Row → ℕ → List LoweredType → List Check
-paramChecks rows number [] = []
-paramChecks rows number (t ∷ ts) =
-    check (leb 16 number) Full ∷ check (misfits rows t) Mismatch ∷ paramChecks rows (suc number) ts
+abbrev pub paramChecks : List Row → ℕ → List LoweredType → List Check
+paramChecks rows number ts =
+    numbered (λ before t. check (leb mostParams before) Full ∷ check (misfits rows t) Mismatch ∷ []) number ts
 
 -- the types of a method's parameters and of its output
 abbrev pub typesIn : List ℕ → List ℕ → List LoweredType
@@ -71,7 +76,7 @@ structsAndParamsChecks structs params =
     ++ paramChecks (rowsOf structs) 0 (typesIn structs params))
 
 abbrev pub structsAndParamsVerdict : List ℕ → List ℕ → Verdict
-structsAndParamsVerdict structs params = verdictOf (unless (structsAndParamsChecks structs params) (tt {0}))
+structsAndParamsVerdict structs params = judged (structsAndParamsChecks structs params)
 
 -- The output's lifetimes: none is past the count (8)
 
@@ -82,22 +87,19 @@ abbrev pub isPast : ℕ → MaybeStatic → Bool
 isPast count Static = false
 isPast count (NonStatic l) = leb count (l .0)
 
-unfoldable pub anyPast : ℕ → List MaybeStatic → Bool
-anyPast count [] = false
-anyPast count (m ∷ ms) = isPast count m || anyPast count ms
+abbrev pub anyPast : ℕ → List MaybeStatic → Bool
+anyPast count ms = any (isPast count) ms
 
--- First 1 over the four records, then 13. Of the environment's checks the first two are limits (4: a 65th lifetime, a
--- 257th bound); they stand where its records would. The others (8: more declared than there are, a bound past the
--- declared) stand with the 8 of the output
+-- First 1 over the four records, then 13. The limits of the environment (4) stand where its records would; its ranges
+-- (8) with the 8 of the output
 
 abbrev pub methodChecks : LifetimeEnv → List ℕ → List ℕ → List ℕ → List ℕ → List Check
 methodChecks env structs params output force =
     shapeChecks (methodInShape structs params output force) force
-    ++ (take 2 (envChecks env)
+    ++ (limitChecks env
     ++ (placeChecks structs params output
-    ++ (drop 2 (envChecks env)
+    ++ (rangeChecks env
     ++ (check (anyPast (env .count) (outputLifetimes structs output)) OutOfRange ∷ []))))
 
 abbrev pub methodVerdict : LifetimeEnv → List ℕ → List ℕ → List ℕ → List ℕ → Verdict
-methodVerdict env structs params output force =
-    verdictOf (unless (methodChecks env structs params output force) (tt {0}))
+methodVerdict env structs params output force = judged (methodChecks env structs params output force)

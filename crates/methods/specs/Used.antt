@@ -1,6 +1,7 @@
 -- The lifetimes that a method uses: those of its output that are not static (01: "the output's non-static lifetimes").
 use Prim.Native.Nat.{ℕ, _+_, _*_}
-use mathlib.Core.List.{List, [], _∷_}
+use mathlib.Core.List.{List, filterMap}
+use mathlib.Core.Option.{Option, none, some}
 use Rattle.lifetimes.specs.declared.maybe_static.MaybeStatic.{MaybeStatic}
 use Rattle.lifetimes.specs.declared.maybe_static.MaybeStatic.the-variants.{Static, NonStatic}
 use Rattle.lifetimes.specs.declared.env.LifetimeEnv.{LifetimeEnv}
@@ -11,10 +12,12 @@ use Rattle.methods.specs.declared.used.UsedLifetimes.the-variants as ans
 use Rattle.methods.specs.Method.{outputLifetimes, methodChecks}
 
 -- the numbers of those that are not static
-unfoldable pub numbersOf : List MaybeStatic → List ℕ
-numbersOf [] = []
-numbersOf (Static ∷ ms) = numbersOf ms
-numbersOf (NonStatic l ∷ ms) = l .0 ∷ numbersOf ms
+abbrev pub number : MaybeStatic → Option ℕ
+number Static = none
+number (NonStatic l) = some (l .0)
+
+abbrev pub numbersOf : List MaybeStatic → List ℕ
+numbersOf ms = filterMap number ms
 
 abbrev pub outputNumbers : List ℕ → List ℕ → List ℕ
 outputNumbers structs output = numbersOf (outputLifetimes structs output)

@@ -13,6 +13,7 @@ use super::output::collect_types;
 use answers::Listed;
 use answers::Refusal;
 use answers::Verdict;
+use lifetimes::Bounds;
 use lifetimes::LifetimeEnv;
 use types::method_shape;
 use types::params_shape;
@@ -77,11 +78,11 @@ pub(crate) fn judge(
         return refused(first);
     };
     let count = env.count;
-    let pushed = env.pushed;
+    let pushed = env.bounds.pushed;
     if LifetimeEnv::MAX_LIFETIMES < count {
         return refused(Verdict::Refused(Refusal::Full));
     }
-    if LifetimeEnv::MAX_BOUNDS < pushed {
+    if Bounds::MAX < pushed {
         return refused(Verdict::Refused(Refusal::Full));
     }
     let rows = shape.rows;

@@ -1,9 +1,10 @@
 -- The main theorems, proved: for each statement of specs/Theorems.antt a term of exactly its type.
 use mathlib.Core.List.{[], flatten, flatMap}
 use mathlib.Core.Path.{refl, ap}
+use Rattle.answers.specs.Lists.{all}
 use Rattle.answers.specs.Refusals.{unless}
 use Rattle.records.specs.Reading.{inShape, itemsOf, readAll}
-use Rattle.ast_lifetimes.specs.Shapes.{namesInShape, boundsInShape, allNames}
+use Rattle.ast_lifetimes.specs.Shapes.{namesInShape, boundsInShape}
 use Rattle.ast_lifetimes.specs.Types.{readType}
 use Rattle.elision.specs.Steps.{readStep}
 use Rattle.types.specs.LoweredTypes.{readLowered, readBare, readOpaque, readSlice, readStruct}
@@ -64,6 +65,6 @@ examples-hold = (
 pub sheet-examples-hold : SheetExamplesHold
 unfolding readSheet sheetChecks textChecks sheetOf sheetIn linesBehind ten readLines behind allShort unless flatten
     flatMap text line following digits digitsFor
-    sheetInShape methodInShape namesInShape allNames boundsInShape inShape itemsOf readAll readType readStep readKnown
+    sheetInShape methodInShape namesInShape all boundsInShape inShape itemsOf readAll readType readStep readKnown
     readLowered readBare readOpaque readSlice readStruct
 sheet-examples-hold = (refl, (refl, (refl, (refl, (refl, (refl, (refl, (refl, (refl, (refl, (refl, (refl, tt))))))))))))

@@ -11,6 +11,7 @@ use super::scan;
 use answers::Listed;
 use answers::Verdict;
 use ast_lifetimes::LifetimeEnv;
+use lifetimes::Bounds;
 
 // The longest slice that is lent for a list of names: more than the 32 words that one may have.
 const ROOM: usize = 40;
@@ -117,11 +118,10 @@ pub(crate) fn made_by_hand(words: &[usize], at: usize) -> LifetimeEnv
     let named = scan::number(words, at);
     let names = names_of(scan::record(words, listed));
     let pushed = scan::number(words, count);
-    let bounds = bounds::of_pairs(scan::record(words, pairs));
+    let bounds = bounds::of_pairs(pushed, scan::record(words, pairs));
     LifetimeEnv {
         names,
         named,
-        pushed,
         bounds,
     }
 }
@@ -152,11 +152,11 @@ fn names_of(words: &[usize]) -> [usize; LifetimeEnv::MAX_NAMES] {
 // What kind 1 prints of an environment.
 fn print_environment(env: LifetimeEnv) {
     let named = env.named;
-    let pushed = env.pushed;
     let bounds = env.bounds;
+    let pushed = bounds.pushed;
     print::next(named);
     print::next(pushed);
-    bounds::print_first(bounds, scan::least(pushed, LifetimeEnv::MAX_BOUNDS));
+    bounds::print_first(bounds, scan::least(pushed, Bounds::MAX));
     print_lists(env, scan::least(named, LifetimeEnv::MAX_NAMES));
 }
 

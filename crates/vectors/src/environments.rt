@@ -65,11 +65,10 @@ pub(crate) fn made_by_hand(words: &[usize], at: usize) -> LifetimeEnv
     let declared = scan::number(words, at);
     let count = scan::number(words, total);
     let pushed = scan::number(words, bound);
-    let bounds = bounds::of_pairs(scan::record(words, pairs));
+    let bounds = bounds::of_pairs(pushed, scan::record(words, pairs));
     LifetimeEnv {
         declared,
         count,
-        pushed,
         bounds,
     }
 }
@@ -91,6 +90,6 @@ pub(crate) fn print_environment(env: LifetimeEnv) {
     let bounds = env.bounds;
     print::next(env.declared);
     print::next(env.count);
-    print::next(env.pushed);
+    print::next(bounds.pushed);
     bounds::print_filled(bounds);
 }

@@ -54,7 +54,7 @@ pub(crate) fn finish(words: &[usize], at: usize) -> usize
     print::first(print::number_of(verdict));
     print::next(env.declared);
     print::next(env.count);
-    print::next(env.pushed);
+    print::next(env.bounds.pushed);
     print::end();
     ast::behind_environment(words, names)
 }

@@ -1,41 +1,9 @@
--- `assembled` meets its contract. The loop's invariant is `Storing` of proofs/Assembling.antt; the measure is how many
--- sides are to be read.
-use Prim.Native.Nat.{_-_}
-use native.Mathlib.Omega.{arith}
+-- `assembled` meets its contract: the names are copied to the front of their array, and the bounds are joined.
 use borrow.Author.Needs.{needs}
-use Rattle.ast_lifetimes.proofs.Assembling.{Storing, storing-start, storing-small, storing-more, assembled-env}
+use Rattle.ast_lifetimes.proofs.Assembling.{assembled-env}
 use Rattle.ast_lifetimes.proofs.env.assembled.Statement.{statement}
 use Rattle.ast_lifetimes.proofs.env.assembled.Tie as tie
 
-abbrev Inv-loop : tie.InvT-loop
-Inv-loop declared named longs shorts pushed bounds₀ i₀ bounds i = Storing longs shorts pushed bounds i
-
-abbrev μ-loop : tie.MeasureT-loop
-μ-loop declared named longs shorts pushed bounds₀ i₀ bounds i = pushed - i
-
-cast-new : tie.Need-cast-new Inv-loop μ-loop
-cast-new c = omega (arith, storing-small (c .before .before .loop .inv) (c .before .loop-test .taken) .0)
-
-cast-new-2 : tie.Need-cast-new-2 Inv-loop μ-loop
-cast-new-2 c =
-    omega (
-      arith,
-      storing-small (c .before .before .before .before .loop .inv) (c .before .before .before .loop-test .taken) .1,
-    )
-
 pub assembled-spec : {M : Type 1} → statement M
 assembled-spec =
-    tie.close
-    (tie.spec
-    Inv-loop
-    μ-loop
-    (λ c. search (storing-start, needs))
-    (λ c. search needs)
-    cast-new
-    (λ c κs. search needs) (λ c. search needs)
-    cast-new-2
-    (λ c κs. search needs) (λ c κs. search needs) (λ c. search needs) (λ c. search needs) (λ c. search needs)
-    (λ c. search needs)
-    (λ c. search (storing-more, needs))
-    (λ c κs. search needs)
-    (λ c. search (assembled-env, needs)))
+    tie.close (tie.spec (λ c κs. search needs) (λ c κs. search needs) (λ c. search (assembled-env, needs)))

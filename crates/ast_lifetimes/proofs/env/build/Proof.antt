@@ -7,7 +7,7 @@ use Rattle.ast_lifetimes.specs.Types.{typesOf}
 use Rattle.ast_lifetimes.proofs.Building.{Shaped, shaped, ImplNamed, ImplBound, AllNamed, AllBound}
 use Rattle.ast_lifetimes.proofs.Building.{impl-names-refused, impl-named, impl-pairs-refused, impl-bound}
 use Rattle.ast_lifetimes.proofs.Building.{method-names-refused, all-named, method-pairs-refused, all-bound}
-use Rattle.ast_lifetimes.proofs.Building.{all-below, all-built}
+use Rattle.ast_lifetimes.proofs.Building.{bound-below, all-built}
 use Rattle.ast_lifetimes.proofs.env.build.Statement.{statement}
 use Rattle.ast_lifetimes.proofs.env.build.Tie as tie
 
@@ -120,7 +120,7 @@ returns-4 c =
 close-requires : tie.Need-close-requires
 close-requires c κs =
     let f = four (c .before .before .before) in
-    ((f .named .few, f .sides .few, all-below f), (f .sides .size-longs, f .sides .size-shorts, refl))
+    ((f .named .few, f .sides .few, bound-below f), (f .sides .size-longs, f .sides .size-shorts, refl))
 
 push-types-requires : tie.Need-push-types-requires
 push-types-requires c κs =

@@ -16,7 +16,7 @@ push-types-requires : tie.Need-push-types-requires
 push-types-requires c κs =
     let at-close = c .before .before .before .before in
     let at-split = at-close .before .before .before .before in
-    let s = at-split .before .before .before .before .before in
+    let s = at-split .before .before .before .before .before .before in
     let e = s .args .env in
     let splits = at-split .split .ensures in (
       (typesOf (s .args .types .now), types-encoded (s .args .types .now) (s .pre .1)),
@@ -29,7 +29,7 @@ push-types-requires c κs =
 returns : tie.Need-returns
 returns c =
     let at-split = c .before .before .before .before .before .before .before .before .before .before .before in
-    let s = at-split .before .before .before .before .before in
+    let s = at-split .before .before .before .before .before .before in
     extended-refused (s .args .env) (s .args .types .now) (at-split .split .ensures)
     (c .before .before .push-types .ensures _ (types-encoded _ (s .pre .1))) (c .enum-told2 .given .1)
 
@@ -37,7 +37,7 @@ assembled-requires : tie.Need-assembled-requires
 assembled-requires c κs =
     let at-push-types = c .before .before .before .before .before in
     let at-split = at-push-types .before .before .before .before .before .before .before .before .before in
-    let s = at-split .before .before .before .before .before in
+    let s = at-split .before .before .before .before .before .before in
     let all =
     extended-few (s .args .env) (s .args .types .now) (at-split .split .ensures)
     (at-push-types .push-types .ensures _ (types-encoded _ (s .pre .1)))
@@ -53,7 +53,7 @@ returns-2 c =
     let at-enum-told = c .before .before .before .before in
     let at-push-types = at-enum-told .before .before in
     let at-split = at-push-types .before .before .before .before .before .before .before .before .before in
-    let s = at-split .before .before .before .before .before in
+    let s = at-split .before .before .before .before .before .before in
     extended-given (s .args .env) (s .args .types .now) (at-split .split .ensures)
     (at-push-types .push-types .ensures _ (types-encoded _ (s .pre .1))) (at-enum-told .enum-told .given .1)
     (c .assembled .ensures)

@@ -16,13 +16,13 @@ full c = simp length-map at (c .good .0 .1 .1 .0 .1 .0 .1)
 none : (c : tie.After-enum-told) → NoneDue (envChecks (c .before .before .before .before .args .env))
 none c =
     let e = c .before .before .before .before .args .env in
-    accepted-none e (envChecks e) (sym (c .before .before .check .ensures) ∙ c .enum-told .given .1)
+    accepted-none (tt {0}) (envChecks e) (sym (c .before .before .check .ensures) ∙ c .enum-told .given .1)
 
 returns : tie.Need-returns
 returns c =
     let s = c .before .before .before .before .before .args in
     than-refused (s .longer) (s .env) (s .name) (s .out .now)
-    (refused-first (s .env) _ (envChecks (s .env)) (sym (c .before .before .before .check .ensures) ∙ c .before .verdict .given .1))
+    (refused-first (tt {0}) _ (envChecks (s .env)) (sym (c .before .before .before .check .ensures) ∙ c .before .verdict .given .1))
 
 position-requires : tie.Need-position-requires
 position-requires c κs =

@@ -1,15 +1,10 @@
--- `refused` meets its contract: every place of the arrays holds what stands past the names and past the bounds.
-use mathlib.Core.Path.{refl}
-use Rattle.ast_lifetimes.specs.Env.{envOf}
+-- `refused` meets its contract: the environment is that without names.
+use borrow.Author.Needs.{needs}
 use Rattle.ast_lifetimes.proofs.env.refused.Statement.{statement}
 use Rattle.ast_lifetimes.proofs.env.refused.Tie as tie
 
 returns : tie.Need-returns
-unfolding envOf
-returns c = refl
+returns c = rw (c .none .ensures)
 
 pub refused-spec : {M : Type 1} → statement M
-refused-spec =
-    tie.close
-    (tie.spec
-    returns)
+refused-spec = tie.close (tie.spec (λ c κs. search needs) returns)

@@ -9,13 +9,13 @@ use Rattle.ast_lifetimes.proofs.env.split.Statement.{statement}
 use Rattle.ast_lifetimes.proofs.env.split.Tie as tie
 
 abbrev Inv-loop : tie.InvT-loop
-Inv-loop longs₀ shorts₀ env pushed i₀ longs shorts i = Splitting env longs shorts i
+Inv-loop longs₀ shorts₀ bounds pushed i₀ longs shorts i = Splitting bounds longs shorts i
 
 abbrev μ-loop : tie.MeasureT-loop
-μ-loop longs₀ shorts₀ env pushed i₀ longs shorts i = pushed - i
+μ-loop longs₀ shorts₀ bounds pushed i₀ longs shorts i = pushed - i
 
-full : (c : tie.Start Inv-loop μ-loop) → length (c .args .t1 .bounds) ≡ 256
-full c = simp length-map at (c .good .0 .1 .1 .1 .1 .1 .0 .1 .0 .1)
+full : (c : tie.Start Inv-loop μ-loop) → length (c .args .t1 .list) ≡ 256
+full c = simp length-map at (c .good .0 .1 .1 .1 .0 .1 .0 .1)
 
 loop-again : tie.Need-loop-again Inv-loop μ-loop
 loop-again c = let s = c .before .before .before in

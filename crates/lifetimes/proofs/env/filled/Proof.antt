@@ -10,22 +10,22 @@ use Rattle.lifetimes.proofs.env.filled.Statement.{statement}
 use Rattle.lifetimes.proofs.env.filled.Tie as tie
 
 abbrev Inv-loop : tie.InvT-loop
-Inv-loop declared count pairs bounds₀ pushed₀ i₀ bounds pushed i = Filling pairs bounds pushed i
+Inv-loop pairs list₀ pushed₀ i₀ list pushed i = Filling pairs list pushed i
 
 abbrev μ-loop : tie.MeasureT-loop
-μ-loop declared count pairs bounds₀ pushed₀ i₀ bounds pushed i = length pairs - i
+μ-loop pairs list₀ pushed₀ i₀ list pushed i = length pairs - i
 
-bound-of-requires : tie.Need-bound-of-requires Inv-loop μ-loop
-bound-of-requires c κs = filling-small (c .before .before .before .loop .inv) (c .before .before .loop-test .taken)
+bound-of-requires-2 : tie.Need-bound-of-requires-2 Inv-loop μ-loop
+bound-of-requires-2 c κs = filling-small (c .before .before .before .loop .inv) (c .before .before .loop-test .taken)
 
-array-set-from-bounds : tie.Need-array-set-from-bounds Inv-loop μ-loop
-array-set-from-bounds c = search (filling-room, needs)
+array-set-from-list : tie.Need-array-set-from-list Inv-loop μ-loop
+array-set-from-list c = search (filling-room, needs)
 
-mul-bounds : tie.Need-mul-bounds Inv-loop μ-loop
-mul-bounds c = omega (arith, array-set-from-bounds c)
+mul-list : tie.Need-mul-list Inv-loop μ-loop
+mul-list c = omega (arith, array-set-from-list c)
 
 add-pushed : tie.Need-add-pushed Inv-loop μ-loop
-add-pushed c = omega (arith, array-set-from-bounds c)
+add-pushed c = omega (arith, array-set-from-list c)
 
 pub filled-spec : {M : Type 1} → statement M
 filled-spec =
@@ -38,9 +38,9 @@ filled-spec =
     (λ c. search needs) (λ c. search needs) (λ c. search needs)
     (λ c. search (pair-second, needs))
     (λ c. search (pair-second, needs))
-    bound-of-requires
-    mul-bounds
-    array-set-from-bounds
+    bound-of-requires-2
+    mul-list
+    array-set-from-list
     add-pushed
     (λ c. search needs) (λ c. search needs)
     (λ c. search (filling-more, needs))

@@ -4,7 +4,8 @@ use mathlib.Core.Path.{_≡_, refl, _∙_}
 use native.Mathlib.Omega.{arith}
 use borrow.Author.Needs.{needs}
 use lib.ListN.{length, getD}
-use Rattle.lifetimes.specs.Env.{above, boundsOf}
+use Rattle.lifetimes.specs.Bounds.{above}
+use Rattle.lifetimes.specs.Bounds.{listOf}
 use Rattle.lifetimes.specs.Walk.{orderOf}
 use Rattle.lifetimes.specs.Index.{Fine, linkedIn, graphIn}
 use Rattle.lifetimes.proofs.ReverseLaws.{linked-length, linked-fine, linked-at, place-below}
@@ -14,17 +15,17 @@ use Rattle.lifetimes.proofs.index.link.Statement.{statement}
 use Rattle.lifetimes.proofs.index.link.Tie as tie
 
 abbrev Inv-loop : tie.InvT-loop
-Inv-loop ast longer far₀ before₀ last₀ env n i₀ far before last i = Linking (graphIn (orderOf ast) longer env) i far before last
+Inv-loop ast longer far₀ before₀ last₀ bounds n i₀ far before last i = Linking (graphIn (orderOf ast) longer (listOf bounds)) i far before last
 
 abbrev μ-loop : tie.MeasureT-loop
-μ-loop ast longer far₀ before₀ last₀ env n i₀ far before last i = n - i
+μ-loop ast longer far₀ before₀ last₀ bounds n i₀ far before last i = n - i
 
 -- the bounds in the order in which they are linked
-fine : (c : tie.Start Inv-loop μ-loop) → Fine (linkedIn (orderOf (c .args .ast)) (boundsOf (c .args .t1)))
+fine : (c : tie.Start Inv-loop μ-loop) → Fine (linkedIn (orderOf (c .args .ast)) (listOf (c .args .t1)))
 fine c = linked-fine (orderOf (c .args .ast)) (c .pre .0 .0)
 
-all : (c : tie.Start Inv-loop μ-loop) → length (linkedIn (orderOf (c .args .ast)) (boundsOf (c .args .t1))) ≡ c .args .t1 .pushed
-all c = linked-length (orderOf (c .args .ast)) (boundsOf (c .args .t1)) ∙ c .pre .0 .1
+all : (c : tie.Start Inv-loop μ-loop) → length (linkedIn (orderOf (c .args .ast)) (listOf (c .args .t1))) ≡ c .args .t1 .pushed
+all c = linked-length (orderOf (c .args .ast)) (listOf (c .args .t1)) ∙ c .pre .0 .1
 
 few : (c : tie.Start Inv-loop μ-loop) → c .args .t1 .pushed ≤ 256
 few c = omega (arith, c .pre .0 .0 .few, c .pre .0 .1)
@@ -41,8 +42,8 @@ inside c =
     )
 
 reads : (c : tie.After-place Inv-loop μ-loop) → let s = c .before .before .before in
-    getD (linkedIn (orderOf (s .args .ast)) (boundsOf (s .args .t1))) (c .before .before .loop .i) (above 0 0)
-    ≡ getD (s .args .t1 .bounds) (c .place .result) (above 0 0)
+    getD (linkedIn (orderOf (s .args .ast)) (listOf (s .args .t1))) (c .before .before .loop .i) (above 0 0)
+    ≡ getD (s .args .t1 .list) (c .place .result) (above 0 0)
 reads c =
     let s = c .before .before .before in
     linked-at (s .args .ast) (s .args .t1) (c .before .before .loop .i) (c .place .result) (s .pre .0 .1) (search needs)

@@ -12,8 +12,8 @@ use Rattle.lifetimes.proofs.ReachLaws.{traversal-linked}
 use Rattle.lifetimes.proofs.reach.list.Statement.{statement}
 use Rattle.lifetimes.proofs.reach.list.Tie as tie
 
-full : (c : tie.Start) → length (c .args .env .bounds) ≡ 256
-full c = simp length-map at (c .good .0 .1 .1 .1 .1 .1 .0 .1 .0 .1)
+full : (c : tie.Start) → length (c .args .env .bounds .list) ≡ 256
+full c = simp length-map at (c .good .0 .1 .1 .1 .1 .0 .1 .1 .1 .0 .1 .0 .1)
 
 holds : (c : tie.Start) → Valid (c .args .env)
 holds c = valid (c .args .env) (c .pre .0 .0)
@@ -35,7 +35,7 @@ walk-requires c κs =
     let m = at-limit-of .limit-of .ensures in (
       (
         (
-          graphIn (orderOf (s .args .ast)) (s .args .longer) (s .args .env),
+          graphIn (orderOf (s .args .ast)) (s .args .longer) (boundsOf (s .args .env)),
           at-link .link .ensures,
           bounds-within (holds s) (orderOf (s .args .ast)) (s .args .longer) _ (m .2),
         ),
@@ -53,7 +53,7 @@ returns c =
     let w = c .walk in (
       w .ensures .0 .0,
       w .ensures .0 .1,
-      (w .ensures .1 (graphIn (orderOf (s .args .ast)) (s .args .longer) (s .args .env)) (at-link .link .ensures)
+      (w .ensures .1 (graphIn (orderOf (s .args .ast)) (s .args .longer) (boundsOf (s .args .env))) (at-link .link .ensures)
           (bounds-within (holds s) (orderOf (s .args .ast)) (s .args .longer)
           _ (at-limit-of .limit-of .ensures .2))) .items ∙ traversal-linked (orderOf (s .args .ast)) (s .args .longer)
           (boundsOf (s .args .env)) (s .args .start),

@@ -12,7 +12,7 @@ use Rattle.lifetimes.proofs.reach.traverse.Tie as tie
 
 -- no refusal of the environment is due
 none : (c : tie.After-enum-told) → NoneDue (envChecks (c .before .before .before .before .args .env))
-none c = accepted-none (c .before .before .before .before .args .env)
+none c = accepted-none (tt {0})
     (envChecks (c .before .before .before .before .args .env))
     (sym (c .before .before .check .ensures) ∙ c .enum-told .given .1)
 
@@ -20,7 +20,7 @@ returns : tie.Need-returns
 returns c =
     let s = c .before .before .before .before .before in
     list-refused (orderOf (s .args .ast)) (s .args .longer) (s .args .env) (s .args .lifetime .0) (s .args .out .now)
-    (refused-first (s .args .env) _ (envChecks (s .args .env))
+    (refused-first (tt {0}) _ (envChecks (s .args .env))
     (sym (c .before .before .before .check .ensures) ∙ c .before .verdict .given .1))
 
 returns-2 : tie.Need-returns-2

@@ -16,8 +16,8 @@ use Rattle.lifetimes.proofs.Traversing.{lists-refused, lists-no-ends, l
 use Rattle.lifetimes.proofs.env.LifetimeEnv.all_lists.Statement.{statement}
 use Rattle.lifetimes.proofs.env.LifetimeEnv.all_lists.Tie as tie
 
-full : (c : tie.Start) → length (c .args .self .bounds) ≡ 256
-full c = simp length-map at (c .good .0 .1 .1 .1 .1 .1 .0 .1 .0 .1)
+full : (c : tie.Start) → length (c .args .self .bounds .list) ≡ 256
+full c = simp length-map at (c .good .0 .1 .1 .1 .1 .0 .1 .1 .1 .0 .1 .0 .1)
 
 -- the three clauses of the contract, as the need nests them
 parts : {A B C : Type 0} → A × B × C → A × (B × C)
@@ -32,7 +32,7 @@ told c = c .before .before .before .before .before
 
 -- no refusal of the environment is due
 none : (c : tie.After-enum-told) → NoneDue (envChecks (start c .args .self))
-none c = accepted-none (start c .args .self) (envChecks (start c .args .self))
+none c = accepted-none (tt {0}) (envChecks (start c .args .self))
     (sym (c .before .before .check .ensures) ∙ c .enum-told .given .1)
 
 holds : (c : tie.After-enum-told) → Valid (start c .args .self)
@@ -51,7 +51,7 @@ returns : tie.Need-returns
 returns c =
     let s = c .before .before .before .before .before .before in
     parts (lists-refused (s .args .longer) (s .args .self) (s .args .words .now) (s .args .ends .now)
-    (refused-first (s .args .self) _ (envChecks (s .args .self))
+    (refused-first (tt {0}) _ (envChecks (s .args .self))
     (sym (c .before .before .before .check .ensures) ∙ c .before .verdict .given .1)))
 
 returns-2 : tie.Need-returns-2

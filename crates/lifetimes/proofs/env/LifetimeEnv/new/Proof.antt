@@ -4,8 +4,8 @@ use native.Mathlib.Omega.{arith}
 use borrow.Author.Needs.{needs}
 use borrow.Author.Tests.{not-true, not-false}
 use Rattle.lifetimes.specs.Env.{pairsOf}
-use Rattle.lifetimes.proofs.EnvLaws.{lifetimes-due, bounds-due, declared-due, side-due, none-due}
-use Rattle.lifetimes.proofs.PairLaws.{new-half, new-refused, new-given, below-larger}
+use Rattle.lifetimes.proofs.BoundsLaws.{below-larger}
+use Rattle.lifetimes.proofs.PairLaws.{new-half, new-lifetimes, new-bounds, new-declared, new-outside, new-given}
 use Rattle.lifetimes.proofs.env.LifetimeEnv.new.Statement.{statement}
 use Rattle.lifetimes.proofs.env.LifetimeEnv.new.Tie as tie
 
@@ -14,15 +14,10 @@ returns-5 c =
     let at-if3 = c .before .before .before .before in
     let at-if2 = at-if3 .before in
     let at-if1 = at-if2 .before in
-    let s = at-if1 .before .before in
-    let a = s .args in
-    let outside = sym (c .before .before .pairs-below .ensures) ∙ not-true _ (c .before .if5 .taken) in
-    new-refused
-    (a .declared)
-    (a .count)
-    (a .pairs .now)
-    (at-if1 .if1 .left)
-    (side-due _ _ _ _ (at-if2 .if2 .left) (at-if3 .if3 .left) (c .before .before .before .if4 .left) outside)
+    let a = at-if1 .before .before .args in
+    new-outside (a .declared) (a .count) (a .pairs .now) (at-if1 .if1 .left) (at-if2 .if2 .left) (at-if3 .if3 .left)
+    (c .before .before .before .if4 .left)
+    (sym (c .before .before .pairs-below .ensures) ∙ not-true _ (c .before .if5 .taken))
     (c .refused5 .ensures)
 
 filled-requires : tie.Need-filled-requires
@@ -36,15 +31,10 @@ returns-6 c =
     let at-if3 = c .before .before .before .before in
     let at-if2 = at-if3 .before in
     let at-if1 = at-if2 .before in
-    let s = at-if1 .before .before in
-    let a = s .args in
-    let below = sym (c .before .before .pairs-below .ensures) ∙ not-false _ (c .before .if5 .left) in
-    new-given
-    (a .declared)
-    (a .count)
-    (a .pairs .now)
-    (at-if1 .if1 .left)
-    (none-due _ _ _ _ (at-if2 .if2 .left) (at-if3 .if3 .left) (c .before .before .before .if4 .left) below)
+    let a = at-if1 .before .before .args in
+    new-given (a .declared) (a .count) (a .pairs .now) (at-if1 .if1 .left) (at-if2 .if2 .left) (at-if3 .if3 .left)
+    (c .before .before .before .if4 .left)
+    (sym (c .before .before .pairs-below .ensures) ∙ not-false _ (c .before .if5 .left))
     (c .filled .ensures)
 
 pub new-spec : {M : Type 1} → statement M
@@ -54,11 +44,11 @@ new-spec =
     (λ c κs. search needs)
     (λ c. search (new-half, needs))
     (λ c κs. search needs)
-    (λ c. search (lifetimes-due, new-refused, needs))
+    (λ c. search (new-lifetimes, needs))
     (λ c κs. search needs)
-    (λ c. search (bounds-due, new-refused, needs))
+    (λ c. search (new-bounds, needs))
     (λ c κs. search needs)
-    (λ c. search (declared-due, new-refused, needs))
+    (λ c. search (new-declared, needs))
     (λ c κs. search needs) (λ c κs. search needs)
     returns-5
     filled-requires

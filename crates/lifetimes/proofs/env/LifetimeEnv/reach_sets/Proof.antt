@@ -14,8 +14,8 @@ use Rattle.lifetimes.proofs.Traversing.{sets-refused, sets-given}
 use Rattle.lifetimes.proofs.env.LifetimeEnv.reach_sets.Statement.{statement}
 use Rattle.lifetimes.proofs.env.LifetimeEnv.reach_sets.Tie as tie
 
-full : (c : tie.Start) → length (c .args .self .bounds) ≡ 256
-full c = simp length-map at (c .good .0 .1 .1 .1 .1 .1 .0 .1 .0 .1)
+full : (c : tie.Start) → length (c .args .self .bounds .list) ≡ 256
+full c = simp length-map at (c .good .0 .1 .1 .1 .1 .0 .1 .1 .1 .0 .1 .0 .1)
 
 -- the start, from where the environment is found to be one; and that place, from where its bounds are linked
 abbrev start : tie.After-enum-told → tie.Start
@@ -26,7 +26,7 @@ told c = c .before .before .before .before
 
 -- no refusal of the environment is due
 none : (c : tie.After-enum-told) → NoneDue (envChecks (start c .args .self))
-none c = accepted-none (start c .args .self) (envChecks (start c .args .self))
+none c = accepted-none (tt {0}) (envChecks (start c .args .self))
     (sym (c .before .before .check .ensures) ∙ c .enum-told .given .1)
 
 holds : (c : tie.After-enum-told) → Valid (start c .args .self)
@@ -37,7 +37,7 @@ returns c =
     let s = c .before .before .before in
     let told = c .enum-told2 .given .1 in
     rw told (sets-refused (s .args .longer) (s .args .self)
-    (refused-first (s .args .self) _ (envChecks (s .args .self)) (sym (c .before .before .check .ensures) ∙ told)))
+    (refused-first (tt {0}) _ (envChecks (s .args .self)) (sym (c .before .before .check .ensures) ∙ told)))
 
 link-requires : tie.Need-link-requires
 link-requires c κs =

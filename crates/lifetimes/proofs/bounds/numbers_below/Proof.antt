@@ -1,7 +1,7 @@
 -- `numbers_below` meets its contract: the code's tests are the definition's.
 use borrow.Author.Tests.{lt-ltb, le-ltb}
-use Rattle.lifetimes.proofs.env.numbers_below.Statement.{statement}
-use Rattle.lifetimes.proofs.env.numbers_below.Tie as tie
+use Rattle.lifetimes.proofs.bounds.numbers_below.Statement.{statement}
+use Rattle.lifetimes.proofs.bounds.numbers_below.Tie as tie
 
 returns : tie.Need-returns
 returns c = let a = c .before .args in rw (lt-ltb (a .longer) (a .limit) (c .if1 .taken))

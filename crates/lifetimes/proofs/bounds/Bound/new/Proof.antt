@@ -1,7 +1,7 @@
 -- `Bound::new` meets its contract: both numbers as bytes keep them.
 use borrow.Author.Needs.{needs}
-use Rattle.lifetimes.proofs.env.Bound.new.Statement.{statement}
-use Rattle.lifetimes.proofs.env.Bound.new.Tie as tie
+use Rattle.lifetimes.proofs.bounds.Bound.new.Statement.{statement}
+use Rattle.lifetimes.proofs.bounds.Bound.new.Tie as tie
 
 returns : tie.Need-returns
 returns c =
