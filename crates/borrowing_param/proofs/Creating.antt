@@ -23,9 +23,8 @@ use Rattle.answers.specs.Lists.{range}
 use Rattle.answers.specs.Refusals.{Check, check, Outcome, Gives, Refuses, unless, FirstDue, NoneDue}
 use Rattle.answers.specs.Lent.{resultOr}
 use Rattle.lifetimes.specs.Sets.{member}
-use Rattle.lifetimes.specs.Env.{boundsOf, envChecks}
-use Rattle.lifetimes.specs.Walk.{reachSet}
-use Rattle.lifetimes.specs.Reach.{allSets, noSets, reachSets}
+use Rattle.lifetimes.specs.Env.{envChecks}
+use Rattle.lifetimes.specs.Reach.{reachSet, allSets, noSets, reachSets}
 use Rattle.answers.proofs.RefusalLaws.{due-given, given-due, refused-due, none-first, none-rest, none-split}
 use Rattle.answers.proofs.RefusalLaws.{none-more}
 use Rattle.lifetimes.proofs.SetLaws.{length-ascending}
@@ -139,17 +138,17 @@ module _ (env : LifetimeEnv) (structs params output force : List ℕ)
 
 all-size : (env : LifetimeEnv) → env .count ≤ 64 → length (allSets true env) ≡ 64
 unfolding allSets
-all-size env h = let size = places (reachSet true (boundsOf env)) (env .count) in
+all-size env h = let size = places (reachSet true env) (env .count) in
     rw (length-append, size, length-replicate) (omega arith)
 
 -- the set of a lifetime stands at its place
-pub set-there : (env : LifetimeEnv) (i : ℕ) → i < env .count → getD (allSets true env) i 0 ≡ reachSet true (boundsOf env) i
+pub set-there : (env : LifetimeEnv) (i : ℕ) → i < env .count → getD (allSets true env) i 0 ≡ reachSet true env i
 unfolding allSets
 set-there env i below =
-    List·getD-append (map (reachSet true (boundsOf env)) (range 0 (env .count))) (replicate (64 - env .count) 0) 0 i
-    (omega (arith, places (reachSet true (boundsOf env)) (env .count)))
-    ∙ at-place (reachSet true (boundsOf env)) 0 (env .count) i below
-    ∙ ap (reachSet true (boundsOf env)) (zero-add i)
+    List·getD-append (map (reachSet true env) (range 0 (env .count))) (replicate (64 - env .count) 0) 0 i
+    (omega (arith, places (reachSet true env) (env .count)))
+    ∙ at-place (reachSet true env) 0 (env .count) i below
+    ∙ ap (reachSet true env) (zero-add i)
 
 pub sets-size : (env : LifetimeEnv) {r : ReachSets} → r ≡ reachSets true env → length (r .sets) ≡ 64
 unfolding reachSets
@@ -199,11 +198,11 @@ module _ (env : LifetimeEnv) (structs params output force : List ℕ) {a : UsedL
 
     -- the sets of the used lifetimes
     kept-set : {sets : List ℕ} → sets ≡ allSets true env → (i : ℕ) → i < 64
-        → keptAt used sets (replicate 64 0) i ≡ drawsTo used (boundsOf env) i
+        → keptAt used sets (replicate 64 0) i ≡ drawsTo used env i
     kept-set {sets} q i h = go (member used i) refl
       where
         go : (t : Bool) → member used i ≡ t
-            → cond t (getD sets i 0) (getD (replicate 64 0) i 0) ≡ cond t (reachSet true (boundsOf env) i) 0
+            → cond t (getD sets i 0) (getD (replicate 64 0) i 0) ≡ cond t (reachSet true env i) 0
         go false m = getD-replicate 64 i 0 0 h
         go true m =
             ap (λ (l : List ℕ). getD l i 0) q
@@ -217,12 +216,12 @@ module _ (env : LifetimeEnv) (structs params output force : List ℕ) {a : UsedL
         let all : r .sets ≡ allSets true env =
         ap (λ (x : ReachSets). x .sets) q
         ∙ rw (due-given (allSets true env) (env-none env structs params output force accepted)) in
-        let same : draws ≡ map (drawsTo used (boundsOf env)) (range 0 64) =
-        k ∙ ext-getD 0 (keptOf used (r .sets) (replicate 64 0)) (map (drawsTo used (boundsOf env)) (range 0 64))
-        (places (keptAt used (r .sets) (replicate 64 0)) 64 ∙ sym (places (drawsTo used (boundsOf env)) 64))
+        let same : draws ≡ map (drawsTo used env) (range 0 64) =
+        k ∙ ext-getD 0 (keptOf used (r .sets) (replicate 64 0)) (map (drawsTo used env) (range 0 64))
+        (places (keptAt used (r .sets) (replicate 64 0)) 64 ∙ sym (places (drawsTo used env) 64))
         (λ i h.
         let l : i < 64 = omega (arith, places (keptAt used (r .sets) (replicate 64 0)) 64) in
         at-place (keptAt used (r .sets) (replicate 64 0)) 0 64 i l ∙ rw (zero-add i) (kept-set all i l)
-        ∙ ap (drawsTo used (boundsOf env)) (sym (zero-add i))
-        ∙ sym (at-place (drawsTo used (boundsOf env)) 0 64 i l)) in
+        ∙ ap (drawsTo used env) (sym (zero-add i))
+        ∙ sym (at-place (drawsTo used env) 0 64 i l)) in
         rw (gives, same)

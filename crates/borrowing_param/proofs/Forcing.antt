@@ -18,7 +18,7 @@ use Rattle.answers.specs.Refusals.{check, Gives, NoneDue, next}
 use Rattle.answers.specs.Lists.{range, filter}
 use Rattle.lifetimes.specs.Sets.{empty, member, members, setOf}
 use Rattle.lifetimes.specs.Env.{boundsOf, envChecks}
-use Rattle.lifetimes.specs.Walk.{LastFirst, reachSet}
+use Rattle.lifetimes.specs.Reach.{reachSet}
 use Rattle.answers.proofs.RefusalLaws.{due-given, none-first, none-more, none-split}
 use Rattle.lifetimes.proofs.SetLaws.{members-has, ascending-has, select-has}
 use Rattle.lifetimes.proofs.Theorems.{reach-is-outlives, outlives-is-forced}
@@ -51,42 +51,42 @@ use Rattle.borrowing_param.proofs.Creating.{at-place, places, places-no
 module _ (env : LifetimeEnv) (valid : NoneDue (envChecks env)) (few : env .count ≤ 64) (used : ℕ) (below : (k : ℕ)
     → member used k ≡ true → k < env .count) where
   abbrev v : BorrowingParamVisitor
-  v = newVisitor used (boundsOf env)
+  v = newVisitor used env
 
-  draws-above : (l b : ℕ) → List·Memᴰ l (usedOf v) → (drawsOf v l b ≡ true) ↔ Above (boundsOf env) (env .count) b l
+  draws-above : (l b : ℕ) → List·Memᴰ l (usedOf v) → (drawsOf v l b ≡ true) ↔ Above env b l
   unfolding newVisitor
   draws-above l b m =
       let in-used = (members-has used l) .0 m in
-      let set : getD (v .draws) l 0 ≡ reachSet true (boundsOf env) l =
-      at-place (drawsTo used (boundsOf env)) 0 64 l (in-used .0) ∙ ap (drawsTo used (boundsOf env)) (zero-add l)
-      ∙ rw (in-used .1) in
-      let reach = (reach-is-outlives LastFirst true env valid l (below l (in-used .1))) .set b in
+      let set : getD (v .draws) l 0 ≡ reachSet true env l =
+      at-place (drawsTo used env) 0 64 l (in-used .0) ∙ ap (drawsTo used env) (zero-add l) ∙ rw (in-used .1) in
+      let reach = reach-is-outlives true env valid l (below l (in-used .1)) in
+      let listed = reach .list .members b in
       let forced = (outlives-is-forced (boundsOf env) l b) .0 in
       let both = and-eq-true-iff (ltb b 64) (member (getD (v .draws) l 0) b) in (
-        λ h. let k = reach .0 (rw set at (both .0 h .1)) in (k .0, forced .0 (k .1)),
-        λ h. both .1 (lt-ltb b 64 (omega (arith, h .0)), rw set (reach .1 (h .0, forced .1 (h .1)))),
+        λ h. let k = listed .0 ((reach .set b) .0 (rw set at (both .0 h .1))) in (k .0, forced .0 (k .1)),
+        λ h. both .1 (lt-ltb b 64 (omega (arith, h .0)), rw set ((reach .set b) .1 (listed .1 (h .0, forced .1 (h .1))))),
       )
 
   pub draws-nothing : (l : ℕ) → (List·Memᴰ l (usedOf v) → ⊥) → getD (v .draws) l 0 ≡ empty
   unfolding newVisitor
   draws-nothing l out = go (decLt l 64)
     where
-      not-member : l < 64 → (t : Bool) → member used l ≡ t → cond t (reachSet true (boundsOf env) l) empty ≡ empty
+      not-member : l < 64 → (t : Bool) → member used l ≡ t → cond t (reachSet true env l) empty ≡ empty
       not-member h true e = absurd (out ((members-has used l) .1 (h, e)))
       not-member h false e = refl
 
-      go : Dec (l < 64) → getD (map (drawsTo used (boundsOf env)) (range 0 64)) l 0 ≡ empty
-      go (yes h) = at-place (drawsTo used (boundsOf env)) 0 64 l h ∙ ap (drawsTo used (boundsOf env)) (zero-add l)
+      go : Dec (l < 64) → getD (map (drawsTo used env) (range 0 64)) l 0 ≡ empty
+      go (yes h) = at-place (drawsTo used env) 0 64 l h ∙ ap (drawsTo used env) (zero-add l)
           ∙ not-member h (member used l) refl
       go (no h) =
-          List·getD-eq-default (map (drawsTo used (boundsOf env)) (range 0 64)) 0 {n = l}
-          (omega (arith, h, places (drawsTo used (boundsOf env)) 64))
+          List·getD-eq-default (map (drawsTo used env) (range 0 64)) 0 {n = l}
+          (omega (arith, h, places (drawsTo used env) 64))
 
   -- what one parameter brings and answers
   param-is : (t : LoweredType) (p : ℕ) → length (t .path) ≤ 16
-      → Param (boundsOf env) (env .count) v t p (answerOf (t .kind) (bringAll v t p))
+      → Param env v t p (answerOf (t .kind) (bringAll v t p))
   param-is t p short = record {
-    brought = λ l m e. brought-by (drawsOf v l) (λ b. Above (boundsOf env) (env .count) b l) (λ b. draws-above l b m) l p t e;
+    brought = λ l m e. brought-by (drawsOf v l) (λ b. Above env b l) (λ b. draws-above l b m) l p t e;
     ascending = λ l. bring-ascends (drawsOf v l) l p t;
     answers = answers (t .kind) p 16 (bringAll v t p) (omega arith) form;
   }
@@ -162,7 +162,7 @@ module _ (env : LifetimeEnv) (structs params output force : List ℕ)
   used-given = due-given used none
 
   abbrev new : BorrowingParamVisitor
-  new = newVisitor used (boundsOf env)
+  new = newVisitor used env
 
   abbrev made : Created
   made = record { verdict = Accepted; visitor = new }

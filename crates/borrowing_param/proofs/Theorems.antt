@@ -6,6 +6,7 @@ use Rattle.answers.specs.Refusals as refusals
 use Rattle.lifetimes.specs.Sets as sets
 use Rattle.lifetimes.specs.Env as env
 use Rattle.lifetimes.specs.Walk as walk
+use Rattle.lifetimes.specs.Reach as reach
 use Rattle.records.specs.Reading as reading
 use Rattle.ast_lifetimes.specs.Shapes as shapes
 use Rattle.ast_lifetimes.specs.Types as ast-types
@@ -59,8 +60,8 @@ unfolding new.created new.newVisitor map.listedTo map.listedEdges map.answersFro
     used.numbersOf method.typeChecks method.rowChecks method.paramChecks method.anyPast
     rows.readKnown rows.readTypes rows.readRow rows.methodInShape types.readOpaque types.readStruct types.readSlice
     types.readBare types.readLowered reading.readAll reading.inShape reading.itemsOf refusals.unless env.envOf
-    env.allBelow lists.range lists.filter walk.reachSet walk.traversal walk.walk walk.walkFor walk.unpushed
-    walk.neighbours sets.member sets.insert sets.insertAll sets.members flatMap
+    env.allBelow lists.range lists.filter reach.reachSet reach.reachList walk.traversal walk.walk
+    walk.walkFor walk.unpushed walk.neighbours sets.member sets.insert sets.insertAll sets.members flatMap
     sheets.lowerSheet sheets.sheetRefusals sheets.loweringChecks shape.sheetChecks read.textChecks read.sheetOf read.sheetIn
     read.linesBehind read.ten read.readLines read.behind read.allShort flatten text.text text.line text.following
     text.digits text.digitsFor

@@ -6,6 +6,7 @@ use Rattle.answers.specs.Lists as lists
 use Rattle.lifetimes.specs.Sets as sets
 use Rattle.lifetimes.specs.Env as env
 use Rattle.lifetimes.specs.Walk as walk
+use Rattle.lifetimes.specs.Reach as reaching
 use Rattle.lifetimes.specs.Examples as reach
 use Rattle.records.specs.Reading as reading
 use Rattle.ast_lifetimes.specs.Shapes as shapes
@@ -67,8 +68,8 @@ unfolding response unless listingOf listingChecks sheets.sheetRefusals sheets.lo
     types.readLowered method.typeChecks method.rowChecks method.paramChecks method.anyPast
     used.usedSet used.numbersOf new.created new.newVisitor map-of.listedTo map-of.listedEdges
     map-of.answersFrom brings.bring brings.anyDrawn brings.structEdges
-    listings.answersFrom env.envOf env.allBelow lists.range lists.filter walk.reachSet walk.traversal walk.walk
-    walk.walkFor walk.unpushed walk.neighbours sets.member sets.insert sets.insertAll sets.members
+    listings.answersFrom env.envOf env.allBelow lists.range lists.filter reaching.reachSet reaching.reachList walk.traversal
+    walk.walk walk.walkFor walk.unpushed walk.neighbours sets.member sets.insert sets.insertAll sets.members
 program-right = (refl, (refl, tt))
 
 -- the lists one behind another, last first

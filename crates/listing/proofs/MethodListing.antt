@@ -20,14 +20,13 @@ use Rattle.answers.specs.Refusals.{Check, Outcome, Gives, Refuses, FirstDue, he
 use Rattle.answers.specs.Lent.{written, verdictOf, resultOr, roomCheck}
 use Rattle.answers.specs.Lists.{range}
 use Rattle.lifetimes.specs.Sets as sets
-use Rattle.lifetimes.specs.Env.{boundsOf}
-use Rattle.lifetimes.specs.Walk.{LastFirst, traversal, reachSet}
 use Rattle.answers.specs.Lists.{endsFrom}
-use Rattle.lifetimes.specs.Reach.{allSets, noSets, allLists, listsChecks, listWords, listEnds, listsAnswer}
+use Rattle.lifetimes.specs.Reach.{reachList, reachSet, allSets, noSets, allLists, listsChecks, listWords, listEnds}
+use Rattle.lifetimes.specs.Reach.{listsAnswer}
 use Rattle.answers.proofs.RefusalLaws.{due-given, due-refused, refused-first, accepted-none, none-first, none-rest}
 use Rattle.answers.proofs.RefusalLaws.{none-more, none-split, first-behind}
 use Rattle.lifetimes.proofs.SetLaws.{members-has, ascending-has, length-ascending}
-use Rattle.lifetimes.proofs.ReachLaws.{traversal-few}
+use Rattle.lifetimes.proofs.ReachLaws.{reach-few}
 use Rattle.lifetimes.proofs.Laying.{length-ends}
 use Rattle.types.specs.LoweredTypes.{LoweredType}
 use Rattle.methods.specs.Method.{typesIn, structsAndParamsChecks}
@@ -54,7 +53,7 @@ use Rattle.listing.specs.InnerSections.{numbered, cutFrom, Ascend}
 use Rattle.listing.specs.InnerListing.{Lists, ListsWithin, methodBorrows, methodListing, listedMethod, Listable}
 use Rattle.listing.specs.InnerListing.{sections, tooMany}
 use Rattle.listing.proofs.ListingLaws.{cut-lists, ends-ascend, numbered-map, edges-same, answers-same}
-use Rattle.listing.proofs.RoomLaws.{lines-short, lifetimes-few, bounds-within}
+use Rattle.listing.proofs.RoomLaws.{lines-short, lifetimes-few}
 
 flatten-map : {A : Type 0} (f : A → List ℕ) (l : List A) → flatten (map f l) ≡ flatMap f l
 unfolding flatten flatMap
@@ -91,7 +90,7 @@ module _ {env : LifetimeEnv} {used : ℕ} {structs params own given taken : List
   types = typesIn structs params
 
   abbrev new : BorrowingParamVisitor
-  new = newVisitor used (boundsOf env)
+  new = newVisitor used env
 
   abbrev listing : Outcome (List ℕ)
   listing = listedMethod env used structs params own given taken
@@ -104,19 +103,18 @@ module _ {env : LifetimeEnv} {used : ℕ} {structs params own given taken : List
   lists-few : length (flatten (allLists true env)) ≤ env .count * env .count
   unfolding allLists
   lists-few =
-      rw (flatten-map (traversal LastFirst true (boundsOf env)) (range 0 (env .count)))
+      rw (flatten-map (reachList true env) (range 0 (env .count)))
       (omega (
         arith,
         many,
         ap (λ (n : ℕ). env .count * n) (length-ascending 0 (env .count)),
       ))
     where
-      many : length (flatMap (traversal LastFirst true (boundsOf env)) (range 0 (env .count)))
+      many : length (flatMap (reachList true env) (range 0 (env .count)))
           ≤ env .count * length (range 0 (env .count))
       many =
-          lines-short (traversal LastFirst true (boundsOf env)) (env .count) (range 0 (env .count))
-          (λ l m. traversal-few LastFirst true (boundsOf env) l (env .count) (bounds-within env (can .valid))
-          (omega (arith, (ascending-has 0 (env .count) l) .0 m)))
+          lines-short (reachList true env) (env .count) (range 0 (env .count))
+          (λ l m. reach-few true env (can .valid) l (omega (arith, (ascending-has 0 (env .count) l) .0 m)))
 
   lists-many : length (allLists true env) ≡ env .count
   unfolding allLists
@@ -173,7 +171,7 @@ module _ {env : LifetimeEnv} {used : ℕ} {structs params own given taken : List
     longer-are =
         rw lists-cut
         (ap (λ (t : List ℕ). longerHeading ++ t)
-        (numbered-map (traversal LastFirst true (boundsOf env)) 0 (env .count)))
+        (numbered-map (reachList true env) 0 (env .count)))
 
     -- ---- the answers and the edges
 
@@ -188,8 +186,8 @@ module _ {env : LifetimeEnv} {used : ℕ} {structs params own given taken : List
     unfolding newVisitor
     same-draws x m =
         let in-used = (members-has used x) .0 m in
-        let there : getD (new .draws) x 0 ≡ reachSet true (boundsOf env) x =
-        at-place (drawsTo used (boundsOf env)) 0 64 x (in-used .0) ∙ ap (drawsTo used (boundsOf env)) (zero-add x)
+        let there : getD (new .draws) x 0 ≡ reachSet true env x =
+        at-place (drawsTo used env) 0 64 x (in-used .0) ∙ ap (drawsTo used env) (zero-add x)
         ∙ rw (in-used .1) in
         ap (λ (s : List ℕ). getD s x 0) sets-are ∙ set-there env x (can .below x (in-used .1)) ∙ sym there
 

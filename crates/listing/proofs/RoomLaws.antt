@@ -7,17 +7,15 @@ use mathlib.Core.List.{List, [], _∷_, _++_, flatMap, List·Memᴰ, List·Mem�
 use native.Mathlib.Omega.{arith}
 use lib.ListN.{length, getD, length-append, length-map}
 use borrow.Author.Tests.{ltb-false, not-false}
-use Rattle.lifetimes.specs.declared.env.Bound.{Bound}
 use Rattle.lifetimes.specs.declared.env.LifetimeEnv.{LifetimeEnv}
 use Rattle.lifetimes.specs.declared.maybe_static.MaybeStatic.{MaybeStatic}
 use Rattle.answers.specs.Lists.{range}
 use Rattle.answers.specs.Refusals.{NoneDue}
 use Rattle.lifetimes.specs.LoweredWords.{wordOf}
-use Rattle.lifetimes.specs.Env.{boundsOf, envChecks}
-use Rattle.lifetimes.specs.Walk.{LastFirst, traversal}
-use Rattle.answers.proofs.RefusalLaws.{none-first, none-rest, none-split}
-use Rattle.lifetimes.proofs.EnvLaws.{all-below}
-use Rattle.lifetimes.proofs.ReachLaws.{traversal-only, traversal-few}
+use Rattle.lifetimes.specs.Env.{envChecks}
+use Rattle.lifetimes.specs.Reach.{reachList}
+use Rattle.answers.proofs.RefusalLaws.{none-first, none-split}
+use Rattle.lifetimes.proofs.ReachLaws.{reach-few, reach-inside}
 use Rattle.lifetimes.proofs.SetLaws.{ascending-has, length-ascending}
 use Rattle.ast_lifetimes.specs.Env as ast
 use Rattle.ast_lifetimes.proofs.AcceptedLaws.{accepted-names}
@@ -121,21 +119,13 @@ module _ (env : LifetimeEnv) (valid : NoneDue (envChecks env)) where
   pub lifetimes-few : env .count ≤ 64
   lifetimes-few = ltb-false 64 (env .count) (none-first valid)
 
-  pub bounds-within : (b : Bound) → List·Memᴰ b (boundsOf env) → b .longer < env .count
-  bounds-within b m =
-      let declared = ltb-false (env .count) (env .declared) (none-first (none-rest (none-rest valid))) in
-      let below = all-below (env .declared) (boundsOf env) (not-false _ (none-first (none-rest (none-rest (none-rest valid))))) b m in
-      omega (arith, declared, below .0)
-
   longer-short : (l : ℕ) → List·Memᴰ l (range 0 (env .count)) → length (longerLine env l) ≤ 196
   longer-short l m =
       let here : l < env .count = omega (arith, (ascending-has 0 (env .count) l) .0 m) in
-      let few = traversal-few LastFirst true (boundsOf env) l (env .count) bounds-within here in
-      let small = below-from 100 (traversal LastFirst true (boundsOf env) l)
-      (λ y k. let z : y < env .count = traversal-only LastFirst true (boundsOf env) l (λ y. y < env .count)
-      (λ b i h. bounds-within b i) here y k in omega (arith, z, lifetimes-few)) in
-      let short = line-short (l ∷ traversal LastFirst true (boundsOf env) l) (omega (arith, here, lifetimes-few), small) in
-      omega (arith, short, few, lifetimes-few)
+      let small = below-from 100 (reachList true env l)
+      (λ y k. omega (arith, reach-inside true env valid l here y k, lifetimes-few)) in
+      let short = line-short (l ∷ reachList true env l) (omega (arith, here, lifetimes-few), small) in
+      omega (arith, short, reach-few true env valid l here, lifetimes-few)
 
   all-longer-short : length (longerLines env) ≤ 12560
   all-longer-short =
