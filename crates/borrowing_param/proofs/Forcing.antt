@@ -2,10 +2,9 @@
 -- `visit_param`.
 use Prim.Native.Nat.{ℕ, zero, suc, _≤_, _<_}
 use mathlib.Core.Bool.{Bool, true, false, cond, not, _&&_, and-eq-true-iff}
-use mathlib.Core.Path.{_≡_, refl, sym, ap, subst, _∙_}
+use mathlib.Core.Path.{_≡_, refl, sym, subst, _∙_}
 use mathlib.Core.Logic.{_↔_}
 use mathlib.Core.List.{List, _∷_, _++_, map, List·Memᴰ}
-use native.Mathlib.Nat.{zero-add}
 use native.Mathlib.Decide.{decLt}
 use native.Mathlib.Omega.{arith}
 use borrow.Author.Tests.{lt-ltb, lt-leb, not-false}
@@ -18,7 +17,7 @@ use Rattle.answers.specs.Refusals.{check, Gives, NoneDue, next}
 use Rattle.answers.specs.Lists.{range, filter}
 use Rattle.lifetimes.specs.Sets.{empty, member, members, setOf}
 use Rattle.lifetimes.specs.Env.{boundsOf, envChecks}
-use Rattle.lifetimes.specs.Reach.{reachSet}
+use Rattle.lifetimes.specs.Reach.{reachSet, allSets}
 use Rattle.answers.proofs.RefusalLaws.{due-given, none-first, none-more, none-split}
 use Rattle.lifetimes.proofs.SetLaws.{members-has, ascending-has, select-has}
 use Rattle.lifetimes.proofs.Theorems.{reach-is-outlives, outlives-is-forced}
@@ -36,7 +35,7 @@ use Rattle.borrowing_param.specs.Brings.{answerOf}
 use Rattle.borrowing_param.specs.Visit.{usedOf, drawsOf, bringTo, bringAll, holding, state, visitWith, visit}
 use Rattle.borrowing_param.specs.VisitParam.{typeAt, visitChecks, visitParam}
 use Rattle.borrowing_param.specs.Visits.{unrefusedBy, allOf}
-use Rattle.borrowing_param.specs.New.{drawsTo, newVisitor, created}
+use Rattle.borrowing_param.specs.New.{drawsTo, visitorFrom, newVisitor, created}
 use Rattle.borrowing_param.specs.Condition3.{Above, Param}
 use Rattle.borrowing_param.specs.Theorems.{IsNew, answerAt, AllVisits}
 use Rattle.borrowing_param.proofs.Joining.{Once, join-part}
@@ -44,21 +43,24 @@ use Rattle.borrowing_param.proofs.Running.{kept, unrefused-kept, visits
 use Rattle.borrowing_param.proofs.Bringing.{brought-by, bring-ascends, bring-formed, Formed, kindNumber, defs}
 use Rattle.borrowing_param.proofs.Bringing.{answers}
 use Rattle.borrowing_param.proofs.Visiting.{param-short}
-use Rattle.borrowing_param.proofs.Creating.{at-place, places, places-none, env-none, few-lifetimes, used-below}
+use Rattle.borrowing_param.proofs.Creating.{places, draws-at, set-there, places-none, env-none, few-lifetimes, used-below}
 
 -- ---- by the numberings
 
 module _ (env : LifetimeEnv) (valid : NoneDue (envChecks env)) (few : env .count ≤ 64) (used : ℕ) (below : (k : ℕ)
     → member used k ≡ true → k < env .count) where
+  abbrev sets : List ℕ
+  sets = allSets true env
+
   abbrev v : BorrowingParamVisitor
-  v = newVisitor used env
+  v = visitorFrom used sets
 
   draws-above : (l b : ℕ) → List·Memᴰ l (usedOf v) → (drawsOf v l b ≡ true) ↔ Above env b l
-  unfolding newVisitor
+  unfolding visitorFrom
   draws-above l b m =
       let in-used = (members-has used l) .0 m in
       let set : getD (v .draws) l 0 ≡ reachSet true env l =
-      at-place (drawsTo used env) 0 64 l (in-used .0) ∙ ap (drawsTo used env) (zero-add l) ∙ rw (in-used .1) in
+      draws-at used sets l (in-used .0) ∙ rw (in-used .1) (set-there env l (below l (in-used .1))) in
       let reach = reach-is-outlives true env valid l (below l (in-used .1)) in
       let listed = reach .list .members b in
       let forced = (outlives-is-forced (boundsOf env) l b) .0 in
@@ -68,19 +70,18 @@ module _ (env : LifetimeEnv) (valid : NoneDue (envChecks env)) (few : env .count
       )
 
   pub draws-nothing : (l : ℕ) → (List·Memᴰ l (usedOf v) → ⊥) → getD (v .draws) l 0 ≡ empty
-  unfolding newVisitor
+  unfolding visitorFrom
   draws-nothing l out = go (decLt l 64)
     where
-      not-member : l < 64 → (t : Bool) → member used l ≡ t → cond t (reachSet true env l) empty ≡ empty
+      not-member : l < 64 → (t : Bool) → member used l ≡ t → cond t (getD sets l 0) empty ≡ empty
       not-member h true e = absurd (out ((members-has used l) .1 (h, e)))
       not-member h false e = refl
 
-      go : Dec (l < 64) → getD (map (drawsTo used env) (range 0 64)) l 0 ≡ empty
-      go (yes h) = at-place (drawsTo used env) 0 64 l h ∙ ap (drawsTo used env) (zero-add l)
-          ∙ not-member h (member used l) refl
+      go : Dec (l < 64) → getD (map (drawsTo used sets) (range 0 64)) l 0 ≡ empty
+      go (yes h) = draws-at used sets l h ∙ not-member h (member used l) refl
       go (no h) =
-          List·getD-eq-default (map (drawsTo used env) (range 0 64)) 0 {n = l}
-          (omega (arith, h, places (drawsTo used env) 64))
+          List·getD-eq-default (map (drawsTo used sets) (range 0 64)) 0 {n = l}
+          (omega (arith, h, places (drawsTo used sets) 64))
 
   -- what one parameter brings and answers
   param-is : (t : LoweredType) (p : ℕ) → length (t .path) ≤ 16
@@ -172,7 +173,7 @@ module _ (env : LifetimeEnv) (structs params output force : List ℕ)
   created-is = rw used-given
 
   made-new : IsNew env structs params output force made
-  unfolding newVisitor
+  unfolding visitorFrom
   made-new =
       let valid = env-none env structs params output force none in
       let few = few-lifetimes env structs params output force none in
@@ -198,11 +199,11 @@ module _ (env : LifetimeEnv) (structs params output force : List ℕ)
   agrees e words p h = rw (due-given (tt {0}) (visit-none p h))
 
   new-empty : new .stored ≡ 0
-  unfolding newVisitor
+  unfolding visitorFrom
   new-empty = refl
 
   once-new : Once (usedOf new)
-  unfolding newVisitor
+  unfolding visitorFrom
   once-new = once-used used
 
   abbrev Within : List ℕ → Type 0
@@ -215,7 +216,7 @@ module _ (env : LifetimeEnv) (structs params output force : List ℕ)
   unrefused-made : (words ps : List ℕ) → Within ps
       → unrefusedBy (visitParam structs params) (state new words) ps
       ≡ kept (λ p. length (allOf new brings p)) (length words) 0 ps
-  unfolding newVisitor
+  unfolding visitorFrom
   unrefused-made words ps within =
       unrefused-kept (visitParam structs params) new brings (answerAt structs params new)
       (length (typesIn structs params)) agrees (λ p h. refl) words ps within

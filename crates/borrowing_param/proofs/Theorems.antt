@@ -55,12 +55,12 @@ pub sheets-give-methods : SheetsGiveMethods
 sheets-give-methods bytes none = sheet-method bytes none
 
 pub examples-hold : ExamplesHold
-unfolding new.created new.newVisitor map.listedTo map.listedEdges map.answersFrom map.borrowMap visit-param.visitParam
+unfolding new.created new.visitorFrom map.listedTo map.listedEdges map.answersFrom map.borrowMap visit-param.visitParam
     visit.visit visit.afterVisits brings.bring brings.anyDrawn brings.structEdges brings.notes used.usedSet
     used.numbersOf method.typeChecks method.rowChecks method.paramChecks method.anyPast
     rows.readKnown rows.readTypes rows.readRow rows.methodInShape types.readOpaque types.readStruct types.readSlice
     types.readBare types.readLowered reading.readAll reading.inShape reading.itemsOf refusals.unless env.envOf
-    env.allBelow lists.range lists.filter reach.reachSet reach.reachList walk.traversal walk.walk
+    env.allBelow lists.range lists.filter reach.reachSet reach.reachList reach.allSets walk.traversal walk.walk
     walk.walkFor walk.unpushed walk.neighbours sets.member sets.insert sets.insertAll sets.members flatMap
     sheets.lowerSheet sheets.sheetRefusals sheets.loweringChecks shape.sheetChecks read.textChecks read.sheetOf read.sheetIn
     read.linesBehind read.ten read.readLines read.behind read.allShort flatten text.text text.line text.following

@@ -66,9 +66,9 @@ unfolding response unless listingOf listingChecks sheets.sheetRefusals sheets.lo
     declared.place rfc.throughout rfc.anonymous rfc.hasSelfType rfc.ownFrom
     rows.readKnown rows.readTypes rows.readRow types.readOpaque types.readStruct types.readSlice types.readBare
     types.readLowered method.typeChecks method.rowChecks method.paramChecks method.anyPast
-    used.usedSet used.numbersOf new.created new.newVisitor map-of.listedTo map-of.listedEdges
+    used.usedSet used.numbersOf new.created new.visitorFrom map-of.listedTo map-of.listedEdges
     map-of.answersFrom brings.bring brings.anyDrawn brings.structEdges
-    listings.answersFrom env.envOf env.allBelow lists.range lists.filter reaching.reachSet reaching.reachList walk.traversal
+    listings.answersFrom env.envOf env.allBelow lists.range lists.filter reaching.reachSet reaching.reachList reaching.allSets walk.traversal
     walk.walk walk.walkFor walk.unpushed walk.neighbours sets.member sets.insert sets.insertAll sets.members
 program-right = (refl, (refl, tt))
 
