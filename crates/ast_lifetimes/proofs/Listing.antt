@@ -18,7 +18,7 @@ use Rattle.answers.specs.Refusals.{FirstDue, NoneDue, end, next}
 use Rattle.answers.specs.Lent.{counted, written, roomCheck}
 use Rattle.lifetimes.specs.Env as lifetimes
 use Rattle.lifetimes.specs.Walk.{FirstFirst, traversal}
-use Rattle.lifetimes.specs.Reach.{listReach}
+use Rattle.lifetimes.specs.Reach.{depthFirst, listFrom, listDepthFirst}
 use Rattle.answers.proofs.RefusalLaws.{none-first, none-rest, first-more, none-more}
 use Rattle.lifetimes.proofs.EnvLaws.{none-due}
 use Rattle.answers.proofs.LentLaws.{answers-refusal, answers-list, has-room}
@@ -61,15 +61,15 @@ module _ (d : Bool) (e : LifetimeEnv) (word : ℕ) (slice : List ℕ) where
     than-unknown h = rw (unknown h) (answers-list [] slice (none-more none (has-room (length slice) [] (omega arith) end)))
 
     -- the traversal's own checks are not due, but for room
-    same : at < e .named → listReach FirstFirst d (hirOf e) at (length slice) ≡ listThan d e word (length slice)
-    unfolding listThan listReach
+    same : at < e .named → listDepthFirst d (hirOf e) at (length slice) ≡ listThan d e word (length slice)
+    unfolding listThan listFrom depthFirst
     same h =
         let l = traversal FirstFirst d (boundsOf e) at in
         let checked = none-more (hir-none e none) (next (lt-leb (e .named) at h) end) in
         rw (known h, unless-after l (roomCheck (length slice) l ∷ []) none) (unless-after l (roomCheck (length slice) l ∷ []) checked)
 
     pub than-traversal : at < e .named → {l : Lifetime} → l ≡ lifetime at → {r : Listed} {after : List ℕ}
-        → (r ≡ counted (listReach FirstFirst d (hirOf e) (l .0) (length slice)))
-        × (after ≡ written (listReach FirstFirst d (hirOf e) (l .0) (length slice)) slice)
+        → (r ≡ counted (listDepthFirst d (hirOf e) (l .0) (length slice)))
+        × (after ≡ written (listDepthFirst d (hirOf e) (l .0) (length slice)) slice)
         → (r ≡ counted (listThan d e word (length slice))) × (after ≡ written (listThan d e word (length slice)) slice)
     than-traversal h i a = rw (i, same h) at a

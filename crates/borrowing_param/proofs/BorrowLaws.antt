@@ -14,7 +14,6 @@ use Rattle.answers.specs.declared.Verdict.the-variants as verdict
 use Rattle.lifetimes.specs.declared.env.LifetimeEnv.{LifetimeEnv}
 use Rattle.answers.specs.Refusals.{Check, Outcome, Gives, Refuses, unless, FirstDue, here, later, NoneDue, next, end}
 use Rattle.answers.specs.Lent.{Slice, left, room, Fills, Stays, verdictOf, roomCheck}
-use Rattle.lifetimes.specs.Env.{boundsOf}
 use Rattle.lifetimes.specs.Sets as sets
 use Rattle.answers.proofs.RefusalLaws.{due-given, due-refused, none-split, first-more, first-behind, refused-first}
 use Rattle.answers.proofs.RefusalLaws.{accepted-none, given-due}
@@ -160,7 +159,7 @@ module _ (env : LifetimeEnv) (structs params output force : List ℕ) {c : Creat
   unfolding created
   created-verdict = ap (λ (x : Created). x .verdict) is ∙ go (usedSet env structs params output force)
     where
-      go : (o : Outcome ℕ) → createdBy (boundsOf env) o .verdict ≡ verdictOf o
+      go : (o : Outcome ℕ) → createdBy env o .verdict ≡ verdictOf o
       go (Gives x) = refl
       go (Refuses k) = refl
 

@@ -1,15 +1,15 @@
--- A new visitor: the loop that keeps the used lifetimes' sets, what an accepted method says, and the answers of `new`.
+-- A new visitor: the loop of `from_sets`, what an accepted method says, and the answers of `new`.
 use Prim.Native.Nat.{ℕ, zero, suc, _+_, _-_, _≤_, _<_}
-use mathlib.Core.Bool.{Bool, true, false, cond, _||_, true≢false}
+use mathlib.Core.Bool.{Bool, true, false, _||_, true≢false}
 use mathlib.Core.Path.{_≡_, refl, sym, ap, _∙_}
 use mathlib.Core.Logic.{⊎-elim}
 use mathlib.Core.List.{List, [], _∷_, _++_, map, List·Memᴰ, List·Memᴰ·cases-cons, List·Memᴰ·not-nil}
 use native.Mathlib.Nat.{zero-add}
-use native.Mathlib.Decide.{ℕ-discrete}
+use native.Mathlib.Decide.{ℕ-discrete, decLt}
 use native.Mathlib.Omega.{arith}
 use borrow.Author.Tests.{leb-false, ltb-false}
-use lib.ListN.{length, getD, take, drop, set, replicate, length-map, length-set, length-append, length-replicate}
-use lib.ListN.{getD-replicate, List·getD-append}
+use lib.ListN.{length, getD, take, drop, set, replicate, length-map, length-set}
+use lib.ListN.{List·getD-append}
 use lib.Seq.{ext-getD, getD-set-same, getD-set-other}
 use Rattle.answers.specs.declared.Refusal.{Refusal}
 use Rattle.answers.specs.declared.Refusal.the-variants.{OutOfRange}
@@ -20,22 +20,23 @@ use Rattle.lifetimes.specs.declared.env.LifetimeEnv.{LifetimeEnv}
 use Rattle.lifetimes.specs.declared.reach.ReachSets.{ReachSets}
 use Rattle.lifetimes.specs.Numbers.{lifetime}
 use Rattle.answers.specs.Lists.{range, any}
-use Rattle.answers.specs.Refusals.{Check, check, Outcome, Gives, Refuses, unless, FirstDue, NoneDue}
-use Rattle.answers.specs.Lent.{resultOr}
-use Rattle.lifetimes.specs.Sets.{member}
-use Rattle.lifetimes.specs.Env.{boundsOf, envChecks}
-use Rattle.lifetimes.specs.Walk.{reachSet}
-use Rattle.lifetimes.specs.Reach.{allSets, noSets, reachSets}
+use Rattle.answers.specs.Refusals.{Check, check, Outcome, Gives, Refuses, FirstDue, NoneDue}
+use Rattle.lifetimes.specs.Sets.{member, empty}
+use Rattle.lifetimes.specs.Env.{envChecks}
+use Rattle.lifetimes.specs.Reach.{allSets, noSets, reachSets, reachSet}
 use Rattle.answers.proofs.RefusalLaws.{due-given, given-due, refused-due, none-first, none-rest, none-split}
 use Rattle.answers.proofs.RefusalLaws.{none-more}
 use Rattle.answers.proofs.ListLaws.{length-range}
+use Rattle.lifetimes.proofs.IndexLaws.{zeros}
 use Rattle.methods.specs.declared.used.UsedLifetimes.{UsedLifetimes}
 use Rattle.methods.specs.declared.used.UsedLifetimes.the-variants as answer
 use Rattle.methods.specs.Method.{outputLifetimes, isPast, anyPast, placeChecks, methodChecks}
 use Rattle.methods.specs.Used.{usedSet, usedAnswer}
 use Rattle.methods.proofs.Theorems.{used-lifetimes-are}
-use Rattle.borrowing_param.specs.New.{drawsTo, newVisitor, noVisitor, created}
-use Rattle.borrowing_param.specs.Inner.{keptAt, keptOf}
+use Rattle.borrowing_param.specs.declared.visitor.BorrowingParamVisitor.{BorrowingParamVisitor}
+use Rattle.borrowing_param.specs.New.{drawsTo, visitorFrom, noVisitor, created}
+use Rattle.borrowing_param.specs.Inner.{Below}
+use Rattle.borrowing_param.proofs.Storing.{past-limit}
 
 -- ---- a list made place by place
 
@@ -48,48 +49,57 @@ at-place f x (suc n) (suc i) h = let e : suc x + i ≡ x + suc i = omega arith i
 pub places : (f : ℕ → ℕ) (n : ℕ) → length (map f (range 0 n)) ≡ n
 places f n = rw length-map (length-range 0 n)
 
--- ---- the loop of `keep_used`
+-- what draws to a lifetime stands at its place
+pub draws-at : (used : ℕ) (sets : List ℕ) (l : ℕ) → l < 64 → getD (visitorFrom used sets .draws) l 0 ≡ drawsTo used sets l
+unfolding visitorFrom
+draws-at used sets l h = at-place (drawsTo used sets) 0 64 l h ∙ ap (drawsTo used sets) (zero-add l)
 
-pub record Keeping (used : ℕ) (sets draws₀ draws : List ℕ) (i : ℕ) : Type 0 where
-  pub here : i ≤ 64
+-- ---- the loop of `from_sets`
+
+pub record Keeping (used : ℕ) (sets draws : List ℕ) (i : ℕ) : Type 0 where
   pub size : length draws ≡ 64
-  pub done : (j : ℕ) → j < i → getD draws j 0 ≡ keptAt used sets draws₀ j
-  pub left : (j : ℕ) → i ≤ j → getD draws j 0 ≡ getD draws₀ j 0
+  pub done : (j : ℕ) → j < i → getD draws j 0 ≡ drawsTo used sets j
+  pub left : (j : ℕ) → i ≤ j → getD draws j 0 ≡ empty
 
-pub keeping-start : (used : ℕ) (sets draws : List ℕ) → length draws ≡ 64 → Keeping used sets draws draws 0
-keeping-start used sets draws e = record { here = omega arith; size = e; done = λ j h. absurd (omega arith); left = λ j h. refl }
+pub keeping-start : (used : ℕ) (sets : List ℕ) → Keeping used sets noSets 0
+keeping-start used sets = record { size = refl; done = λ j h. absurd (omega arith); left = λ j h. zeros 64 j }
 
-module _ {used : ℕ} {sets draws₀ draws : List ℕ} {i : ℕ} (inv : Keeping used sets draws₀ draws i) where
-  pub keeping-end : 64 ≤ i → draws ≡ keptOf used sets draws₀
-  keeping-end h =
-      ext-getD 0 draws (keptOf used sets draws₀) (inv .size ∙ sym (places (keptAt used sets draws₀) 64))
-      (λ j k. inv .done j (omega (arith, inv .size)) ∙ ap (keptAt used sets draws₀) (sym (zero-add j))
-      ∙ sym (at-place (keptAt used sets draws₀) 0 64 j (omega (arith, inv .size))))
+module _ {used : ℕ} {sets draws : List ℕ} {i : ℕ} (inv : Keeping used sets draws i) where
+  -- past the last of the used lifetimes nothing draws
+  pub keeping-end : {limit : ℕ} → Below used limit → limit ≤ i → record { used = used; draws = draws; stored = 0 } ≡ visitorFrom used sets
+  unfolding visitorFrom
+  keeping-end {limit} below h =
+      let same : draws ≡ map (drawsTo used sets) (range 0 64) =
+      ext-getD 0 draws (map (drawsTo used sets) (range 0 64)) (inv .size ∙ sym (places (drawsTo used sets) 64))
+      (λ j k. go j (decLt j i) ∙ ap (drawsTo used sets) (sym (zero-add j))
+      ∙ sym (at-place (drawsTo used sets) 0 64 j (omega (arith, inv .size)))) in
+      rw same
+    where
+      go : (j : ℕ) → Dec (j < i) → getD draws j 0 ≡ drawsTo used sets j
+      go j (yes k) = inv .done j k
+      go j (no k) = inv .left j (omega arith) ∙ rw (past-limit used below j (omega arith))
 
-  module _ (h : i < 64) where
-    pub keeping-not : false ≡ member used i → Keeping used sets draws₀ draws (i + 1)
-    keeping-not q = record {
-      here = omega arith;
-      size = inv .size;
-      done = λ j k. go j (ℕ-discrete j i) k;
-      left = λ j k. inv .left j (omega arith);
-    }
-      where
-        go : (j : ℕ) → Dec (j ≡ i) → j < i + 1 → getD draws j 0 ≡ keptAt used sets draws₀ j
-        go j (yes e) k = inv .left j (omega arith) ∙ rw (e, ← q)
-        go j (no n) k = inv .done j (omega arith)
+  pub keeping-not : false ≡ member used i → Keeping used sets draws (i + 1)
+  keeping-not q = record {
+    size = inv .size;
+    done = λ j k. go j (ℕ-discrete j i) k;
+    left = λ j k. inv .left j (omega arith);
+  }
+    where
+      go : (j : ℕ) → Dec (j ≡ i) → j < i + 1 → getD draws j 0 ≡ drawsTo used sets j
+      go j (yes e) k = inv .left j (omega arith) ∙ rw (e, ← q)
+      go j (no n) k = inv .done j (omega arith)
 
-    pub keeping-one : true ≡ member used i → Keeping used sets draws₀ (set draws i (getD sets i 0)) (i + 1)
-    keeping-one q = record {
-      here = omega arith;
-      size = length-set draws i (getD sets i 0) ∙ inv .size;
-      done = λ j k. go j (ℕ-discrete j i) k;
-      left = λ j k. getD-set-other draws i j (getD sets i 0) 0 (λ e. omega arith) ∙ inv .left j (omega arith);
-    }
-      where
-        go : (j : ℕ) → Dec (j ≡ i) → j < i + 1 → getD (set draws i (getD sets i 0)) j 0 ≡ keptAt used sets draws₀ j
-        go j (yes e) k = rw (e, ← q) (getD-set-same draws i (getD sets i 0) 0 (omega (arith, inv .size)))
-        go j (no n) k = getD-set-other draws i j (getD sets i 0) 0 n ∙ inv .done j (omega arith)
+  pub keeping-one : i < 64 → true ≡ member used i → Keeping used sets (set draws i (getD sets i 0)) (i + 1)
+  keeping-one h q = record {
+    size = length-set draws i (getD sets i 0) ∙ inv .size;
+    done = λ j k. go j (ℕ-discrete j i) k;
+    left = λ j k. getD-set-other draws i j (getD sets i 0) 0 (λ e. omega arith) ∙ inv .left j (omega arith);
+  }
+    where
+      go : (j : ℕ) → Dec (j ≡ i) → j < i + 1 → getD (set draws i (getD sets i 0)) j 0 ≡ drawsTo used sets j
+      go j (yes e) k = rw (e, ← q) (getD-set-same draws i (getD sets i 0) 0 (omega (arith, inv .size)))
+      go j (no n) k = getD-set-other draws i j (getD sets i 0) 0 n ∙ inv .done j (omega arith)
 
 -- ---- what an accepted method says
 
@@ -137,29 +147,14 @@ module _ (env : LifetimeEnv) (structs params output force : List ℕ)
 
 -- ---- the answers of `new`
 
-all-size : (env : LifetimeEnv) → env .count ≤ 64 → length (allSets true env) ≡ 64
-unfolding allSets
-all-size env h = let size = places (reachSet true (boundsOf env)) (env .count) in
-    rw (length-append, size, length-replicate) (omega arith)
-
 -- the set of a lifetime stands at its place
-pub set-there : (env : LifetimeEnv) (i : ℕ) → i < env .count → getD (allSets true env) i 0 ≡ reachSet true (boundsOf env) i
+pub set-there : (env : LifetimeEnv) (i : ℕ) → i < env .count → getD (allSets true env) i 0 ≡ reachSet true env i
 unfolding allSets
 set-there env i below =
-    List·getD-append (map (reachSet true (boundsOf env)) (range 0 (env .count))) (replicate (64 - env .count) 0) 0 i
-    (omega (arith, places (reachSet true (boundsOf env)) (env .count)))
-    ∙ at-place (reachSet true (boundsOf env)) 0 (env .count) i below
-    ∙ ap (reachSet true (boundsOf env)) (zero-add i)
-
-pub sets-size : (env : LifetimeEnv) {r : ReachSets} → r ≡ reachSets true env → length (r .sets) ≡ 64
-unfolding reachSets
-sets-size env {r} q = ap (λ (x : ReachSets). length (x .sets)) q ∙ go (unless (envChecks env) (allSets true env)) refl
-  where
-    go : (o : Outcome (List ℕ)) → unless (envChecks env) (allSets true env) ≡ o → length (resultOr noSets o) ≡ 64
-    go (Gives l) e =
-        let k = given-due (allSets true env) l (envChecks env) e in
-        ap length (sym (k .1)) ∙ all-size env (ltb-false 64 (env .count) (none-first (k .0)))
-    go (Refuses x) e = refl
+    List·getD-append (map (reachSet true env) (range 0 (env .count))) (replicate (64 - env .count) 0) 0 i
+    (omega (arith, places (reachSet true env) (env .count)))
+    ∙ at-place (reachSet true env) 0 (env .count) i below
+    ∙ ap (reachSet true env) (zero-add i)
 
 set-same : {u v : ℕ} → answer.Set u ≡ answer.Set v → u ≡ v
 set-same e = cc
@@ -180,10 +175,10 @@ module _ (env : LifetimeEnv) (structs params output force : List ℕ) {a : UsedL
   unfolding usedSet
   used-refused {r} e = refused-due _ r (methodChecks env structs params output force) (refuses e)
 
-  pub new-refused : {r : Refusal} → a ≡ answer.Refused r
-      → record { verdict = Refused r; visitor = noVisitor } ≡ created env structs params output force
+  pub new-refused : {r : Refusal} → a ≡ answer.Refused r → {v : BorrowingParamVisitor} → v ≡ noVisitor
+      → record { verdict = Refused r; visitor = v } ≡ created env structs params output force
   unfolding created
-  new-refused e = rw (refuses e)
+  new-refused e {v} is = rw (refuses e, is)
 
   module _ {used : ℕ} (e : a ≡ answer.Set used) where
     pub gives : usedSet env structs params output force ≡ Gives used
@@ -197,32 +192,11 @@ module _ (env : LifetimeEnv) (structs params output force : List ℕ) {a : UsedL
     unfolding usedSet
     accepted = (given-due _ used (methodChecks env structs params output force) gives) .0
 
-    -- the sets of the used lifetimes
-    kept-set : {sets : List ℕ} → sets ≡ allSets true env → (i : ℕ) → i < 64
-        → keptAt used sets (replicate 64 0) i ≡ drawsTo used (boundsOf env) i
-    kept-set {sets} q i h = go (member used i) refl
-      where
-        go : (t : Bool) → member used i ≡ t
-            → cond t (getD sets i 0) (getD (replicate 64 0) i 0) ≡ cond t (reachSet true (boundsOf env) i) 0
-        go false m = getD-replicate 64 i 0 0 h
-        go true m =
-            ap (λ (l : List ℕ). getD l i 0) q
-            ∙ set-there env i (used-below env structs params output force accepted used gives i m)
-
-    pub new-given : {r : ReachSets} → r ≡ reachSets true env → {draws : List ℕ} → draws ≡ keptOf used (r .sets) (replicate 64 0)
-        → record { verdict = Accepted; visitor = record { used = used; draws = draws; stored = 0 } }
-        ≡ created env structs params output force
-    unfolding created newVisitor reachSets
-    new-given {r} q {draws} k =
+    pub new-given : {r : ReachSets} → r ≡ reachSets true env → {v : BorrowingParamVisitor} → v ≡ visitorFrom used (r .sets)
+        → record { verdict = Accepted; visitor = v } ≡ created env structs params output force
+    unfolding created reachSets
+    new-given {r} q {v} is =
         let all : r .sets ≡ allSets true env =
         ap (λ (x : ReachSets). x .sets) q
         ∙ rw (due-given (allSets true env) (env-none env structs params output force accepted)) in
-        let same : draws ≡ map (drawsTo used (boundsOf env)) (range 0 64) =
-        k ∙ ext-getD 0 (keptOf used (r .sets) (replicate 64 0)) (map (drawsTo used (boundsOf env)) (range 0 64))
-        (places (keptAt used (r .sets) (replicate 64 0)) 64 ∙ sym (places (drawsTo used (boundsOf env)) 64))
-        (λ i h.
-        let l : i < 64 = omega (arith, places (keptAt used (r .sets) (replicate 64 0)) 64) in
-        at-place (keptAt used (r .sets) (replicate 64 0)) 0 64 i l ∙ rw (zero-add i) (kept-set all i l)
-        ∙ ap (drawsTo used (boundsOf env)) (sym (zero-add i))
-        ∙ sym (at-place (drawsTo used (boundsOf env)) 0 64 i l)) in
-        rw (gives, same)
+        rw (gives, is, all)

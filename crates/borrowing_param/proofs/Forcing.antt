@@ -2,10 +2,9 @@
 -- `visit_param`.
 use Prim.Native.Nat.{ℕ, zero, suc, _≤_, _<_}
 use mathlib.Core.Bool.{Bool, true, false, cond, not, _&&_, and-eq-true-iff}
-use mathlib.Core.Path.{_≡_, refl, sym, ap, subst, _∙_}
+use mathlib.Core.Path.{_≡_, refl, sym, subst, _∙_}
 use mathlib.Core.Logic.{_↔_}
 use mathlib.Core.List.{List, _∷_, _++_, map, List·Memᴰ}
-use native.Mathlib.Nat.{zero-add}
 use native.Mathlib.Decide.{decLt}
 use native.Mathlib.Omega.{arith}
 use borrow.Author.Tests.{lt-ltb, lt-leb, not-false}
@@ -18,7 +17,7 @@ use Rattle.answers.specs.Refusals.{check, Gives, NoneDue, next}
 use Rattle.answers.specs.Lists.{range, filter}
 use Rattle.lifetimes.specs.Sets.{empty, member, members, setOf}
 use Rattle.lifetimes.specs.Env.{boundsOf, envChecks}
-use Rattle.lifetimes.specs.Walk.{LastFirst, reachSet}
+use Rattle.lifetimes.specs.Reach.{reachSet, allSets}
 use Rattle.answers.proofs.RefusalLaws.{due-given, none-first, none-more, none-split}
 use Rattle.answers.proofs.ListLaws.{range-has, filter-has}
 use Rattle.lifetimes.proofs.SetLaws.{members-has}
@@ -37,7 +36,7 @@ use Rattle.borrowing_param.specs.Brings.{answerOf}
 use Rattle.borrowing_param.specs.Visit.{usedOf, drawsOf, bringTo, bringAll, holding, state, visitWith, visit}
 use Rattle.borrowing_param.specs.VisitParam.{typeAt, visitChecks, visitParam}
 use Rattle.borrowing_param.specs.Visits.{unrefusedBy, allOf}
-use Rattle.borrowing_param.specs.New.{drawsTo, newVisitor, created}
+use Rattle.borrowing_param.specs.New.{drawsTo, visitorFrom, newVisitor, created}
 use Rattle.borrowing_param.specs.Condition3.{Above, Param}
 use Rattle.borrowing_param.specs.Theorems.{IsNew, answerAt, AllVisits}
 use Rattle.borrowing_param.proofs.Joining.{Once, join-part}
@@ -45,49 +44,51 @@ use Rattle.borrowing_param.proofs.Running.{kept, unrefused-kept, visits
 use Rattle.borrowing_param.proofs.Bringing.{brought-by, bring-ascends, bring-formed, Formed, kindNumber, defs}
 use Rattle.borrowing_param.proofs.Bringing.{answers}
 use Rattle.borrowing_param.proofs.Visiting.{param-short}
-use Rattle.borrowing_param.proofs.Creating.{at-place, places, places-none, env-none, few-lifetimes, used-below}
+use Rattle.borrowing_param.proofs.Creating.{places, draws-at, set-there, places-none, env-none, few-lifetimes, used-below}
 
 -- ---- by the numberings
 
 module _ (env : LifetimeEnv) (valid : NoneDue (envChecks env)) (few : env .count ≤ 64) (used : ℕ) (below : (k : ℕ)
     → member used k ≡ true → k < env .count) where
-  abbrev v : BorrowingParamVisitor
-  v = newVisitor used (boundsOf env)
+  abbrev sets : List ℕ
+  sets = allSets true env
 
-  draws-above : (l b : ℕ) → List·Memᴰ l (usedOf v) → (drawsOf v l b ≡ true) ↔ Above (boundsOf env) (env .count) b l
-  unfolding newVisitor
+  abbrev v : BorrowingParamVisitor
+  v = visitorFrom used sets
+
+  draws-above : (l b : ℕ) → List·Memᴰ l (usedOf v) → (drawsOf v l b ≡ true) ↔ Above env b l
+  unfolding visitorFrom
   draws-above l b m =
       let in-used = (members-has used l) .0 m in
-      let set : getD (v .draws) l 0 ≡ reachSet true (boundsOf env) l =
-      at-place (drawsTo used (boundsOf env)) 0 64 l (in-used .0) ∙ ap (drawsTo used (boundsOf env)) (zero-add l)
-      ∙ rw (in-used .1) in
-      let reach = (reach-is-outlives LastFirst true env valid l (below l (in-used .1))) .set b in
+      let set : getD (v .draws) l 0 ≡ reachSet true env l =
+      draws-at used sets l (in-used .0) ∙ rw (in-used .1) (set-there env l (below l (in-used .1))) in
+      let reach = reach-is-outlives true env valid l (below l (in-used .1)) in
+      let listed = reach .list .members b in
       let forced = (outlives-is-forced (boundsOf env) l b) .0 in
       let both = and-eq-true-iff (ltb b 64) (member (getD (v .draws) l 0) b) in (
-        λ h. let k = reach .0 (rw set at (both .0 h .1)) in (k .0, forced .0 (k .1)),
-        λ h. both .1 (lt-ltb b 64 (omega (arith, h .0)), rw set (reach .1 (h .0, forced .1 (h .1)))),
+        λ h. let k = listed .0 ((reach .set b) .0 (rw set at (both .0 h .1))) in (k .0, forced .0 (k .1)),
+        λ h. both .1 (lt-ltb b 64 (omega (arith, h .0)), rw set ((reach .set b) .1 (listed .1 (h .0, forced .1 (h .1))))),
       )
 
   pub draws-nothing : (l : ℕ) → (List·Memᴰ l (usedOf v) → ⊥) → getD (v .draws) l 0 ≡ empty
-  unfolding newVisitor
+  unfolding visitorFrom
   draws-nothing l out = go (decLt l 64)
     where
-      not-member : l < 64 → (t : Bool) → member used l ≡ t → cond t (reachSet true (boundsOf env) l) empty ≡ empty
+      not-member : l < 64 → (t : Bool) → member used l ≡ t → cond t (getD sets l 0) empty ≡ empty
       not-member h true e = absurd (out ((members-has used l) .1 (h, e)))
       not-member h false e = refl
 
-      go : Dec (l < 64) → getD (map (drawsTo used (boundsOf env)) (range 0 64)) l 0 ≡ empty
-      go (yes h) = at-place (drawsTo used (boundsOf env)) 0 64 l h ∙ ap (drawsTo used (boundsOf env)) (zero-add l)
-          ∙ not-member h (member used l) refl
+      go : Dec (l < 64) → getD (map (drawsTo used sets) (range 0 64)) l 0 ≡ empty
+      go (yes h) = draws-at used sets l h ∙ not-member h (member used l) refl
       go (no h) =
-          List·getD-eq-default (map (drawsTo used (boundsOf env)) (range 0 64)) 0 {n = l}
-          (omega (arith, h, places (drawsTo used (boundsOf env)) 64))
+          List·getD-eq-default (map (drawsTo used sets) (range 0 64)) 0 {n = l}
+          (omega (arith, h, places (drawsTo used sets) 64))
 
   -- what one parameter brings and answers
   param-is : (t : LoweredType) (p : ℕ) → length (t .path) ≤ 16
-      → Param (boundsOf env) (env .count) v t p (answerOf (t .kind) (bringAll v t p))
+      → Param env v t p (answerOf (t .kind) (bringAll v t p))
   param-is t p short = record {
-    brought = λ l m e. brought-by (drawsOf v l) (λ b. Above (boundsOf env) (env .count) b l) (λ b. draws-above l b m) l p t e;
+    brought = λ l m e. brought-by (drawsOf v l) (λ b. Above env b l) (λ b. draws-above l b m) l p t e;
     ascending = λ l. bring-ascends (drawsOf v l) l p t;
     answers = answers (t .kind) p 16 (bringAll v t p) (omega arith) form;
   }
@@ -163,7 +164,7 @@ module _ (env : LifetimeEnv) (structs params output force : List ℕ)
   used-given = due-given used none
 
   abbrev new : BorrowingParamVisitor
-  new = newVisitor used (boundsOf env)
+  new = newVisitor used env
 
   abbrev made : Created
   made = record { verdict = Accepted; visitor = new }
@@ -173,7 +174,7 @@ module _ (env : LifetimeEnv) (structs params output force : List ℕ)
   created-is = rw used-given
 
   made-new : IsNew env structs params output force made
-  unfolding newVisitor
+  unfolding visitorFrom
   made-new =
       let valid = env-none env structs params output force none in
       let few = few-lifetimes env structs params output force none in
@@ -199,11 +200,11 @@ module _ (env : LifetimeEnv) (structs params output force : List ℕ)
   agrees e words p h = rw (due-given (tt {0}) (visit-none p h))
 
   new-empty : new .stored ≡ 0
-  unfolding newVisitor
+  unfolding visitorFrom
   new-empty = refl
 
   once-new : Once (usedOf new)
-  unfolding newVisitor
+  unfolding visitorFrom
   once-new = once-used used
 
   abbrev Within : List ℕ → Type 0
@@ -216,7 +217,7 @@ module _ (env : LifetimeEnv) (structs params output force : List ℕ)
   unrefused-made : (words ps : List ℕ) → Within ps
       → unrefusedBy (visitParam structs params) (state new words) ps
       ≡ kept (λ p. length (allOf new brings p)) (length words) 0 ps
-  unfolding newVisitor
+  unfolding visitorFrom
   unrefused-made words ps within =
       unrefused-kept (visitParam structs params) new brings (answerAt structs params new)
       (length (typesIn structs params)) agrees (λ p h. refl) words ps within

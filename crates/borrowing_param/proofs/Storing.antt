@@ -245,6 +245,10 @@ module _ (used : ℕ) where
   filter-past x zero h = refl
   filter-past x (suc n) h = rw (none-past x h) (filter-past (suc x) n (omega (arith, pow-suc 2 x)))
 
+  -- no lifetime past the limit is used
+  pub past-limit : {limit : ℕ} → Below used limit → (l : ℕ) → limit ≤ l → member used l ≡ false
+  past-limit {limit} b l h = none-past l (omega (arith, b .1, pow-le-pow-right {n = 2} (omega arith) h))
+
   pub used-end : {limit : ℕ} → Below used limit → (l : ℕ) → limit ≤ l → usedFrom used l ≡ []
   used-end {limit} b l h = filter-past l (64 - l) (omega (arith, b .1, pow-le-pow-right {n = 2} (omega arith) h))
 

@@ -7,6 +7,7 @@ use Rattle.lifetimes.specs.Sets as sets
 use Rattle.lifetimes.specs.Bounds as bounds
 use Rattle.lifetimes.specs.Env as env
 use Rattle.lifetimes.specs.Walk as walk
+use Rattle.lifetimes.specs.Reach as reach
 use Rattle.records.specs.Reading as reading
 use Rattle.ast_lifetimes.specs.Shapes as shapes
 use Rattle.ast_lifetimes.specs.Types as ast-types
@@ -54,13 +55,13 @@ pub sheets-give-methods : SheetsGiveMethods
 sheets-give-methods bytes none = sheet-method bytes none
 
 pub examples-hold : ExamplesHold
-unfolding new.created new.newVisitor map.listedTo map.listedEdges map.answersFrom map.borrowMap visit-param.visitParam
+unfolding new.created new.visitorFrom map.listedTo map.listedEdges map.answersFrom map.borrowMap visit-param.visitParam
     visit.visit visit.afterVisits brings.bring brings.anyDrawn brings.structEdges brings.notes used.usedSet
     filterMap lists.numbered lists.any lists.all lists.count
     rows.readKnown rows.readTypes rows.readRow rows.methodInShape types.readOpaque types.readStruct types.readSlice
     types.readBare types.readLowered reading.readAll reading.inShape reading.itemsOf refusals.unless env.envOf
-    bounds.boundsFrom lists.range lists.filter walk.reachSet walk.traversal walk.walk walk.walkFor walk.unpushed
-    walk.neighbours sets.member sets.insert sets.insertAll sets.members flatMap
+    bounds.boundsFrom lists.range lists.filter reach.reachSet reach.reachList reach.allSets walk.traversal walk.walk
+    walk.walkFor walk.unpushed walk.neighbours sets.member sets.insert sets.insertAll sets.members flatMap
     sheets.lowerSheet sheets.sheetRefusals sheets.loweringChecks shape.sheetChecks read.textChecks read.sheetOf read.sheetIn
     read.linesBehind read.ten read.readLines read.behind read.allShort flatten text.text text.line text.following
     text.digits text.digitsFor

@@ -9,8 +9,7 @@ use lib.ListN.{length, getD, take, drop}
 use lib.Seq.{sets}
 use Rattle.lifetimes.specs.declared.maybe_static.MaybeStatic.{MaybeStatic}
 use Rattle.lifetimes.specs.LoweredWords.{fromWord}
-use Rattle.answers.specs.Lists.{range}
-use Rattle.lifetimes.specs.Sets.{member, members}
+use Rattle.lifetimes.specs.Sets.{members}
 use Rattle.records.specs.Reading.{Reading, onward}
 use Rattle.types.specs.declared.types.Kind.{Kind}
 use Rattle.types.specs.declared.types.Kind.the-variants.{Plain, Opaque, Struct, Slice}
@@ -97,10 +96,3 @@ numberBy Plain n = 0
 numberBy Opaque n = cond (eqb n 0) 0 4
 numberBy Slice n = cond (eqb n 0) 1 2
 numberBy (Struct row) n = cond (eqb n 0) 0 3
-
--- the sets of the used lifetimes, the others as they were
-abbrev pub keptAt : ℕ → List ℕ → List ℕ → ℕ → ℕ
-keptAt used sets draws i = cond (member used i) (getD sets i 0) (getD draws i 0)
-
-abbrev pub keptOf : ℕ → List ℕ → List ℕ → List ℕ
-keptOf used sets draws = map (keptAt used sets draws) (range 0 64)

@@ -12,7 +12,6 @@ use Rattle.answers.specs.declared.Verdict.the-variants.{Accepted}
 use Rattle.answers.specs.Lists.{range}
 use Rattle.answers.specs.Refusals.{Gives, NoneDue}
 use Rattle.lifetimes.specs.Sets.{empty}
-use Rattle.lifetimes.specs.Env.{boundsOf}
 use Rattle.methods.specs.Method.{typesIn, structsAndParamsChecks, methodChecks}
 use Rattle.methods.specs.Used.{usedSet, mostUsed}
 use Rattle.sheet.specs.Reading.{sheetOf}
@@ -39,7 +38,7 @@ pub record IsNew (env : LifetimeEnv) (structs params output force : List ℕ) (c
   pub accepted : c .verdict ≡ Accepted
   pub used : usedSet env structs params output force ≡ Gives (c .visitor .used)
   pub draws : (used : ℕ) → List·Memᴰ used (usedOf (c .visitor)) → (b : ℕ) → (drawsOf (c .visitor) used b ≡ true)
-      ↔ Above (boundsOf env) (env .count) b used
+      ↔ Above env b used
   pub draws-none : (other : ℕ) → (List·Memᴰ other (usedOf (c .visitor)) → ⊥) → getD (c .visitor .draws) other 0 ≡ empty
   pub stored : c .visitor .stored ≡ 0
 
@@ -56,7 +55,7 @@ pub record AllVisits (env : LifetimeEnv) (structs params output force : List ℕ
     (words ps : List ℕ) : Type 0 where
   pub new : IsNew env structs params output force c
   pub parameters : (p : ℕ) → p < length (typesIn structs params)
-      → Param (boundsOf env) (env .count) (c .visitor) (typeAt (typesIn structs params) p) p
+      → Param env (c .visitor) (typeAt (typesIn structs params) p) p
       (answerAt structs params (c .visitor) p)
   pub visits : Visits (visitParam structs params) (c .visitor)
       (λ used p. bringTo (c .visitor) (typeAt (typesIn structs params) p) p used)

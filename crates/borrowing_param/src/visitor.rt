@@ -3,15 +3,15 @@ ghost use mathlib.Core.Path.{_≡_};
 ghost use mathlib.Core.Bool.{cond};
 ghost use lib.Dec.{eqb};
 ghost use Prim.Native.Nat.{_≤_};
-ghost use lib.ListN.{length};
 ghost use Rattle.borrowing_param.specs.Brings.{refuse};
 ghost use Rattle.borrowing_param.specs.Visit.{state, outcome, visit};
 ghost use Rattle.borrowing_param.specs.VisitParam.{visitParam};
-ghost use Rattle.borrowing_param.specs.New.{created};
-ghost use Rattle.borrowing_param.specs.Inner.{Inside, typeIn, FoundAt, numberBy, keptOf};
+ghost use Rattle.borrowing_param.specs.New.{created, visitorFrom};
+ghost use Rattle.borrowing_param.specs.Inner.{Inside, typeIn, FoundAt, numberBy};
 ghost use Rattle.types.specs.Places.{Coded};
 ghost use Rattle.answers.specs.Lent.{held, left};
 use super::edges::count_all;
+use super::edges::past_last;
 use super::edges::store_all;
 use answers::Refusal;
 use answers::Verdict;
@@ -80,29 +80,45 @@ impl BorrowingParamVisitor {
         ensures answer { λ r. ⌜ r ≡ created env (held structs) (held params) (held output) (held force) ⌝ }
     {
         let lifetimes = used_method_lifetimes(env, structs, params, output, force);
-        let mut draws = [0u64; 64];
         match lifetimes {
-            UsedLifetimes::Refused(refusal) => Created {
-                verdict: Verdict::Refused(refusal),
-                visitor: BorrowingParamVisitor {
-                    used: 0,
-                    draws,
-                    stored: 0,
-                },
-            },
+            UsedLifetimes::Refused(refusal) => {
+                let none = [set::EMPTY; LifetimeEnv::MAX_LIFETIMES];
+                Created {
+                    verdict: Verdict::Refused(refusal),
+                    visitor: BorrowingParamVisitor::from_sets(set::EMPTY, &none),
+                }
+            }
             UsedLifetimes::Set(used) => {
                 let reach = env.reach_sets(true);
                 let sets = reach.sets;
-                keep_used(used, &sets, &mut draws);
                 Created {
                     verdict: Verdict::Accepted,
-                    visitor: BorrowingParamVisitor {
-                        used,
-                        draws,
-                        stored: 0,
-                    },
+                    visitor: BorrowingParamVisitor::from_sets(used, &sets),
                 }
             }
+        }
+    }
+
+    // A visitor without edges, from the used lifetimes and, for each lifetime, the set of those that outlive it
+    // (`LifetimeEnv::reach_sets`): at each used lifetime its set, at the others none.
+    pub fn from_sets(used: u64, sets: &[u64; LifetimeEnv::MAX_LIFETIMES]) -> BorrowingParamVisitor
+        ensures answer { λ r. ⌜ r ≡ visitorFrom used (held sets) ⌝ }
+    {
+        let limit = past_last(used);
+        let mut draws = [set::EMPTY; LifetimeEnv::MAX_LIFETIMES];
+        let mut i = 0;
+        'lifetimes: while i < limit {
+            let l = i;
+            i += 1;
+            if !set::contains(used, Lifetime::new(l)) {
+                continue 'lifetimes;
+            }
+            draws[l] = sets[l];
+        }
+        BorrowingParamVisitor {
+            used,
+            draws,
+            stored: 0,
         }
     }
 
@@ -128,22 +144,6 @@ impl BorrowingParamVisitor {
             Verdict::Refused(refusal) => refused(self, refusal),
             Verdict::Accepted => visit_parts(self, params, parts, param, edges),
         }
-    }
-}
-
-// The sets of the used lifetimes, each at its place; at the others the set stays empty.
-fn keep_used(used: u64, sets: &[u64; 64], draws: &mut [u64; 64])
-    requires { ⌜ (length (now sets) ≡ 64) × (length (now draws) ≡ 64) ⌝ }
-    ensures { λ _. ⌜ left draws ≡ keptOf used (held sets) (held draws) ⌝ }
-{
-    let mut i = 0;
-    'lifetimes: while i < 64 {
-        let l = i;
-        i += 1;
-        if !set::contains(used, Lifetime::new(l)) {
-            continue 'lifetimes;
-        }
-        draws[l] = sets[l];
     }
 }
 

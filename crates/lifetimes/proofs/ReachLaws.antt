@@ -1,5 +1,5 @@
 -- What a traversal lists, for both directions and both orders: what is toward its start, that is, what outlives it or
--- what it outlives; and what the numberings say.
+-- what it outlives; what the numberings say; and the lists of an environment.
 use Prim.Native.Nat.{ℕ, _≤_, _<_}
 use mathlib.Core.Bool.{Bool, true, true≢false}
 use mathlib.Core.Path.{_≡_, refl, sym, subst, _∙_}
@@ -7,13 +7,20 @@ use mathlib.Core.Logic.{inl, inr, ⊎-elim, _↔_}
 use mathlib.Core.List.{List, [], _∷_, List·Memᴰ, List·Memᴰ·head, List·Memᴰ·tail, List·Memᴰ·cases-cons}
 use mathlib.Core.List.{List·Memᴰ·not-nil, List·Memᴰ·eq-of-singleton, List·Nodup}
 use native.Mathlib.Decide.{ℕ-discrete}
+use native.Mathlib.Omega.{arith}
 use lib.ListN.{length}
 use Rattle.lifetimes.specs.declared.bounds.Bound.{Bound}
+use Rattle.lifetimes.specs.declared.env.LifetimeEnv.{LifetimeEnv}
+use Rattle.answers.specs.Refusals.{NoneDue}
 use Rattle.lifetimes.specs.Sets.{empty, insert}
+use Rattle.lifetimes.specs.Env.{boundsOf, envChecks}
 use Rattle.lifetimes.specs.Walk.{near, far, neighbours, Order, LastFirst, push, walk, traversal}
 use Rattle.lifetimes.specs.Index.{linkedIn}
+use Rattle.lifetimes.specs.Reach.{reachList}
+use Rattle.lifetimes.specs.Theorems.{ListsTheReach}
 use Rattle.lifetimes.specs.Outlives.{Outlives, Toward, ForcedIn}
 use Rattle.lifetimes.proofs.SetLaws.{member-empty}
+use Rattle.lifetimes.proofs.EnvLaws.{valid, near-declared, far-declared}
 use Rattle.lifetimes.proofs.NeighbourLaws.{neighbours-none, push-nil}
 use Rattle.lifetimes.proofs.WalkLaws.{Walks, walks, walks-same, walk-nil, walk-new, Met, walks-only, walks-all}
 use Rattle.lifetimes.proofs.WalkLaws.{walks-closed, walks-once, walks-linked, unseen-empty, walks-few}
@@ -108,3 +115,33 @@ module _ (N : Type 0) (below : N → N → Type 0) (same : (x : N) → below x x
     where
       v : ℕ → N
       v z = weight (listed? z (traversal LastFirst true bs a))
+
+-- ---- in an environment on which no refusal is due
+
+module _ (d : Bool) (e : LifetimeEnv) (none : NoneDue (envChecks e)) (k : ℕ) (inside : k < e .count) where
+  leads-inside : (b : Bound) → List·Memᴰ b (boundsOf e) → far d b < e .count
+  leads-inside b i = omega (arith, far-declared d (valid e none) b i, (valid e none) .declares)
+
+  pub traversal-lists : (o : Order) → ListsTheReach d e k (traversal o d (boundsOf e) k)
+  traversal-lists o = record {
+    members =
+        λ b. (
+          λ i. (
+            traversal-only o d (boundsOf e) k (λ b. b < e .count) (λ b i h. leads-inside b i) inside b i,
+            (listed-toward o d (boundsOf e) k b) .0 i,
+          ),
+          λ t. (listed-toward o d (boundsOf e) k b) .1 (t .1),
+        );
+    first = (_, traversal-first o d (boundsOf e) k);
+    once = traversal-once o d (boundsOf e) k;
+    elided = λ past. traversal-alone o d (boundsOf e) k (λ b i q. omega (arith, near-declared d (valid e none) b i));
+  }
+
+  -- a list has no more lifetimes than there are, and no other
+  pub reach-few : length (reachList d e k) ≤ e .count
+  unfolding reachList
+  reach-few = traversal-few LastFirst d (boundsOf e) k (e .count) leads-inside inside
+
+  pub reach-inside : (y : ℕ) → List·Memᴰ y (reachList d e k) → y < e .count
+  unfolding reachList
+  reach-inside y i = (traversal-lists LastFirst .members y) .0 i .0

@@ -1,6 +1,6 @@
 -- What the public traversals answer, by what their tests show: one list, all sets, all lists.
 use Prim.Native.Nat.{ℕ, _≤_, _<_}
-use mathlib.Core.Bool.{Bool}
+use mathlib.Core.Bool.{Bool, true, false}
 use mathlib.Core.Path.{_≡_, refl, sym, ap, _∙_}
 use mathlib.Core.List.{List, map, flatten}
 use native.Mathlib.Omega.{arith}
@@ -17,62 +17,65 @@ use Rattle.answers.specs.Lists.{range}
 use Rattle.answers.specs.Refusals.{FirstDue, here, later, NoneDue, end, next}
 use Rattle.answers.specs.Lent.{counted, written}
 use Rattle.lifetimes.specs.Env.{boundsOf, envChecks}
-use Rattle.lifetimes.specs.Walk.{Order, traversal, reachSet}
-use Rattle.lifetimes.specs.Index.{graphOf, listsFrom, Measures, Lays}
+use Rattle.lifetimes.specs.Walk.{orderOf}
+use Rattle.lifetimes.specs.Index.{graphOf, graphIn, listOver, listBy, listsFrom, Measures, Lays}
 use Rattle.answers.specs.Lists.{endsFrom}
-use Rattle.lifetimes.specs.Reach.{listReach, allSets, noSets, reachSets, allLists, listsChecks}
-use Rattle.lifetimes.specs.Reach.{listWords, listEnds, listsAnswer}
+use Rattle.lifetimes.specs.Reach.{allSets, noSets, reachSets, allLists, listsChecks, listWords, listEnds}
+use Rattle.lifetimes.specs.Reach.{listsAnswer, reachList, reachSet, depthFirst, listFrom}
 use Rattle.answers.proofs.ListLaws.{length-range}
 use Rattle.answers.proofs.RefusalLaws.{due-given, due-refused, first-more, first-after, none-more}
 use Rattle.answers.proofs.LentLaws.{answers-refusal, answers-list, no-room, has-room}
 use Rattle.answers.proofs.Copying.{sets-front, drop-replicate}
 use Rattle.lifetimes.proofs.EnvLaws.{valid}
+use Rattle.lifetimes.proofs.ReachLaws.{traversal-linked}
 use Rattle.lifetimes.proofs.Laying.{length-ends}
 
+-- the list over the index in an order is the environment's
+pub list-by : (ast d : Bool) (e : LifetimeEnv) (x : ℕ) → listOver (graphIn (orderOf ast) d (boundsOf e)) x ≡ listBy ast d e x
+unfolding reachList depthFirst
+list-by true d e x = traversal-linked (orderOf true) d (boundsOf e) x
+list-by false d e x = traversal-linked (orderOf false) d (boundsOf e) x
+
 -- one list
-module _ (o : Order) (d : Bool) (e : LifetimeEnv) (x : ℕ) (slice : List ℕ) where
+module _ (e : LifetimeEnv) (x : ℕ) (list slice : List ℕ) where
   pub list-refused : {r : Refusal} → FirstDue r (envChecks e)
-      → (listed.Refused r ≡ counted (listReach o d e x (length slice)))
-      × (slice ≡ written (listReach o d e x (length slice)) slice)
-  unfolding listReach
+      → (listed.Refused r ≡ counted (listFrom e x list (length slice)))
+      × (slice ≡ written (listFrom e x list (length slice)) slice)
+  unfolding listFrom
   list-refused f = answers-refusal _ slice (first-more _ f)
 
   module _ (none : NoneDue (envChecks e)) where
-    pub list-past : e .count ≤ x → (listed.Refused OutOfRange ≡ counted (listReach o d e x (length slice)))
-        × (slice ≡ written (listReach o d e x (length slice)) slice)
-    unfolding listReach
+    pub list-past : e .count ≤ x → (listed.Refused OutOfRange ≡ counted (listFrom e x list (length slice)))
+        × (slice ≡ written (listFrom e x list (length slice)) slice)
+    unfolding listFrom
     list-past h = answers-refusal _ slice (first-after none (here (le-leb (e .count) x h) refl))
 
-    module _ (inside : x < e .count) (items : List ℕ) (n : ℕ) (few : n ≤ length items)
-        (is : take n items ≡ traversal o d (boundsOf e) x) where
-      long : n ≡ length (traversal o d (boundsOf e) x)
+    module _ (inside : x < e .count) (items : List ℕ) (n : ℕ) (few : n ≤ length items) (is : take n items ≡ list) where
+      long : n ≡ length list
       long = sym (length-take-le n items few) ∙ ap length is
 
-      pub list-short : length slice < n → (listed.Refused NoRoom ≡ counted (listReach o d e x (length slice)))
-          × (slice ≡ written (listReach o d e x (length slice)) slice)
-      unfolding listReach
+      pub list-short : length slice < n → (listed.Refused NoRoom ≡ counted (listFrom e x list (length slice)))
+          × (slice ≡ written (listFrom e x list (length slice)) slice)
+      unfolding listFrom
       list-short h =
           answers-refusal _ slice
-          (first-after none
-          (later (lt-leb (e .count) x inside)
-          (no-room (length slice) (traversal o d (boundsOf e) x) (omega (arith, long)))))
+          (first-after none (later (lt-leb (e .count) x inside) (no-room (length slice) list (omega (arith, long)))))
 
-      pub list-given : n ≤ length slice → (listed.Count n ≡ counted (listReach o d e x (length slice)))
-          × (sets slice 0 (take n items) ≡ written (listReach o d e x (length slice)) slice)
-      unfolding listReach
+      pub list-given : n ≤ length slice → (listed.Count n ≡ counted (listFrom e x list (length slice)))
+          × (sets slice 0 (take n items) ≡ written (listFrom e x list (length slice)) slice)
+      unfolding listFrom
       list-given h =
-          let room : length (traversal o d (boundsOf e) x) ≤ length slice = omega (arith, long) in
-          let a = answers-list (traversal o d (boundsOf e) x) slice
-          (none-more none
-          (next (lt-leb (e .count) x inside) (has-room (length slice) (traversal o d (boundsOf e) x) room end))) in
-          (rw long (a .0), rw is (sets-front slice (traversal o d (boundsOf e) x) room ∙ a .1))
+          let room : length list ≤ length slice = omega (arith, long) in
+          let a = answers-list list slice
+          (none-more none (next (lt-leb (e .count) x inside) (has-room (length slice) list room end))) in
+          (rw long (a .0), rw is (sets-front slice list room ∙ a .1))
 
 -- the sets of all lifetimes, in an array of zeros
 sets-all : (d : Bool) (e : LifetimeEnv) → e .count ≤ 64 → (reach : List ℕ)
-    → reach ≡ sets noSets 0 (map (reachSet d (boundsOf e)) (range 0 (e .count))) → reach ≡ allSets d e
+    → reach ≡ sets noSets 0 (map (reachSet d e) (range 0 (e .count))) → reach ≡ allSets d e
 unfolding allSets
 sets-all d e h reach is =
-    let all = map (reachSet d (boundsOf e)) (range 0 (e .count)) in
+    let all = map (reachSet d e) (range 0 (e .count)) in
     let long : length all ≡ e .count = simp length-map (length-range 0 (e .count)) in
     is ∙ sets-front noSets all (omega (arith, long)) ∙ rw (long, drop-replicate {A = ℕ} (e .count) 64 0)
 
@@ -84,7 +87,7 @@ module _ (d : Bool) (e : LifetimeEnv) where
   pub sets-given : {reach : List ℕ} {total : ℕ} → NoneDue (envChecks e)
       → Measures (graphOf d e) (e .count) noSets reach total
       → record { verdict = verdict.Accepted; sets = reach } ≡ reachSets d e
-  unfolding reachSets
+  unfolding reachSets reachSet reachList
   sets-given {reach} none m =
       rw (due-given e none, due-given (allSets d e) none, sets-all d e ((valid e none) .counted) reach (m .reach))
 
@@ -111,7 +114,7 @@ module _ (d : Bool) (e : LifetimeEnv) (words ends : List ℕ) where
 
   module _ (none : NoneDue (envChecks e)) where
     ends-long : length (endsFrom 0 (allLists d e)) ≡ e .count
-    unfolding allLists
+    unfolding allLists reachList
     ends-long = length-ends 0 (listsFrom (graphOf d e) 0 (e .count)) ∙ simp length-map (length-range 0 (e .count))
 
     pub lists-no-ends : length ends < e .count → ListsAre (record { listed = listed.Refused NoRoom; sets = noSets }) words ends
@@ -120,7 +123,7 @@ module _ (d : Bool) (e : LifetimeEnv) (words ends : List ℕ) where
     module _ (places : e .count ≤ length ends) where
       pub lists-no-words : length words < length (flatten (listsFrom (graphOf d e) 0 (e .count)))
           → ListsAre (record { listed = listed.Refused NoRoom; sets = noSets }) words ends
-      unfolding allLists
+      unfolding allLists reachList
       lists-no-words h =
           let room : length (endsFrom 0 (allLists d e)) ≤ length ends = omega (arith, ends-long) in
           lists-by (first-after none
@@ -131,7 +134,7 @@ module _ (d : Bool) (e : LifetimeEnv) (words ends : List ℕ) where
           → {words₁ ends₁ reach : List ℕ} {total : ℕ}
           → Lays (graphOf d e) (e .count) words ends noSets words₁ ends₁ reach total
           → ListsAre (record { listed = listed.Count total; sets = reach }) words₁ ends₁
-      unfolding listsAnswer listWords listEnds allLists
+      unfolding listsAnswer listWords listEnds allLists reachSet reachList
       lists-given fits {words₁} {ends₁} {reach} {total} lays =
           let room : length (endsFrom 0 (allLists d e)) ≤ length ends = omega (arith, ends-long) in
           let n : NoneDue (listsChecks d e (length words) (length ends)) =

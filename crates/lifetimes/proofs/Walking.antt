@@ -16,7 +16,7 @@ use Rattle.lifetimes.specs.declared.lifetime.Lifetime.{Lifetime}
 use Rattle.lifetimes.specs.declared.walk.Next.the-variants.{Yield, Nothing}
 use Rattle.lifetimes.specs.declared.walk.Stepped.{Stepped}
 use Rattle.lifetimes.specs.Sets.{empty, member, insert, insertAll, setOf}
-use Rattle.lifetimes.specs.Walk.{neighbours, LastFirst, walk, traversal, reachSet}
+use Rattle.lifetimes.specs.Walk.{neighbours, LastFirst, walk, traversal}
 use Rattle.lifetimes.specs.Index.{Graph, lastOf, chain, chains, pending, skip, Indexed, Ready, Steps, Within}
 use Rattle.lifetimes.specs.Index.{Complete}
 use Rattle.lifetimes.proofs.SetLaws.{member-empty, insertAll-append}
@@ -90,7 +90,6 @@ going-start g limit start items h = record {
 module _ {g : Graph} {limit start : ℕ} (within : Within g limit) {items : List ℕ} {n : ℕ} {p : List ℕ} {seen : ℕ}
     (go : Going g limit start items n p seen) where
   going-done : walk LastFirst (g .longer) (g .bounds) p seen ≡ [] → Complete g start items (record { count = n; seen = seen })
-  unfolding reachSet
   going-done none =
       let all : take n items ≡ traversal LastFirst (g .longer) (g .bounds) start =
       sym (append-nil (take n items)) ∙ (rw none at (go .rest)) in

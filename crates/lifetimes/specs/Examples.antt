@@ -9,8 +9,7 @@ use Rattle.lifetimes.specs.declared.bounds.Bound.{Bound}
 use Rattle.answers.specs.Refusals.{Outcome, Gives, Refuses}
 use Rattle.lifetimes.specs.Bounds.{above}
 use Rattle.lifetimes.specs.Env.{envOf}
-use Rattle.lifetimes.specs.Walk.{LastFirst, FirstFirst}
-use Rattle.lifetimes.specs.Reach.{listReach}
+use Rattle.lifetimes.specs.Reach.{listReach, listDepthFirst}
 
 pub data Question : Type 0 where
   -- HIR: declared, count, bounds, the direction, the start; with room for 64
@@ -19,8 +18,8 @@ pub data Question : Type 0 where
   Ast : ℕ → ℕ → List Bound → Bool → ℕ → Question
 
 abbrev pub answer : Question → Outcome (List ℕ)
-answer (Hir declared count bs d start) = listReach LastFirst d (envOf declared count bs) start 64
-answer (Ast declared count bs d start) = listReach FirstFirst d (envOf declared count bs) start 64
+answer (Hir declared count bs d start) = listReach d (envOf declared count bs) start 64
+answer (Ast declared count bs d start) = listDepthFirst d (envOf declared count bs) start 64
 
 pub record Example : Type 0 where
   pub question : Question

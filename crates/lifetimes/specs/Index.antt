@@ -4,7 +4,7 @@
 -- and 0 stands for none. A list is pushed in order and its last entry is taken first, so what a traversal pushes of a
 -- lifetime is the chain of its last bound.
 use Prim.Native.Nat.{ℕ, zero, suc, _≤_, _<_}
-use mathlib.Core.Bool.{Bool, cond}
+use mathlib.Core.Bool.{Bool, true, false, cond}
 use mathlib.Core.Path.{_≡_}
 use mathlib.Core.List.{List, [], _∷_, _++_, map, flatten, reverse, List·Memᴰ}
 use lib.Dec.{eqb, leb}
@@ -17,10 +17,11 @@ use Rattle.lifetimes.specs.declared.walk.Next.the-variants.{Yield, Nothi
 use Rattle.lifetimes.specs.declared.walk.Stepped.{Stepped}
 use Rattle.lifetimes.specs.declared.walk.Walked.{Walked}
 use Rattle.answers.specs.Lists.{range}
-use Rattle.lifetimes.specs.Sets.{member}
+use Rattle.lifetimes.specs.Sets.{member, setOf}
 use Rattle.lifetimes.specs.Bounds.{above}
 use Rattle.lifetimes.specs.Env.{boundsOf}
-use Rattle.lifetimes.specs.Walk.{near, far, Order, LastFirst, FirstFirst, traversal, reachSet}
+use Rattle.lifetimes.specs.Walk.{near, far, Order, LastFirst, FirstFirst, traversal}
+use Rattle.lifetimes.specs.Reach.{reachList, depthFirst}
 use Rattle.answers.specs.Lists.{endsFrom}
 
 -- a direction, and the bounds in the order in which they are linked
@@ -120,17 +121,29 @@ abbrev pub Walkable : List ℕ → List ℕ → List ℕ → ℕ → ℕ → Typ
 Walkable fars befores lasts limit start = ((g : Graph) × Indexed g fars befores lasts × Within g limit) × (limit ≤ 64)
     × (start < limit)
 
+-- the list of a lifetime over a graph, and its set
+abbrev pub listOver : Graph → ℕ → List ℕ
+listOver g start = traversal LastFirst (g .longer) (g .bounds) start
+
+abbrev pub setOver : Graph → ℕ → ℕ
+setOver g start = setOf (listOver g start)
+
+-- the list of a lifetime of an environment, in the AST's order or in the HIR's
+abbrev pub listBy : Bool → Bool → LifetimeEnv → ℕ → List ℕ
+listBy true d e start = depthFirst d e start
+listBy false d e start = reachList d e start
+
 -- a traversal that is complete: its items stand in the first places, and their set is the seen one
 pub record Complete (g : Graph) (start : ℕ) (held : List ℕ) (r : Walked) : Type 0 where
-  pub items : take (r .count) held ≡ traversal LastFirst (g .longer) (g .bounds) start
-  pub seen : r .seen ≡ reachSet (g .longer) (g .bounds) start
+  pub items : take (r .count) held ≡ listOver g start
+  pub seen : r .seen ≡ setOver g start
 
 -- the lists of n lifetimes from x on, and their sets
 abbrev pub listsFrom : Graph → ℕ → ℕ → List (List ℕ)
-listsFrom g x n = map (traversal LastFirst (g .longer) (g .bounds)) (range x n)
+listsFrom g x n = map (listOver g) (range x n)
 
 abbrev pub setsFrom : Graph → ℕ → ℕ → List ℕ
-setsFrom g x n = map (reachSet (g .longer) (g .bounds)) (range x n)
+setsFrom g x n = map (setOver g) (range x n)
 
 abbrev pub Measurable : List ℕ → List ℕ → List ℕ → ℕ → ℕ → Type 0
 Measurable fars befores lasts declared count = ((g : Graph) × Indexed g fars befores lasts × Within g declared)

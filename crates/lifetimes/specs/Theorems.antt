@@ -16,7 +16,8 @@ use Rattle.lifetimes.specs.Numbers.{defLifetime}
 use Rattle.answers.specs.Refusals.{Gives, Refuses, NoneDue}
 use Rattle.lifetimes.specs.Sets.{empty, member, insert}
 use Rattle.lifetimes.specs.Env.{boundsOf, envChecks}
-use Rattle.lifetimes.specs.Walk.{neighbours, Order, push, walk, traversal, reachSet, Pending}
+use Rattle.lifetimes.specs.Walk.{neighbours, Order, push, walk, traversal, Pending}
+use Rattle.lifetimes.specs.Reach.{reachList, reachSet, depthFirst}
 use Rattle.lifetimes.specs.Outlives.{Outlives, Toward, ForcedAbove, ForcedAboveℤ}
 use Rattle.lifetimes.specs.Linked.{linkedWord, linkedPair, pairsWithPlaces}
 use Rattle.lifetimes.specs.Examples.{starred, Right}
@@ -37,19 +38,22 @@ pub record TraversesInOrder (o : Order) (d : Bool) (bs : List Bound) : Type 0 wh
 abbrev pub TraversalOrder : Type 0
 TraversalOrder = (o : Order) (d : Bool) (bs : List Bound) → TraversesInOrder o d bs
 
--- Reach against the Reference: a traversal lists exactly the lifetimes that outlive its start (that its start
--- outlives), first the start, none twice; an elided lifetime lists itself only; the set of a traversal has its members.
--- For every environment on which no refusal is due and every lifetime of it.
-pub record ListsTheReach (o : Order) (d : Bool) (e : LifetimeEnv) (k : ℕ) : Type 0 where
-  pub members : (b : ℕ) → List·Memᴰ b (traversal o d (boundsOf e) k) ↔ ((b < e .count) × Toward d (boundsOf e) k b)
-  pub first : (rest : List ℕ) × (traversal o d (boundsOf e) k ≡ k ∷ rest)
-  pub once : List·Nodup (traversal o d (boundsOf e) k)
-  pub elided : e .declared ≤ k → traversal o d (boundsOf e) k ≡ k ∷ []
-  pub set : (b : ℕ) → (member (reachSet d (boundsOf e) k) b ≡ true) ↔ ((b < e .count) × Toward d (boundsOf e) k b)
+-- Reach against the Reference: a lifetime's list has exactly the lifetimes that outlive it (that it outlives), first
+-- itself, none twice; an elided lifetime lists itself only; its set has the members of its list. For every environment
+-- on which no refusal is due and every lifetime of it; in the HIR's order, with the sets, and in the AST's.
+pub record ListsTheReach (d : Bool) (e : LifetimeEnv) (k : ℕ) (list : List ℕ) : Type 0 where
+  pub members : (b : ℕ) → List·Memᴰ b list ↔ ((b < e .count) × Toward d (boundsOf e) k b)
+  pub first : (rest : List ℕ) × (list ≡ k ∷ rest)
+  pub once : List·Nodup list
+  pub elided : e .declared ≤ k → list ≡ k ∷ []
+
+pub record Reaches (d : Bool) (e : LifetimeEnv) (k : ℕ) : Type 0 where
+  pub list : ListsTheReach d e k (reachList d e k)
+  pub set : (b : ℕ) → (member (reachSet d e k) b ≡ true) ↔ List·Memᴰ b (reachList d e k)
+  pub depth-first : ListsTheReach d e k (depthFirst d e k)
 
 abbrev pub ReachIsOutlives : Type 0
-ReachIsOutlives = (o : Order) (d : Bool) (e : LifetimeEnv) → NoneDue (envChecks e) → (k : ℕ) → k < e .count
-    → ListsTheReach o d e k
+ReachIsOutlives = (d : Bool) (e : LifetimeEnv) → NoneDue (envChecks e) → (k : ℕ) → k < e .count → Reaches d e k
 
 -- Outlives is *forced above*: b outlives l exactly if every numbering that respects the bounds puts b at l's number or
 -- higher; by natural numbers and by integers. For all bounds.

@@ -1,7 +1,7 @@
 -- The traversals along bounds, `all_longer_lifetimes` and `all_shorter_lifetimes`, as one definition over the direction
 -- and over the order. The direction is true for longer, false for shorter, as the Rust's field `longer`. Lifetimes are
 -- their numbers. Not here: that the fuel never runs out, so that the plain equations hold (Theorems.TraversalOrder),
--- and what is listed (Theorems.ReachIsOutlives).
+-- and the lists of an environment (Reach.antt).
 use Prim.Native.Nat.{ℕ, zero, suc, _+_}
 use mathlib.Core.Bool.{Bool, true, false, cond, not}
 use mathlib.Core.Path.{_≡_}
@@ -10,7 +10,7 @@ use lib.Dec.{eqb}
 use lib.ListN.{length}
 use Rattle.answers.specs.Lists.{filter, count}
 use Rattle.lifetimes.specs.declared.bounds.Bound.{Bound}
-use Rattle.lifetimes.specs.Sets.{empty, member, insert, setOf}
+use Rattle.lifetimes.specs.Sets.{empty, member, insert}
 
 -- the side of a bound that a traversal in this direction comes from, and the side that it goes to
 abbrev pub near : Bool → Bound → ℕ
@@ -61,10 +61,6 @@ walk o d bs pending seen = walkFor (length pending + unpushed d bs seen) o d bs 
 -- the whole traversal: it starts with the lifetime itself, and nothing seen
 unfoldable pub traversal : Order → Bool → List Bound → ℕ → List ℕ
 traversal o d bs start = walk o d bs (start ∷ []) empty
-
--- the same as a set
-unfoldable pub reachSet : Bool → List Bound → ℕ → ℕ
-reachSet d bs start = setOf (traversal LastFirst d bs start)
 
 -- what can be pending, and seen, in the course of a traversal
 pub data Pending (o : Order) (d : Bool) (bs : List Bound) (start : ℕ) : List ℕ → ℕ → Type 0 where

@@ -8,10 +8,11 @@ ghost use lib.ListN.{length, take};
 ghost use lib.Seq.{sets};
 ghost use Rattle.answers.specs.Refusals.{NoneDue};
 ghost use Rattle.answers.specs.Lent.{counted, held, room, left, Fills};
-ghost use Rattle.lifetimes.specs.Env.{boundsOf, envChecks};
-ghost use Rattle.lifetimes.specs.Walk.{LastFirst, FirstFirst, orderOf, traversal};
-ghost use Rattle.lifetimes.specs.Reach.{listReach, reachSets, listWords, listEnds, listsAnswer};
-ghost use Rattle.lifetimes.specs.Index.{Graph, Indexed, Within, Measurable, Measures, Fits, Layable, Lays};
+ghost use Rattle.lifetimes.specs.Env.{envChecks};
+ghost use Rattle.lifetimes.specs.Reach.{listFrom, listReach, listDepthFirst, reachSets, listWords, listEnds};
+ghost use Rattle.lifetimes.specs.Reach.{listsAnswer};
+ghost use Rattle.lifetimes.specs.Index.{Graph, Indexed, Within, listBy, Measurable, Measures, Fits};
+ghost use Rattle.lifetimes.specs.Index.{Layable, Lays};
 use super::env::LifetimeEnv;
 use super::index::link;
 use super::lifetime::Lifetime;
@@ -37,16 +38,16 @@ impl LifetimeEnv {
     // Write the lifetimes that outlive a lifetime to a slice, itself first, in the order of the Rust. Refused by 4 and
     // 8 as the environment is, by 8 for a lifetime past the count, by 9 where the slice is too short.
     pub fn all_longer_lifetimes(self, lifetime: Lifetime, out: &mut [usize]) -> Listed
-        ensures answer { λ r. ⌜ r ≡ counted (listReach LastFirst true self (lifetime .0) (room out)) ⌝ }
-        ensures stored { λ _. ⌜ Fills (listReach LastFirst true self (lifetime .0) (room out)) out ⌝ }
+        ensures answer { λ r. ⌜ r ≡ counted (listReach true self (lifetime .0) (room out)) ⌝ }
+        ensures stored { λ _. ⌜ Fills (listReach true self (lifetime .0) (room out)) out ⌝ }
     {
         traverse(self, false, lifetime, true, out)
     }
 
     // Write the lifetimes that a lifetime outlives, in the same way.
     pub fn all_shorter_lifetimes(self, lifetime: Lifetime, out: &mut [usize]) -> Listed
-        ensures answer { λ r. ⌜ r ≡ counted (listReach LastFirst false self (lifetime .0) (room out)) ⌝ }
-        ensures stored { λ _. ⌜ Fills (listReach LastFirst false self (lifetime .0) (room out)) out ⌝ }
+        ensures answer { λ r. ⌜ r ≡ counted (listReach false self (lifetime .0) (room out)) ⌝ }
+        ensures stored { λ _. ⌜ Fills (listReach false self (lifetime .0) (room out)) out ⌝ }
     {
         traverse(self, false, lifetime, false, out)
     }
@@ -59,8 +60,8 @@ impl LifetimeEnv {
         longer: bool,
         out: &mut [usize],
     ) -> Listed
-        ensures answer { λ r. ⌜ r ≡ counted (listReach FirstFirst longer self (lifetime .0) (room out)) ⌝ }
-        ensures stored { λ _. ⌜ Fills (listReach FirstFirst longer self (lifetime .0) (room out)) out ⌝ }
+        ensures answer { λ r. ⌜ r ≡ counted (listDepthFirst longer self (lifetime .0) (room out)) ⌝ }
+        ensures stored { λ _. ⌜ Fills (listDepthFirst longer self (lifetime .0) (room out)) out ⌝ }
     {
         traverse(self, true, lifetime, longer, out)
     }
@@ -146,8 +147,8 @@ fn traverse(
     longer: bool,
     out: &mut [usize],
 ) -> Listed
-    ensures { λ r. ⌜ r ≡ counted (listReach (orderOf ast) longer env (lifetime .0) (room out)) ⌝ }
-    ensures { λ _. ⌜ Fills (listReach (orderOf ast) longer env (lifetime .0) (room out)) out ⌝ }
+    ensures { λ r. ⌜ r ≡ counted (listFrom env (lifetime .0) (listBy ast longer env (lifetime .0)) (room out)) ⌝ }
+    ensures { λ _. ⌜ Fills (listFrom env (lifetime .0) (listBy ast longer env (lifetime .0)) (room out)) out ⌝ }
 {
     let verdict = env.check();
     if let Verdict::Refused(refusal) = verdict {
@@ -171,7 +172,7 @@ fn list(env: LifetimeEnv, ast: bool, longer: bool, start: usize, items: &mut [us
     requires { ⌜ NoneDue (envChecks env) × (start < env .count) ⌝ }
     requires { ⌜ length (now items) ≡ 64 ⌝ }
     ensures { λ r. ⌜ (r ≤ 64) × (length (left items) ≡ 64)
-        × (take r (left items) ≡ traversal (orderOf ast) longer (boundsOf env) start) ⌝ }
+        × (take r (left items) ≡ listBy ast longer env start) ⌝ }
 {
     let declared = env.declared;
     let count = env.count;

@@ -7,6 +7,7 @@ use Rattle.lifetimes.specs.Sets as sets
 use Rattle.lifetimes.specs.Bounds as bounds
 use Rattle.lifetimes.specs.Env as env
 use Rattle.lifetimes.specs.Walk as walk
+use Rattle.lifetimes.specs.Reach as reaching
 use Rattle.lifetimes.specs.Examples as reach
 use Rattle.records.specs.Reading as reading
 use Rattle.ast_lifetimes.specs.Shapes as shapes
@@ -65,10 +66,10 @@ unfolding response unless listingOf listingChecks sheets.sheetRefusals sheets.lo
     declared.place rfc.throughout rfc.ownFrom
     rows.readKnown rows.readTypes rows.readRow types.readOpaque types.readStruct types.readSlice types.readBare
     types.readLowered lists.numbered lists.any lists.all lists.count
-    used.usedSet filterMap new.created new.newVisitor map-of.listedTo map-of.listedEdges
+    used.usedSet filterMap new.created new.visitorFrom map-of.listedTo map-of.listedEdges
     map-of.answersFrom brings.bring brings.anyDrawn brings.structEdges
-    listings.answersFrom env.envOf bounds.boundsFrom lists.range lists.filter walk.reachSet walk.traversal walk.walk
-    walk.walkFor walk.unpushed walk.neighbours sets.member sets.insert sets.insertAll sets.members
+    listings.answersFrom env.envOf bounds.boundsFrom lists.range lists.filter reaching.reachSet reaching.reachList reaching.allSets walk.traversal
+    walk.walk walk.walkFor walk.unpushed walk.neighbours sets.member sets.insert sets.insertAll sets.members
 program-right = (refl, (refl, tt))
 
 -- the lists one behind another, last first

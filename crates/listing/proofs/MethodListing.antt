@@ -3,12 +3,12 @@
 use Prim.Native.Nat.{ℕ, _+_, _*_, _-_, _≤_, _<_, _^_}
 use mathlib.Core.Bool.{Bool, true, false, cond}
 use mathlib.Core.Path.{_≡_, refl, sym, ap, subst, _∙_}
-use mathlib.Core.List.{List, [], _∷_, _++_, map, flatMap, flatten, List·Memᴰ}
-use native.Mathlib.Nat.{zero-add, sub-zero, mul-le-mul}
+use mathlib.Core.List.{List, [], _∷_, _++_, map, flatMap, flatten}
+use native.Mathlib.Nat.{sub-zero, mul-le-mul}
 use native.Mathlib.Omega.{arith}
 use borrow.Author.Tests.{le-ltb, lt-ltb, ltb-true, ltb-false}
 use lib.Dec.{ltb}
-use lib.ListN.{length, getD, take, drop, length-append, length-map}
+use lib.ListN.{length, take, drop, length-append, length-map}
 use lib.Seq.{take-append-seam}
 use Rattle.answers.specs.declared.Refusal.{Refusal}
 use Rattle.answers.specs.declared.Refusal.the-variants.{NoRoom}
@@ -20,15 +20,13 @@ use Rattle.answers.specs.Refusals.{Check, Outcome, Gives, Refuses, FirstDue, he
 use Rattle.answers.specs.Lent.{written, verdictOf, resultOr, roomCheck}
 use Rattle.answers.specs.Lists.{range}
 use Rattle.lifetimes.specs.Sets as sets
-use Rattle.lifetimes.specs.Env.{boundsOf}
-use Rattle.lifetimes.specs.Walk.{LastFirst, traversal, reachSet}
 use Rattle.answers.specs.Lists.{endsFrom}
-use Rattle.lifetimes.specs.Reach.{allSets, noSets, allLists, listsChecks, listWords, listEnds, listsAnswer}
+use Rattle.lifetimes.specs.Reach.{reachList, allSets, noSets, allLists, listsChecks, listWords, listEnds}
+use Rattle.lifetimes.specs.Reach.{listsAnswer}
 use Rattle.answers.proofs.RefusalLaws.{due-given, due-refused, refused-first, accepted-none, none-first, none-rest}
 use Rattle.answers.proofs.RefusalLaws.{none-more, none-split, first-behind}
 use Rattle.answers.proofs.ListLaws.{range-has, length-range}
-use Rattle.lifetimes.proofs.SetLaws.{members-has}
-use Rattle.lifetimes.proofs.ReachLaws.{traversal-few}
+use Rattle.lifetimes.proofs.ReachLaws.{reach-few}
 use Rattle.lifetimes.proofs.Laying.{length-ends}
 use Rattle.types.specs.LoweredTypes.{LoweredType}
 use Rattle.methods.specs.Method.{typesIn, structsAndParamsChecks}
@@ -37,13 +35,11 @@ use Rattle.borrowing_param.specs.declared.listed.BorrowMap.{BorrowMap}
 use Rattle.borrowing_param.specs.declared.visitor.LifetimeEdge.{LifetimeEdge}
 use Rattle.borrowing_param.specs.declared.visitor.BorrowingParamVisitor.{BorrowingParamVisitor}
 use Rattle.borrowing_param.specs.Edges.{width, edgeWords, edgesIn}
-use Rattle.borrowing_param.specs.Visit.{usedOf}
-use Rattle.borrowing_param.specs.New.{drawsTo, newVisitor}
+use Rattle.borrowing_param.specs.New.{visitorFrom, newVisitor}
 use Rattle.borrowing_param.specs.BorrowMap as spec
 use Rattle.borrowing_param.specs.BorrowMap.{Mapping, mappingOf, mapChecks, borrowMap, mapAnswer, mapAnswers}
 use Rattle.borrowing_param.specs.BorrowMap.{answersFrom, listedEdges}
 use Rattle.borrowing_param.specs.Borrows.{Borrows}
-use Rattle.borrowing_param.proofs.Creating.{at-place, set-there}
 use Rattle.borrowing_param.proofs.Joining.{words-many, words-read}
 use Rattle.borrowing_param.proofs.Ordering.{listing-consistent}
 use Rattle.listing.specs.declared.within.Within.{Within}
@@ -54,8 +50,8 @@ use Rattle.listing.specs.InnerPrint.{Prints}
 use Rattle.listing.specs.InnerSections.{numbered, cutFrom, Ascend}
 use Rattle.listing.specs.InnerListing.{Lists, ListsWithin, methodBorrows, methodListing, listedMethod, Listable}
 use Rattle.listing.specs.InnerListing.{sections, tooMany}
-use Rattle.listing.proofs.ListingLaws.{cut-lists, ends-ascend, numbered-map, edges-same, answers-same}
-use Rattle.listing.proofs.RoomLaws.{lines-short, lifetimes-few, bounds-within}
+use Rattle.listing.proofs.ListingLaws.{cut-lists, ends-ascend, numbered-map}
+use Rattle.listing.proofs.RoomLaws.{lines-short, lifetimes-few}
 
 flatten-map : {A : Type 0} (f : A → List ℕ) (l : List A) → flatten (map f l) ≡ flatMap f l
 unfolding flatten flatMap
@@ -92,7 +88,7 @@ module _ {env : LifetimeEnv} {used : ℕ} {structs params own given taken : List
   types = typesIn structs params
 
   abbrev new : BorrowingParamVisitor
-  new = newVisitor used (boundsOf env)
+  new = newVisitor used env
 
   abbrev listing : Outcome (List ℕ)
   listing = listedMethod env used structs params own given taken
@@ -105,19 +101,18 @@ module _ {env : LifetimeEnv} {used : ℕ} {structs params own given taken : List
   lists-few : length (flatten (allLists true env)) ≤ env .count * env .count
   unfolding allLists
   lists-few =
-      rw (flatten-map (traversal LastFirst true (boundsOf env)) (range 0 (env .count)))
+      rw (flatten-map (reachList true env) (range 0 (env .count)))
       (omega (
         arith,
         many,
         ap (λ (n : ℕ). env .count * n) (length-range 0 (env .count)),
       ))
     where
-      many : length (flatMap (traversal LastFirst true (boundsOf env)) (range 0 (env .count)))
+      many : length (flatMap (reachList true env) (range 0 (env .count)))
           ≤ env .count * length (range 0 (env .count))
       many =
-          lines-short (traversal LastFirst true (boundsOf env)) (env .count) (range 0 (env .count))
-          (λ l m. traversal-few LastFirst true (boundsOf env) l (env .count) (bounds-within env (can .valid))
-          (omega (arith, (range-has 0 (env .count) l) .0 m)))
+          lines-short (reachList true env) (env .count) (range 0 (env .count))
+          (λ l m. reach-few true env (can .valid) l (omega (arith, (range-has 0 (env .count) l) .0 m)))
 
   lists-many : length (allLists true env) ≡ env .count
   unfolding allLists
@@ -174,173 +169,158 @@ module _ {env : LifetimeEnv} {used : ℕ} {structs params own given taken : List
     longer-are =
         rw lists-cut
         (ap (λ (t : List ℕ). longerHeading ++ t)
-        (numbered-map (traversal LastFirst true (boundsOf env)) 0 (env .count)))
+        (numbered-map (reachList true env) 0 (env .count)))
 
     -- ---- the answers and the edges
 
-    abbrev visitor : BorrowingParamVisitor
-    visitor = record { used = used; draws = l .sets; stored = 0 }
+    module _ {visitor : BorrowingParamVisitor} (made : visitor ≡ visitorFrom used (l .sets)) where
+      is-new : visitor ≡ new
+      is-new = made ∙ ap (visitorFrom used) sets-are
 
-    same-used : visitor .used ≡ new .used
-    unfolding newVisitor
-    same-used = refl
+      edges-are : listedEdges visitor types ≡ borrows .edges
+      edges-are = ap (λ (v : BorrowingParamVisitor). listedEdges v types) is-new
 
-    same-draws : (x : ℕ) → List·Memᴰ x (usedOf new) → getD (visitor .draws) x 0 ≡ getD (new .draws) x 0
-    unfolding newVisitor
-    same-draws x m =
-        let in-used = (members-has used x) .0 m in
-        let there : getD (new .draws) x 0 ≡ reachSet true (boundsOf env) x =
-        at-place (drawsTo used (boundsOf env)) 0 64 x (in-used .0) ∙ ap (drawsTo used (boundsOf env)) (zero-add x)
-        ∙ rw (in-used .1) in
-        ap (λ (s : List ℕ). getD s x 0) sets-are ∙ set-there env x (can .below x (in-used .1)) ∙ sym there
+      mapping-is : mappingOf visitor types ≡ record { answers = borrows .answers; edges = borrows .edges }
+      mapping-is = ap (λ (v : BorrowingParamVisitor). mappingOf v types) is-new
 
-    edges-are : listedEdges visitor types ≡ borrows .edges
-    edges-are = edges-same visitor new same-used same-draws types
+      few-answers : length (answersFrom visitor 0 types) ≤ 16
+      few-answers = listing-consistent visitor structs params (can .of) .few-params
 
-    answers-are : answersFrom visitor 0 types ≡ borrows .answers
-    answers-are = answers-same visitor new same-used same-draws 0 types
+      module _ {answers edges : List ℕ} {m : BorrowMap} {answers₁ edges₁ : List ℕ}
+          (map : Mapped visitor structs params answers edges m answers₁ edges₁) where
+        open Mapped map using (sixteen, most, maps, noted, stored)
 
-    mapping-is : mappingOf visitor types ≡ record { answers = borrows .answers; edges = borrows .edges }
-    mapping-is = rw (edges-are, answers-are)
+        abbrev mapped : Outcome Mapping
+        mapped = borrowMap visitor structs params (length answers) (length edges)
 
-    few-answers : length (answersFrom visitor 0 types) ≤ 16
-    few-answers = listing-consistent visitor structs params (can .of) .few-params
+        abbrev answersRoom : Check
+        answersRoom = roomCheck (length answers) (answersFrom visitor 0 types)
 
-    module _ {answers edges : List ℕ} {m : BorrowMap} {answers₁ edges₁ : List ℕ}
-        (map : Mapped visitor structs params answers edges m answers₁ edges₁) where
-      open Mapped map using (sixteen, most, maps, noted, stored)
+        abbrev edgesRoom : Check
+        edgesRoom = roomCheck (length edges) (flatMap edgeWords (listedEdges visitor types))
 
-      abbrev mapped : Outcome Mapping
-      mapped = borrowMap visitor structs params (length answers) (length edges)
+        verdict-is : m .verdict ≡ verdictOf mapped
+        verdict-is = ap (λ (x : BorrowMap). x .verdict) maps ∙ go mapped
+          where
+            go : (o : Outcome Mapping) → mapAnswer o .verdict ≡ verdictOf o
+            go (Gives x) = refl
+            go (Refuses k) = refl
 
-      abbrev answersRoom : Check
-      answersRoom = roomCheck (length answers) (answersFrom visitor 0 types)
+        answers-fit : answersRoom .due ≡ false
+        answers-fit = le-ltb (length answers) (length (answersFrom visitor 0 types)) (omega (arith, few-answers, sixteen))
 
-      abbrev edgesRoom : Check
-      edgesRoom = roomCheck (length edges) (flatMap edgeWords (listedEdges visitor types))
+        words-are : length (flatMap edgeWords (listedEdges visitor types)) ≡ width * length (borrows .edges)
+        words-are = words-many (listedEdges visitor types) ∙ ap (λ (es : List LifetimeEdge). width * length es) edges-are
 
-      verdict-is : m .verdict ≡ verdictOf mapped
-      verdict-is = ap (λ (x : BorrowMap). x .verdict) maps ∙ go mapped
-        where
-          go : (o : Outcome Mapping) → mapAnswer o .verdict ≡ verdictOf o
-          go (Gives x) = refl
-          go (Refuses k) = refl
+        -- more than so many words of edges
+        edges-many : {k : Refusal} → m .verdict ≡ verdict.Refused k → length edges < width * length (borrows .edges)
+        unfolding borrowMap
+        edges-many {k} v =
+            go (first-behind (next answers-fit end)
+            (first-behind (can .of)
+            (refused-first (mappingOf visitor types) k
+            (mapChecks visitor structs params (length answers) (length edges)) (sym verdict-is ∙ v))))
+          where
+            go : FirstDue k (edgesRoom ∷ []) → length edges < width * length (borrows .edges)
+            go (here d e) = omega (arith, ltb-true (length edges) (length (flatMap edgeWords (listedEdges visitor types))) d, words-are)
 
-      answers-fit : answersRoom .due ≡ false
-      answers-fit = le-ltb (length answers) (length (answersFrom visitor 0 types)) (omega (arith, few-answers, sixteen))
+        pub map-refused : {k : Refusal} (w : Within) (out : List ℕ) → m .verdict ≡ verdict.Refused k → w ≡ tooMany (length edges₁)
+            → ListsWithin listing ((4096 ≤ length lists) × (20480 ≤ length edges)) out w out
+        unfolding listedMethod borrowMap
+        map-refused {k} w out v e = rw (e, same) (go (ltb (length edges) 20480) refl)
+          where
+            refuses : mapped ≡ Refuses k
+            refuses =
+                due-refused (mappingOf visitor types)
+                (refused-first (mappingOf visitor types) k
+                (mapChecks visitor structs params (length answers) (length edges)) (sym verdict-is ∙ v))
 
-      words-are : length (flatMap edgeWords (listedEdges visitor types)) ≡ width * length (borrows .edges)
-      words-are = words-many (listedEdges visitor types) ∙ ap (λ (es : List LifetimeEdge). width * length es) edges-are
+            same : edges₁ ≡ edges
+            same = stored ∙ ap (λ (o : Outcome Mapping). written (spec.mapEdges o) edges) refuses
 
-      -- more than so many words of edges
-      edges-many : {k : Refusal} → m .verdict ≡ verdict.Refused k → length edges < width * length (borrows .edges)
-      unfolding borrowMap
-      edges-many {k} v =
-          go (first-behind (next answers-fit end)
-          (first-behind (can .of)
-          (refused-first (mappingOf visitor types) k
-          (mapChecks visitor structs params (length answers) (length edges)) (sym verdict-is ∙ v))))
-        where
-          go : FirstDue k (edgesRoom ∷ []) → length edges < width * length (borrows .edges)
-          go (here d e) = omega (arith, ltb-true (length edges) (length (flatMap edgeWords (listedEdges visitor types))) d, words-are)
+            go : (t : Bool) → ltb (length edges) 20480 ≡ t
+                → ListsWithin listing ((4096 ≤ length lists) × (20480 ≤ length edges)) out
+                (cond t within.Short (within.Done (listed.Refused NoRoom))) out
+            go true s = (λ a. omega (arith, ltb-true (length edges) 20480 s, a .1), refl)
+            go false s =
+                let many : mostEdges < length (borrows .edges) = omega (arith, ltb-false (length edges) 20480 s, edges-many v) in (
+                  due-refused (methodListing env used structs params own given taken) (here
+                      (lt-ltb mostEdges (length (borrows .edges)) many) refl),
+                  refl,
+                )
 
-      pub map-refused : {k : Refusal} (w : Within) (out : List ℕ) → m .verdict ≡ verdict.Refused k → w ≡ tooMany (length edges₁)
-          → ListsWithin listing ((4096 ≤ length lists) × (20480 ≤ length edges)) out w out
-      unfolding listedMethod borrowMap
-      map-refused {k} w out v e = rw (e, same) (go (ltb (length edges) 20480) refl)
-        where
-          refuses : mapped ≡ Refuses k
-          refuses =
-              due-refused (mappingOf visitor types)
-              (refused-first (mappingOf visitor types) k
-              (mapChecks visitor structs params (length answers) (length edges)) (sym verdict-is ∙ v))
+        module _ (fine : m .verdict ≡ verdict.Accepted) where
+          map-none : NoneDue (mapChecks visitor structs params (length answers) (length edges))
+          unfolding borrowMap
+          map-none =
+              accepted-none (mappingOf visitor types) (mapChecks visitor structs params (length answers) (length edges))
+              (sym verdict-is ∙ fine)
 
-          same : edges₁ ≡ edges
-          same = stored ∙ ap (λ (o : Outcome Mapping). written (spec.mapEdges o) edges) refuses
+          map-given : mapped ≡ Gives (record { answers = borrows .answers; edges = borrows .edges })
+          unfolding borrowMap
+          map-given = due-given (mappingOf visitor types) map-none ∙ ap Gives mapping-is
 
-          go : (t : Bool) → ltb (length edges) 20480 ≡ t
-              → ListsWithin listing ((4096 ≤ length lists) × (20480 ≤ length edges)) out
-              (cond t within.Short (within.Done (listed.Refused NoRoom))) out
-          go true s = (λ a. omega (arith, ltb-true (length edges) 20480 s, a .1), refl)
-          go false s =
-              let many : mostEdges < length (borrows .edges) = omega (arith, ltb-false (length edges) 20480 s, edges-many v) in (
-                due-refused (methodListing env used structs params own given taken) (here
-                    (lt-ltb mostEdges (length (borrows .edges)) many) refl),
-                refl,
+          edges-fit : width * length (borrows .edges) ≤ length edges
+          edges-fit =
+              let n = none-split (structsAndParamsChecks structs params) (answersRoom ∷ edgesRoom ∷ []) map-none .1 in
+              omega (
+                arith,
+                ltb-false (length edges) (length (flatMap edgeWords (listedEdges visitor types)))
+                    (none-first (none-rest n)),
+                words-are,
               )
 
-      module _ (fine : m .verdict ≡ verdict.Accepted) where
-        map-none : NoneDue (mapChecks visitor structs params (length answers) (length edges))
-        unfolding borrowMap
-        map-none =
-            accepted-none (mappingOf visitor types) (mapChecks visitor structs params (length answers) (length edges))
-            (sym verdict-is ∙ fine)
+          map-is : m ≡ mapAnswer (Gives (record { answers = borrows .answers; edges = borrows .edges }))
+          map-is = maps ∙ ap mapAnswer map-given
 
-        map-given : mapped ≡ Gives (record { answers = borrows .answers; edges = borrows .edges })
-        unfolding borrowMap
-        map-given = due-given (mappingOf visitor types) map-none ∙ ap Gives mapping-is
+          answers-stand : answers₁ ≡ borrows .answers ++ drop (length (borrows .answers)) answers
+          answers-stand = noted ∙ ap (λ (o : Outcome Mapping). written (mapAnswers o) answers) map-given
 
-        edges-fit : width * length (borrows .edges) ≤ length edges
-        edges-fit =
-            let n = none-split (structsAndParamsChecks structs params) (answersRoom ∷ edgesRoom ∷ []) map-none .1 in
-            omega (
-              arith,
-              ltb-false (length edges) (length (flatMap edgeWords (listedEdges visitor types)))
-                  (none-first (none-rest n)),
-              words-are,
+          edges-stand : edges₁ ≡ flatMap edgeWords (borrows .edges) ++ drop (length (flatMap edgeWords (borrows .edges))) edges
+          edges-stand = stored ∙ ap (λ (o : Outcome Mapping). written (spec.mapEdges o) edges) map-given
+
+          pub params-inside : m .params ≤ length answers₁
+          params-inside = rw (map-is, answers-stand, length-append) (omega arith)
+
+          pub edges-inside : width * m .edges ≤ length edges₁
+          edges-inside = rw (map-is, edges-stand, length-append, words-many (borrows .edges)) (omega arith)
+
+          -- ---- the whole
+
+          abbrev counts : ℕ → List ℕ
+          counts many = env .count ∷ many ∷ m .params ∷ m .edges ∷ []
+
+          abbrev answers₂ : List ℕ
+          answers₂ = take (m .params - 0) (drop 0 answers₁)
+
+          answers₂-are : answers₂ ≡ borrows .answers
+          answers₂-are = rw (sub-zero, map-is, answers-stand) (take-append-seam (borrows .answers) _)
+
+          edges₂-are : edgesIn (m .edges) edges₁ ≡ borrows .edges
+          edges₂-are = rw (map-is, edges-stand) (words-read (borrows .edges) _)
+
+          few-edges : length (borrows .edges) ≤ mostEdges
+          few-edges = omega (arith, edges-fit, most)
+
+          module _ {many : ℕ} (counted : many ≡ sets.count used) where
+            sections-are : sections (counts many) own given taken lists₁ ends₁ answers₂ edges₁
+                ≡ methodListing env used structs params own given taken
+            unfolding sections methodListing sets.count visitorFrom
+            sections-are =
+                five-same (loweredHeading ++ (line own ++ (line given ++ line taken)))
+                (ap (λ (ns : List ℕ). countHeading ++ line ns) (rw (counted, map-is)))
+                longer-are (ap answerLines answers₂-are) (ap edgeLines edges₂-are)
+
+            pub sections-small : length (sections (counts many) own given taken lists₁ ends₁ answers₂ edges₁) < 2 ^ 64
+            sections-small = rw sections-are (omega (arith, can .short few-edges))
+
+            pub method-listed : {n : ℕ} {out out₁ : List ℕ}
+                → Prints (sections (counts many) own given taken lists₁ ends₁ answers₂ edges₁) 0 out n out₁
+                → ListsWithin listing ((4096 ≤ length lists) × (20480 ≤ length edges)) out (within.Done (listed.Count n)) out₁
+            unfolding listedMethod
+            method-listed p = (
+              methodListing env used structs params own given taken,
+              due-given (methodListing env used structs params own given taken)
+                  (next (le-ltb mostEdges (length (borrows .edges)) few-edges) end),
+              rw sections-are at p,
             )
-
-        map-is : m ≡ mapAnswer (Gives (record { answers = borrows .answers; edges = borrows .edges }))
-        map-is = maps ∙ ap mapAnswer map-given
-
-        answers-stand : answers₁ ≡ borrows .answers ++ drop (length (borrows .answers)) answers
-        answers-stand = noted ∙ ap (λ (o : Outcome Mapping). written (mapAnswers o) answers) map-given
-
-        edges-stand : edges₁ ≡ flatMap edgeWords (borrows .edges) ++ drop (length (flatMap edgeWords (borrows .edges))) edges
-        edges-stand = stored ∙ ap (λ (o : Outcome Mapping). written (spec.mapEdges o) edges) map-given
-
-        pub params-inside : m .params ≤ length answers₁
-        params-inside = rw (map-is, answers-stand, length-append) (omega arith)
-
-        pub edges-inside : width * m .edges ≤ length edges₁
-        edges-inside = rw (map-is, edges-stand, length-append, words-many (borrows .edges)) (omega arith)
-
-        -- ---- the whole
-
-        abbrev counts : ℕ → List ℕ
-        counts many = env .count ∷ many ∷ m .params ∷ m .edges ∷ []
-
-        abbrev answers₂ : List ℕ
-        answers₂ = take (m .params - 0) (drop 0 answers₁)
-
-        answers₂-are : answers₂ ≡ borrows .answers
-        answers₂-are = rw (sub-zero, map-is, answers-stand) (take-append-seam (borrows .answers) _)
-
-        edges₂-are : edgesIn (m .edges) edges₁ ≡ borrows .edges
-        edges₂-are = rw (map-is, edges-stand) (words-read (borrows .edges) _)
-
-        few-edges : length (borrows .edges) ≤ mostEdges
-        few-edges = omega (arith, edges-fit, most)
-
-        module _ {many : ℕ} (counted : many ≡ sets.count used) where
-          sections-are : sections (counts many) own given taken lists₁ ends₁ answers₂ edges₁
-              ≡ methodListing env used structs params own given taken
-          unfolding sections methodListing sets.count newVisitor
-          sections-are =
-              five-same (loweredHeading ++ (line own ++ (line given ++ line taken)))
-              (ap (λ (ns : List ℕ). countHeading ++ line ns) (rw (counted, map-is)))
-              longer-are (ap answerLines answers₂-are) (ap edgeLines edges₂-are)
-
-          pub sections-small : length (sections (counts many) own given taken lists₁ ends₁ answers₂ edges₁) < 2 ^ 64
-          sections-small = rw sections-are (omega (arith, can .short few-edges))
-
-          pub method-listed : {n : ℕ} {out out₁ : List ℕ}
-              → Prints (sections (counts many) own given taken lists₁ ends₁ answers₂ edges₁) 0 out n out₁
-              → ListsWithin listing ((4096 ≤ length lists) × (20480 ≤ length edges)) out (within.Done (listed.Count n)) out₁
-          unfolding listedMethod
-          method-listed p = (
-            methodListing env used structs params own given taken,
-            due-given (methodListing env used structs params own given taken)
-                (next (le-ltb mostEdges (length (borrows .edges)) few-edges) end),
-            rw sections-are at p,
-          )

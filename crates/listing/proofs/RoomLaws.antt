@@ -13,12 +13,11 @@ use Rattle.lifetimes.specs.declared.maybe_static.MaybeStatic.{MaybeStatic}
 use Rattle.answers.specs.Lists.{range}
 use Rattle.answers.specs.Refusals.{NoneDue}
 use Rattle.lifetimes.specs.LoweredWords.{wordOf}
-use Rattle.lifetimes.specs.Env.{boundsOf, envChecks}
-use Rattle.lifetimes.specs.Walk.{LastFirst, traversal}
-use Rattle.answers.proofs.RefusalLaws.{none-first, none-rest, none-split}
-use Rattle.lifetimes.proofs.EnvLaws.{all-below}
-use Rattle.lifetimes.proofs.ReachLaws.{traversal-only, traversal-few}
+use Rattle.lifetimes.specs.Env.{envChecks}
+use Rattle.answers.proofs.RefusalLaws.{none-first, none-split}
+use Rattle.lifetimes.proofs.ReachLaws.{reach-few, reach-inside}
 use Rattle.answers.proofs.ListLaws.{range-has, length-range}
+use Rattle.lifetimes.specs.Reach.{reachList}
 use Rattle.ast_lifetimes.specs.Env as ast
 use Rattle.ast_lifetimes.proofs.AcceptedLaws.{accepted-names}
 use Rattle.elision.specs.Steps.{receiverOf, stepsOf}
@@ -121,21 +120,13 @@ module _ (env : LifetimeEnv) (valid : NoneDue (envChecks env)) where
   pub lifetimes-few : env .count ≤ 64
   lifetimes-few = ltb-false 64 (env .count) (none-first valid)
 
-  pub bounds-within : (b : Bound) → List·Memᴰ b (boundsOf env) → b .longer < env .count
-  bounds-within b m =
-      let declared = ltb-false (env .count) (env .declared) (none-first (none-rest (none-rest valid))) in
-      let below = all-below (env .declared) (boundsOf env) (not-false _ (none-first (none-rest (none-rest (none-rest valid))))) b m in
-      omega (arith, declared, below .0)
-
   longer-short : (l : ℕ) → List·Memᴰ l (range 0 (env .count)) → length (longerLine env l) ≤ 196
   longer-short l m =
       let here : l < env .count = omega (arith, (range-has 0 (env .count) l) .0 m) in
-      let few = traversal-few LastFirst true (boundsOf env) l (env .count) bounds-within here in
-      let small = below-from 100 (traversal LastFirst true (boundsOf env) l)
-      (λ y k. let z : y < env .count = traversal-only LastFirst true (boundsOf env) l (λ y. y < env .count)
-      (λ b i h. bounds-within b i) here y k in omega (arith, z, lifetimes-few)) in
-      let short = line-short (l ∷ traversal LastFirst true (boundsOf env) l) (omega (arith, here, lifetimes-few), small) in
-      omega (arith, short, few, lifetimes-few)
+      let small = below-from 100 (reachList true env l)
+      (λ y k. omega (arith, reach-inside true env valid l here y k, lifetimes-few)) in
+      let short = line-short (l ∷ reachList true env l) (omega (arith, here, lifetimes-few), small) in
+      omega (arith, short, reach-few true env valid l here, lifetimes-few)
 
   all-longer-short : length (longerLines env) ≤ 12560
   all-longer-short =

@@ -11,7 +11,7 @@ use Rattle.answers.specs.declared.Listed.the-variants as listed
 use Rattle.lifetimes.specs.declared.env.LifetimeEnv.{LifetimeEnv}
 use Rattle.answers.specs.Refusals.{check, Outcome, Gives, Refuses, unless, NoneDue}
 use Rattle.lifetimes.specs.Sets.{member}
-use Rattle.lifetimes.specs.Env.{boundsOf, envChecks}
+use Rattle.lifetimes.specs.Env.{envChecks}
 use Rattle.sheet.specs.Text.{line, Records}
 use Rattle.sheet.specs.Reading.{sheetOf}
 use Rattle.borrowing_param.specs.Edges.{edgesIn}
@@ -51,7 +51,7 @@ ListsWithin o ample out within.Short out₁ = (ample → ⊥) × (out₁ ≡ out
 
 -- an accepted method: its environment, used lifetimes, structs and params, and the lowered words of its records
 abbrev pub methodBorrows : LifetimeEnv → ℕ → List ℕ → List ℕ → Borrows
-methodBorrows env used structs params = borrowsBy (newVisitor used (boundsOf env)) structs params
+methodBorrows env used structs params = borrowsBy (newVisitor used env) structs params
 
 unfoldable pub methodListing : LifetimeEnv → ℕ → List ℕ → List ℕ → List ℕ → List ℕ → List ℕ → List ℕ
 methodListing env used structs params own given taken =

@@ -11,8 +11,7 @@ use Rattle.lifetimes.specs.declared.env.LifetimeEnv.{LifetimeEnv}
 use Rattle.answers.specs.Lists.{range}
 use Rattle.answers.specs.Refusals.{Check, check, Outcome, Gives, Refuses, unless, numberOf}
 use Rattle.answers.specs.Lent.{roomCheck}
-use Rattle.lifetimes.specs.Env.{boundsOf}
-use Rattle.lifetimes.specs.Walk.{LastFirst, traversal}
+use Rattle.lifetimes.specs.Reach.{reachList}
 use Rattle.elision.specs.Rfc as rfc
 use Rattle.elision.specs.Lowering.{words}
 use Rattle.sheet.specs.Text.{newline, space, line, Records}
@@ -38,12 +37,12 @@ loweredHeading = 108 ∷ 111 ∷ 119 ∷ 101 ∷ 114 ∷ 101 ∷ 100 ∷ newline
 abbrev pub loweredLines : rfc.Method → List ℕ
 loweredLines m = loweredHeading ++ (line (words (m .self)) ++ (line (words (m .steps)) ++ line (words (m .returns))))
 
--- "lifetime longer": each lifetime, then its traversal
+-- "lifetime longer": each lifetime, then what outlives it, in the HIR's order
 abbrev pub longerHeading : List ℕ
 longerHeading = 108 ∷ 105 ∷ 102 ∷ 101 ∷ 116 ∷ 105 ∷ 109 ∷ 101 ∷ space ∷ 108 ∷ 111 ∷ 110 ∷ 103 ∷ 101 ∷ 114 ∷ newline ∷ []
 
 abbrev pub longerLine : LifetimeEnv → ℕ → List ℕ
-longerLine env l = line (l ∷ traversal LastFirst true (boundsOf env) l)
+longerLine env l = line (l ∷ reachList true env l)
 
 abbrev pub longerLines : LifetimeEnv → List ℕ
 longerLines env = longerHeading ++ flatMap (longerLine env) (range 0 (env .count))

@@ -177,12 +177,8 @@ fn list_method(
     }
     let mut ends = [0usize; 64];
     let longer = env.all_lists(true, lists, &mut ends);
-    let draws = longer.sets;
-    let visitor = BorrowingParamVisitor {
-        used,
-        draws,
-        stored: 0,
-    };
+    let sets = longer.sets;
+    let visitor = BorrowingParamVisitor::from_sets(used, &sets);
     let mut answers = [0usize; 16];
     let map = visitor.borrow_map(structs, params, &mut answers, edges);
     let verdict = map.verdict;

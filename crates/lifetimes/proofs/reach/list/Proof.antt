@@ -8,7 +8,7 @@ use Rattle.lifetimes.specs.Walk.{orderOf}
 use Rattle.lifetimes.specs.Index.{graphIn}
 use Rattle.lifetimes.proofs.EnvLaws.{Valid, valid}
 use Rattle.lifetimes.proofs.IndexLaws.{bounds-length, bounds-fine, bounds-within, zeros}
-use Rattle.lifetimes.proofs.ReachLaws.{traversal-linked}
+use Rattle.lifetimes.proofs.Traversing.{list-by}
 use Rattle.lifetimes.proofs.reach.list.Statement.{statement}
 use Rattle.lifetimes.proofs.reach.list.Tie as tie
 
@@ -55,8 +55,8 @@ returns c =
       w .ensures .0 .1,
       (w .ensures .1 (graphIn (orderOf (s .args .ast)) (s .args .longer) (boundsOf (s .args .env))) (at-link .link .ensures)
           (bounds-within (holds s) (orderOf (s .args .ast)) (s .args .longer)
-          _ (at-limit-of .limit-of .ensures .2))) .items ∙ traversal-linked (orderOf (s .args .ast)) (s .args .longer)
-          (boundsOf (s .args .env)) (s .args .start),
+          _ (at-limit-of .limit-of .ensures .2))) .items
+          ∙ list-by (s .args .ast) (s .args .longer) (s .args .env) (s .args .start),
     )
 
 pub list-spec : {M : Type 1} → statement M

@@ -10,15 +10,21 @@ use borrow.Author.Needs.{needs}
 use Rattle.listing.proofs.within.list_method.Statement.{statement}
 use Rattle.listing.proofs.within.list_method.Tie as tie
 
--- the start, from the test on, from behind the lists and from behind the map
+-- the start, from the test on and from behind the lists; and from behind the map what is before it
 abbrev start : tie.After-slice-known3 → tie.Start
 start c = c .before .before .before .before .before .before .before .before
 
 abbrev start-2 : tie.After-all-lists → tie.Start
 start-2 c = start (c .before .before .before .before)
 
+abbrev visitor : tie.After-borrow-map → tie.After-from-sets
+visitor c = c .before .before .before
+
+abbrev lists : tie.After-borrow-map → tie.After-all-lists
+lists c = visitor c .before .before .before .before .before .before
+
 abbrev start-3 : tie.After-borrow-map → tie.Start
-start-3 c = start-2 (c .before .before .before .before .before .before .before)
+start-3 c = start-2 (lists c)
 
 all-listed : (c : tie.After-all-lists)
     → AllListed (start-2 c .args .env) (start-2 c .args .lists .now) (replicate 64 0) (c .all-lists .result)
@@ -28,12 +34,7 @@ all-listed c =
     record { places = refl; room = c .before .before .before .if1 .left; is = a .0; wrote = a .1 .0; ended = a .1 .1 }
 
 mapped : (c : tie.After-borrow-map)
-    → Mapped (record {
-      used = start-3 c .args .used;
-      draws = c .before .before .before .before .before .before .before .all-lists .result .sets;
-      stored =
-          0;
-    }) (start-3 c .args .structs .now) (start-3 c .args .params .now) (replicate 16 0)
+    → Mapped (visitor c .from-sets .result) (start-3 c .args .structs .now) (start-3 c .args .params .now) (replicate 16 0)
     (start-3 c .args .edges .now) (c .borrow-map .result) (c .borrow-map .last .1 .1 .1 .0) (c .borrow-map .last .1 .1 .1 .1 .0)
 mapped c =
     let m = c .borrow-map .ensures in
@@ -52,15 +53,15 @@ returns-2 : tie.Need-returns-2
 returns-2 c =
     let map = c .before .before .before .before .before .before in
     let s = start-3 map in
-    map-refused (s .pre .0) (all-listed (map .before .before .before .before .before .before .before)) (mapped map)
+    map-refused (s .pre .0) (all-listed (lists map)) (visitor map .from-sets .ensures) (mapped map)
     _ (s .args .out .now) (c .before .enum-told .given .1) (c .too-many .ensures)
 
 part-put-listing-end : tie.Need-part-put-listing-end
 part-put-listing-end c =
     let told = c .before .before .before .before .before .before in
     let map = told .before .before .before .before .before in
-    params-inside (start-3 map .pre .0) (all-listed (map .before .before .before .before .before .before .before))
-    (mapped map) (told .enum-told2 .given .1)
+    params-inside (start-3 map .pre .0) (all-listed (lists map))
+    (visitor map .from-sets .ensures) (mapped map) (told .enum-told2 .given .1)
 
 put-listing-requires : tie.Need-put-listing-requires
 put-listing-requires c κs =
@@ -68,11 +69,12 @@ put-listing-requires c κs =
     let fine = counted .before .enum-told2 .given .1 in
     let map = counted .before .before .before .before .before .before in
     let can = start-3 map .pre .0 in
-    let all = all-listed (map .before .before .before .before .before .before .before) in (
+    let all = all-listed (lists map) in
+    let new = visitor map .from-sets .ensures in (
       refl,
       (
         lists-ascend can all,
-        (edges-inside can all (mapped map) fine, sections-small can all (mapped map) fine (counted .count .ensures)),
+        (edges-inside can all new (mapped map) fine, sections-small can all new (mapped map) fine (counted .count .ensures)),
       ),
     )
 
@@ -80,8 +82,8 @@ returns-3 : tie.Need-returns-3
 returns-3 c =
     let counted = c .before .before .before .before .before .before .before .before .before .before in
     let map = counted .before .before .before .before .before .before in
-    method-listed (start-3 map .pre .0) (all-listed (map .before .before .before .before .before .before .before))
-    (mapped map) (counted .before .enum-told2 .given .1) (counted .count .ensures)
+    method-listed (start-3 map .pre .0) (all-listed (lists map))
+    (visitor map .from-sets .ensures) (mapped map) (counted .before .enum-told2 .given .1) (counted .count .ensures)
     (c .before .before .put-listing .ensures)
 
 pub list-method-spec : {M : Type 1} → statement M
@@ -90,8 +92,8 @@ list-method-spec =
     (tie.spec
     mul-if1
     returns
-    (λ c. search needs) (λ c κs. search needs) (λ c. search needs) (λ c κs. search needs) (λ c. search needs)
-    (λ c κs. search needs) (λ c. search needs) (λ c. search needs)
+    (λ c. search needs) (λ c κs. search needs) (λ c κs. search needs) (λ c. search needs) (λ c κs. search needs)
+    (λ c. search needs) (λ c κs. search needs) (λ c. search needs) (λ c. search needs)
     returns-2
     (λ c. search needs) (λ c κs. search needs) (λ c. search needs) (λ c. search needs)
     part-put-listing-end

@@ -1,5 +1,5 @@
 -- `new` meets its contract: its two answers are laws of proofs/Creating.antt.
-use Rattle.borrowing_param.proofs.Creating.{sets-size, new-refused, new-given}
+use Rattle.borrowing_param.proofs.Creating.{new-refused, new-given}
 use borrow.Author.Needs.{needs}
 use Rattle.borrowing_param.proofs.visitor.BorrowingParamVisitor.new.Statement.{statement}
 use Rattle.borrowing_param.proofs.visitor.BorrowingParamVisitor.new.Tie as tie
@@ -8,7 +8,7 @@ pub new-spec : {M : Type 1} → statement M
 new-spec =
     tie.close
     (tie.spec
-    (λ c κs. search needs) (λ c. search needs) (λ c. search needs) (λ c κs. search needs)
-    (λ c κs. search (sets-size, needs))
+    (λ c κs. search needs) (λ c. search needs) (λ c κs. search needs) (λ c. search needs) (λ c κs. search needs)
+    (λ c κs. search needs)
     (λ c. search (new-refused, needs))
     (λ c. search (new-given, needs)))
