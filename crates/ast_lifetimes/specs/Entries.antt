@@ -10,8 +10,8 @@ use Rattle.answers.specs.Refusals.{check, Outcome, Gives, bind, unless}
 use Rattle.ast_lifetimes.specs.declared.env.LifetimeEnv.{LifetimeEnv}
 use Rattle.ast_lifetimes.specs.Shapes.{implNames, methodNames, Pair, implPairs, methodPairs}
 use Rattle.ast_lifetimes.specs.Types.{TypeName, Other, Named, Reference, Option, Result, typesOf}
-use Rattle.ast_lifetimes.specs.Env.{mostNames, isDeclared, pairChecks, boundOf, Behind, Ref, Nothing, behind, pathPairs}
-use Rattle.ast_lifetimes.specs.Env.{envOf}
+use Rattle.ast_lifetimes.specs.Env.{mostNames, isDeclared, pairChecks, boundOf, Behind, Ref, Nothing, behind}
+use Rattle.ast_lifetimes.specs.Env.{pathPairs, envOf}
 
 -- what the records say, in order: a name; a bound between two names; a path behind a named reference, with its
 -- lifetimes

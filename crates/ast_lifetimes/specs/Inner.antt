@@ -21,6 +21,8 @@ use Rattle.ast_lifetimes.specs.Shapes.{isName, Pair}
 use Rattle.ast_lifetimes.specs.Types as types
 use Rattle.ast_lifetimes.specs.Env.{place, isDeclared, nameChecks, allPairChecks, boundsFor, allNamesOf}
 use Rattle.ast_lifetimes.specs.Env.{placeChecks, methodBounds}
+use Rattle.lifetimes.specs.Limits.{mostBounds}
+use Rattle.ast_lifetimes.specs.Env.{mostNames}
 
 -- the first n bounds, from their longer and their shorter sides
 abbrev pub sidesOf : ℕ → List ℕ → List ℕ → List Bound
@@ -29,20 +31,20 @@ sidesOf n longs shorts = map (λ i. above (getD longs i 0) (getD shorts i 0)) (r
 -- names declared behind the first `named` of an array: the verdict is that of their checks; accepted, they stand there
 pub record Declares (new before after : List ℕ) (named : ℕ) (r : Verdict) : Type 0 where
   pub verdict : r ≡ judged (nameChecks (take named before) new)
-  pub size : length after ≡ 32
+  pub size : length after ≡ mostNames
   pub names : r ≡ Accepted → take (named + length new) after ≡ take named before ++ new
-  pub few : r ≡ Accepted → named + length new ≤ 32
+  pub few : r ≡ Accepted → named + length new ≤ mostNames
 
 -- pairs pushed behind the first `pushed` bounds of two arrays of sides: the verdict is that of their checks; accepted,
 -- they stand there
 pub record Pushes (names : List ℕ) (new : List Pair) (longs shorts longs₁ shorts₁ : List ℕ) (pushed : ℕ)
     (r : Verdict) : Type 0 where
   pub verdict : r ≡ judged (allPairChecks names pushed new)
-  pub size-longs : length longs₁ ≡ 256
-  pub size-shorts : length shorts₁ ≡ 256
+  pub size-longs : length longs₁ ≡ mostBounds
+  pub size-shorts : length shorts₁ ≡ mostBounds
   pub bounds : r ≡ Accepted → sidesOf (pushed + length new) longs₁ shorts₁ ≡ sidesOf pushed longs shorts
       ++ boundsFor names new
-  pub few : r ≡ Accepted → pushed + length new ≤ 256
+  pub few : r ≡ Accepted → pushed + length new ≤ mostBounds
 
 -- the words of a type, and of types one after another
 unfoldable pub encode : types.TypeName → List ℕ
@@ -65,7 +67,7 @@ Reaches bs named reach = (a : ℕ) → a < named → (b : ℕ) → (member (getD
 
 -- the sets with one bound more
 pub record Joins (named long short : ℕ) (before after : List ℕ) : Type 0 where
-  pub size : length after ≡ 32
+  pub size : length after ≡ mostNames
   pub joins : (bs : List Bound) → Reaches bs named before → Reaches (bs ++ (above long short ∷ [])) named after
 
 -- the set of those that outlive a name, by the sets of all; none for one that is not declared
@@ -80,7 +82,7 @@ isImplied names taken word = isName word && not (isDeclared names word && member
 pub record Extends (names : List ℕ) (new : List Pair) (longs shorts longs₁ shorts₁ reach₁ : List ℕ) (before : ℕ)
     (r : Implied) : Type 0 where
   pub pushes : Pushes names new longs shorts longs₁ shorts₁ before (r .verdict)
-  pub size : length reach₁ ≡ 32
+  pub size : length reach₁ ≡ mostNames
   pub pushed : r .verdict ≡ Accepted → r .pushed ≡ before + length new
   pub reach : r .verdict ≡ Accepted → Reaches (sidesOf before longs shorts ++ boundsFor names new) (length names) reach₁
 
@@ -88,13 +90,13 @@ pub record Extends (names : List ℕ) (new : List Pair) (longs shorts longs₁ s
 -- and bounds
 pub record Built (names bounds types declared longs shorts : List ℕ) (r : Counts) : Type 0 where
   pub verdict : r .verdict ≡ judged (placeChecks names bounds types)
-  pub sizes : (length declared ≡ 32) × (length longs ≡ 256) × (length shorts ≡ 256)
-  pub few : r .verdict ≡ Accepted → (r .named ≤ 32) × (r .pushed ≤ 256)
+  pub sizes : (length declared ≡ mostNames) × (length longs ≡ mostBounds) × (length shorts ≡ mostBounds)
+  pub few : r .verdict ≡ Accepted → (r .named ≤ mostNames) × (r .pushed ≤ mostBounds)
   pub named : r .verdict ≡ Accepted → take (r .named) declared ≡ allNamesOf names
   pub bounded : r .verdict ≡ Accepted → sidesOf (r .pushed) longs shorts ≡ methodBounds names bounds types
 
 -- the sides of bounds, in two arrays
 pub record Splits (b : Bounds) (longs shorts : List ℕ) : Type 0 where
-  pub size-longs : length longs ≡ 256
-  pub size-shorts : length shorts ≡ 256
+  pub size-longs : length longs ≡ mostBounds
+  pub size-shorts : length shorts ≡ mostBounds
   pub sides : sidesOf (b .pushed) longs shorts ≡ listOf b

@@ -13,7 +13,11 @@ pub data TypeName : Type 0 where
   Option : TypeName → TypeName
   Result : TypeName → TypeName → TypeName
 
--- the type that stands in front, with nesting at most this ("Nesting at most 8, the outermost counting 1")
+-- "Nesting at most 8, the outermost counting 1"
+abbrev pub mostNesting : ℕ
+mostNesting = 8
+
+-- the type that stands in front, with nesting at most this
 unfoldable pub readType : ℕ → List ℕ → Reading TypeName
 readType zero words = Fails
 readType (suc nesting) [] = Fails
@@ -30,7 +34,7 @@ readType (suc nesting) (code ∷ words) =
 
 -- one type after another, to the end of the record
 abbrev pub typesInShape : List ℕ → Bool
-typesInShape words = inShape (λ number. readType 8) words
+typesInShape words = inShape (λ number. readType mostNesting) words
 
 abbrev pub typesOf : List ℕ → List TypeName
-typesOf words = itemsOf (λ number. readType 8) words
+typesOf words = itemsOf (λ number. readType mostNesting) words

@@ -8,6 +8,9 @@ ghost use Rattle.answers.specs.Lent.{held, left};
 ghost use Rattle.records.specs.Reading.{shapeVerdict};
 ghost use Rattle.ast_lifetimes.specs.Shapes.{boundsInShape, pair, pairsOf};
 ghost use Rattle.ast_lifetimes.specs.Inner.{Pushes};
+ghost use Rattle.lifetimes.specs.Limits.{mostBounds};
+ghost use Rattle.ast_lifetimes.specs.Env.{mostNames};
+use super::env::LifetimeEnv;
 use super::names::position;
 use answers::Refusal;
 use answers::Verdict;
@@ -37,16 +40,16 @@ pub fn bounds_shape(bounds: &[usize]) -> Verdict
 // Push one pair of names behind the first `pushed` bounds. Refused by 3 for a side that is not declared, longer before
 // shorter, then by 4 for a 257th.
 pub(crate) fn push_pair(
-    names: &[usize; 32],
+    names: &[usize; LifetimeEnv::MAX_NAMES],
     named: usize,
     longer: usize,
     shorter: usize,
-    longs: &mut [u8; 256],
-    shorts: &mut [u8; 256],
+    longs: &mut [u8; Bounds::MAX],
+    shorts: &mut [u8; Bounds::MAX],
     pushed: usize,
 ) -> Verdict
-    requires { ⌜ (named ≤ 32) × (length (now names) ≡ 32) ⌝ }
-    requires { ⌜ (pushed ≤ 256) × (length (now longs) ≡ 256) × (length (now shorts) ≡ 256) ⌝ }
+    requires { ⌜ (named ≤ mostNames) × (length (now names) ≡ mostNames) ⌝ }
+    requires { ⌜ (pushed ≤ mostBounds) × (length (now longs) ≡ mostBounds) × (length (now shorts) ≡ mostBounds) ⌝ }
     ensures { λ r. ⌜ Pushes (take named (held names)) (pair longer shorter ∷ []) (held longs) (held shorts) (left longs)
         (left shorts) pushed r ⌝ }
 {
@@ -71,15 +74,15 @@ pub(crate) fn push_pairs(
     words: &[usize],
     from: usize,
     count: usize,
-    names: &[usize; 32],
+    names: &[usize; LifetimeEnv::MAX_NAMES],
     named: usize,
-    longs: &mut [u8; 256],
-    shorts: &mut [u8; 256],
+    longs: &mut [u8; Bounds::MAX],
+    shorts: &mut [u8; Bounds::MAX],
     pushed: usize,
 ) -> Verdict
     requires { ⌜ from + 2 * count ≤ length (now words) ⌝ }
-    requires { ⌜ (named ≤ 32) × (length (now names) ≡ 32) ⌝ }
-    requires { ⌜ (pushed ≤ 256) × (length (now longs) ≡ 256) × (length (now shorts) ≡ 256) ⌝ }
+    requires { ⌜ (named ≤ mostNames) × (length (now names) ≡ mostNames) ⌝ }
+    requires { ⌜ (pushed ≤ mostBounds) × (length (now longs) ≡ mostBounds) × (length (now shorts) ≡ mostBounds) ⌝ }
     ensures { λ r. ⌜ Pushes (take named (held names)) (pairsOf (slice from (from + 2 * count) (held words)))
         (held longs) (held shorts) (left longs) (left shorts) pushed r ⌝ }
 {

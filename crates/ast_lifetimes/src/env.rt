@@ -13,8 +13,9 @@ ghost use Rattle.records.specs.Reading.{shapeVerdict};
 ghost use Rattle.ast_lifetimes.specs.Shapes.{namesInShape, boundsInShape};
 ghost use Rattle.ast_lifetimes.specs.Types.{typesInShape};
 ghost use Rattle.ast_lifetimes.specs.Env.{allPairChecks, envOf, envChecks, namesOf, fromMethodItem, impliedOn};
-ghost use Rattle.ast_lifetimes.specs.Env.{extendedWith, extendImplied, listThan, made};
+ghost use Rattle.ast_lifetimes.specs.Env.{mostNames, extendedWith, extendImplied, listThan, made};
 ghost use Rattle.ast_lifetimes.specs.Inner.{sidesOf, Splits, Built};
+ghost use Rattle.lifetimes.specs.Limits.{mostBounds};
 use super::bounds::bounds_shape;
 use super::bounds::push_pairs;
 use super::implied::close;
@@ -79,9 +80,9 @@ impl LifetimeEnv {
         let Verdict::Accepted = shape else {
             return refused(shape);
         };
-        let mut declared = [0usize; 32];
-        let mut longs = [0u8; 256];
-        let mut shorts = [0u8; 256];
+        let mut declared = [0usize; LifetimeEnv::MAX_NAMES];
+        let mut longs = [0u8; Bounds::MAX];
+        let mut shorts = [0u8; Bounds::MAX];
         let built = build(names, bounds, types, &mut declared, &mut longs, &mut shorts);
         let verdict = built.verdict;
         let Verdict::Accepted = verdict else {
@@ -210,8 +211,9 @@ fn extended(env: LifetimeEnv, types: &[usize]) -> Made
 }
 
 // The sides of bounds, in two arrays.
-fn split(bounds: Bounds, longs: &mut [u8; 256], shorts: &mut [u8; 256])
-    requires { ⌜ (bounds .pushed ≤ 256) × (length (now longs) ≡ 256) × (length (now shorts) ≡ 256) ⌝ }
+fn split(bounds: Bounds, longs: &mut [u8; Bounds::MAX], shorts: &mut [u8; Bounds::MAX])
+    requires { ⌜ (bounds .pushed ≤ mostBounds) × (length (now longs) ≡ mostBounds)
+        × (length (now shorts) ≡ mostBounds) ⌝ }
     ensures { λ _. ⌜ Splits bounds (left longs) (left shorts) ⌝ }
 {
     let pushed = bounds.pushed;
@@ -245,13 +247,14 @@ fn build(
     names: &[usize],
     bounds: &[usize],
     types: &[usize],
-    declared: &mut [usize; 32],
-    longs: &mut [u8; 256],
-    shorts: &mut [u8; 256],
+    declared: &mut [usize; LifetimeEnv::MAX_NAMES],
+    longs: &mut [u8; Bounds::MAX],
+    shorts: &mut [u8; Bounds::MAX],
 ) -> Counts
     requires { ⌜ (namesInShape (now names) ≡ true) × (boundsInShape (now bounds) ≡ true)
         × (typesInShape (now types) ≡ true) ⌝ }
-    requires { ⌜ (length (now declared) ≡ 32) × (length (now longs) ≡ 256) × (length (now shorts) ≡ 256) ⌝ }
+    requires { ⌜ (length (now declared) ≡ mostNames) × (length (now longs) ≡ mostBounds)
+        × (length (now shorts) ≡ mostBounds) ⌝ }
     ensures { λ r. ⌜ Built (held names) (held bounds) (held types) (left declared) (left longs) (left shorts) r ⌝ }
 {
     let impls = names[0];
@@ -299,7 +302,7 @@ fn build(
             pushed: 0,
         };
     };
-    let mut reach = [0u64; 32];
+    let mut reach = [0u64; LifetimeEnv::MAX_NAMES];
     close(longs, shorts, pairs, all, &mut reach);
     let implied = push_types(types, declared, all, longs, shorts, pairs, &mut reach);
     let verdict = implied.verdict;
@@ -323,14 +326,15 @@ fn refused(verdict: Verdict) -> Made
 
 // The environment of the first names of an array and the first bounds of two arrays of sides.
 fn assembled(
-    declared: &[usize; 32],
+    declared: &[usize; LifetimeEnv::MAX_NAMES],
     named: usize,
-    longs: &[u8; 256],
-    shorts: &[u8; 256],
+    longs: &[u8; Bounds::MAX],
+    shorts: &[u8; Bounds::MAX],
     pushed: usize,
 ) -> LifetimeEnv
-    requires { ⌜ (named ≤ 32) × (pushed ≤ 256) ⌝ }
-    requires { ⌜ (length (now declared) ≡ 32) × (length (now longs) ≡ 256) × (length (now shorts) ≡ 256) ⌝ }
+    requires { ⌜ (named ≤ mostNames) × (pushed ≤ mostBounds) ⌝ }
+    requires { ⌜ (length (now declared) ≡ mostNames) × (length (now longs) ≡ mostBounds)
+        × (length (now shorts) ≡ mostBounds) ⌝ }
     requires { ⌜ allBelow 255 (sidesOf pushed (now longs) (now shorts)) ≡ true ⌝ }
     ensures { λ r. ⌜ r ≡ envOf (take named (held declared)) (sidesOf pushed (held longs) (held shorts)) ⌝ }
 {
@@ -345,8 +349,8 @@ fn assembled(
 }
 
 // The first bounds of two arrays of sides.
-fn joined(longs: &[u8; 256], shorts: &[u8; 256], pushed: usize) -> Bounds
-    requires { ⌜ (pushed ≤ 256) × (length (now longs) ≡ 256) × (length (now shorts) ≡ 256) ⌝ }
+fn joined(longs: &[u8; Bounds::MAX], shorts: &[u8; Bounds::MAX], pushed: usize) -> Bounds
+    requires { ⌜ (pushed ≤ mostBounds) × (length (now longs) ≡ mostBounds) × (length (now shorts) ≡ mostBounds) ⌝ }
     requires { ⌜ allBelow 255 (sidesOf pushed (now longs) (now shorts)) ≡ true ⌝ }
     ensures { λ r. ⌜ r ≡ boundsFrom (sidesOf pushed (held longs) (held shorts)) ⌝ }
 {
@@ -367,8 +371,12 @@ fn joined(longs: &[u8; 256], shorts: &[u8; 256], pushed: usize) -> Bounds
 }
 
 // Copy the first names of an array to the first places of another.
-fn copy_names(declared: &[usize; 32], named: usize, names: &mut [usize; 32])
-    requires { ⌜ (named ≤ 32) × (length (now declared) ≡ 32) × (length (now names) ≡ 32) ⌝ }
+fn copy_names(
+    declared: &[usize; LifetimeEnv::MAX_NAMES],
+    named: usize,
+    names: &mut [usize; LifetimeEnv::MAX_NAMES],
+)
+    requires { ⌜ (named ≤ mostNames) × (length (now declared) ≡ mostNames) × (length (now names) ≡ mostNames) ⌝ }
     ensures { λ _. ⌜ left names ≡ sets (held names) 0 (take named (held declared)) ⌝ }
 {
     let mut i = 0;

@@ -8,13 +8,16 @@ ghost use lib.ListN.{length, take};
 ghost use lib.Seq.{slice};
 ghost use mathlib.Core.List.{List, []};
 ghost use Rattle.ast_lifetimes.specs.Types.{TypeName};
-ghost use Rattle.ast_lifetimes.specs.Env.{pathPairs, allImplied};
+ghost use Rattle.ast_lifetimes.specs.Env.{pathPairs, allImplied, mostNames};
 ghost use Rattle.ast_lifetimes.specs.Inner.{encodeAll, sidesOf, Joins, Below, Reaches, outlivedBy, isImplied};
 ghost use Rattle.ast_lifetimes.specs.Inner.{Extends};
 ghost use Rattle.answers.specs.Lent.{held, left};
+ghost use Rattle.lifetimes.specs.Limits.{mostBounds};
 use super::bounds::push_pair;
+use super::env::LifetimeEnv;
 use super::names::position;
 use answers::Verdict;
+use lifetimes::Bounds;
 use lifetimes::Lifetime;
 use lifetimes::set;
 
@@ -25,8 +28,8 @@ pub(crate) struct Implied {
 }
 
 // One bound more in the sets of those that outlive each lifetime.
-fn join(reach: &mut [u64; 32], named: usize, long: usize, short: usize)
-    requires { ⌜ (named ≤ 32) × (long < named) × (short < named) × (length (now reach) ≡ 32) ⌝ }
+fn join(reach: &mut [u64; LifetimeEnv::MAX_NAMES], named: usize, long: usize, short: usize)
+    requires { ⌜ (named ≤ mostNames) × (long < named) × (short < named) × (length (now reach) ≡ mostNames) ⌝ }
     ensures { λ _. ⌜ Joins named long short (held reach) (left reach) ⌝ }
 {
     let joined = reach[long];
@@ -42,15 +45,16 @@ fn join(reach: &mut [u64; 32], named: usize, long: usize, short: usize)
 
 // The sets of those that outlive each lifetime, by the first `pushed` bounds.
 pub(crate) fn close(
-    longs: &[u8; 256],
-    shorts: &[u8; 256],
+    longs: &[u8; Bounds::MAX],
+    shorts: &[u8; Bounds::MAX],
     pushed: usize,
     named: usize,
-    reach: &mut [u64; 32],
+    reach: &mut [u64; LifetimeEnv::MAX_NAMES],
 )
-    requires { ⌜ (named ≤ 32) × (pushed ≤ 256) × Below named pushed (now longs) (now shorts) ⌝ }
-    requires { ⌜ (length (now longs) ≡ 256) × (length (now shorts) ≡ 256) × (length (now reach) ≡ 32) ⌝ }
-    ensures { λ _. ⌜ (length (left reach) ≡ 32) × Reaches (sidesOf pushed (held longs) (held shorts)) named
+    requires { ⌜ (named ≤ mostNames) × (pushed ≤ mostBounds) × Below named pushed (now longs) (now shorts) ⌝ }
+    requires { ⌜ (length (now longs) ≡ mostBounds) × (length (now shorts) ≡ mostBounds)
+        × (length (now reach) ≡ mostNames) ⌝ }
+    ensures { λ _. ⌜ (length (left reach) ≡ mostNames) × Reaches (sidesOf pushed (held longs) (held shorts)) named
         (left reach) ⌝ }
 {
     each_itself(named, reach);
@@ -64,9 +68,9 @@ pub(crate) fn close(
 }
 
 // Without bounds each lifetime outlives itself only.
-fn each_itself(named: usize, reach: &mut [u64; 32])
-    requires { ⌜ (named ≤ 32) × (length (now reach) ≡ 32) ⌝ }
-    ensures { λ _. ⌜ (length (left reach) ≡ 32) × Reaches [] named (left reach) ⌝ }
+fn each_itself(named: usize, reach: &mut [u64; LifetimeEnv::MAX_NAMES])
+    requires { ⌜ (named ≤ mostNames) × (length (now reach) ≡ mostNames) ⌝ }
+    ensures { λ _. ⌜ (length (left reach) ≡ mostNames) × Reaches [] named (left reach) ⌝ }
 {
     let mut x = 0;
     while x < named {
@@ -76,8 +80,13 @@ fn each_itself(named: usize, reach: &mut [u64; 32])
 }
 
 // The set of those that outlive a name; none for one that is not declared.
-fn outlived(names: &[usize; 32], named: usize, name: usize, reach: &[u64; 32]) -> u64
-    requires { ⌜ (named ≤ 32) × (length (now names) ≡ 32) × (length (now reach) ≡ 32) ⌝ }
+fn outlived(
+    names: &[usize; LifetimeEnv::MAX_NAMES],
+    named: usize,
+    name: usize,
+    reach: &[u64; LifetimeEnv::MAX_NAMES],
+) -> u64
+    requires { ⌜ (named ≤ mostNames) × (length (now names) ≡ mostNames) × (length (now reach) ≡ mostNames) ⌝ }
     ensures { λ r. ⌜ r ≡ outlivedBy (take named (held names)) (held reach) name ⌝ }
 {
     let at = position(names, named, name);
@@ -88,8 +97,13 @@ fn outlived(names: &[usize; 32], named: usize, name: usize, reach: &[u64; 32]) -
 }
 
 // Whether a lifetime of a path is to be pushed: a name that is not in the set of those that outlive the reference.
-fn is_implied(names: &[usize; 32], named: usize, taken: u64, word: usize) -> bool
-    requires { ⌜ (named ≤ 32) × (length (now names) ≡ 32) ⌝ }
+fn is_implied(
+    names: &[usize; LifetimeEnv::MAX_NAMES],
+    named: usize,
+    taken: u64,
+    word: usize,
+) -> bool
+    requires { ⌜ (named ≤ mostNames) × (length (now names) ≡ mostNames) ⌝ }
     ensures { λ r. ⌜ r ≡ isImplied (take named (held names)) taken word ⌝ }
 {
     if word < 2 {
@@ -109,17 +123,18 @@ fn push_path(
     from: usize,
     to: usize,
     behind: usize,
-    names: &[usize; 32],
+    names: &[usize; LifetimeEnv::MAX_NAMES],
     named: usize,
-    longs: &mut [u8; 256],
-    shorts: &mut [u8; 256],
+    longs: &mut [u8; Bounds::MAX],
+    shorts: &mut [u8; Bounds::MAX],
     pushed: usize,
-    reach: &mut [u64; 32],
+    reach: &mut [u64; LifetimeEnv::MAX_NAMES],
 ) -> Implied
     requires { ⌜ (from ≤ to) × (to ≤ length (now words)) ⌝ }
-    requires { ⌜ (named ≤ 32) × (length (now names) ≡ 32) ⌝ }
-    requires { ⌜ (pushed ≤ 256) × (length (now longs) ≡ 256) × (length (now shorts) ≡ 256) ⌝ }
-    requires { ⌜ (length (now reach) ≡ 32) × Reaches (sidesOf pushed (now longs) (now shorts)) named (now reach) ⌝ }
+    requires { ⌜ (named ≤ mostNames) × (length (now names) ≡ mostNames) ⌝ }
+    requires { ⌜ (pushed ≤ mostBounds) × (length (now longs) ≡ mostBounds) × (length (now shorts) ≡ mostBounds) ⌝ }
+    requires { ⌜ (length (now reach) ≡ mostNames)
+        × Reaches (sidesOf pushed (now longs) (now shorts)) named (now reach) ⌝ }
     ensures { λ r. ⌜ Extends (take named (held names))
         (pathPairs (take named (held names)) (sidesOf pushed (held longs) (held shorts)) behind
         (slice from to (held words))) (held longs) (held shorts) (left longs) (left shorts) (left reach) pushed r ⌝ }
@@ -155,17 +170,18 @@ fn push_path(
 // replaces R, whatever else stands there clears it.
 pub(crate) fn push_types(
     types: &[usize],
-    names: &[usize; 32],
+    names: &[usize; LifetimeEnv::MAX_NAMES],
     named: usize,
-    longs: &mut [u8; 256],
-    shorts: &mut [u8; 256],
+    longs: &mut [u8; Bounds::MAX],
+    shorts: &mut [u8; Bounds::MAX],
     pushed: usize,
-    reach: &mut [u64; 32],
+    reach: &mut [u64; LifetimeEnv::MAX_NAMES],
 ) -> Implied
     requires { ⌜ ((ts : List TypeName) × (encodeAll ts ≡ now types)) ⌝ }
-    requires { ⌜ (named ≤ 32) × (length (now names) ≡ 32) ⌝ }
-    requires { ⌜ (pushed ≤ 256) × (length (now longs) ≡ 256) × (length (now shorts) ≡ 256) ⌝ }
-    requires { ⌜ (length (now reach) ≡ 32) × Reaches (sidesOf pushed (now longs) (now shorts)) named (now reach) ⌝ }
+    requires { ⌜ (named ≤ mostNames) × (length (now names) ≡ mostNames) ⌝ }
+    requires { ⌜ (pushed ≤ mostBounds) × (length (now longs) ≡ mostBounds) × (length (now shorts) ≡ mostBounds) ⌝ }
+    requires { ⌜ (length (now reach) ≡ mostNames)
+        × Reaches (sidesOf pushed (now longs) (now shorts)) named (now reach) ⌝ }
     ensures { λ r.
         ⌜ ((ts : List TypeName) → encodeAll ts ≡ held types
         → Extends (take named (held names))

@@ -8,7 +8,7 @@ ghost use Rattle.answers.specs.Lists.{all};
 ghost use Rattle.answers.specs.Lent.{held, left};
 ghost use Rattle.records.specs.Reading.{shapeVerdict};
 ghost use Rattle.ast_lifetimes.specs.Shapes.{isName, namesInShape};
-ghost use Rattle.ast_lifetimes.specs.Env.{place};
+ghost use Rattle.ast_lifetimes.specs.Env.{place, mostNames};
 ghost use Rattle.ast_lifetimes.specs.Inner.{Declares};
 use super::env::LifetimeEnv;
 use answers::Refusal;
@@ -51,8 +51,8 @@ fn all_names(words: &[usize]) -> bool
 }
 
 // The number of a name among the first `named` of an array: its place, or `named` where it is not declared.
-pub(crate) fn position(names: &[usize; 32], named: usize, name: usize) -> usize
-    requires { ⌜ (named ≤ 32) × (length (now names) ≡ 32) ⌝ }
+pub(crate) fn position(names: &[usize; LifetimeEnv::MAX_NAMES], named: usize, name: usize) -> usize
+    requires { ⌜ (named ≤ mostNames) × (length (now names) ≡ mostNames) ⌝ }
     ensures { λ r. ⌜ r ≡ place (take named (held names)) name ⌝ }
 {
     let mut i = 0;
@@ -66,8 +66,8 @@ pub(crate) fn position(names: &[usize; 32], named: usize, name: usize) -> usize
 }
 
 // Declare one name behind the first `named`. Refused by 4 for a 33rd, by 2 for one that is declared.
-fn declare(names: &mut [usize; 32], named: usize, name: usize) -> Verdict
-    requires { ⌜ (named ≤ 32) × (length (now names) ≡ 32) ⌝ }
+fn declare(names: &mut [usize; LifetimeEnv::MAX_NAMES], named: usize, name: usize) -> Verdict
+    requires { ⌜ (named ≤ mostNames) × (length (now names) ≡ mostNames) ⌝ }
     ensures { λ r. ⌜ Declares (name ∷ []) (held names) (left names) named r ⌝ }
 {
     if LifetimeEnv::MAX_NAMES <= named {
@@ -85,11 +85,11 @@ pub(crate) fn declare_all(
     words: &[usize],
     from: usize,
     to: usize,
-    names: &mut [usize; 32],
+    names: &mut [usize; LifetimeEnv::MAX_NAMES],
     named: usize,
 ) -> Verdict
     requires { ⌜ (from ≤ to) × (to ≤ length (now words)) ⌝ }
-    requires { ⌜ (named ≤ 32) × (length (now names) ≡ 32) ⌝ }
+    requires { ⌜ (named ≤ mostNames) × (length (now names) ≡ mostNames) ⌝ }
     ensures { λ r. ⌜ Declares (slice from to (held words)) (held names) (left names) named r ⌝ }
 {
     let mut at = from;

@@ -17,7 +17,7 @@ use Rattle.lifetimes.specs.declared.maybe_static.LoweredWord.the-variants.{Word
 use Rattle.lifetimes.specs.LoweredWords.{wordAnswer}
 use Rattle.answers.specs.Refusals.{Outcome, Gives, Refuses}
 use Rattle.records.specs.declared.End.the-variants as end
-use Rattle.records.specs.Reading.{Reading, Read, Fails}
+use Rattle.records.specs.Reading.{Reading, Read, Fails, mostList}
 use Rattle.records.specs.Ends.{EndsAt}
 use Rattle.elision.specs.declared.steps.StepAt.{StepAt}
 use Rattle.elision.specs.declared.steps.StepAt.the-variants as standing
@@ -79,7 +79,7 @@ putOf s at (Refuses r) = record { verdict = verdict.Refused r; seen = s; at = at
 -- them
 pub record Puts (s : Seen) (o : Outcome (Answer Seen)) (at : ℕ) (before behind : List ℕ) (r : Put) : Type 0 where
   pub answers : r ≡ putOf s at o
-  pub few : r .at ≤ at + 16
+  pub few : r .at ≤ at + mostList
   pub stores : (a : Answer Seen) → o ≡ Gives a → behind ≡ sets before at (map shown (a .given))
 
 -- A lowerer as the loops over a record pass it on: what is seen, whether the `Self` type was there, how many lifetimes
@@ -87,7 +87,7 @@ pub record Puts (s : Seen) (o : Outcome (Answer Seen)) (at : ℕ) (before behind
 pub record Shows (s : Lowerer) (seen : Seen) (kept : Bool) (own : ℕ) (list : List ℕ) : Type 0 where
   pub saw : s .seen ≡ seen
   pub keeps : s .kept ≡ kept
-  pub full : length list ≡ 16
+  pub full : length list ≡ mostList
   pub many : kept ≡ true → length (valuesIn (s .own)) ≡ own
   pub words : kept ≡ true → take own list ≡ map shown (valuesIn (s .own))
 
@@ -109,16 +109,16 @@ pub record Lowers (o : Outcome (Answer Lowerer)) (n : ℕ) (list before behind :
 -- one step, whatever lowerer is shown
 pub record PutsOne (step : Lowerer → Outcome (Answer Lowerer)) (seen : Seen) (kept : Bool) (own n to : ℕ)
     (list list₁ before behind : List ℕ) (r : Took) : Type 0 where
-  pub few : r .own ≤ 16
-  pub near : r .n ≤ n + 16
+  pub few : r .own ≤ mostList
+  pub near : r .n ≤ n + mostList
   pub place : r .to ≡ to
   pub lowers : (s : Lowerer) → Shows s seen kept own list → Lowers (step s) n list₁ before behind r
 
 -- the step that stands at a place of a record
 pub record PutsStep (names words : List ℕ) (out : Bool) (at : ℕ) (seen : Seen) (kept : Bool) (own n : ℕ)
     (list list₁ before behind : List ℕ) (r : Took) : Type 0 where
-  pub few : r .own ≤ 16
-  pub near : r .n ≤ n + 16
+  pub few : r .own ≤ mostList
+  pub near : r .n ≤ n + mostList
   pub ends : r .verdict ≡ verdict.Accepted → EndsAt words at (readStep (drop at words)) (end.At (r .to))
   pub lowers : (s : Lowerer) → Shows s seen kept own list → (step : Step) (rest : List ℕ)
       → readStep (drop at words) ≡ Read step rest → Lowers (lowerStep names out step s) n list₁ before behind r

@@ -24,9 +24,10 @@ use Rattle.elision.specs.declared.lowerer.Seen.{Seen}
 use Rattle.elision.specs.declared.lowerer.Lowerer.{Lowerer}
 use Rattle.elision.specs.declared.lowerer.Stepped.{Stepped}
 use Rattle.elision.specs.declared.step.StepAnswer.{StepAnswer}
-use Rattle.records.specs.Reading.{Reading, Read, Fails}
+use Rattle.records.specs.Reading.{Reading, Read, Fails, mostList}
 use Rattle.elision.specs.Steps.{Step, Lifetime, Generics, SelfType, Receiver, NoSelf, SelfRef, readStep}
 use Rattle.elision.specs.Rfc.{padded, standingIn, Method}
+use Rattle.lifetimes.specs.Limits.{mostLifetimes}
 
 -- the source after one more input position
 abbrev pub visit : ElisionSource → MaybeStatic → ElisionSource
@@ -65,7 +66,8 @@ lowers st l source count = Gives (answer (l ∷ []) (visited st l source count))
 -- a new lifetime, the next number
 abbrev pub newLifetime : Standing → Seen → Outcome (Answer Seen)
 newLifetime st s =
-    cond (leb 64 (s .count)) (Refuses Full) (lowers st (NonStatic (lifetime (s .count))) (s .source) (s .count + 1))
+    cond (leb mostLifetimes (s .count)) (Refuses Full)
+    (lowers st (NonStatic (lifetime (s .count))) (s .source) (s .count + 1))
 
 -- in the output, that of the source
 abbrev pub fromSource : ElisionSource → Seen → Outcome (Answer Seen)
@@ -101,7 +103,7 @@ valuesIn ls = map (λ (x : Lowered). x .lifetime) (take (ls .n) (ls .list))
 
 -- a list in 16 places, the rest 'static
 unfoldable pub laid : List MaybeStatic → Lifetimes
-laid ls = record { n = length ls; list = map lowered ls ++ replicate (16 - length ls) (lowered Static) }
+laid ls = record { n = length ls; list = map lowered ls ++ replicate (mostList - length ls) (lowered Static) }
 
 -- Steps
 
@@ -125,8 +127,8 @@ lowerStep names out (SelfType words) s = selfStep names words s
 -- one step of any words: more than 16 are 1
 abbrev pub fits : Step → Bool
 fits (Lifetime word) = true
-fits (Generics g words) = leb g 16 && leb (length words) 16
-fits (SelfType words) = leb (length words) 16
+fits (Generics g words) = leb g mostList && leb (length words) mostList
+fits (SelfType words) = leb (length words) mostList
 
 unfoldable pub oneStep : List ℕ → Bool → Step → Lowerer → Outcome (Answer Lowerer)
 oneStep names out step s = cond (fits step) (lowerStep names out step s) (Refuses Malformed)

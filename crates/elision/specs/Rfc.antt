@@ -19,6 +19,7 @@ use Rattle.ast_lifetimes.specs.Env.{place, isDeclared}
 use Rattle.elision.specs.declared.lowerer.Standing.{Standing}
 use Rattle.elision.specs.declared.lowerer.Standing.the-variants.{Input, Aside, Output}
 use Rattle.elision.specs.Steps.{Step, Lifetime, Generics, SelfType, Receiver, NoSelf, SelfRef}
+use Rattle.lifetimes.specs.Limits.{mostLifetimes}
 
 -- what each of a list brings, in view of those before it
 unfoldable pub throughout : {A B : Type 0} → (List A → A → List B) → List A → List A → List B
@@ -114,8 +115,8 @@ sourceCheck anon (Refuses r) = check anon r
 
 -- an anonymous one: a 65th lifetime (4), or no source in the output
 abbrev pub elidedCheck : List ℕ → Receiver → List Occurrence → Standing → Bool → Check
-elidedCheck names self before Input anon = check (anon && leb 64 (countOf names before)) Full
-elidedCheck names self before Aside anon = check (anon && leb 64 (countOf names before)) Full
+elidedCheck names self before Input anon = check (anon && leb mostLifetimes (countOf names before)) Full
+elidedCheck names self before Aside anon = check (anon && leb mostLifetimes (countOf names before)) Full
 elidedCheck names self before Output anon = sourceCheck anon (sourceAt names self before)
 
 -- a name that is not declared (3), an anonymous one that cannot be

@@ -21,6 +21,7 @@ use Rattle.elision.specs.declared.lowerer.Lowerer.{Lowerer}
 use Rattle.elision.specs.Steps.{Step, Lifetime, Generics, SelfType, readStep}
 use Rattle.elision.specs.Rfc.{throughout, standingIn, padded}
 use Rattle.elision.specs.Machine.{fits}
+use Rattle.lifetimes.specs.Limits.{mostLifetimes}
 
 -- how many of some words are anonymous
 abbrev pub anonymousIn : List ℕ → ℕ
@@ -35,8 +36,8 @@ sourceDue MultipleBorrows anon = check anon Ambiguous
 
 -- an anonymous word: a 65th lifetime (4) behind those that the words before made, or no source in the output
 abbrev pub anonymousCheck : Standing → Seen → ℕ → Bool → Check
-anonymousCheck Input s made anon = check (anon && leb 64 (s .count + made)) Full
-anonymousCheck Aside s made anon = check (anon && leb 64 (s .count + made)) Full
+anonymousCheck Input s made anon = check (anon && leb mostLifetimes (s .count + made)) Full
+anonymousCheck Aside s made anon = check (anon && leb mostLifetimes (s .count + made)) Full
 anonymousCheck Output s made anon = sourceDue (s .source) anon
 
 -- the checks at a word, in view of the words before it: a name that is not declared (3), an anonymous one that cannot

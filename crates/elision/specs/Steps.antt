@@ -6,6 +6,7 @@ use mathlib.Core.List.{List, [], _∷_, _++_, flatMap}
 use lib.Dec.{eqb, leb}
 use lib.ListN.{length}
 use Rattle.records.specs.Reading.{Reading, Read, Fails, onward, readWord, readLifetimes, inShape, itemsOf}
+use Rattle.records.specs.Reading.{mostList}
 
 -- 01's kinds: 0 one lifetime (`lower_lifetime`); 1 how many generics a type has, and the lifetimes given
 -- (`lower_generics`); 2 the lifetimes given of the `Self` type (`is_self`)
@@ -17,7 +18,7 @@ pub data Step : Type 0 where
 -- how many generics: "g, n at most 16"
 abbrev pub readGenerics : List ℕ → Reading ℕ
 readGenerics [] = Fails
-readGenerics (g ∷ words) = cond (leb g 16) (Read g words) Fails
+readGenerics (g ∷ words) = cond (leb g mostList) (Read g words) Fails
 
 -- the step that stands in front
 unfoldable pub readStep : List ℕ → Reading Step

@@ -10,6 +10,7 @@ ghost use Rattle.elision.specs.Machine.{visited, newLifetime, lowerAnony
 ghost use Rattle.elision.specs.Machine.{selfRef, oneStep, laid, valuesIn, stepped};
 ghost use Rattle.elision.specs.Inner.{worded, ran, atMost16};
 ghost use Rattle.answers.specs.Lent.{held};
+ghost use Rattle.records.specs.Reading.{mostList};
 use super::source::ElisionSource;
 use answers::Refusal;
 use answers::Verdict;
@@ -282,7 +283,7 @@ fn lower_words(
     generics: usize,
     seen: Seen,
 ) -> Run
-    requires { ⌜ (length (now words) ≤ 16) × (generics ≤ 16) ⌝ }
+    requires { ⌜ (length (now words) ≤ mostList) × (generics ≤ mostList) ⌝ }
     ensures { λ r. ⌜ r ≡ ran seen (lowerWords (held names) standing (padded generics (held words)) seen) ⌝ }
 {
     let total = larger(words.len(), generics);

@@ -13,6 +13,7 @@ ghost use Rattle.elision.specs.Rfc.{padded, standingIn};
 ghost use Rattle.elision.specs.Machine.{lowerWords, lowerSelf, wordsStep, selfStep, runSteps};
 ghost use Rattle.elision.specs.Inner.{shown, Shows, Lowers, Puts, PutsOne, PutsStep};
 ghost use Rattle.answers.specs.Lent.{held, left};
+ghost use Rattle.records.specs.Reading.{mostList};
 use super::lowerer::Lowerer;
 use super::lowerer::Seen;
 use super::lowerer::Standing;
@@ -51,9 +52,10 @@ pub(crate) struct Took {
 
 // Lower the record `self`, and store its word. What it leaves is shown with any list, since no `Self` type was there.
 pub(crate) fn put_receiver(names: &[usize], receiver: &[usize], out: &mut [usize]) -> Took
-    ensures { λ r. ⌜ r .own ≤ 16 ⌝ }
+    ensures { λ r. ⌜ r .own ≤ mostList ⌝ }
     ensures { λ r.
-        ⌜ ((list : List ℕ) → length list ≡ 16 → Lowers (lowerSelf (held names) (receiverOf (held receiver))) 0 list
+        ⌜ ((list : List ℕ) → length list ≡ mostList
+        → Lowers (lowerSelf (held names) (receiverOf (held receiver))) 0 list
         (held out) (left out) r) ⌝ }
 {
     let fresh = Seen {
@@ -110,8 +112,8 @@ pub(crate) fn put_record(
     list: &mut [usize; End::MAX_LIST],
     out: &mut [usize],
 ) -> Took
-    requires { ⌜ (stepsInShape (now words) ≡ true) × (had ≤ 16) ⌝ }
-    ensures { λ r. ⌜ r .own ≤ 16 ⌝ }
+    requires { ⌜ (stepsInShape (now words) ≡ true) × (had ≤ mostList) ⌝ }
+    ensures { λ r. ⌜ r .own ≤ mostList ⌝ }
     ensures { λ r.
         ⌜ ((s : Lowerer) → Shows s before was had (held list)
         → Lowers (runSteps (held names) output (stepsOf (held words)) s) 0 (left list) (held out) (left out) r) ⌝ }
@@ -141,8 +143,8 @@ fn put_steps(
     list: &mut [usize; End::MAX_LIST],
     out: &mut [usize],
 ) -> Took
-    requires { ⌜ (stepsInShape (now words) ≡ true) × (had ≤ 16) ⌝ }
-    ensures { λ r. ⌜ r .own ≤ 16 ⌝ }
+    requires { ⌜ (stepsInShape (now words) ≡ true) × (had ≤ mostList) ⌝ }
+    ensures { λ r. ⌜ r .own ≤ mostList ⌝ }
     ensures { λ r.
         ⌜ ((s : Lowerer) → Shows s before was had (held list)
         → Lowers (runSteps (held names) output (stepsOf (held words)) s) 0 (left list) (held out) (left out) r) ⌝ }
@@ -187,7 +189,7 @@ fn put_step(
     list: &mut [usize; End::MAX_LIST],
     out: &mut [usize],
 ) -> Took
-    requires { ⌜ (own ≤ 16) × (n ≤ 65536) ⌝ }
+    requires { ⌜ (own ≤ mostList) × (n ≤ 65536) ⌝ }
     ensures { λ r. ⌜ PutsStep (held names) (held words) output at seen kept own n (held list) (left list) (held out)
         (left out) r ⌝ }
 {
@@ -255,7 +257,7 @@ fn put_given(
     to: usize,
     out: &mut [usize],
 ) -> Took
-    requires { ⌜ (length (now words) ≤ 16) × (generics ≤ 16) × (own ≤ 16) × (n ≤ 65536) ⌝ }
+    requires { ⌜ (length (now words) ≤ mostList) × (generics ≤ mostList) × (own ≤ mostList) × (n ≤ 65536) ⌝ }
     ensures { λ r.
         ⌜ ((list : List ℕ) → PutsOne (wordsStep (held names) (standingIn output) (padded generics (held words))) seen
         kept own n to list list (held out) (left out) r) ⌝ }
@@ -286,7 +288,7 @@ fn put_self(
     list: &mut [usize; End::MAX_LIST],
     out: &mut [usize],
 ) -> Took
-    requires { ⌜ (length (now words) ≤ 16) × (own ≤ 16) × (n ≤ 65536) ⌝ }
+    requires { ⌜ (length (now words) ≤ mostList) × (own ≤ mostList) × (n ≤ 65536) ⌝ }
     ensures { λ r. ⌜ PutsOne (selfStep (held names) (held words)) seen kept own n to (held list) (left list) (held out)
         (left out) r ⌝ }
 {
@@ -328,8 +330,8 @@ fn put_self(
 
 // Store the first words of a list from a place on, as far as the slice takes them.
 fn put_list(list: &[usize; End::MAX_LIST], count: usize, at: usize, out: &mut [usize])
-    requires { ⌜ (count ≤ 16) × (at ≤ 65536) ⌝ }
-    ensures { λ _. ⌜ (length (held list) ≡ 16 → left out ≡ sets (held out) at (take count (held list))) ⌝ }
+    requires { ⌜ (count ≤ mostList) × (at ≤ 65536) ⌝ }
+    ensures { λ _. ⌜ (length (held list) ≡ mostList → left out ≡ sets (held out) at (take count (held list))) ⌝ }
 {
     let mut i = 0;
     while i < count {
@@ -349,7 +351,7 @@ fn put_words(
     at: usize,
     out: &mut [usize],
 ) -> Put
-    requires { ⌜ (length (now words) ≤ 16) × (generics ≤ 16) × (at ≤ 65536) ⌝ }
+    requires { ⌜ (length (now words) ≤ mostList) × (generics ≤ mostList) × (at ≤ 65536) ⌝ }
     ensures { λ r. ⌜ Puts seen (lowerWords (held names) standing (padded generics (held words)) seen) at (held out)
         (left out) r ⌝ }
 {

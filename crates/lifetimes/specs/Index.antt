@@ -23,6 +23,7 @@ use Rattle.lifetimes.specs.Env.{boundsOf}
 use Rattle.lifetimes.specs.Walk.{near, far, Order, LastFirst, FirstFirst, traversal}
 use Rattle.lifetimes.specs.Reach.{reachList, depthFirst}
 use Rattle.answers.specs.Lists.{endsFrom}
+use Rattle.lifetimes.specs.Limits.{mostBounds, mostLifetimes}
 
 -- a direction, and the bounds in the order in which they are linked
 pub record Graph : Type 0 where
@@ -78,18 +79,18 @@ skip seen (x ∷ p) = cond (member seen x) (skip seen p) (x ∷ p)
 
 -- bounds that the index has room for
 pub record Fine (bs : List Bound) : Type 0 where
-  pub few : length bs ≤ 256
-  pub small : (b : Bound) → List·Memᴰ b bs → (b .longer < 64) × (b .shorter < 64)
+  pub few : length bs ≤ mostBounds
+  pub small : (b : Bound) → List·Memᴰ b bs → (b .longer < mostLifetimes) × (b .shorter < mostLifetimes)
 
 pub record Chained (g : Graph) (fars befores : List ℕ) : Type 0 where
-  pub few : length (g .bounds) ≤ 256
-  pub small : (b : Bound) → List·Memᴰ b (g .bounds) → far (g .longer) b < 64
+  pub few : length (g .bounds) ≤ mostBounds
+  pub small : (b : Bound) → List·Memᴰ b (g .bounds) → far (g .longer) b < mostLifetimes
   pub far : (j : ℕ) → j < length (g .bounds) → getD fars j 0 ≡ farAt g j
   pub before : (j : ℕ) → j < length (g .bounds) → getD befores j 0 ≡ lastOf g j (nearAt g j)
 
 pub record Indexed (g : Graph) (fars befores lasts : List ℕ) : Type 0 where
   pub chained : Chained g fars befores
-  pub last : (x : ℕ) → x < 64 → getD lasts x 0 ≡ lastOf g (length (g .bounds)) x
+  pub last : (x : ℕ) → x < mostLifetimes → getD lasts x 0 ≡ lastOf g (length (g .bounds)) x
 
 abbrev pub Zeros : List ℕ → Type 0
 Zeros l = (x : ℕ) → getD l x 0 ≡ 0
@@ -97,7 +98,7 @@ Zeros l = (x : ℕ) → getD l x 0 ≡ 0
 -- each number that a traversal holds is that of a bound, or 0
 pub record Ready (g : Graph) (stack : List ℕ) (at depth : ℕ) : Type 0 where
   pub here : at ≤ length (g .bounds)
-  pub deep : depth ≤ 64
+  pub deep : depth ≤ mostLifetimes
   pub held : (k : ℕ) → k < depth → getD stack k 0 ≤ length (g .bounds)
 
 abbrev pub Standing : List ℕ → List ℕ → List ℕ → ℕ → ℕ → Type 0
@@ -118,7 +119,8 @@ abbrev pub Within : Graph → ℕ → Type 0
 Within g limit = (b : Bound) → List·Memᴰ b (g .bounds) → far (g .longer) b < limit
 
 abbrev pub Walkable : List ℕ → List ℕ → List ℕ → ℕ → ℕ → Type 0
-Walkable fars befores lasts limit start = ((g : Graph) × Indexed g fars befores lasts × Within g limit) × (limit ≤ 64)
+Walkable fars befores lasts limit start =
+    ((g : Graph) × Indexed g fars befores lasts × Within g limit) × (limit ≤ mostLifetimes)
     × (start < limit)
 
 -- the list of a lifetime over a graph, and its set
@@ -147,7 +149,7 @@ setsFrom g x n = map (setOver g) (range x n)
 
 abbrev pub Measurable : List ℕ → List ℕ → List ℕ → ℕ → ℕ → Type 0
 Measurable fars befores lasts declared count = ((g : Graph) × Indexed g fars befores lasts × Within g declared)
-    × (declared ≤ count) × (count ≤ 64)
+    × (declared ≤ count) × (count ≤ mostLifetimes)
 
 pub record Measures (g : Graph) (count : ℕ) (reach₀ reach₁ : List ℕ) (total₁ : ℕ) : Type 0 where
   pub total : total₁ ≡ length (flatten (listsFrom g 0 count))
@@ -160,7 +162,7 @@ pub record Fits (g : Graph) (count room : ℕ) (r : Bool) : Type 0 where
 abbrev pub Layable : List ℕ → List ℕ → List ℕ → ℕ → ℕ → ℕ → Type 0
 Layable fars befores lasts declared count room =
     ((g : Graph) × Indexed g fars befores lasts × Within g declared × (length (flatten (listsFrom g 0 count)) ≤ room))
-    × (declared ≤ count) × (count ≤ 64)
+    × (declared ≤ count) × (count ≤ mostLifetimes)
 
 pub record Lays (g : Graph) (count : ℕ) (words₀ ends₀ reach₀ words₁ ends₁ reach₁ : List ℕ) (total₁ : ℕ) : Type 0 where
   pub measures : Measures g count reach₀ reach₁ total₁

@@ -14,6 +14,7 @@ use Rattle.answers.specs.Lent.{counted, verdictOf, resultOr, roomCheck}
 use Rattle.lifetimes.specs.Env.{boundsOf, envChecks}
 use Rattle.lifetimes.specs.Sets.{setOf}
 use Rattle.lifetimes.specs.Walk.{LastFirst, FirstFirst, traversal}
+use Rattle.lifetimes.specs.Limits.{mostLifetimes}
 
 -- What outlives a lifetime of an environment (longer), or what it outlives (shorter): the HIR's list, and its set
 unfoldable pub reachList : Bool → LifetimeEnv → ℕ → List ℕ
@@ -44,10 +45,10 @@ listDepthFirst d e start room = listFrom e start (depthFirst d e start) room
 
 -- All sets: that of the lifetime x at place x, and 0 at the places past the count
 unfoldable pub allSets : Bool → LifetimeEnv → List ℕ
-allSets d e = map (reachSet d e) (range 0 (e .count)) ++ replicate (64 - e .count) 0
+allSets d e = map (reachSet d e) (range 0 (e .count)) ++ replicate (mostLifetimes - e .count) 0
 
 abbrev pub noSets : List ℕ
-noSets = replicate 64 0
+noSets = replicate mostLifetimes 0
 
 unfoldable pub reachSets : Bool → LifetimeEnv → ReachSets
 reachSets d e = record {

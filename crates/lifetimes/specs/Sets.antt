@@ -10,6 +10,7 @@ use lib.ListN.{length}
 use Rattle.answers.specs.Lists.{range, filter}
 use Rattle.answers.specs.Refusals.{Outcome, unless}
 use Rattle.answers.specs.Lent.{roomCheck}
+use Rattle.lifetimes.specs.Limits.{mostLifetimes}
 
 abbrev pub empty : ℕ
 empty = 0
@@ -25,7 +26,7 @@ union s t = bitOr s t
 
 -- the members below 64, ascending
 unfoldable pub members : ℕ → List ℕ
-members s = filter (member s) (range 0 64)
+members s = filter (member s) (range 0 mostLifetimes)
 
 unfoldable pub count : ℕ → ℕ
 count s = length (members s)

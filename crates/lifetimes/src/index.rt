@@ -10,7 +10,9 @@ ghost use Rattle.lifetimes.specs.Bounds.{listOf};
 ghost use Rattle.answers.specs.Lent.{left};
 ghost use Rattle.lifetimes.specs.Walk.{orderOf};
 ghost use Rattle.lifetimes.specs.Index.{graphIn, Fine, Zeros, Indexed};
+ghost use Rattle.lifetimes.specs.Limits.{mostBounds, mostLifetimes};
 use super::bounds::Bounds;
+use super::env::LifetimeEnv;
 
 // For each bound its far side, and the bound before it with the same near side; for each lifetime the last bound whose
 // near side it is. A bound's number is its place counted from 1, and 0 stands for none. The bounds are linked in push
@@ -19,13 +21,14 @@ pub(crate) fn link(
     bounds: Bounds,
     ast: bool,
     longer: bool,
-    far: &mut [u8; 256],
-    before: &mut [u16; 256],
-    last: &mut [u16; 64],
+    far: &mut [u8; Bounds::MAX],
+    before: &mut [u16; Bounds::MAX],
+    last: &mut [u16; LifetimeEnv::MAX_LIFETIMES],
 )
     requires { ⌜ Fine (listOf bounds) × (length (listOf bounds) ≡ bounds .pushed) ⌝ }
     requires { ⌜ Zeros (now last) ⌝ }
-    requires { ⌜ (length (now far) ≡ 256) × (length (now before) ≡ 256) × (length (now last) ≡ 64) ⌝ }
+    requires { ⌜ (length (now far) ≡ mostBounds) × (length (now before) ≡ mostBounds)
+        × (length (now last) ≡ mostLifetimes) ⌝ }
     ensures { λ _. ⌜ Indexed (graphIn (orderOf ast) longer (listOf bounds)) (left far) (left before) (left last) ⌝ }
 {
     let n = bounds.pushed;

@@ -13,6 +13,8 @@ ghost use Rattle.lifetimes.specs.Reach.{listFrom, listReach, listDepthFi
 ghost use Rattle.lifetimes.specs.Reach.{listsAnswer};
 ghost use Rattle.lifetimes.specs.Index.{Graph, Indexed, Within, listBy, Measurable, Measures, Fits};
 ghost use Rattle.lifetimes.specs.Index.{Layable, Lays};
+ghost use Rattle.lifetimes.specs.Limits.{mostLifetimes};
+use super::bounds::Bounds;
 use super::env::LifetimeEnv;
 use super::index::link;
 use super::lifetime::Lifetime;
@@ -25,13 +27,13 @@ use answers::Verdict;
 // refusal.
 pub struct ReachSets {
     pub verdict: Verdict,
-    pub sets: [u64; 64],
+    pub sets: [u64; LifetimeEnv::MAX_LIFETIMES],
 }
 
 // How many words all lists have together, and the sets as in `ReachSets`.
 pub struct Lists {
     pub listed: Listed,
-    pub sets: [u64; 64],
+    pub sets: [u64; LifetimeEnv::MAX_LIFETIMES],
 }
 
 impl LifetimeEnv {
@@ -70,16 +72,16 @@ impl LifetimeEnv {
     pub fn reach_sets(self, longer: bool) -> ReachSets
         ensures answer { λ r. ⌜ r ≡ reachSets longer self ⌝ }
     {
-        let mut sets = [0u64; 64];
+        let mut sets = [0u64; LifetimeEnv::MAX_LIFETIMES];
         let verdict = self.check();
         let Verdict::Accepted = verdict else {
             return ReachSets { verdict, sets };
         };
         let declared = self.declared;
         let count = self.count;
-        let mut far = [0u8; 256];
-        let mut before = [0u16; 256];
-        let mut last = [0u16; 64];
+        let mut far = [0u8; Bounds::MAX];
+        let mut before = [0u16; Bounds::MAX];
+        let mut last = [0u16; LifetimeEnv::MAX_LIFETIMES];
         link(self.bounds, false, longer, &mut far, &mut before, &mut last);
         measure(&far, &before, &last, declared, count, &mut sets);
         ReachSets {
@@ -96,7 +98,7 @@ impl LifetimeEnv {
         ensures words_filled { λ _. ⌜ Fills (listWords longer self (room words) (room ends)) words ⌝ }
         ensures ends_filled { λ _. ⌜ Fills (listEnds longer self (room words) (room ends)) ends ⌝ }
     {
-        let mut sets = [0u64; 64];
+        let mut sets = [0u64; LifetimeEnv::MAX_LIFETIMES];
         let verdict = self.check();
         if let Verdict::Refused(refusal) = verdict {
             return Lists {
@@ -112,9 +114,9 @@ impl LifetimeEnv {
                 sets,
             };
         }
-        let mut far = [0u8; 256];
-        let mut before = [0u16; 256];
-        let mut last = [0u16; 64];
+        let mut far = [0u8; Bounds::MAX];
+        let mut before = [0u16; Bounds::MAX];
+        let mut last = [0u16; LifetimeEnv::MAX_LIFETIMES];
         link(self.bounds, false, longer, &mut far, &mut before, &mut last);
         if !all_fit(&far, &before, &last, declared, count, words.len()) {
             return Lists {
@@ -158,7 +160,7 @@ fn traverse(
     if env.count <= start {
         return Listed::Refused(Refusal::OutOfRange);
     }
-    let mut items = [0usize; 64];
+    let mut items = [0usize; LifetimeEnv::MAX_LIFETIMES];
     let n = list(env, ast, longer, start, &mut items);
     if out.len() < n {
         return Listed::Refused(Refusal::NoRoom);
@@ -168,17 +170,23 @@ fn traverse(
 }
 
 // The list of one lifetime of an environment, to the first places of `items`. Answers how many it lists.
-fn list(env: LifetimeEnv, ast: bool, longer: bool, start: usize, items: &mut [usize; 64]) -> usize
+fn list(
+    env: LifetimeEnv,
+    ast: bool,
+    longer: bool,
+    start: usize,
+    items: &mut [usize; LifetimeEnv::MAX_LIFETIMES],
+) -> usize
     requires { ⌜ NoneDue (envChecks env) × (start < env .count) ⌝ }
-    requires { ⌜ length (now items) ≡ 64 ⌝ }
-    ensures { λ r. ⌜ (r ≤ 64) × (length (left items) ≡ 64)
+    requires { ⌜ length (now items) ≡ mostLifetimes ⌝ }
+    ensures { λ r. ⌜ (r ≤ mostLifetimes) × (length (left items) ≡ mostLifetimes)
         × (take r (left items) ≡ listBy ast longer env start) ⌝ }
 {
     let declared = env.declared;
     let count = env.count;
-    let mut far = [0u8; 256];
-    let mut before = [0u16; 256];
-    let mut last = [0u16; 64];
+    let mut far = [0u8; Bounds::MAX];
+    let mut before = [0u16; Bounds::MAX];
+    let mut last = [0u16; LifetimeEnv::MAX_LIFETIMES];
     link(env.bounds, ast, longer, &mut far, &mut before, &mut last);
     let limit = limit_of(declared, count, start);
     walk(&far, &before, &last, limit, start, items).count
@@ -196,8 +204,8 @@ fn limit_of(declared: usize, count: usize, start: usize) -> usize
 }
 
 // Copy the first n items to a place of a slice.
-fn copy_to(items: &[usize; 64], n: usize, out: &mut [usize], at: usize)
-    requires { ⌜ (n ≤ 64) × (length (now items) ≡ 64) × (at + n ≤ length (now out)) ⌝ }
+fn copy_to(items: &[usize; LifetimeEnv::MAX_LIFETIMES], n: usize, out: &mut [usize], at: usize)
+    requires { ⌜ (n ≤ mostLifetimes) × (length (now items) ≡ mostLifetimes) × (at + n ≤ length (now out)) ⌝ }
     ensures { λ _. ⌜ left out ≡ sets (held out) at (take n (held items)) ⌝ }
 {
     let mut i = 0;
@@ -210,9 +218,9 @@ fn copy_to(items: &[usize; 64], n: usize, out: &mut [usize], at: usize)
 // Whether all lists over an index have room together. None is longer than there are lifetimes, so with as many words
 // for each they have; with less they are measured.
 fn all_fit(
-    far: &[u8; 256],
-    before: &[u16; 256],
-    last: &[u16; 64],
+    far: &[u8; Bounds::MAX],
+    before: &[u16; Bounds::MAX],
+    last: &[u16; LifetimeEnv::MAX_LIFETIMES],
     declared: usize,
     count: usize,
     room: usize,
@@ -224,25 +232,25 @@ fn all_fit(
     if count * count <= room {
         return true;
     }
-    let mut measured = [0u64; 64];
+    let mut measured = [0u64; LifetimeEnv::MAX_LIFETIMES];
     measure(far, before, last, declared, count, &mut measured) <= room
 }
 
 // All traversals over an index: the set of each to its place, and how many words all lists have together.
 fn measure(
-    far: &[u8; 256],
-    before: &[u16; 256],
-    last: &[u16; 64],
+    far: &[u8; Bounds::MAX],
+    before: &[u16; Bounds::MAX],
+    last: &[u16; LifetimeEnv::MAX_LIFETIMES],
     declared: usize,
     count: usize,
-    reach: &mut [u64; 64],
+    reach: &mut [u64; LifetimeEnv::MAX_LIFETIMES],
 ) -> usize
     requires { ⌜ Measurable (now far) (now before) (now last) declared count ⌝ }
-    requires { ⌜ length (now reach) ≡ 64 ⌝ }
+    requires { ⌜ length (now reach) ≡ mostLifetimes ⌝ }
     ensures { λ r. ⌜ ((g : Graph) → Indexed g (held far) (held before) (held last) → Within g declared
         → Measures g count (held reach) (left reach) r) ⌝ }
 {
-    let mut items = [0usize; 64];
+    let mut items = [0usize; LifetimeEnv::MAX_LIFETIMES];
     let mut total = 0;
     let mut x = 0;
     while x < count {
@@ -257,21 +265,21 @@ fn measure(
 
 // All traversals over an index: the lists one after another, where each ends, and the set of each.
 fn lay(
-    far: &[u8; 256],
-    before: &[u16; 256],
-    last: &[u16; 64],
+    far: &[u8; Bounds::MAX],
+    before: &[u16; Bounds::MAX],
+    last: &[u16; LifetimeEnv::MAX_LIFETIMES],
     declared: usize,
     count: usize,
     words: &mut [usize],
     ends: &mut [usize],
-    reach: &mut [u64; 64],
+    reach: &mut [u64; LifetimeEnv::MAX_LIFETIMES],
 ) -> usize
     requires { ⌜ Layable (now far) (now before) (now last) declared count (length (now words)) ⌝ }
-    requires { ⌜ (count ≤ length (now ends)) × (length (now reach) ≡ 64) ⌝ }
+    requires { ⌜ (count ≤ length (now ends)) × (length (now reach) ≡ mostLifetimes) ⌝ }
     ensures { λ r. ⌜ ((g : Graph) → Indexed g (held far) (held before) (held last) → Within g declared
         → Lays g count (held words) (held ends) (held reach) (left words) (left ends) (left reach) r) ⌝ }
 {
-    let mut items = [0usize; 64];
+    let mut items = [0usize; LifetimeEnv::MAX_LIFETIMES];
     let mut at = 0;
     let mut x = 0;
     while x < count {

@@ -7,6 +7,7 @@ ghost use Prim.Native.Nat.{_<_};
 ghost use lib.Dec.{ltb};
 ghost use Rattle.answers.specs.Lent.{counted, room, Fills};
 ghost use Rattle.lifetimes.specs.Sets as sets;
+ghost use Rattle.lifetimes.specs.Limits.{mostLifetimes};
 use super::lifetime::Lifetime;
 use answers::Listed;
 use answers::Refusal;
@@ -30,7 +31,7 @@ pub fn contains(set: u64, lifetime: Lifetime) -> bool
 
 // The set with one lifetime more. One of 64 or more is in no set: the set stays.
 pub fn insert(set: u64, lifetime: Lifetime) -> u64
-    ensures answer { λ r. ⌜ r ≡ cond (ltb (lifetime .0) 64) (sets.insert set (lifetime .0)) set ⌝ }
+    ensures answer { λ r. ⌜ r ≡ cond (ltb (lifetime .0) mostLifetimes) (sets.insert set (lifetime .0)) set ⌝ }
 {
     let number = lifetime.index();
     if number < CAPACITY {
@@ -77,7 +78,7 @@ pub fn members(set: u64, out: &mut [usize]) -> Listed
 
 // As `contains`, of a number that is known to be below 64.
 pub(crate) fn holds(set: u64, number: usize) -> bool
-    requires { ⌜ number < 64 ⌝ }
+    requires { ⌜ number < mostLifetimes ⌝ }
     ensures { λ r. ⌜ r ≡ sets.member set number ⌝ }
 {
     (set >> number) % 2 == 1
@@ -85,7 +86,7 @@ pub(crate) fn holds(set: u64, number: usize) -> bool
 
 // As `insert`, of a number that is known to be below 64.
 pub(crate) fn with(set: u64, number: usize) -> u64
-    requires { ⌜ number < 64 ⌝ }
+    requires { ⌜ number < mostLifetimes ⌝ }
     ensures { λ r. ⌜ r ≡ sets.insert set number ⌝ }
 {
     set | (1u64 << number)

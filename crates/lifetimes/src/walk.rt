@@ -5,6 +5,9 @@ ghost use lib.ListN.{length};
 ghost use Rattle.lifetimes.specs.Index.{Graph, Chained, Indexed, Ready, Standing, Steps, Within, Walkable};
 ghost use Rattle.lifetimes.specs.Index.{Complete};
 ghost use Rattle.answers.specs.Lent.{held, left};
+ghost use Rattle.lifetimes.specs.Limits.{mostLifetimes};
+use super::bounds::Bounds;
+use super::env::LifetimeEnv;
 use super::lifetime::Lifetime;
 use super::set;
 
@@ -30,9 +33,9 @@ pub(crate) struct Walked {
 // The next unseen lifetime: pending entries that were seen are passed over. The `next` of the Rust's
 // `LifetimeTransitivityIterator`.
 fn advance(
-    far: &[u8; 256],
-    before: &[u16; 256],
-    stack: &[usize; 64],
+    far: &[u8; Bounds::MAX],
+    before: &[u16; Bounds::MAX],
+    stack: &[usize; LifetimeEnv::MAX_LIFETIMES],
     seen: u64,
     from: usize,
     deep: usize,
@@ -65,20 +68,20 @@ fn advance(
 // The traversal from a lifetime, over the index of an environment whose lifetimes are below a limit, to the first
 // places of `items`. It stops when as many are listed as there are. A chain that is at its end is not stacked.
 pub(crate) fn walk(
-    far: &[u8; 256],
-    before: &[u16; 256],
-    last: &[u16; 64],
+    far: &[u8; Bounds::MAX],
+    before: &[u16; Bounds::MAX],
+    last: &[u16; LifetimeEnv::MAX_LIFETIMES],
     limit: usize,
     start: usize,
-    items: &mut [usize; 64],
+    items: &mut [usize; LifetimeEnv::MAX_LIFETIMES],
 ) -> Walked
     requires { ⌜ Walkable (now far) (now before) (now last) limit start ⌝ }
-    requires { ⌜ length (now items) ≡ 64 ⌝ }
-    ensures { λ r. ⌜ (r .count ≤ 64) × (length (left items) ≡ 64) ⌝ }
+    requires { ⌜ length (now items) ≡ mostLifetimes ⌝ }
+    ensures { λ r. ⌜ (r .count ≤ mostLifetimes) × (length (left items) ≡ mostLifetimes) ⌝ }
     ensures { λ r. ⌜ ((g : Graph) → Indexed g (held far) (held before) (held last) → Within g limit
         → Complete g start (left items) r) ⌝ }
 {
-    let mut stack = [0usize; 64];
+    let mut stack = [0usize; LifetimeEnv::MAX_LIFETIMES];
     items[0] = start;
     let mut count = 1;
     let mut seen = set::with(set::EMPTY, start);

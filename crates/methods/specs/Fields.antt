@@ -21,6 +21,7 @@ use Rattle.methods.specs.declared.fields.FieldPair.{FieldPair}
 use Rattle.methods.specs.declared.fields.FieldLifetimes.{FieldLifetimes}
 use Rattle.methods.specs.declared.fields.FieldAnswer.the-variants as answer
 use Rattle.methods.specs.Method.{rowAt, rowChecks}
+use Rattle.records.specs.Reading.{mostList}
 
 -- the field with a number; where there is none, a type that is no struct
 abbrev pub fieldIn : List LoweredType → ℕ → LoweredType
@@ -62,7 +63,7 @@ fieldPairs structs row field =
 -- What the call answers: how many pairs stand in the first places, none if there is no pair, or a refusal. Other places
 -- hold pairs of 0
 abbrev pub placed : List FieldPair → List FieldPair
-placed pairs = pairs ++ replicate (16 - length pairs) (fieldPair 0 0)
+placed pairs = pairs ++ replicate (mostList - length pairs) (fieldPair 0 0)
 
 abbrev pub givenPairs : List FieldPair → FieldLifetimes
 givenPairs [] = record { answer = answer.Absent; pairs = placed [] }

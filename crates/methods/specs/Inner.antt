@@ -9,7 +9,7 @@ use lib.ListN.{length, getD, take, drop}
 use Rattle.answers.specs.declared.Refusal.the-variants.{Mismatch}
 use Rattle.answers.specs.declared.Verdict.{Verdict}
 use Rattle.answers.specs.declared.Verdict.the-variants.{Accepted, Refused}
-use Rattle.records.specs.Reading.{Read}
+use Rattle.records.specs.Reading.{Read, mostList}
 use Rattle.answers.specs.Lent.{judged}
 use Rattle.types.specs.declared.types.Kind.{Kind}
 use Rattle.types.specs.declared.types.Kind.the-variants.{Plain, Opaque, Struct, Slice}
@@ -23,7 +23,7 @@ use Rattle.lifetimes.specs.Sets.{insertAll, setOf}
 use Rattle.methods.specs.declared.output.Collected.{Collected}
 use Rattle.methods.specs.declared.output.Collected.the-variants.{Set, Past}
 use Rattle.methods.specs.declared.method.Judged.{Judged}
-use Rattle.methods.specs.Method.{rowAt, typeChecks, rowChecks, paramChecks, typesIn, anyPast}
+use Rattle.methods.specs.Method.{rowAt, typeChecks, rowChecks, paramChecks, typesIn, anyPast, mostRows}
 use Rattle.methods.specs.Method.{methodChecks}
 use Rattle.methods.specs.Fields.{fieldAt, isStruct}
 use Rattle.methods.specs.Used.{numbersOf, outputNumbers}
@@ -53,14 +53,14 @@ pub data FitIs (words : List ℕ) (from : ℕ) (rest : List ℕ) : Verdict → F
 -- the type at a place, that names a row below n, fits or does not
 abbrev pub TypeFits : List ℕ → ℕ → List ℕ → Fit → Type 0
 TypeFits words at lifetimes r =
-    (rows : List Row) (n : ℕ) (t : LoweredType) (rest : List ℕ) → n ≤ 32 → Holding rows n lifetimes
+    (rows : List Row) (n : ℕ) (t : LoweredType) (rest : List ℕ) → n ≤ mostRows → Holding rows n lifetimes
     → readKnown n (drop at words) ≡ Read t rest
     → FitIs words at rest (judged (typeChecks rows (t ∷ []))) r
 
 -- so many types from a place on, that name rows below n, fit or do not
 abbrev pub TypesFit : List ℕ → ℕ → ℕ → List ℕ → Fit → Type 0
 TypesFit words from count lifetimes r =
-    (rows : List Row) (n : ℕ) (types : List LoweredType) (rest : List ℕ) → n ≤ 32 → Holding rows n lifetimes
+    (rows : List Row) (n : ℕ) (types : List LoweredType) (rest : List ℕ) → n ≤ mostRows → Holding rows n lifetimes
     → readTypes n count (drop from words) ≡ Read types rest
     → FitIs words from rest (judged (typeChecks rows types)) r
 
@@ -73,8 +73,8 @@ pub record RowStands (structs : List ℕ) (row place : ℕ) : Type 0 where
 -- rows that were checked: the verdict, and where they are accepted the lifetimes of each
 pub record Indexes (structs lifetimes : List ℕ) (r : Verdict) : Type 0 where
   pub verdict : r ≡ judged (rowChecks (rowsOf structs) 0 (rowsOf structs))
-  pub size : length lifetimes ≡ 32
-  pub few : r ≡ Accepted → length (rowsOf structs) ≤ 32
+  pub size : length lifetimes ≡ mostRows
+  pub few : r ≡ Accepted → length (rowsOf structs) ≤ mostRows
   pub holding : r ≡ Accepted → Holding (rowsOf structs) (length (rowsOf structs)) lifetimes
 
 -- the set with the numbers of some lifetimes put in, if none is past the count
@@ -95,7 +95,7 @@ TypesCollect words from types count set r =
 -- the parameters' verdict
 abbrev pub ParamsFit : List ℕ → ℕ → List ℕ → Verdict → Type 0
 ParamsFit params count lifetimes r =
-    (rows : List Row) (n : ℕ) (types : List LoweredType) (rest : List ℕ) → n ≤ 32 → Holding rows n lifetimes
+    (rows : List Row) (n : ℕ) (types : List LoweredType) (rest : List ℕ) → n ≤ mostRows → Holding rows n lifetimes
     → readTypes n count params ≡ Read types rest
     → r ≡ judged (paramChecks rows 0 types)
 
@@ -124,7 +124,7 @@ TypesSkip words from count r = (n : ℕ) (types : List LoweredType) (rest : List
 -- none
 pub data FieldIs (structs : List ℕ) (row field : ℕ) : Field → Type 0 where
   struct : {inner from count : ℕ} → fieldAt (rowsOf structs) row field .kind ≡ Struct inner → inner < row
-      → length (fieldAt (rowsOf structs) row field .path) ≤ 16
+      → length (fieldAt (rowsOf structs) row field .path) ≤ mostList
       → take count (drop from structs) ≡ fieldAt (rowsOf structs) row field .path
       → FieldIs structs row field (aField.Struct inner from count)
   other : isStruct (fieldAt (rowsOf structs) row field .kind) ≡ false → FieldIs structs row field aField.Missing

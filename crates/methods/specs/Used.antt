@@ -7,6 +7,7 @@ use Rattle.lifetimes.specs.declared.maybe_static.MaybeStatic.the-variants.{Stat
 use Rattle.lifetimes.specs.declared.env.LifetimeEnv.{LifetimeEnv}
 use Rattle.answers.specs.Refusals.{Outcome, Gives, Refuses, unless}
 use Rattle.lifetimes.specs.Sets.{setOf}
+use Rattle.records.specs.Reading.{mostList}
 use Rattle.methods.specs.declared.used.UsedLifetimes.{UsedLifetimes}
 use Rattle.methods.specs.declared.used.UsedLifetimes.the-variants as answer
 use Rattle.methods.specs.Method.{outputLifetimes, methodChecks}
@@ -29,7 +30,7 @@ usedSet env structs params output force =
 
 -- how many they are at most: an output has at most two types, and a type 16 lifetimes in its path and one of its own
 abbrev pub mostUsed : ℕ
-mostUsed = 2 * (16 + 1)
+mostUsed = 2 * (mostList + 1)
 
 -- what the call answers
 abbrev pub usedAnswer : Outcome ℕ → UsedLifetimes

@@ -8,6 +8,8 @@ ghost use Rattle.answers.specs.Lent.{held};
 ghost use Rattle.types.specs.Rows.{rowsOf, structsInShape};
 ghost use Rattle.methods.specs.Fields.{pairsFrom, placed, givenPairs, fieldPairs, fieldAnswer};
 ghost use Rattle.methods.specs.Inner.{RowStands, TypesSkip, FieldIs};
+ghost use Rattle.records.specs.Reading.{mostList};
+use super::fits::MAX_ROWS;
 use super::fits::index_rows;
 use answers::Listed;
 use answers::Refusal;
@@ -16,6 +18,7 @@ use lifetimes::DefLifetime;
 use lifetimes::LinkedPair;
 use lifetimes::MaybeStaticDef;
 use lifetimes::linked_pair;
+use records::End;
 use types::Kind;
 use types::Located;
 use types::path_words;
@@ -38,7 +41,7 @@ pub enum FieldAnswer {
 // The answer, and the pairs in the first places, ascending by the field's lifetime.
 pub struct FieldLifetimes {
     pub answer: FieldAnswer,
-    pub pairs: [FieldPair; 16],
+    pub pairs: [FieldPair; End::MAX_LIST],
 }
 
 // A struct-typed field: the row that it names, and where its path words start and how many they are. Missing where
@@ -71,7 +74,7 @@ pub fn compute_for_struct_field(structs: &[usize], row: usize, field: usize) -> 
     else {
         return refused(Refusal::Malformed);
     };
-    let mut lifetimes = [0usize; 32];
+    let mut lifetimes = [0usize; MAX_ROWS];
     let verdict = index_rows(structs, rows, &mut lifetimes);
     match verdict {
         Verdict::Refused(refusal) => refused(refusal),
@@ -86,14 +89,14 @@ pub fn compute_for_struct_field(structs: &[usize], row: usize, field: usize) -> 
 
 // The pairs of a field's path words, which are as many as the lifetimes of the field's own definition: so they link.
 fn pairs_of(path: &[usize], count: usize, declared: usize) -> FieldLifetimes
-    requires { ⌜ (length (now path) ≡ count) × (count ≤ 16) ⌝ }
+    requires { ⌜ (length (now path) ≡ count) × (count ≤ mostList) ⌝ }
     ensures { λ r. ⌜ r ≡ givenPairs (pairsFrom declared 0 (held path)) ⌝ }
 {
     let none = FieldPair {
         def: DefLifetime::new(0),
         outer: DefLifetime::new(0),
     };
-    let mut pairs = [none; 16];
+    let mut pairs = [none; End::MAX_LIST];
     let mut n = 0;
     let mut i = 0;
     while i < count {
@@ -133,7 +136,7 @@ fn refused(refusal: Refusal) -> FieldLifetimes
         def: DefLifetime::new(0),
         outer: DefLifetime::new(0),
     };
-    let pairs = [none; 16];
+    let pairs = [none; End::MAX_LIST];
     FieldLifetimes {
         answer: FieldAnswer::Refused(refusal),
         pairs,

@@ -6,6 +6,7 @@ ghost use lib.ListN.{length};
 ghost use Rattle.answers.specs.Lent.{held, left};
 ghost use Rattle.types.specs.Rows.{rowsOf, structsInShape};
 ghost use Rattle.methods.specs.Inner.{ParamsFit, TypesFit, Indexes, TypeFits, rowLifetimes, misfitIn};
+ghost use Rattle.methods.specs.Method.{mostRows};
 use answers::Refusal;
 use answers::Verdict;
 use types::Kind;
@@ -13,7 +14,7 @@ use types::Located;
 use types::type_at;
 
 // How many rows a method's structs may have.
-const MAX_ROWS: usize = 32;
+pub(crate) const MAX_ROWS: usize = 32;
 
 // How many parameters a method may have.
 const MAX_PARAMS: usize = 16;
@@ -26,9 +27,13 @@ pub(crate) enum Fit {
 
 // Whether the rows of `structs`, so many, are not too many and their fields fit. Accepted, the array holds each row's
 // lifetimes.
-pub(crate) fn index_rows(structs: &[usize], rows: usize, lifetimes: &mut [usize; 32]) -> Verdict
+pub(crate) fn index_rows(
+    structs: &[usize],
+    rows: usize,
+    lifetimes: &mut [usize; MAX_ROWS],
+) -> Verdict
     requires { ⌜ (structsInShape (now structs) ≡ true) × (length (rowsOf (now structs)) ≡ rows) ⌝ }
-    requires { ⌜ length (now lifetimes) ≡ 32 ⌝ }
+    requires { ⌜ length (now lifetimes) ≡ mostRows ⌝ }
     ensures { λ r. ⌜ Indexes (held structs) (left lifetimes) r ⌝ }
 {
     let mut at = 0;
@@ -51,8 +56,8 @@ pub(crate) fn index_rows(structs: &[usize], rows: usize, lifetimes: &mut [usize;
 }
 
 // Whether parameters, so many, are not too many and fit: a misfit before the 17th comes first.
-pub(crate) fn params_fit(params: &[usize], count: usize, lifetimes: &[usize; 32]) -> Verdict
-    requires { ⌜ length (now lifetimes) ≡ 32 ⌝ }
+pub(crate) fn params_fit(params: &[usize], count: usize, lifetimes: &[usize; MAX_ROWS]) -> Verdict
+    requires { ⌜ length (now lifetimes) ≡ mostRows ⌝ }
     ensures { λ r. ⌜ ParamsFit (held params) count (held lifetimes) r ⌝ }
 {
     if MAX_PARAMS < count {
@@ -71,8 +76,13 @@ pub(crate) fn params_fit(params: &[usize], count: usize, lifetimes: &[usize; 32]
 
 // Whether so many types fit that stand one after another from a place on, by the lifetimes of the rows that they may
 // name.
-pub(crate) fn types_fit(words: &[usize], from: usize, count: usize, lifetimes: &[usize; 32]) -> Fit
-    requires { ⌜ (from ≤ length (now words)) × (length (now lifetimes) ≡ 32) ⌝ }
+pub(crate) fn types_fit(
+    words: &[usize],
+    from: usize,
+    count: usize,
+    lifetimes: &[usize; MAX_ROWS],
+) -> Fit
+    requires { ⌜ (from ≤ length (now words)) × (length (now lifetimes) ≡ mostRows) ⌝ }
     ensures { λ r. ⌜ TypesFit (held words) from count (held lifetimes) r ⌝ }
 {
     let mut at = from;
@@ -89,8 +99,8 @@ pub(crate) fn types_fit(words: &[usize], from: usize, count: usize, lifetimes: &
 }
 
 // Whether the type at a place fits.
-fn type_fits(words: &[usize], at: usize, lifetimes: &[usize; 32]) -> Fit
-    requires { ⌜ length (now lifetimes) ≡ 32 ⌝ }
+fn type_fits(words: &[usize], at: usize, lifetimes: &[usize; MAX_ROWS]) -> Fit
+    requires { ⌜ length (now lifetimes) ≡ mostRows ⌝ }
     ensures { λ r. ⌜ TypeFits (held words) at (held lifetimes) r ⌝ }
 {
     let found = type_at(words, at);
@@ -107,8 +117,8 @@ fn type_fits(words: &[usize], at: usize, lifetimes: &[usize; 32]) -> Fit
 }
 
 // Whether a type with so many path words is a struct whose row has not as many lifetimes.
-fn is_misfit(kind: Kind, count: usize, lifetimes: &[usize; 32]) -> bool
-    requires { ⌜ length (now lifetimes) ≡ 32 ⌝ }
+fn is_misfit(kind: Kind, count: usize, lifetimes: &[usize; MAX_ROWS]) -> bool
+    requires { ⌜ length (now lifetimes) ≡ mostRows ⌝ }
     ensures { λ r. ⌜ r ≡ misfitIn (held lifetimes) kind count ⌝ }
 {
     match kind {
@@ -120,8 +130,8 @@ fn is_misfit(kind: Kind, count: usize, lifetimes: &[usize; 32]) -> bool
 }
 
 // The lifetimes of a row.
-fn lifetimes_of(lifetimes: &[usize; 32], row: usize) -> usize
-    requires { ⌜ length (now lifetimes) ≡ 32 ⌝ }
+fn lifetimes_of(lifetimes: &[usize; MAX_ROWS], row: usize) -> usize
+    requires { ⌜ length (now lifetimes) ≡ mostRows ⌝ }
     ensures { λ r. ⌜ r ≡ rowLifetimes (held lifetimes) row ⌝ }
 {
     if row < MAX_ROWS {

@@ -5,6 +5,7 @@ ghost use Rattle.methods.specs.Inner.{InShape, Judges};
 ghost use Rattle.answers.specs.Lent.{held};
 ghost use Rattle.answers.specs.Lent.{judged};
 use super::fits::Fit;
+use super::fits::MAX_ROWS;
 use super::fits::index_rows;
 use super::fits::params_fit;
 use super::fits::types_fit;
@@ -54,7 +55,7 @@ pub fn check_structs_and_params(structs: &[usize], params: &[usize]) -> Verdict
     let Listed::Count(inputs) = listed else {
         return Verdict::Refused(Refusal::Malformed);
     };
-    let mut lifetimes = [0usize; 32];
+    let mut lifetimes = [0usize; MAX_ROWS];
     let verdict = index_rows(structs, rows, &mut lifetimes);
     let Verdict::Accepted = verdict else {
         return verdict;
@@ -125,7 +126,7 @@ fn judge_places(
     requires { ⌜ InShape (now structs) (now params) (now output) rows inputs outputs ⌝ }
     ensures { λ r. ⌜ r ≡ judged (placeChecks (held structs) (held params) (held output)) ⌝ }
 {
-    let mut lifetimes = [0usize; 32];
+    let mut lifetimes = [0usize; MAX_ROWS];
     let first = index_rows(structs, rows, &mut lifetimes);
     let Verdict::Accepted = first else {
         return first;

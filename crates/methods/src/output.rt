@@ -6,6 +6,7 @@ ghost use Rattle.answers.specs.Lent.{held};
 ghost use Rattle.lifetimes.specs.LoweredWords.{fromWord};
 ghost use Rattle.types.specs.LoweredTypes.{ownLifetimes};
 ghost use Rattle.methods.specs.Inner.{CollectIs, PathThere, TypesCollect};
+ghost use Rattle.lifetimes.specs.Limits.{mostLifetimes};
 use lifetimes::MaybeStatic;
 use lifetimes::set;
 use types::Located;
@@ -21,7 +22,7 @@ pub(crate) enum Collected {
 
 // The lifetimes of so many types, which stand at the front of some words, as a set; or that one is past the count.
 pub(crate) fn collect_types(words: &[usize], types: usize, count: usize) -> Collected
-    requires { ⌜ count ≤ 64 ⌝ }
+    requires { ⌜ count ≤ mostLifetimes ⌝ }
     ensures { λ r. ⌜ TypesCollect (held words) 0 types count 0 r ⌝ }
 {
     let mut at = 0;
@@ -53,7 +54,7 @@ pub(crate) fn collect_types(words: &[usize], types: usize, count: usize) -> Coll
 
 // Put the lifetimes of so many words, from a place on, into a set.
 fn collect_path(words: &[usize], from: usize, n: usize, count: usize, before: u64) -> Collected
-    requires { ⌜ (count ≤ 64) × (PathThere (length (now words)) from n) ⌝ }
+    requires { ⌜ (count ≤ mostLifetimes) × (PathThere (length (now words)) from n) ⌝ }
     ensures { λ r. ⌜ CollectIs count before (map fromWord (take n (drop from (held words)))) r ⌝ }
 {
     let mut used = before;
@@ -72,7 +73,7 @@ fn collect_path(words: &[usize], from: usize, n: usize, count: usize, before: u6
 
 // Put a type's own lifetime into a set, if it has one.
 fn collect_own(own: Own, count: usize, before: u64) -> Collected
-    requires { ⌜ count ≤ 64 ⌝ }
+    requires { ⌜ count ≤ mostLifetimes ⌝ }
     ensures { λ r. ⌜ CollectIs count before (ownLifetimes own) r ⌝ }
 {
     let lifetime = own.lifetime();
@@ -84,7 +85,7 @@ fn collect_own(own: Own, count: usize, before: u64) -> Collected
 
 // Put one lifetime into a set; static is in none.
 fn collect(lifetime: MaybeStatic, count: usize, before: u64) -> Collected
-    requires { ⌜ count ≤ 64 ⌝ }
+    requires { ⌜ count ≤ mostLifetimes ⌝ }
     ensures { λ r. ⌜ CollectIs count before (lifetime ∷ []) r ⌝ }
 {
     let MaybeStatic::NonStatic(l) = lifetime else {

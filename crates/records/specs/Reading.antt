@@ -35,10 +35,14 @@ abbrev pub readWord : List ℕ → Reading ℕ
 readWord [] = Fails
 readWord (word ∷ words) = Read word words
 
+-- 01: "n at most 16"
+abbrev pub mostList : ℕ
+mostList = 16
+
 -- a list of lifetimes: how many (at most 16), then they
 abbrev pub readLifetimes : List ℕ → Reading (List ℕ)
 readLifetimes [] = Fails
-readLifetimes (n ∷ words) = cond (leb n 16 && leb n (length words)) (Read (take n words) (drop n words)) Fails
+readLifetimes (n ∷ words) = cond (leb n mostList && leb n (length words)) (Read (take n words) (drop n words)) Fails
 
 -- items one after another, to the end of the words; an item may depend on its number. Each takes a word at least, so
 -- that as many steps as words are enough
@@ -54,8 +58,11 @@ readAll item number (suc steps) words =
     (λ a rest. onward (readAll item (suc number) steps rest) (λ items end. Read (a ∷ items) end)))
 
 -- "A record has at most 1,024 words"
+abbrev pub mostWords : ℕ
+mostWords = 1024
+
 abbrev pub fewWords : List ℕ → Bool
-fewWords words = leb (length words) 1024
+fewWords words = leb (length words) mostWords
 
 -- a record of items: its shape (refusal 1, 01's "torn", if it is not in shape), and the items. Words that do not make
 -- items to their end have none; a record that only has too many words has its items all the same, and its shape refuses

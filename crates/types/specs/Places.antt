@@ -4,7 +4,7 @@ use Prim.Native.Nat.{ℕ, _-_, _≤_, _<_}
 use mathlib.Core.Path.{_≡_}
 use mathlib.Core.List.{List}
 use lib.ListN.{length, getD, take, drop}
-use Rattle.records.specs.Reading.{Reading, Read, Fails}
+use Rattle.records.specs.Reading.{Reading, Read, Fails, mostList}
 use Rattle.types.specs.declared.types.Kind.{Kind}
 use Rattle.types.specs.declared.types.Kind.the-variants.{Plain, Opaque, Struct, Slice}
 use Rattle.types.specs.declared.types.Parts.{Parts}
@@ -17,7 +17,7 @@ pub record Stands (words : List ℕ) (at : ℕ) (t : LoweredType) (rest : List �
   pub option : p .option ≡ t .option
   pub kind : p .kind ≡ t .kind
   pub count : p .count ≡ length (t .path)
-  pub few : p .count ≤ 16
+  pub few : p .count ≤ mostList
   pub path : take (p .count) (drop (p .from) words) ≡ t .path
   pub own : p .own ≡ t .own
   pub left : drop (p .next) words ≡ rest

@@ -13,7 +13,7 @@ use Rattle.answers.specs.declared.Verdict.{Verdict}
 use Rattle.answers.specs.declared.Verdict.the-variants as verdict
 use Rattle.answers.specs.Refusals.{Check, check, Outcome, Gives, Refuses, unless}
 use Rattle.answers.specs.Lent.{verdictOf}
-use Rattle.records.specs.Reading.{Reading, Read, Fails, onward, readWord, inShape, itemsOf}
+use Rattle.records.specs.Reading.{Reading, Read, Fails, onward, readWord, inShape, itemsOf, mostList}
 use Rattle.types.specs.declared.shapes.Shape.{Shape}
 use Rattle.types.specs.LoweredTypes.{LoweredType, readLowered, knows}
 
@@ -40,7 +40,9 @@ unfoldable pub readRow : ℕ → List ℕ → Reading Row
 readRow number words =
     onward (readWord words) (λ d rest.
     onward (readWord rest) (λ n behind.
-    cond (leb d 16 && leb n 16) (onward (readTypes number n behind) (λ fields end. Read (rowWith d fields) end)) Fails))
+    cond (leb d mostList && leb n mostList)
+    (onward (readTypes number n behind) (λ fields end. Read (rowWith d fields) end))
+    Fails))
 
 abbrev pub structsInShape : List ℕ → Bool
 structsInShape structs = inShape readRow structs
