@@ -1,0 +1,7 @@
+-- Laws of the definitions, and of the loops over plain values.
+pub mod DigitLaws
+pub mod PrintLaws
+pub mod NumberLaws
+pub mod InverseLaws
+-- The main theorems:
+pub mod Theorems
