@@ -12,7 +12,7 @@ use Rattle.answers.specs.Lists.{range}
 use Rattle.answers.specs.Lists.{endsFrom}
 use Rattle.lifetimes.specs.Sets.{members}
 use Rattle.types.specs.LoweredTypes.{LoweredType}
-use Rattle.sheet.specs.Text.{line}
+use Rattle.text.specs.Decimal.{line}
 use Rattle.borrowing_param.specs.declared.visitor.BorrowingParamVisitor.{BorrowingParamVisitor}
 use Rattle.borrowing_param.specs.Brings.{bring}
 use Rattle.borrowing_param.specs.Visit.{usedOf, drawsIn, bringTo, bringAll}

@@ -3,5 +3,6 @@ pub mod DigitLaws
 pub mod PrintLaws
 pub mod NumberLaws
 pub mod InverseLaws
+pub mod FoundLaws
 -- The main theorems:
 pub mod Theorems

@@ -73,11 +73,13 @@ prints-length p h = p .answer ∙ omega (arith, h)
 -- ---- what is left to print: stored from here it is all of a text stored from its start, and it ends where that ends
 pub record Leaves (text : List ℕ) (at : ℕ) (out : List ℕ) (rest : List ℕ) (at₁ : ℕ) (out₁ : List ℕ) : Type 0 where
   pub room : length out < 2 ^ 64
+  pub here : at₁ < 2 ^ 64
   pub answer : behind at₁ rest ≡ behind at text
   pub stored : sets out₁ at₁ rest ≡ sets out at text
 
-pub leaves-all : (text : List ℕ) (at : ℕ) (out : List ℕ) → length out < 2 ^ 64 → Leaves text at out text at out
-leaves-all text at out h = record { room = h; answer = refl; stored = refl }
+pub leaves-all : (text : List ℕ) (at : ℕ) (out : List ℕ) → length out < 2 ^ 64 → at < 2 ^ 64
+    → Leaves text at out text at out
+leaves-all text at out h a = record { room = h; here = a; answer = refl; stored = refl }
 
 pub leaves-size : {text : List ℕ} {at : ℕ} {out : List ℕ} {rest : List ℕ} {at₁ : ℕ} {out₁ : List ℕ}
     → Leaves text at out rest at₁ out₁ → length out₁ ≡ length out
@@ -90,6 +92,7 @@ module _ {text : List ℕ} {at : ℕ} {out : List ℕ} {s : List ℕ} {at₁ at�
   leaves-rest rest l p =
       record {
         room = l .room;
+        here = omega (arith, p .answer);
         answer = rw (p .answer) (behind-more at₁ s rest ∙ l .answer);
         stored = rw (p .answer, p .stored)
             (sets-more out₁ at₁ s rest (omega (arith, l .room, leaves-size l)) ∙ l .stored);
@@ -99,9 +102,9 @@ module _ {text : List ℕ} {at : ℕ} {out : List ℕ} {s : List ℕ} {at₁ at�
   leaves-none l p = record { answer = p .answer ∙ l .answer; stored = p .stored ∙ l .stored }
 
 -- all is printed
-pub leaves-nothing : {text : List ℕ} {at : ℕ} {out : List ℕ} {at₁ : ℕ} {out₁ : List ℕ} → at₁ < 2 ^ 64
+pub leaves-nothing : {text : List ℕ} {at : ℕ} {out : List ℕ} {at₁ : ℕ} {out₁ : List ℕ}
     → Leaves text at out [] at₁ out₁ → Prints text at out at₁ out₁
-leaves-nothing {at₁ = at₁} h l = let e : behind at₁ [] ≡ at₁ = omega (arith, h) in
+leaves-nothing {at₁ = at₁} l = let e : behind at₁ [] ≡ at₁ = omega (arith, l .here) in
     record { answer = sym e ∙ l .answer; stored = l .stored }
 
 -- ---- one byte
@@ -296,8 +299,9 @@ pub record Following (words : List ℕ) (at : ℕ) (out₀ out : List ℕ) (to i
   pub here : i ≤ length words
   pub left : Leaves (following words) at out₀ (following (drop i words)) to out
 
-pub following-start : (words : List ℕ) (at : ℕ) (out : List ℕ) → length out < 2 ^ 64 → Following words at out out at 0
-following-start words at out h = record { here = omega arith; left = leaves-all (following words) at out h }
+pub following-start : (words : List ℕ) (at : ℕ) (out : List ℕ) → length out < 2 ^ 64 → at < 2 ^ 64
+    → Following words at out out at 0
+following-start words at out h a = record { here = omega arith; left = leaves-all (following words) at out h a }
 
 following-next : (words : List ℕ) (i : ℕ) → i < length words
     → following (drop i words) ≡ (space ∷ []) ++ (digits (getD words i 0) ++ following (drop (suc i) words))

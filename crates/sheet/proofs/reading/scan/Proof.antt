@@ -6,8 +6,8 @@ use borrow.Author.Tests.{not-true, not-false}
 use Rattle.sheet.proofs.Answers.{too-many, no-heading, heading-not, heading-is, measured-none}
 use Rattle.sheet.proofs.Answers.{measured-unreadable, measured-malformed, measured-accepted, scan-refused, wrote}
 use borrow.Author.Needs.{needs}
-use Rattle.sheet.proofs.text.scan.Statement.{statement}
-use Rattle.sheet.proofs.text.scan.Tie as tie
+use Rattle.sheet.proofs.reading.scan.Statement.{statement}
+use Rattle.sheet.proofs.reading.scan.Tie as tie
 
 returns : tie.Need-returns
 returns c =

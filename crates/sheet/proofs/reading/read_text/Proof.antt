@@ -3,8 +3,8 @@ use mathlib.Core.Path.{_∙_}
 use borrow.Author.Needs.{needs}
 use borrow.Author.Tests.{not-true, not-false}
 use Rattle.sheet.proofs.Answers.{none-due, read-refused, read-short, read-wrote}
-use Rattle.sheet.proofs.text.read_text.Statement.{statement}
-use Rattle.sheet.proofs.text.read_text.Tie as tie
+use Rattle.sheet.proofs.reading.read_text.Statement.{statement}
+use Rattle.sheet.proofs.reading.read_text.Tie as tie
 
 returns : tie.Need-returns
 returns c = read-refused _ _ _ (c .before .before .measure .ensures) (c .enum-told2 .given .1)

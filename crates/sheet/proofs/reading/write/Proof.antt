@@ -1,8 +1,8 @@
 -- `write` meets its contract: an accepted text is read, and what is read is stored.
 use borrow.Author.Needs.{needs}
 use Rattle.sheet.proofs.Answers.{wrote}
-use Rattle.sheet.proofs.text.write.Statement.{statement}
-use Rattle.sheet.proofs.text.write.Tie as tie
+use Rattle.sheet.proofs.reading.write.Statement.{statement}
+use Rattle.sheet.proofs.reading.write.Tie as tie
 
 returns : tie.Need-returns
 returns c =

@@ -1,8 +1,8 @@
 -- `write_all` meets its contract: the words are written where they fit, and else left.
 use borrow.Author.Needs.{needs}
 use Rattle.sheet.proofs.Answers.{left-fitting, left-short}
-use Rattle.sheet.proofs.text.write_all.Statement.{statement}
-use Rattle.sheet.proofs.text.write_all.Tie as tie
+use Rattle.sheet.proofs.reading.write_all.Statement.{statement}
+use Rattle.sheet.proofs.reading.write_all.Tie as tie
 
 pub write-all-spec : {M : Type 1} → statement M
 write-all-spec =

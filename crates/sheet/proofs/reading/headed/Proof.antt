@@ -6,8 +6,8 @@ use borrow.Author.Needs.{needs}
 use Rattle.sheet.specs.Text.{heading}
 use Rattle.sheet.proofs.Matching.{Comparing, behind-short, matching-start, comparing-here, comparing-more}
 use Rattle.sheet.proofs.Matching.{comparing-end}
-use Rattle.sheet.proofs.text.headed.Statement.{statement}
-use Rattle.sheet.proofs.text.headed.Tie as tie
+use Rattle.sheet.proofs.reading.headed.Statement.{statement}
+use Rattle.sheet.proofs.reading.headed.Tie as tie
 
 abbrev Inv-loop : tie.InvT-loop
 Inv-loop bytes line same₀ i₀ same i = Comparing same heading bytes i × (line ≡ heading)
