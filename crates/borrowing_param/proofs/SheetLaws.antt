@@ -24,7 +24,7 @@ use Rattle.answers.proofs.RefusalLaws.{first-after, refused-first, accepted-non
 use Rattle.records.specs.Copied.{copied}
 use Rattle.records.proofs.CopyLaws.{copied-stores, copied-all, copied-none}
 use Rattle.answers.proofs.VerdictLaws.{refused-accepted}
-use Rattle.sheet.specs.declared.text.Text.{Text}
+use Rattle.sheet.specs.declared.reading.Text.{Text}
 use Rattle.sheet.specs.Text.{Records, lists, wordsOf}
 use Rattle.sheet.specs.Reading.{sheetOf, textChecks}
 use Rattle.answers.specs.Lists.{endsFrom}

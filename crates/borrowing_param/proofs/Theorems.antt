@@ -17,6 +17,7 @@ use Rattle.elision.specs.Rfc as rfc
 use Rattle.types.specs.LoweredTypes as types
 use Rattle.types.specs.Rows as rows
 use Rattle.methods.specs.Used as used
+use Rattle.text.specs.Decimal as decimal
 use Rattle.sheet.specs.Text as text
 use Rattle.sheet.specs.Reading as read
 use Rattle.sheet.specs.Shape as shape
@@ -63,8 +64,8 @@ unfolding new.created new.visitorFrom map.listedTo map.listedEdges map.answersFr
     bounds.boundsFrom lists.range lists.filter reach.reachSet reach.reachList reach.allSets walk.traversal walk.walk
     walk.walkFor walk.unpushed walk.neighbours sets.member sets.insert sets.insertAll sets.members flatMap
     sheets.lowerSheet sheets.sheetRefusals sheets.loweringChecks shape.sheetChecks read.textChecks read.sheetOf read.sheetIn
-    read.linesBehind read.ten read.readLines read.behind read.allShort flatten text.text text.line text.following
-    text.digits text.digitsFor
+    read.linesBehind read.ten read.readLines read.behind read.allShort flatten text.text decimal.line decimal.following
+    decimal.digits decimal.digitsFor
     shape.sheetInShape shapes.namesInShape shapes.boundsInShape shapes.pairsOf ast-types.readType
     steps.readStep ast.nameChecks ast.allPairChecks ast.implied ast.allImplied ast.envOf ast.place
     rfc.throughout rfc.ownFrom

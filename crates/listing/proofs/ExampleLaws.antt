@@ -20,7 +20,7 @@ use Rattle.elision.specs.Examples as elision
 use Rattle.types.specs.LoweredTypes as types
 use Rattle.types.specs.Rows as rows
 use Rattle.methods.specs.Used as used
-use Rattle.sheet.specs.Text as text
+use Rattle.text.specs.Decimal as decimal
 use Rattle.sheet.specs.Reading as read
 use Rattle.sheet.specs.Reading.{sheetOf}
 use Rattle.sheet.specs.Shape as shape
@@ -58,8 +58,8 @@ visits-right (x ∷ xs) p = (ap Visited (p .0), visits-right xs (p .1))
 pub program-right : Right programExamples
 unfolding response unless listingOf listingChecks sheets.sheetRefusals sheets.loweringChecks shape.sheetChecks read.textChecks
     read.sheetOf
-    read.sheetIn read.linesBehind read.ten read.readLines read.behind read.allShort flatten flatMap text.line
-    text.following text.digits text.digitsFor
+    read.sheetIn read.linesBehind read.ten read.readLines read.behind read.allShort flatten flatMap decimal.line
+    decimal.following decimal.digits decimal.digitsFor
     shape.sheetInShape rows.methodInShape shapes.namesInShape shapes.boundsInShape shapes.pairsOf
     ast-types.readType steps.readStep reading.readAll reading.inShape reading.itemsOf
     declared.nameChecks declared.allPairChecks declared.implied declared.allImplied declared.envOf

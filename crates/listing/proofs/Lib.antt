@@ -1,6 +1,5 @@
--- Laws: printing, text after text; the sections; how long a listing can be; a method, ten records and a sheet listed in
+-- Laws: the sections; how long a listing can be; a method, ten records and a sheet listed in
 -- scratch; what a response is; what visits give; the examples. The main theorems.
-pub mod Printing
 pub mod SectionLaws
 pub mod ListingLaws
 pub mod MethodListing

@@ -8,7 +8,7 @@ use lib.ListN.{length, length-append}
 use lib.Seq.{slice}
 use Rattle.answers.specs.Lists.{range}
 use Rattle.answers.specs.Lists.{endsFrom}
-use Rattle.sheet.specs.Text.{line}
+use Rattle.text.specs.Decimal.{line}
 use Rattle.listing.specs.InnerSections.{numbered, cutFrom, Ascend}
 
 -- ---- lists by their ends

@@ -4,7 +4,7 @@ use Prim.Native.Nat.{ℕ, _+_, _*_, _-_, _≤_, _<_, _^_}
 use mathlib.Core.Bool.{Bool, true, false, cond}
 use mathlib.Core.Path.{_≡_, refl, sym, ap, subst, _∙_}
 use mathlib.Core.List.{List, [], _∷_, _++_, map, flatMap, flatten}
-use native.Mathlib.Nat.{sub-zero, mul-le-mul}
+use native.Mathlib.Nat.{zero-add, sub-zero, mul-le-mul}
 use native.Mathlib.Omega.{arith}
 use borrow.Author.Tests.{le-ltb, lt-ltb, ltb-true, ltb-false}
 use lib.Dec.{ltb}
@@ -30,7 +30,7 @@ use Rattle.lifetimes.proofs.ReachLaws.{reach-few}
 use Rattle.lifetimes.proofs.Laying.{length-ends}
 use Rattle.types.specs.LoweredTypes.{LoweredType}
 use Rattle.methods.specs.Method.{typesIn, structsAndParamsChecks}
-use Rattle.sheet.specs.Text.{line}
+use Rattle.text.specs.Decimal.{line}
 use Rattle.borrowing_param.specs.declared.listed.BorrowMap.{BorrowMap}
 use Rattle.borrowing_param.specs.declared.visitor.LifetimeEdge.{LifetimeEdge}
 use Rattle.borrowing_param.specs.declared.visitor.BorrowingParamVisitor.{BorrowingParamVisitor}
@@ -46,7 +46,8 @@ use Rattle.listing.specs.declared.within.Within.{Within}
 use Rattle.listing.specs.declared.within.Within.the-variants as within
 use Rattle.listing.specs.Listing.{countHeading, loweredHeading, longerHeading, longerLines, answerLines}
 use Rattle.listing.specs.Listing.{edgeLines, mostEdges}
-use Rattle.listing.specs.InnerPrint.{Prints}
+use Rattle.text.specs.Printing.{Prints}
+use Rattle.text.proofs.PrintLaws.{prints-length}
 use Rattle.listing.specs.InnerSections.{numbered, cutFrom, Ascend}
 use Rattle.listing.specs.InnerListing.{Lists, ListsWithin, methodBorrows, methodListing, listedMethod, Listable}
 use Rattle.listing.specs.InnerListing.{sections, tooMany}
@@ -311,7 +312,7 @@ module _ {env : LifetimeEnv} {used : ℕ} {structs params own given taken : List
                 (ap (λ (ns : List ℕ). countHeading ++ line ns) (rw (counted, map-is)))
                 longer-are (ap answerLines answers₂-are) (ap edgeLines edges₂-are)
 
-            pub sections-small : length (sections (counts many) own given taken lists₁ ends₁ answers₂ edges₁) < 2 ^ 64
+            sections-small : 0 + length (sections (counts many) own given taken lists₁ ends₁ answers₂ edges₁) < 2 ^ 64
             sections-small = rw sections-are (omega (arith, can .short few-edges))
 
             pub method-listed : {n : ℕ} {out out₁ : List ℕ}
@@ -322,5 +323,5 @@ module _ {env : LifetimeEnv} {used : ℕ} {structs params own given taken : List
               methodListing env used structs params own given taken,
               due-given (methodListing env used structs params own given taken)
                   (next (le-ltb mostEdges (length (borrows .edges)) few-edges) end),
-              rw sections-are at p,
+              rw (← sections-are) (record { size = prints-length p sections-small ∙ zero-add _; stored = p .stored }),
             )

@@ -32,7 +32,8 @@ use Rattle.elision.proofs.SizeLaws.{lowered-self, lowered-steps, lowered-return
 use Rattle.methods.specs.declared.used.UsedLifetimes.{UsedLifetimes}
 use Rattle.methods.specs.declared.used.UsedLifetimes.the-variants as answer
 use Rattle.methods.specs.Used.{usedSet, usedAnswer}
-use Rattle.sheet.specs.Text.{line, Records}
+use Rattle.text.specs.Decimal.{line}
+use Rattle.sheet.specs.Text.{Records}
 use Rattle.sheet.specs.Shape.{sheetInShape, recordsChecks}
 use Rattle.sheet.proofs.Theorems.{shapes-are-short}
 use Rattle.borrowing_param.specs.New.{created}

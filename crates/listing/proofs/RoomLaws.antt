@@ -25,9 +25,11 @@ use Rattle.elision.specs.Rfc as rfc
 use Rattle.elision.specs.Lowering.{words}
 use Rattle.elision.proofs.SmallLaws.{AllSmall}
 use Rattle.elision.proofs.SizeLaws.{lowered-self, lowered-steps, lowered-returns, accepted-small}
-use Rattle.sheet.specs.Text.{digits, following, line, Records}
+use Rattle.text.specs.Decimal.{digits, following, line}
+use Rattle.sheet.specs.Text.{Records}
 use Rattle.sheet.specs.Shape.{sheetInShape, recordsChecks}
-use Rattle.sheet.proofs.DigitLaws.{digits-length, digits-of-word}
+use Rattle.text.proofs.DigitLaws.{digits-length}
+use Rattle.sheet.proofs.TextLaws.{digits-of-word}
 use Rattle.sheet.proofs.Theorems.{shapes-are-short}
 use Rattle.borrowing_param.specs.declared.visitor.LifetimeEdge.{LifetimeEdge}
 use Rattle.borrowing_param.specs.Edges.{edgeWords}

@@ -7,13 +7,13 @@ use native.Mathlib.Omega.{arith}
 use native.Mathlib.Numerals.{add-one}
 use lib.ListN.{length, getD, take, drop, length-drop, drop-of-length-le}
 use lib.Seq.{drop-cons, drop-drop}
-use Rattle.sheet.specs.Text.{digits, following, line}
+use Rattle.text.specs.Decimal.{digits, following, line}
+use Rattle.text.specs.Printing.{Prints}
+use Rattle.text.proofs.PrintLaws.{Leaves, leaves-all, leaves-rest, leaves-nothing, leaves-size}
 use Rattle.sheet.proofs.Placing.{part-is}
 use Rattle.borrowing_param.specs.Edges.{width, edgeWords, edgeAt, edgesIn}
 use Rattle.listing.specs.Listing.{answersFrom, edgeLine}
-use Rattle.listing.specs.InnerPrint.{Prints}
 use Rattle.listing.specs.InnerSections.{numbered, cutFrom, Ascend}
-use Rattle.listing.proofs.Printing.{Leaves, leaves-all, leaves-rest, leaves-none, leaves-size, next-fits}
 
 -- ---- `put_numbered`: lists by their ends
 
@@ -28,9 +28,9 @@ pub record Numbering (words ends : List ℕ) (count at : ℕ) (out : List ℕ) (
       (numbered i (cutFrom from words (drop i ends) (count - i))) next out₁
 
 pub numbering-start : (words ends : List ℕ) (count at : ℕ) (out : List ℕ) → Ascend 0 (length words) ends count
-    → Numbering words ends count at out at out 0 0
-numbering-start words ends count at out a =
-    record { here = omega arith; ascends = rw sub-zero a; left = rw sub-zero (leaves-all _ at out) }
+    → length out < 2 ^ 64 → at < 2 ^ 64 → Numbering words ends count at out at out 0 0
+numbering-start words ends count at out a h k =
+    record { here = omega arith; ascends = rw sub-zero a; left = rw sub-zero (leaves-all _ at out h k) }
 
 module _ {words ends : List ℕ} {count at : ℕ} {out : List ℕ} {next : ℕ} {out₁ : List ℕ} {from i : ℕ}
     (inv : Numbering words ends count at out next out₁ from i) where
@@ -38,7 +38,7 @@ module _ {words ends : List ℕ} {count at : ℕ} {out : List ℕ} {next : ℕ} 
   unfolding numbered cutFrom
   numbering-end h =
       let none : count - i ≡ 0 = omega (arith, h, inv .here) in
-      leaves-none (rw none at (inv .left)) (record { behind = omega arith; stored = refl })
+      leaves-nothing (rw none at (inv .left))
 
   module _ (h : i < count) where
     some : Ascend from (length words) (drop i ends) (suc (count - suc i))
@@ -91,19 +91,6 @@ module _ {words ends : List ℕ} {count at : ℕ} {out : List ℕ} {next : ℕ} 
       numbering-more second =
           rw (add-one i) (record { here = omega (arith, h); ascends = more .2; left = leaves-rest _ left-list second })
 
-    -- no place is past 2^64
-    module _ (small : at + length (numbered 0 (cutFrom 0 words ends count)) < 2 ^ 64) where
-      pub number-fits : next + length (digits i) < 2 ^ 64
-      number-fits =
-          next-fits small (digits i)
-          (following listed ++ numbered (suc i) (cutFrom to words (drop (suc i) ends) (count - suc i))) left-number
-
-      pub list-fits : {start : ℕ} {out₂ : List ℕ} → Prints (digits i) next out₁ start out₂
-          → start + length (following listed) < 2 ^ 64
-      list-fits first =
-          next-fits small (following listed) (numbered (suc i) (cutFrom to words (drop (suc i) ends) (count - suc i)))
-          (left-list first)
-
 pub numbering-size : {words ends : List ℕ} {count at : ℕ} {out : List ℕ} {next : ℕ} {out₁ : List ℕ} {from i : ℕ}
     → Numbering words ends count at out next out₁ from i → length out₁ ≡ length out
 numbering-size inv = leaves-size (inv .left)
@@ -114,8 +101,9 @@ pub record Answering (answers : List ℕ) (at : ℕ) (out : List ℕ) (next : �
   pub here : i ≤ length answers
   pub left : Leaves (answersFrom 0 answers) at out (answersFrom i (drop i answers)) next out₁
 
-pub answering-start : (answers : List ℕ) (at : ℕ) (out : List ℕ) → Answering answers at out at out 0
-answering-start answers at out = record { here = omega arith; left = leaves-all _ at out }
+pub answering-start : (answers : List ℕ) (at : ℕ) (out : List ℕ) → length out < 2 ^ 64 → at < 2 ^ 64
+    → Answering answers at out at out 0
+answering-start answers at out h k = record { here = omega arith; left = leaves-all _ at out h k }
 
 module _ {answers : List ℕ} {at : ℕ} {out : List ℕ} {next : ℕ} {out₁ : List ℕ} {i : ℕ}
     (inv : Answering answers at out next out₁ i) where
@@ -126,7 +114,7 @@ module _ {answers : List ℕ} {at : ℕ} {out : List ℕ} {next : ℕ} {out₁ :
   unfolding answersFrom
   answering-end h =
       let none : drop i answers ≡ [] = drop-of-length-le answers {i = i} h in
-      leaves-none (rw none at (inv .left)) (record { behind = omega arith; stored = refl })
+      leaves-nothing (rw none at (inv .left))
 
   module _ (h : i < length answers) where
     -- the answer, as a part of the slice
@@ -155,13 +143,6 @@ module _ {answers : List ℕ} {at : ℕ} {out : List ℕ} {next : ℕ} {out₁ :
           → Answering answers at out next₁ out₃ (i + 1)
       answering-more second = rw (add-one i) (record { here = omega (arith, h); left = leaves-rest _ left-answer second })
 
-    module _ (small : at + length (answersFrom 0 answers) < 2 ^ 64) where
-      pub param-fits : next + length (digits i) < 2 ^ 64
-      param-fits = next-fits small (digits i) (following one ++ answersFrom (suc i) (drop (suc i) answers)) left-param
-
-      pub answer-fits : {start : ℕ} {out₂ : List ℕ} → Prints (digits i) next out₁ start out₂ → start + length (following one) < 2 ^ 64
-      answer-fits first = next-fits small (following one) (answersFrom (suc i) (drop (suc i) answers)) (left-answer first)
-
 -- ---- `put_each_edge`
 
 pub record Edging (edges : List ℕ) (count at : ℕ) (out : List ℕ) (next : ℕ) (out₁ : List ℕ) (i : ℕ) : Type 0 where
@@ -169,8 +150,9 @@ pub record Edging (edges : List ℕ) (count at : ℕ) (out : List ℕ) (next : �
   pub left : Leaves (flatMap edgeLine (edgesIn count edges)) at out
       (flatMap edgeLine (edgesIn (count - i) (drop (i * width) edges))) next out₁
 
-pub edging-start : (edges : List ℕ) (count at : ℕ) (out : List ℕ) → Edging edges count at out at out 0
-edging-start edges count at out = record { here = omega arith; left = rw sub-zero (leaves-all _ at out) }
+pub edging-start : (edges : List ℕ) (count at : ℕ) (out : List ℕ) → length out < 2 ^ 64 → at < 2 ^ 64
+    → Edging edges count at out at out 0
+edging-start edges count at out h k = record { here = omega arith; left = rw sub-zero (leaves-all _ at out h k) }
 
 -- the words of the first edge
 first-words : (ws : List ℕ) → width ≤ length ws → edgeWords (edgeAt ws) ≡ take width ws
@@ -190,7 +172,7 @@ module _ {edges : List ℕ} {count at : ℕ} {out : List ℕ} {next : ℕ} {out�
   unfolding edgesIn flatMap
   edging-end h =
       let none : count - i ≡ 0 = omega (arith, h, inv .here) in
-      leaves-none (rw none at (inv .left)) (record { behind = omega arith; stored = refl })
+      leaves-nothing (rw none at (inv .left))
 
   module _ (room : width * count ≤ length edges) (h : i < count) where
     -- the edge's words, as a part of the slice
@@ -216,6 +198,3 @@ module _ {edges : List ℕ} {count at : ℕ} {out : List ℕ} {next : ℕ} {out�
     pub edging-more : {next₁ : ℕ} {out₂ : List ℕ} → Prints (line five) next out₁ next₁ out₂
         → Edging edges count at out next₁ out₂ (i + 1)
     edging-more first = rw (add-one i) (record { here = omega (arith, h); left = leaves-rest _ left-edge first })
-
-    pub edge-fits : at + length (flatMap edgeLine (edgesIn count edges)) < 2 ^ 64 → next + length (line five) < 2 ^ 64
-    edge-fits small = next-fits small (line five) later left-edge

@@ -20,8 +20,9 @@ use Rattle.answers.proofs.Copying.{sets-front}
 use Rattle.answers.proofs.RefusalLaws.{due-given, due-refused, refused-due, given-due, none-first, none-split}
 use Rattle.answers.proofs.RefusalLaws.{none-more, first-more, first-after}
 use Rattle.answers.proofs.VerdictLaws.{unless-after}
-use Rattle.sheet.specs.declared.text.Text.{Text}
-use Rattle.sheet.specs.Text.{line, Records}
+use Rattle.sheet.specs.declared.reading.Text.{Text}
+use Rattle.text.specs.Decimal.{line}
+use Rattle.sheet.specs.Text.{Records}
 use Rattle.sheet.specs.Reading.{sheetOf}
 use Rattle.sheet.specs.Shape as shape
 use Rattle.sheet.specs.Shape.{sheetAnswer}
@@ -33,8 +34,9 @@ use Rattle.listing.specs.declared.within.Within.{Within}
 use Rattle.listing.specs.declared.within.Within.the-variants as within
 use Rattle.listing.specs.Listing as spec
 use Rattle.listing.specs.Listing.{mostEdges, edgesCheck, listingOf, listingChecks, refusalHeading, said, response}
-use Rattle.listing.specs.InnerPrint.{Prints}
-use Rattle.listing.specs.InnerListing.{listedSheet, listedRecords, Lists, ListsWithin, Ample}
+use Rattle.text.specs.Printing.{Prints}
+use Rattle.text.proofs.PrintLaws.{prints-length}
+use Rattle.listing.specs.InnerListing.{listedSheet, listedRecords, Stands, Lists, ListsWithin, Ample}
 use Rattle.listing.proofs.RoomLaws.{line-short, listing-short}
 
 module _ (bytes : List ℕ) where
@@ -133,7 +135,7 @@ module _ (bytes : List ℕ) where
         go (text, e, p) =
             let g = given-none e in
             let size : length whole ≡ length text = ap length (g .1) in
-            listing-refused (first-after (g .0) (here (lt-ltb (length out) (length whole) (omega (arith, size, p .behind, h))) refl))
+            listing-refused (first-after (g .0) (here (lt-ltb (length out) (length whole) (omega (arith, size, p .size, h))) refl))
 
     pub measured-refused : {k : Refusal} (m : Listed) (none none₁ : List ℕ) → Lists (listedSheet bytes) none m none₁
         → m ≡ listed.Refused k → Answers m out
@@ -141,14 +143,14 @@ module _ (bytes : List ℕ) where
         rw refuses (refused-so (subst (λ (x : Listed). Lists (listedSheet bytes) none x none₁) refuses l .0))
 
     listing-written : {text : List ℕ} {n : ℕ} {out₁ : List ℕ} → listedSheet bytes ≡ Gives text
-        → Prints text 0 out n out₁ → length whole ≤ length out → Answers (listed.Count n) out₁
+        → Stands text out n out₁ → length whole ≤ length out → Answers (listed.Count n) out₁
     unfolding spec.listing
     listing-written {text} {n} {out₁} e p fits =
         let g = given-none e in
         let none : NoneDue (listingChecks bytes ++ (roomCheck (length out) whole ∷ [])) =
         none-more (g .0) (next (le-ltb (length out) (length whole) fits) end) in
         let same : whole ≡ text = g .1 in
-        let size : n ≡ length whole = rw same (p .behind ∙ omega arith) in
+        let size : n ≡ length whole = rw same (p .size) in
         let stands : out₁ ≡ whole ++ drop (length whole) out = p .stored ∙ ap (sets out 0) (sym same) ∙ sets-front out whole fits in
         rw (due-given whole none) (ap listed.Count size, stands)
 
@@ -166,7 +168,7 @@ module _ (bytes : List ℕ) where
     measured-enough {n} m none none₁ l counts h due = go (subst (λ (x : Listed). Lists (listedSheet bytes) none x none₁) counts l)
       where
         go : Lists (listedSheet bytes) none (listed.Count n) none₁ → length whole ≤ length out
-        go (text, e, p) = omega (arith, h, p .behind, ap length (given-none e .1))
+        go (text, e, p) = omega (arith, h, p .size, ap length (given-none e .1))
 
     -- ---- `respond`
 
@@ -174,9 +176,9 @@ module _ (bytes : List ℕ) where
     Responds n out₁ = (n ≡ length (response bytes)) × (out₁ ≡ response bytes ++ drop (length (response bytes)) out)
 
     responds : (n : ℕ) (text : List ℕ) (out₁ : List ℕ) → response bytes ≡ text → length text ≤ length out
-        → Prints text 0 out n out₁ → Responds n out₁
+        → Stands text out n out₁ → Responds n out₁
     responds n text out₁ e fits p = (
-      p .behind ∙ zero-add (length text) ∙ ap length (sym e),
+      p .size ∙ ap length (sym e),
       p .stored ∙ sets-front out text fits ∙ ap (λ (t : List ℕ). t ++ drop (length t) out) (sym e),
     )
 
@@ -207,7 +209,7 @@ refusal-short k = rw length-append (omega (arith, line-short (numberOf k ∷ [])
     below Retired = omega arith
 
 module _ (k : Refusal) {number : ℕ} (is : number ≡ numberOf k) where
-  pub refusal-fits : 0 + length (refusalHeading ++ line (number ∷ [])) < 2 ^ 64
+  refusal-fits : 0 + length (refusalHeading ++ line (number ∷ [])) < 2 ^ 64
   refusal-fits = rw is (omega (arith, refusal-short k))
 
   pub respond-refused : (bytes out : List ℕ) {n : ℕ} (m : Listed) (out₁ : List ℕ) {out₂ : List ℕ} → length out ≡ 131072
@@ -220,4 +222,5 @@ module _ (k : Refusal) {number : ℕ} (is : number ≡ numberOf k) where
       go : Lists (listedSheet bytes) out (listed.Refused k) out₁ → Responds bytes out n out₂
       go (e, same) =
           responds bytes out n (refusalHeading ++ line (number ∷ [])) out₂ (ap said e ∙ rw is)
-          (rw is (omega (arith, h, refusal-short k))) (rw same at p)
+          (rw is (omega (arith, h, refusal-short k)))
+          (record { size = prints-length p refusal-fits ∙ zero-add _; stored = rw same at (p .stored) })

@@ -8,7 +8,7 @@ use Rattle.answers.specs.Refusals.{Outcome}
 use Rattle.lifetimes.specs.Examples as reach
 use Rattle.ast_lifetimes.specs.Examples as ast
 use Rattle.elision.specs.Examples as elision
-use Rattle.sheet.specs.Text.{newline, space}
+use Rattle.text.specs.Decimal.{newline, space}
 use Rattle.sheet.specs.Examples.{sheetBytes}
 use Rattle.borrowing_param.specs.Examples as visits
 use Rattle.listing.specs.Listing.{countHeading, loweredHeading, longerHeading, answerHeading, edgeHeading}

@@ -5,6 +5,7 @@ use mathlib.Core.Path.{_≡_}
 use mathlib.Core.List.{List, [], _∷_, _++_}
 use lib.Dec.{ltb}
 use lib.ListN.{length, getD}
+use lib.Seq.{sets}
 use Rattle.answers.specs.declared.Refusal.the-variants.{NoRoom}
 use Rattle.answers.specs.declared.Listed.{Listed}
 use Rattle.answers.specs.declared.Listed.the-variants as listed
@@ -12,7 +13,8 @@ use Rattle.lifetimes.specs.declared.env.LifetimeEnv.{LifetimeEnv}
 use Rattle.answers.specs.Refusals.{check, Outcome, Gives, Refuses, unless, NoneDue}
 use Rattle.lifetimes.specs.Sets.{member}
 use Rattle.lifetimes.specs.Env.{envChecks}
-use Rattle.sheet.specs.Text.{line, Records}
+use Rattle.sheet.specs.Text.{Records}
+use Rattle.text.specs.Decimal.{line}
 use Rattle.sheet.specs.Reading.{sheetOf}
 use Rattle.borrowing_param.specs.Edges.{edgesIn}
 use Rattle.borrowing_param.specs.New.{newVisitor}
@@ -23,7 +25,6 @@ use Rattle.listing.specs.declared.within.Within.{Within}
 use Rattle.listing.specs.declared.within.Within.the-variants as within
 use Rattle.listing.specs.Listing.{countHeading, countLines, loweredHeading, longerHeading, longerLines}
 use Rattle.listing.specs.Listing.{answerLines, edgeLines, mostEdges, edgesCheck, listingOf, listingChecks}
-use Rattle.listing.specs.InnerPrint.{Prints}
 use Rattle.listing.specs.InnerSections.{numbered, cutFrom}
 
 -- what is listed, or why not
@@ -34,10 +35,15 @@ listedSheet bytes = unless (listingChecks bytes) (listingOf (sheetOf bytes))
 abbrev pub listedRecords : Records → Outcome (List ℕ)
 listedRecords r = unless (loweringChecks r ++ (edgesCheck r ∷ [])) (listingOf r)
 
+-- a text from the front of a slice: how long it is, and that it is stored as far as the slice goes
+pub record Stands (text out : List ℕ) (n : ℕ) (out₁ : List ℕ) : Type 0 where
+  pub size : n ≡ length text
+  pub stored : out₁ ≡ sets out 0 text
+
 -- what a function answers and leaves that lists into a slice: the text's length, and the text stored from the front as
 -- far as the slice goes; or a refusal, and the slice as it was
 abbrev pub Lists : Outcome (List ℕ) → List ℕ → Listed → List ℕ → Type 0
-Lists o out (listed.Count n) out₁ = (text : List ℕ) × (o ≡ Gives text) × Prints text 0 out n out₁
+Lists o out (listed.Count n) out₁ = (text : List ℕ) × (o ≡ Gives text) × Stands text out n out₁
 Lists o out (listed.Refused k) out₁ = (o ≡ Refuses k) × (out₁ ≡ out)
 
 -- scratch of these sizes is enough for any sheet

@@ -2,7 +2,7 @@
 use Prim.Native.Nat.{ℕ, zero, suc, _≤_}
 use mathlib.Core.List.{List, [], _∷_, _++_}
 use lib.Seq.{slice}
-use Rattle.sheet.specs.Text.{line}
+use Rattle.text.specs.Decimal.{line}
 
 -- numbered lists, a line each
 unfoldable pub numbered : ℕ → List (List ℕ) → List ℕ

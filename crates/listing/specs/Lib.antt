@@ -3,6 +3,5 @@ pub mod Listing
 pub mod Examples
 pub mod Theorems
 -- For private functions only
-pub mod InnerPrint
 pub mod InnerSections
 pub mod InnerListing

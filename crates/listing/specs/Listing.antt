@@ -14,7 +14,8 @@ use Rattle.answers.specs.Lent.{roomCheck}
 use Rattle.lifetimes.specs.Reach.{reachList}
 use Rattle.elision.specs.Rfc as rfc
 use Rattle.elision.specs.Lowering.{words}
-use Rattle.sheet.specs.Text.{newline, space, line, Records}
+use Rattle.text.specs.Decimal.{newline, space, line}
+use Rattle.sheet.specs.Text.{Records}
 use Rattle.sheet.specs.Reading.{sheetOf}
 use Rattle.borrowing_param.specs.declared.visitor.LifetimeEdge.{LifetimeEdge}
 use Rattle.borrowing_param.specs.Edges.{edgeWords}

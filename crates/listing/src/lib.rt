@@ -4,10 +4,9 @@
 // a number of its or of the change requests ("02") and leaves the lent slice as it was, `respond` says the refusal as
 // the program does.
 //
-// What is here, bottom up: numbers and lines (`print`), the five sections and a refusal (`sections`), a whole listing
-// from what stands in slices (`whole`), a sheet listed in lent scratch (`within`), and the two calls (`calls`).
+// What is here, bottom up: the five sections and a refusal (`sections`), a whole listing from what stands in slices
+// (`whole`), a sheet listed in lent scratch (`within`), and the two calls (`calls`).
 mod calls;
-mod print;
 mod sections;
 mod whole;
 mod within;

@@ -1,23 +1,22 @@
 // The sections of a listing, each its heading and its lines.
-ghost use Prim.Native.Nat.{_+_, _*_, _≤_, _<_, _^_};
+ghost use Prim.Native.Nat.{_*_, _≤_};
 ghost use mathlib.Core.List.{_++_, flatMap};
 ghost use lib.ListN.{length};
 ghost use Rattle.answers.specs.Lent.{held, left};
-ghost use Rattle.sheet.specs.Text.{line};
+ghost use Rattle.text.specs.Decimal.{line};
+ghost use Rattle.text.specs.Printing.{Prints};
 ghost use Rattle.borrowing_param.specs.Edges.{width, edgesIn};
 ghost use Rattle.listing.specs.Listing.{countHeading, loweredHeading, longerHeading, answersFrom, answerLines};
 ghost use Rattle.listing.specs.Listing.{edgeLine, edgeLines, refusalHeading};
-ghost use Rattle.listing.specs.InnerPrint.{Prints};
 ghost use Rattle.listing.specs.InnerSections.{numbered, cutFrom, Ascend};
-use super::print::put_following;
-use super::print::put_line;
-use super::print::put_number;
-use super::print::put_text;
 use borrowing_param::BorrowingParamVisitor;
+use text::put_following;
+use text::put_line;
+use text::put_number;
+use text::put_text;
 
 // How many lifetimes, used lifetimes, parameters and edges there are.
 pub(crate) fn put_counts(out: &mut [u8], at: usize, counts: &[usize]) -> usize
-    requires { ⌜ at + length (countHeading ++ line (now counts)) < 2 ^ 64 ⌝ }
     ensures { λ r. ⌜ Prints (countHeading ++ line (held counts)) at (held out) r (left out) ⌝ }
 {
     let heading = b"lifetimes used params edges\n";
@@ -33,7 +32,6 @@ pub(crate) fn put_lowered(
     given: &[usize],
     taken: &[usize],
 ) -> usize
-    requires { ⌜ at + length (loweredHeading ++ (line (now own) ++ (line (now given) ++ line (now taken)))) < 2 ^ 64 ⌝ }
     ensures { λ r. ⌜ Prints (loweredHeading ++ (line (held own) ++ (line (held given) ++ line (held taken))))
         at (held out) r (left out) ⌝ }
 {
@@ -46,7 +44,6 @@ pub(crate) fn put_lowered(
 
 // A refusal.
 pub(crate) fn put_refusal(out: &mut [u8], at: usize, number: &[usize]) -> usize
-    requires { ⌜ at + length (refusalHeading ++ line (now number)) < 2 ^ 64 ⌝ }
     ensures { λ r. ⌜ Prints (refusalHeading ++ line (held number)) at (held out) r (left out) ⌝ }
 {
     let heading = b"refusal\n";
@@ -62,8 +59,7 @@ pub(crate) fn put_longer(
     ends: &[usize],
     count: usize,
 ) -> usize
-    requires { ⌜ Ascend 0 (length (now words)) (now ends) count
-        × (at + length (longerHeading ++ numbered 0 (cutFrom 0 (now words) (now ends) count)) < 2 ^ 64) ⌝ }
+    requires { ⌜ Ascend 0 (length (now words)) (now ends) count ⌝ }
     ensures { λ r. ⌜ Prints (longerHeading ++ numbered 0 (cutFrom 0 (held words) (held ends) count)) at (held out) r
         (left out) ⌝ }
 {
@@ -74,8 +70,7 @@ pub(crate) fn put_longer(
 
 // The lines of numbered lists.
 fn put_numbered(out: &mut [u8], at: usize, words: &[usize], ends: &[usize], count: usize) -> usize
-    requires { ⌜ Ascend 0 (length (now words)) (now ends) count
-        × (at + length (numbered 0 (cutFrom 0 (now words) (now ends) count)) < 2 ^ 64) ⌝ }
+    requires { ⌜ Ascend 0 (length (now words)) (now ends) count ⌝ }
     ensures { λ r. ⌜ Prints (numbered 0 (cutFrom 0 (held words) (held ends) count)) at (held out) r (left out) ⌝ }
 {
     let mut next = at;
@@ -93,7 +88,6 @@ fn put_numbered(out: &mut [u8], at: usize, words: &[usize], ends: &[usize], coun
 
 // Each parameter and the number of its answer.
 pub(crate) fn put_answers(out: &mut [u8], at: usize, answers: &[usize]) -> usize
-    requires { ⌜ at + length (answerLines (now answers)) < 2 ^ 64 ⌝ }
     ensures { λ r. ⌜ Prints (answerLines (held answers)) at (held out) r (left out) ⌝ }
 {
     let heading = b"param answer\n";
@@ -102,7 +96,6 @@ pub(crate) fn put_answers(out: &mut [u8], at: usize, answers: &[usize]) -> usize
 }
 
 fn put_each_answer(out: &mut [u8], at: usize, answers: &[usize]) -> usize
-    requires { ⌜ at + length (answersFrom 0 (now answers)) < 2 ^ 64 ⌝ }
     ensures { λ r. ⌜ Prints (answersFrom 0 (held answers)) at (held out) r (left out) ⌝ }
 {
     let count = answers.len();
@@ -118,8 +111,7 @@ fn put_each_answer(out: &mut [u8], at: usize, answers: &[usize]) -> usize
 
 // Each edge, by the values that stand for it.
 pub(crate) fn put_edges(out: &mut [u8], at: usize, edges: &[usize], count: usize) -> usize
-    requires { ⌜ (width * count ≤ length (now edges))
-        × (at + length (edgeLines (edgesIn count (now edges))) < 2 ^ 64) ⌝ }
+    requires { ⌜ width * count ≤ length (now edges) ⌝ }
     ensures { λ r. ⌜ Prints (edgeLines (edgesIn count (held edges))) at (held out) r (left out) ⌝ }
 {
     let heading = b"used param kind def option\n";
@@ -128,8 +120,7 @@ pub(crate) fn put_edges(out: &mut [u8], at: usize, edges: &[usize], count: usize
 }
 
 fn put_each_edge(out: &mut [u8], at: usize, edges: &[usize], count: usize) -> usize
-    requires { ⌜ (width * count ≤ length (now edges))
-        × (at + length (flatMap edgeLine (edgesIn count (now edges))) < 2 ^ 64) ⌝ }
+    requires { ⌜ width * count ≤ length (now edges) ⌝ }
     ensures { λ r. ⌜ Prints (flatMap edgeLine (edgesIn count (held edges))) at (held out) r (left out) ⌝ }
 {
     let mut next = at;

@@ -1,10 +1,10 @@
 // A whole listing from what stands in slices.
-ghost use Prim.Native.Nat.{_*_, _≤_, _<_, _^_};
+ghost use Prim.Native.Nat.{_*_, _≤_};
 ghost use mathlib.Core.Path.{_≡_};
 ghost use lib.ListN.{length, getD};
 ghost use Rattle.borrowing_param.specs.Edges.{width};
 ghost use Rattle.answers.specs.Lent.{held, left};
-ghost use Rattle.listing.specs.InnerPrint.{Prints};
+ghost use Rattle.text.specs.Printing.{Prints};
 ghost use Rattle.listing.specs.InnerSections.{Ascend};
 ghost use Rattle.listing.specs.InnerListing.{sections};
 use super::sections::put_answers;
@@ -29,9 +29,6 @@ pub(crate) fn put_listing(
     requires { ⌜ length (now counts) ≡ 4 ⌝ }
     requires { ⌜ Ascend 0 (length (now lists)) (now ends) (getD (now counts) 0 0) ⌝ }
     requires { ⌜ width * getD (now counts) 3 0 ≤ length (now edges) ⌝ }
-    requires { ⌜ length
-        (sections (now counts) (now own) (now given) (now taken) (now lists) (now ends) (now answers) (now edges))
-        < 2 ^ 64 ⌝ }
     ensures { λ r. ⌜ Prints
         (sections (held counts) (held own) (held given) (held taken) (held lists) (held ends) (held answers)
         (held edges)) 0 (held out) r (left out) ⌝ }

@@ -21,10 +21,11 @@ use Rattle.answers.proofs.RefusalLaws.{due-given, due-refused, given-due, refus
 use Rattle.answers.proofs.RefusalLaws.{none-first, first-more, first-after, none-more}
 use Rattle.answers.proofs.LentLaws.{no-room, has-room}
 use Rattle.answers.proofs.Copying.{sets-front}
-use Rattle.sheet.specs.declared.text.Text.{Text}
+use Rattle.sheet.specs.declared.reading.Text.{Text}
 use Rattle.sheet.specs.declared.lines.Judged.{Judged}
 use Rattle.sheet.specs.declared.lines.Judged.the-variants as judged
-use Rattle.sheet.specs.Text.{heading, line, Records, lists, wordsOf, text, mostWord, mostBytes}
+use Rattle.text.specs.Decimal.{line}
+use Rattle.sheet.specs.Text.{heading, Records, lists, wordsOf, text, mostWord, mostBytes}
 use Rattle.sheet.specs.Reading.{behind, LineStart, recordsOf, ten, linesBehind, sheetIn, sheetOf, isNone}
 use Rattle.sheet.specs.Reading.{allShort, textChecks}
 use Rattle.answers.specs.Lists.{endsFrom}

@@ -1,5 +1,4 @@
 -- Laws of the definitions, and of the loops over plain values.
-pub mod DigitLaws
 pub mod TextLaws
 pub mod SpellingLaws
 pub mod SheetLaws

@@ -30,7 +30,7 @@ use Rattle.types.specs.declared.shapes.Shape.{Shape}
 use Rattle.types.specs.Rows.{methodInShape, methodShape, checksVerdict}
 use Rattle.types.proofs.ShapeLaws.{shape-verdict}
 use Rattle.sheet.specs.Text.{Records, lists, wordsOf}
-use Rattle.sheet.specs.declared.text.Text.{Text}
+use Rattle.sheet.specs.declared.reading.Text.{Text}
 use Rattle.sheet.specs.Reading.{sheetOf, textChecks, allShort, readText}
 use Rattle.answers.specs.Lists.{endsFrom}
 use Rattle.sheet.specs.Answer.{answerOf, startOf, recordWords, measured}

@@ -13,12 +13,13 @@ use lib.ListN.{length, length-append, drop-of-length-le}
 use lib.Seq.{drop-cons}
 use Rattle.answers.specs.declared.Refusal.the-variants.{Malformed, Unreadable}
 use Rattle.answers.specs.Refusals.{Gives, Refuses, unless}
-use Rattle.sheet.specs.Text.{heading, line, following, Records, lists, wordsOf, text, mostWord, mostBytes}
+use Rattle.text.specs.Decimal.{line, following}
+use Rattle.sheet.specs.Text.{heading, Records, lists, wordsOf, text, mostWord, mostBytes}
 use Rattle.sheet.specs.Text.{mostWords}
 use Rattle.sheet.specs.Reading.{behind, LineStart, readLines, recordsOf, ten, linesBehind, sheetIn, sheetOf}
 use Rattle.sheet.specs.Reading.{allShort, textChecks, readText}
 use Rattle.sheet.specs.Theorems.{IsSheet}
-use Rattle.sheet.proofs.DigitLaws.{digits-some}
+use Rattle.text.proofs.DigitLaws.{digits-some}
 use Rattle.sheet.proofs.TextLaws.{read-lines, behind-append, behind-splits}
 use Rattle.sheet.proofs.SpellingLaws.{read-spelt}
 

@@ -10,10 +10,11 @@ use mathlib.Core.Option.{Option, none, some}
 use native.Mathlib.Omega.{arith}
 use borrow.Author.Tests.{ltb-true, leb-true, eqb-true}
 use lib.Dec.{ltb, leb, eqb}
-use Rattle.sheet.specs.Text.{newline, space, digits, following, line}
-use Rattle.sheet.specs.Reading.{Place, LineStart, WordStart, Behind, isDigit, continues, lineBefore, wordBefore}
+use Rattle.text.specs.Number.{isDigit}
+use Rattle.text.specs.Decimal.{newline, space, digits, following, line}
+use Rattle.sheet.specs.Reading.{Place, LineStart, WordStart, Behind, continues, lineBefore, wordBefore}
 use Rattle.sheet.specs.Reading.{readLines}
-use Rattle.sheet.proofs.DigitLaws.{digits-single, digits-push}
+use Rattle.text.proofs.DigitLaws.{digits-single, digits-push}
 use Rattle.sheet.proofs.TextLaws.{startOf}
 
 -- what was printed of the word where reading stands

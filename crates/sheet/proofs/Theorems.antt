@@ -9,22 +9,19 @@ use Rattle.ast_lifetimes.specs.Types.{readType}
 use Rattle.elision.specs.Steps.{readStep}
 use Rattle.types.specs.LoweredTypes.{readLowered, readBare, readOpaque, readSlice, readStruct}
 use Rattle.types.specs.Rows.{methodInShape, readKnown}
-use Rattle.sheet.specs.Text.{lists, text, line, following, digits, digitsFor}
+use Rattle.text.specs.Decimal.{line, following, digits, digitsFor}
+use Rattle.sheet.specs.Text.{lists, text}
 use Rattle.sheet.specs.Reading.{recordsOf, readText, textChecks, sheetOf, sheetIn, linesBehind, ten, readLines}
 use Rattle.sheet.specs.Reading.{behind, allShort}
 use Rattle.sheet.specs.Shape.{readSheet, sheetWords, sheetEnds, sheetChecks, sheetInShape}
 use Rattle.sheet.specs.Answer.{readWords, readEnds}
-use Rattle.sheet.specs.Theorems.{DigitsOfNumbers, TextIsOneToOne, ReadingIsInverse, ReadingJudgesShapes}
+use Rattle.sheet.specs.Theorems.{TextIsOneToOne, ReadingIsInverse, ReadingJudgesShapes}
 use Rattle.sheet.specs.Theorems.{ShapesAreShort, CallReadsText, CallReadsSheet, RecordsInPlace, RoomForAnySheet}
 use Rattle.sheet.specs.Theorems.{WordsTakeTwoBytes, ExamplesHold, SheetExamplesHold}
-use Rattle.sheet.proofs.DigitLaws.{digits-single, digits-more, digits-of-word}
 use Rattle.sheet.proofs.SheetLaws.{text-lists, text-bytes, total-words, few-all}
 use Rattle.sheet.proofs.Answers.{call-gives, list-between}
 use Rattle.sheet.proofs.ReadingCases.{reads-back}
 use Rattle.sheet.proofs.ShapeCases.{shape-short, reads-in-shape}
-
-pub digits-of-numbers : DigitsOfNumbers
-digits-of-numbers n = record { single = digits-single; more = digits-more; few = digits-of-word }
 
 pub text-is-one-to-one : TextIsOneToOne
 text-is-one-to-one r s e = ap recordsOf (text-lists r s e)

@@ -1,6 +1,6 @@
 -- The loop of `line`: the words so far, and reading on at the next word.
 use Prim.Native.Nat.{ℕ, _+_, _≤_, _<_}
-use mathlib.Core.Path.{_≡_, refl, sym, ap, subst, _∙_}
+use mathlib.Core.Path.{_≡_, refl, sym, ap, _∙_}
 use mathlib.Core.List.{List, [], _∷_, _++_}
 use mathlib.Core.Option.{Option, none}
 use native.Mathlib.Numerals.{add-one}
@@ -9,13 +9,11 @@ use borrow.Author.Tests.{eq-eqb, ne-eqb}
 use lib.ListN.{length, getD, set, length-append}
 use lib.Seq.{drop-cons, sets, length-sets}
 use Rattle.answers.proofs.Copying.{sets-append}
-use Rattle.sheet.specs.Text.{newline, space}
+use Rattle.text.specs.Decimal.{newline, space}
 use Rattle.sheet.specs.Reading.{LineStart, WordStart, Behind, lineBefore, wordBefore, readLines}
-use Rattle.sheet.specs.declared.word.Found.{Found}
-use Rattle.sheet.specs.declared.word.Found.the-variants as found
-use Rattle.sheet.specs.Inner.{readFrom, NumberAt, WordRead, LineAt}
+use Rattle.sheet.specs.Inner.{readFrom, LineAt}
 use Rattle.sheet.proofs.TextLaws.{word-line}
-use Rattle.sheet.proofs.Numbering.{at-end}
+use Rattle.sheet.proofs.Numbering.{at-end, NumberAt}
 
 -- words before the words of the first line
 abbrev pub wordsBefore : List ℕ → Option (List (List ℕ)) → Option (List (List ℕ))
@@ -55,14 +53,6 @@ module _ (bytes : List ℕ) (i : ℕ) (h : i < length bytes) where
   space-behind v e =
       let n : getD bytes i 0 ≡ newline → ⊥ = λ q. omega arith in
       rw (drop-cons bytes i 0 h, ne-eqb (getD bytes i 0) newline n, eq-eqb (getD bytes i 0) space e, add-one i)
-
--- what `word` answers, by its answer
-module _ (bytes : List ℕ) (i : ℕ) {r : Found} where
-  pub found-number : {value at : ℕ} → r ≡ found.Word value at → WordRead bytes i r → NumberAt bytes i value at
-  found-number e w = subst (WordRead bytes i) e w
-
-  pub found-nothing : r ≡ found.Nothing → WordRead bytes i r → readFrom WordStart bytes i ≡ none
-  found-nothing e w = subst (WordRead bytes i) e w
 
 -- the invariant
 pub record Wording (bytes : List ℕ) (from to : ℕ) (words₀ words : List ℕ) (i count : ℕ) : Type 0 where

@@ -9,7 +9,7 @@ use lib.Seq.{slice}
 use Rattle.answers.specs.Refusals.{Check, Outcome, unless}
 use Rattle.answers.specs.Lent.{verdictOf, resultOr, roomCheck}
 use Rattle.answers.specs.Lists.{endsFrom}
-use Rattle.sheet.specs.declared.text.Text.{Text}
+use Rattle.sheet.specs.declared.reading.Text.{Text}
 use Rattle.sheet.specs.Text.{Records, lists, wordsOf}
 use Rattle.sheet.specs.Reading.{sheetOf, textChecks}
 

@@ -6,7 +6,8 @@ use mathlib.Core.List.{List, [], _∷_, _++_, flatten}
 use lib.ListN.{replicate}
 use Rattle.answers.specs.declared.Refusal.the-variants.{Malformed, Unreadable, Retired}
 use Rattle.answers.specs.Refusals.{Outcome, Gives, Refuses}
-use Rattle.sheet.specs.Text.{newline, space, heading, Records, text}
+use Rattle.text.specs.Decimal.{newline, space}
+use Rattle.sheet.specs.Text.{heading, Records, text}
 use Rattle.sheet.specs.Reading.{recordsOf}
 
 pub record Example : Type 0 where

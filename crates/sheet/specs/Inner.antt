@@ -1,5 +1,5 @@
--- Predicates that only private contracts cite: what reading a word, a line and ten lines from a place on says of
--- reading the rest; records one after another.
+-- Predicates that only private contracts cite: what reading a line and ten lines from a place on says of reading
+-- the rest; records one after another.
 use Prim.Native.Nat.{ℕ, _+_, _*_, _≤_, _<_}
 use mathlib.Core.Bool.{Bool, true, false}
 use mathlib.Core.Path.{_≡_}
@@ -11,14 +11,12 @@ use lib.Seq.{sets, slice}
 use Rattle.answers.specs.declared.Verdict.{Verdict}
 use Rattle.answers.specs.Refusals.{NoneDue}
 use Rattle.answers.specs.Lent as answers
-use Rattle.sheet.specs.declared.word.Found.{Found}
-use Rattle.sheet.specs.declared.word.Found.the-variants as found
 use Rattle.sheet.specs.declared.lines.Read.{Read}
 use Rattle.sheet.specs.declared.lines.Read.the-variants as read
 use Rattle.sheet.specs.declared.lines.Judged.{Judged}
 use Rattle.sheet.specs.declared.lines.Judged.the-variants as judged
 use Rattle.sheet.specs.Text.{Records, lists, wordsOf, mostWord}
-use Rattle.sheet.specs.Reading.{Place, LineStart, WordStart, Behind, continues, lineBefore, readLines, ten}
+use Rattle.sheet.specs.Reading.{Place, LineStart, lineBefore, readLines, ten}
 use Rattle.sheet.specs.Reading.{allShort, sheetOf, textChecks}
 use Rattle.sheet.specs.Shape.{recordsChecks}
 use Rattle.answers.specs.Lists.{endsFrom}
@@ -26,17 +24,6 @@ use Rattle.answers.specs.Lists.{endsFrom}
 -- reading the bytes from an index on
 abbrev pub readFrom : Place → List ℕ → ℕ → Option (List (List ℕ))
 readFrom p bytes i = readLines mostWord p (drop i bytes)
-
--- a number stands from one index to another, and the byte there does not continue it
-pub record NumberAt (bytes : List ℕ) (from value at : ℕ) : Type 0 where
-  pub reads : readFrom WordStart bytes from ≡ readFrom (Behind value) bytes at
-  pub after : from < at
-  pub inside : at ≤ length bytes
-  pub stops : at < length bytes → continues mostWord value (getD bytes at 0) ≡ false
-
-abbrev pub WordRead : List ℕ → ℕ → Found → Type 0
-WordRead bytes from (found.Word value at) = NumberAt bytes from value at
-WordRead bytes from found.Nothing = readFrom WordStart bytes from ≡ none
 
 -- a line of words stands from one index to another; its words are stored
 pub record LineAt (bytes : List ℕ) (from : ℕ) (words words′ : List ℕ) (to at count : ℕ) : Type 0 where

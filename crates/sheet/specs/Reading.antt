@@ -8,7 +8,9 @@ use lib.Dec.{eqb, ltb, leb}
 use lib.ListN.{length, getD}
 use Rattle.answers.specs.declared.Refusal.the-variants.{Malformed, Unreadable}
 use Rattle.answers.specs.Refusals.{Check, check, Outcome, unless}
-use Rattle.sheet.specs.Text.{newline, space, heading, Records, lists, mostWord, mostBytes, mostWords}
+use Rattle.text.specs.Decimal.{newline, space}
+use Rattle.text.specs.Number.{isDigit}
+use Rattle.sheet.specs.Text.{heading, Records, lists, mostWord, mostBytes, mostWords}
 
 -- what follows the bytes of a prefix, where the bytes begin with it
 unfoldable pub behind : List ℕ → List ℕ → Option (List ℕ)
@@ -21,9 +23,6 @@ pub data Place : Type 0 where
   LineStart : Place
   WordStart : Place
   Behind : ℕ → Place
-
-abbrev pub isDigit : ℕ → Bool
-isDigit b = leb 48 b && leb b 57
 
 -- a byte continues a number: a digit, no leading zero before it, and the limit kept
 abbrev pub continues : ℕ → ℕ → ℕ → Bool

@@ -1,36 +1,9 @@
 -- The text of a sheet (01, "The sheet"): a heading line with the records' names, then a line of words for each of the
--- ten records. Bytes are numbers.
-use Prim.Native.Nat.{ℕ, zero, suc, _+_, _/_, _%_, _≤_}
-use mathlib.Core.Bool.{cond}
+-- ten records. Bytes are numbers. A line ("decimal .., no leading zeros", "one space between, LF at the end. An empty
+-- record is an empty line") is `line` of the crate text.
+use Prim.Native.Nat.{ℕ, _≤_}
 use mathlib.Core.List.{List, [], _∷_, _++_, flatMap, flatten, List·Memᴰ}
-use lib.Dec.{ltb}
-
--- LF and the blank, as bytes
-abbrev pub newline : ℕ
-newline = 10
-
-abbrev pub space : ℕ
-space = 32
-
--- "decimal .., no leading zeros": the digits of a number, each 48 and its value, with enough fuel. DigitsOfNumbers in
--- specs/Theorems.antt has the equations without the fuel.
-unfoldable pub digitsFor : ℕ → ℕ → List ℕ
-digitsFor zero n = []
-digitsFor (suc fuel) n = let more = digitsFor fuel (n / 10) ++ ((48 + n % 10) ∷ []) in
-    cond (ltb n 10) ((48 + n) ∷ []) more
-
-unfoldable pub digits : ℕ → List ℕ
-digits n = digitsFor (suc n) n
-
--- what follows a word in its line: a space and the next word, or the line's end
-unfoldable pub following : List ℕ → List ℕ
-following [] = newline ∷ []
-following (word ∷ words) = space ∷ digits word ++ following words
-
--- "one space between, LF at the end. An empty record is an empty line"
-unfoldable pub line : List ℕ → List ℕ
-line [] = newline ∷ []
-line (word ∷ words) = digits word ++ following words
+use Rattle.text.specs.Decimal.{newline, space, line}
 
 -- "One line of names": names bounds types self steps returns structs params output force
 abbrev pub heading : List ℕ

@@ -1,6 +1,6 @@
 -- The main theorems of this crate, stated. Each has its proof, a term of exactly this type and of the same name in
 -- small letters, in proofs/Theorems.antt.
-use Prim.Native.Nat.{ℕ, _+_, _*_, _/_, _%_, _≤_, _<_}
+use Prim.Native.Nat.{ℕ, _*_, _≤_, _<_}
 use mathlib.Core.Bool.{true, false}
 use mathlib.Core.Path.{_≡_}
 use mathlib.Core.Logic.{_↔_, _⊎_}
@@ -11,21 +11,12 @@ use Rattle.answers.specs.declared.Refusal.{Refusal}
 use Rattle.answers.specs.declared.Refusal.the-variants.{Malformed, NoRoom, Unreadable, Retired}
 use Rattle.answers.specs.Refusals.{Outcome, Gives, Refuses}
 use Rattle.types.specs.Rows.{forced}
-use Rattle.sheet.specs.Text.{digits, Records, lists, wordsOf, text, mostWord, mostBytes, mostWords, WordsUpTo}
+use Rattle.sheet.specs.Text.{Records, lists, wordsOf, text, mostWord, mostBytes, mostWords, WordsUpTo}
 use Rattle.sheet.specs.Reading.{readText}
 use Rattle.answers.specs.Lists.{endsFrom}
 use Rattle.sheet.specs.Answer.{readWords, readEnds}
 use Rattle.sheet.specs.Shape.{sheetInShape, readSheet, sheetWords, sheetEnds}
 use Rattle.sheet.specs.Examples.{examples, sheetExamples, Right}
-
--- The digits of a number, without fuel; a word has at most five
-pub record DecimalOf (n : ℕ) : Type 0 where
-  pub single : n < 10 → digits n ≡ (48 + n) ∷ []
-  pub more : 10 ≤ n → digits n ≡ digits (n / 10) ++ ((48 + n % 10) ∷ [])
-  pub few : n ≤ mostWord → length (digits n) ≤ 5
-
-abbrev pub DigitsOfNumbers : Type 0
-DigitsOfNumbers = (n : ℕ) → DecimalOf n
 
 -- Two sheets with the same text are the same, whatever their words
 abbrev pub TextIsOneToOne : Type 0

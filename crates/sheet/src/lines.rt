@@ -10,9 +10,12 @@ ghost use Rattle.answers.specs.Lent.{held, left};
 ghost use Rattle.sheet.specs.declared.lines.Judged.the-variants.{TooLong};
 ghost use Rattle.sheet.specs.Text.{mostWords};
 ghost use Rattle.sheet.specs.Inner.{LineRead, LinesRead};
-use super::word::Found;
-use super::word::word;
 use records::End;
+use text::Found;
+use text::read_number;
+
+// No word is above this.
+const MAX_WORD: usize = 65535;
 
 // The place behind a line, and how many words are read so far; or none.
 enum Read {
@@ -45,8 +48,8 @@ fn line(bytes: &[u8], from: usize, words: &mut [usize], to: usize) -> Read
         return Read::Words { at: i, count };
     }
     loop {
-        let found = word(bytes, i);
-        let Found::Word { value, at } = found else {
+        let found = read_number(bytes, i, MAX_WORD);
+        let Found::Number { value, at } = found else {
             return Read::Nothing;
         };
         if n <= at {

@@ -1,7 +1,7 @@
 -- `respond` meets its contract: a listing or a refusal, and both fit.
 use mathlib.Core.Path.{_≡_}
 use lib.ListN.{length}
-use Rattle.listing.proofs.SheetListing.{respond-listed, refusal-fits, respond-refused}
+use Rattle.listing.proofs.SheetListing.{respond-listed, respond-refused}
 use borrow.Author.Needs.{needs}
 use Rattle.listing.proofs.calls.respond.Statement.{statement}
 use Rattle.listing.proofs.calls.respond.Tie as tie
@@ -31,6 +31,6 @@ respond-spec =
     tie.close
     (tie.spec
     (λ c κs. search needs) (λ c. search needs) (λ c. search needs) (λ c κs. search needs) (λ c. search needs)
-    (λ c κs. search (refusal-fits, needs))
+    (λ c κs. search needs)
     returns
     returns-2)

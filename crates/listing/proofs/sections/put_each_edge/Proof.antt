@@ -1,7 +1,8 @@
 -- `put_each_edge` meets its contract: each turn prints one edge.
 use Prim.Native.Nat.{_-_}
 use borrow.Author.Needs.{needs}
-use Rattle.listing.proofs.SectionLaws.{Edging, edging-start, edging-end, edging-more, edging-size, edge-fits}
+use Rattle.listing.proofs.SectionLaws.{Edging, edging-start, edging-end, edging-more, edging-size}
+use Rattle.text.proofs.PrintLaws.{prints}
 use Rattle.listing.proofs.sections.put_each_edge.Statement.{statement}
 use Rattle.listing.proofs.sections.put_each_edge.Tie as tie
 
@@ -20,8 +21,8 @@ put-each-edge-spec =
     (λ c. search (edging-start, needs))
     (λ c. search needs) (λ c. search needs) (λ c. search needs) (λ c. search needs) (λ c. search needs)
     (λ c. search needs)
-    (λ c κs. search (edge-fits, needs))
+    (λ c κs. search needs)
     (λ c. search needs) (λ c. search needs)
-    (λ c. search (edging-more, needs))
+    (λ c. search (edging-more, prints, needs))
     (λ c. search (edging-size, needs))
     (λ c. search (edging-end, needs)))

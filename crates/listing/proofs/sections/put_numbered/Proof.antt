@@ -3,7 +3,8 @@ use Prim.Native.Nat.{_-_}
 use native.Mathlib.Omega.{arith}
 use borrow.Author.Needs.{needs}
 use Rattle.listing.proofs.SectionLaws.{Numbering, numbering-start, numbering-end, numbering-there}
-use Rattle.listing.proofs.SectionLaws.{numbering-inside, numbering-more, numbering-size, number-fits, list-fits}
+use Rattle.listing.proofs.SectionLaws.{numbering-inside, numbering-more, numbering-size}
+use Rattle.text.proofs.PrintLaws.{prints}
 use Rattle.listing.proofs.sections.put_numbered.Statement.{statement}
 use Rattle.listing.proofs.sections.put_numbered.Tie as tie
 
@@ -44,6 +45,14 @@ part-put-following-end c =
           (c .before .before .before .before .before .before .loop-test .taken) .1,
     )
 
+loop-again : tie.Need-loop-again Inv-loop μ-loop
+loop-again c =
+    let at-list = c .before .before in
+    let at-number = at-list .before .before .before .before .before in
+    let at-test = at-number .before .before .before in
+    numbering-more (at-test .before .loop .inv) (at-test .loop-test .taken) (prints (at-number .put-number .ensures))
+    (prints (at-list .put-following .ensures))
+
 pub put-numbered-spec : {M : Type 1} → statement M
 put-numbered-spec =
     tie.close
@@ -53,13 +62,13 @@ put-numbered-spec =
     (λ c. search (numbering-start, needs))
     (λ c. search (numbering-there, needs))
     (λ c. search (numbering-there, needs))
-    (λ c κs. search (number-fits, needs))
+    (λ c κs. search needs)
     mul-put-following
     sub-put-following
     part-put-following-start
     part-put-following-end
-    (λ c κs. search (list-fits, needs))
+    (λ c κs. search needs)
     (λ c. search needs) (λ c. search needs)
-    (λ c. search (numbering-more, needs))
+    loop-again
     (λ c. search (numbering-size, needs))
     (λ c. search (numbering-end, needs)))

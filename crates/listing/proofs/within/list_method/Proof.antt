@@ -5,7 +5,7 @@ use native.Mathlib.Omega.{arith}
 use lib.ListN.{replicate}
 use Rattle.listing.proofs.RoomLaws.{lifetimes-few}
 use Rattle.listing.proofs.MethodListing.{AllListed, Mapped, lists-short, map-refused, params-inside}
-use Rattle.listing.proofs.MethodListing.{lists-ascend, edges-inside, sections-small, method-listed}
+use Rattle.listing.proofs.MethodListing.{lists-ascend, edges-inside, method-listed}
 use borrow.Author.Needs.{needs}
 use Rattle.listing.proofs.within.list_method.Statement.{statement}
 use Rattle.listing.proofs.within.list_method.Tie as tie
@@ -70,13 +70,8 @@ put-listing-requires c κs =
     let map = counted .before .before .before .before .before .before in
     let can = start-3 map .pre .0 in
     let all = all-listed (lists map) in
-    let new = visitor map .from-sets .ensures in (
-      refl,
-      (
-        lists-ascend can all,
-        (edges-inside can all new (mapped map) fine, sections-small can all new (mapped map) fine (counted .count .ensures)),
-      ),
-    )
+    let new = visitor map .from-sets .ensures in
+    (refl, (lists-ascend can all, edges-inside can all new (mapped map) fine))
 
 returns-3 : tie.Need-returns-3
 returns-3 c =

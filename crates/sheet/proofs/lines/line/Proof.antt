@@ -5,7 +5,8 @@ use mathlib.Core.Logic.{inl, inr}
 use native.Mathlib.Omega.{arith}
 use borrow.Author.Needs.{needs}
 use lib.ListN.{length}
-use Rattle.sheet.proofs.Wording.{found-number, found-nothing, Wording, empty-line, wording-start, wording-size}
+use Rattle.sheet.proofs.Numbering.{found-number, found-nothing}
+use Rattle.sheet.proofs.Wording.{Wording, empty-line, wording-start, wording-size}
 use Rattle.sheet.proofs.Wording.{wording-none, wording-cut, wording-bad, wording-end, wording-more}
 use Rattle.sheet.proofs.lines.line.Statement.{statement}
 use Rattle.sheet.proofs.lines.line.Tie as tie
@@ -23,13 +24,13 @@ returns-3 : tie.Need-returns-3 Inv-loop μ-loop
 returns-3 c =
     inr
     (wording-none (c .before .before .before .loop .inv)
-    (found-nothing _ _ (c .enum-told .given .1) (c .before .before .word .ensures)))
+    (found-nothing _ _ (c .before .before .read-number .ensures) (c .enum-told .given .1)))
 
 returns-4 : tie.Need-returns-4 Inv-loop μ-loop
 returns-4 c =
     let f = c .before .before in
     inr (wording-cut (f .before .before .before .loop .inv)
-    (found-number _ _ (f .found .given .1) (f .before .before .word .ensures)) (c .if3 .taken))
+    (found-number _ _ (f .before .before .read-number .ensures) (f .found .given .1)) (c .if3 .taken))
 
 same-length-3 : tie.Need-same-length-3 Inv-loop μ-loop
 same-length-3 c =
@@ -41,7 +42,7 @@ returns-5 c =
     let at-if3 = c .before .before .before .before .before .before in
     let f = at-if3 .before .before in
     wording-end (f .before .before .before .loop .inv)
-    (found-number _ _ (f .found .given .1) (f .before .before .word .ensures)) (at-if3 .if3 .left)
+    (found-number _ _ (f .before .before .read-number .ensures) (f .found .given .1)) (at-if3 .if3 .left)
     (c .before .before .before .put .ensures) (c .if4 .taken)
 
 same-length-4 : tie.Need-same-length-4 Inv-loop μ-loop
@@ -55,13 +56,13 @@ returns-6 c =
     let at-if3 = c .before .before .before .before .before .before .before in
     let f = at-if3 .before .before in
     inr (wording-bad (f .before .before .before .loop .inv)
-    (found-number _ _ (f .found .given .1) (f .before .before .word .ensures)) (at-if3 .if3 .left)
+    (found-number _ _ (f .before .before .read-number .ensures) (f .found .given .1)) (at-if3 .if3 .left)
     (c .before .if4 .left) (c .if5 .taken))
 
 loop-less : tie.Need-loop-less Inv-loop μ-loop
 loop-less c =
     let f = c .before .before .before .before .before .before .before .before .before in
-    omega (arith, (found-number _ _ (f .found .given .1) (f .before .before .word .ensures)) .after)
+    omega (arith, (found-number _ _ (f .before .before .read-number .ensures) (f .found .given .1)) .after)
 
 loop-again : tie.Need-loop-again Inv-loop μ-loop
 loop-again c =
@@ -69,7 +70,7 @@ loop-again c =
     let at-if3 = at-put .before .before .before in
     let f = at-if3 .before .before in
     wording-more (f .before .before .before .loop .inv)
-    (found-number _ _ (f .found .given .1) (f .before .before .word .ensures)) (at-if3 .if3 .left)
+    (found-number _ _ (f .before .before .read-number .ensures) (f .found .given .1)) (at-if3 .if3 .left)
     (at-put .put .ensures) (c .if5 .left)
 
 pub line-spec : {M : Type 1} → statement M
