@@ -100,7 +100,7 @@ pub(crate) fn extend_implicit_lifetime_bounds(words: &[usize], at: usize) -> usi
     let extended = made.env;
     print::first(print::number_of(verdict));
     print::next(extended.named);
-    print::next(extended.pushed);
+    print::next(extended.bounds.pushed);
     print_names(extended);
     let bounds = extended.bounds;
     bounds::print_filled(bounds);

@@ -5,10 +5,10 @@ use Rattle.vectors.proofs.bounds.of_pairs.Statement.{statement}
 use Rattle.vectors.proofs.bounds.of_pairs.Tie as tie
 
 abbrev Inv-loop : tie.InvT-loop
-Inv-loop pairs bounds₀ n i₀ bounds i = i ≤ n
+Inv-loop pushed pairs list₀ n i₀ list i = i ≤ n
 
 abbrev μ-loop : tie.MeasureT-loop
-μ-loop pairs bounds₀ n i₀ bounds i = n - i
+μ-loop pushed pairs list₀ n i₀ list i = n - i
 
 pub of-pairs-spec : {M : Type 1} → statement M
 of-pairs-spec =
