@@ -1,6 +1,7 @@
 -- Definitions that the contracts cite, and the statements of the main theorems.
 pub mod Numbers
 pub mod LoweredWords
+pub mod Limits
 pub mod Sets
 pub mod Env
 pub mod Walk

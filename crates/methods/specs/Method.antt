@@ -19,6 +19,10 @@ use Rattle.types.specs.LoweredTypes.{LoweredType, lifetimesOf}
 use Rattle.types.specs.Rows.{Row, rowWith, rowsOf, typesOf, structsInShape, paramsInShape, methodInShape}
 use Rattle.types.specs.Rows.{shapeChecks}
 
+-- 01: "at most 16 types" in `params`
+abbrev pub mostParams : ℕ
+mostParams = 16
+
 -- By place: 4 and 7
 
 -- the row with a number
