@@ -114,8 +114,8 @@ fn list_sized(sheet: &[u8], out: &mut [u8], bytes: usize) -> Listed
     list_any(sheet, out)
 }
 
-// In scratch of one size: for the words of any sheet of at most so many bytes, a word to two bytes; for what 24 words of
-// steps and 12 of returns give; for 12 lifetimes; for 20 edges.
+// In scratch of one size: for the words of any sheet of at most so many bytes, a word to two bytes; for what 24 words
+// of steps and 12 of returns give; for 12 lifetimes; for 20 edges.
 fn list_256(sheet: &[u8], out: &mut [u8]) -> Within
     ensures { λ r. ⌜ ListsWithin (listedSheet (held sheet)) ⊥ (held out) r (left out) ⌝ }
 {
