@@ -18,6 +18,7 @@ use Rattle.answers.specs.declared.Verdict.{Verdict}
 use Rattle.answers.specs.declared.Verdict.the-variants.{Accepted, Refused}
 use Rattle.answers.specs.Refusals.{Check, Outcome, Gives, Refuses, unless, FirstDue, here, later, NoneDue, end, next}
 use Rattle.answers.specs.Lent.{Slice, held, left, room, Fills, Stays}
+use Rattle.lifetimes.specs.Limits.{mostLifetimes}
 use Rattle.lifetimes.specs.Sets.{member, members}
 use Rattle.answers.proofs.RefusalLaws.{due-given, due-refused, refused-first, accepted-none, first-more, none-first}
 use Rattle.answers.proofs.RefusalLaws.{none-rest, none-split}
@@ -39,7 +40,7 @@ use Rattle.borrowing_param.specs.declared.listed.BorrowMap.{BorrowMap}
 use Rattle.borrowing_param.specs.declared.listed.Counted.{Counted}
 use Rattle.borrowing_param.specs.declared.visitor.LifetimeEdge.{LifetimeEdge}
 use Rattle.borrowing_param.specs.declared.visitor.BorrowingParamVisitor.{BorrowingParamVisitor}
-use Rattle.borrowing_param.specs.Edges.{width, edgeWords}
+use Rattle.borrowing_param.specs.Edges.{width, mostDefs, edgeWords}
 use Rattle.borrowing_param.specs.Brings.{bring, numberOf}
 use Rattle.borrowing_param.specs.Visit.{usedOf, drawsIn, drawsOf, bringTo, bringAll, holding}
 use Rattle.borrowing_param.specs.BorrowMap.{listedTo, listedEdges, answersFrom, Mapping, mappingOf, borrowMap}
@@ -221,7 +222,7 @@ module _ (v : BorrowingParamVisitor) where
   answers-many param [] = refl
   answers-many param (t ∷ ts) = ap suc (answers-many (suc param) ts)
 
-  pub all-few : (t : LoweredType) (param : ℕ) → length (t .path) ≤ 16 → length (bringAll v t param) ≤ 1024
+  pub all-few : (t : LoweredType) (param : ℕ) → length (t .path) ≤ 16 → length (bringAll v t param) ≤ mostLifetimes * mostDefs
   all-few t param h =
       omega (
         arith,
@@ -340,7 +341,7 @@ pub record CountingParams (used : ℕ) (drawn words : List ℕ) (types : List Lo
   pub left : List LoweredType
   pub passing : Passing words types left at param
   pub few : length types ≤ 16
-  pub small : total ≤ 1024 * param
+  pub small : total ≤ mostLifetimes * mostDefs * param
   pub sum : total + length (flatMap (listedTo (visitorIn used drawn) param left) (members used))
       ≡ length (listedEdges (visitorIn used drawn) types)
   pub notes : sets numbers param (answersFrom (visitorIn used drawn) param left)
@@ -381,7 +382,7 @@ module _ {used : ℕ} {drawn words : List ℕ} {types : List LoweredType} {numbe
         omega (arith, inv .passing .many, inv .few)
 
     module _ {n : ℕ} (c : CountsAll used drawn (typeIn words p) n) where
-      pub brought-few : n ≤ 1024
+      pub brought-few : n ≤ mostLifetimes * mostDefs
       brought-few = omega (arith, c .counts param, all-few v (typeIn words p) param (o .short))
 
       pub params-more : {number : ℕ} → number ≡ numberBy (p .kind) n

@@ -7,14 +7,14 @@ use Rattle.answers.specs.declared.Verdict.the-variants as verdict
 use Rattle.lifetimes.specs.declared.env.LifetimeEnv.{LifetimeEnv}
 use Rattle.answers.specs.Refusals.{Check, Outcome, Gives, Refuses, unless, over}
 use Rattle.answers.specs.Lent.{Slice, Fills, roomCheck}
-use Rattle.methods.specs.Method.{typesIn, methodChecks}
+use Rattle.methods.specs.Method.{mostParams, typesIn, methodChecks}
 use Rattle.methods.specs.Used.{mostUsed}
 use Rattle.sheet.specs.Text.{Records}
 use Rattle.sheet.specs.Reading.{sheetOf}
 use Rattle.borrowing_param.specs.declared.borrows.Borrows as answer
 use Rattle.borrowing_param.specs.declared.visitor.LifetimeEdge.{LifetimeEdge}
 use Rattle.borrowing_param.specs.declared.visitor.BorrowingParamVisitor.{BorrowingParamVisitor}
-use Rattle.borrowing_param.specs.Edges.{edgeWords}
+use Rattle.borrowing_param.specs.Edges.{mostDefs, edgeWords}
 use Rattle.borrowing_param.specs.Visit.{usedOf}
 use Rattle.borrowing_param.specs.New.{created}
 use Rattle.borrowing_param.specs.BorrowMap.{listedEdges, answersFrom}
@@ -41,9 +41,9 @@ borrowsOf env structs params output force = borrowsBy (created env structs param
 abbrev pub sheetBorrows : Records → Borrows
 sheetBorrows r = borrowsOf (envOfSheet r) (r .structs) (r .params) (r .output) (r .force)
 
--- how many edges a method has at most: to each of its used lifetimes one from each of 16 words of 16 parameters
+-- how many edges a method has at most: to each of its used lifetimes one from each path word of each parameter
 abbrev pub mostListed : ℕ
-mostListed = mostUsed * (16 * 16)
+mostListed = mostUsed * (mostParams * mostDefs)
 
 -- a slice too short (9)
 abbrev pub roomChecks : Borrows → ℕ → ℕ → ℕ → List Check

@@ -15,7 +15,7 @@ use Rattle.types.specs.declared.types.Kind.the-variants.{Plain, Opaque, Struct,
 use Rattle.types.specs.LoweredTypes.{LoweredType, lifetimesOf}
 use Rattle.borrowing_param.specs.declared.visitor.LifetimeEdge.{LifetimeEdge}
 use Rattle.borrowing_param.specs.declared.visitor.ParamBorrowInfo.{ParamBorrowInfo}
-use Rattle.borrowing_param.specs.Edges.{edge}
+use Rattle.borrowing_param.specs.Edges.{edge, mostDefs}
 
 -- whether a lifetime draws, by a test of numbers: 'static never does
 abbrev pub drawn : (ℕ → Bool) → MaybeStatic → Bool
@@ -63,7 +63,7 @@ numberOf Slice (e ∷ es) = 2
 numberOf (Struct row) [] = 0
 numberOf (Struct row) (e ∷ es) = 3
 
--- the pairs of def and used that `Struct` carries: for each of 16 definition lifetimes the set of the used ones. An
+-- the pairs of def and used that `Struct` carries: for each lifetime of its definition the set of the used ones. An
 -- edge of another kind carries none
 abbrev pub note : List ℕ → LifetimeEdge → List ℕ
 note pairs e = cond (eqb (e .kind) 3) (set pairs (e .def) (insert (getD pairs (e .def) 0) (e .used))) pairs
@@ -73,7 +73,7 @@ notes pairs [] = pairs
 notes pairs (e ∷ es) = notes (note pairs e) es
 
 abbrev pub noPairs : List ℕ
-noPairs = replicate 16 0
+noPairs = replicate mostDefs 0
 
 abbrev pub answerOf : Kind → List LifetimeEdge → ParamBorrowInfo
 answerOf kind es = record { verdict = Accepted; number = numberOf kind es; pairs = notes noPairs es }

@@ -1,11 +1,14 @@
 -- What a crate above may rely on, of the used lifetimes, the answers by parameter and the edges in listing order,
 -- without looking into the definitions.
-use Prim.Native.Nat.{ℕ, _≤_, _<_}
+use Prim.Native.Nat.{ℕ, _*_, _≤_, _<_}
 use mathlib.Core.Path.{_≡_}
 use mathlib.Core.Logic.{_↔_, _⊎_}
 use mathlib.Core.List.{List, List·Memᴰ, Pairwise}
 use lib.ListN.{length, getD}
+use Rattle.lifetimes.specs.Limits.{mostLifetimes}
+use Rattle.methods.specs.Method.{mostParams}
 use Rattle.borrowing_param.specs.declared.visitor.LifetimeEdge.{LifetimeEdge}
+use Rattle.borrowing_param.specs.Edges.{mostDefs}
 
 -- 01's order of the edges: by used lifetime, parameter, def
 abbrev pub Before : LifetimeEdge → LifetimeEdge → Type 0
@@ -18,7 +21,7 @@ pub record Consistent (used answers : List ℕ) (edges : List LifetimeEdge) : Ty
   pub edges-in-order : Pairwise Before edges
   pub edge-used : (e : LifetimeEdge) → List·Memᴰ e edges → List·Memᴰ (e .used) used
   pub edge-param : (e : LifetimeEdge) → List·Memᴰ e edges → e .param < length answers
-  pub edge-def : (e : LifetimeEdge) → List·Memᴰ e edges → e .def < 16
+  pub edge-def : (e : LifetimeEdge) → List·Memᴰ e edges → e .def < mostDefs
   pub edge-kind : (e : LifetimeEdge) → List·Memᴰ e edges → (1 ≤ e .kind) × (e .kind ≤ 3)
   pub edge-option : (e : LifetimeEdge) → List·Memᴰ e edges → e .option ≤ 1
   -- "def and option are 0 but for kind 3"
@@ -31,7 +34,7 @@ pub record Consistent (used answers : List ℕ) (edges : List LifetimeEdge) : Ty
   pub borrowed : (p : ℕ) → p < length answers
       → (2 ≤ getD answers p 0) ↔ ((e : LifetimeEdge) × List·Memᴰ e edges × (e .param ≡ p))
   pub most : (p : ℕ) → p < length answers → getD answers p 0 ≤ 4
-  pub used-below : (l : ℕ) → List·Memᴰ l used → l < 64
-  pub few-used : length used ≤ 64
-  pub few-params : length answers ≤ 16
-  pub few-edges : length edges ≤ 16384
+  pub used-below : (l : ℕ) → List·Memᴰ l used → l < mostLifetimes
+  pub few-used : length used ≤ mostLifetimes
+  pub few-params : length answers ≤ mostParams
+  pub few-edges : length edges ≤ mostLifetimes * (mostParams * mostDefs)

@@ -17,6 +17,10 @@ edge used param kind def option = record { used = used; param = param; kind = ki
 abbrev pub width : ℕ
 width = 5
 
+-- how many lifetimes a struct's definition has at most, and so how many path words a type
+abbrev pub mostDefs : ℕ
+mostDefs = 16
+
 abbrev pub edgeWords : LifetimeEdge → List ℕ
 edgeWords e = e .used ∷ e .param ∷ e .kind ∷ e .def ∷ e .option ∷ []
 

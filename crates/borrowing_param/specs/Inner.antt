@@ -9,6 +9,7 @@ use lib.ListN.{length, getD, take, drop}
 use lib.Seq.{sets}
 use Rattle.lifetimes.specs.declared.maybe_static.MaybeStatic.{MaybeStatic}
 use Rattle.lifetimes.specs.LoweredWords.{fromWord}
+use Rattle.lifetimes.specs.Limits.{mostLifetimes}
 use Rattle.lifetimes.specs.Sets.{members}
 use Rattle.records.specs.Reading.{Reading, onward}
 use Rattle.types.specs.declared.types.Kind.{Kind}
@@ -55,9 +56,9 @@ oneIf false = 0
 pub record CountsFor (draws : ℕ → Bool) (t : LoweredType) (n : ℕ) : Type 0 where
   pub counts : (used param : ℕ) → n ≡ length (bring draws used param t)
 
--- all lifetimes of a set are below a number, of at most 64
+-- all lifetimes of a set are below a number that is itself within the limit
 abbrev pub Below : ℕ → ℕ → Type 0
-Below set limit = (limit ≤ 64) × (set < 2 ^ limit)
+Below set limit = (limit ≤ mostLifetimes) × (set < 2 ^ limit)
 
 -- what it brings to all, by the set of the used ones and the sets that draw
 abbrev pub allIn : ℕ → List ℕ → LoweredType → ℕ → List LifetimeEdge

@@ -10,6 +10,7 @@ use Rattle.answers.specs.Refusals.{Check, Outcome, unless}
 use Rattle.answers.specs.Lent.{roomCheck}
 use Rattle.records.specs.Reading.{Read, itemsOf}
 use Rattle.types.specs.LoweredTypes.{LoweredType, readLowered}
+use Rattle.methods.specs.Method.{mostParams}
 use Rattle.borrowing_param.specs.declared.listed.Counted.{Counted}
 use Rattle.borrowing_param.specs.declared.visitor.LifetimeEdge.{LifetimeEdge}
 use Rattle.borrowing_param.specs.declared.visitor.BorrowingParamVisitor.{BorrowingParamVisitor}
@@ -30,7 +31,7 @@ paramTypes words = itemsOf (λ number. readLowered) words
 -- the parameters of a method
 pub record Params (words : List ℕ) : Type 0 where
   pub lists : Lists words (paramTypes words)
-  pub few : length (paramTypes words) ≤ 16
+  pub few : length (paramTypes words) ≤ mostParams
 
 -- a visitor by its sets
 abbrev pub visitorIn : ℕ → List ℕ → BorrowingParamVisitor

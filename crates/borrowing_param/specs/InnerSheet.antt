@@ -29,6 +29,10 @@ records names bounds types self steps returns structs params output force =
       force = force;
     }
 
+-- a sheet of so few bytes is judged in small scratch
+abbrev pub smallBytes : ℕ
+smallBytes = 1024
+
 -- the environment of ten records that were read
 unfoldable pub methodOf : Records → Outcome LifetimeEnv
 methodOf r = unless (loweringChecks r) (envOfSheet r)

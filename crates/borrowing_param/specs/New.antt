@@ -9,6 +9,7 @@ use Rattle.lifetimes.specs.declared.bounds.Bound.{Bound}
 use Rattle.lifetimes.specs.declared.env.LifetimeEnv.{LifetimeEnv}
 use Rattle.answers.specs.Lists.{range}
 use Rattle.answers.specs.Refusals.{Outcome, Gives, Refuses}
+use Rattle.lifetimes.specs.Limits.{mostLifetimes}
 use Rattle.lifetimes.specs.Sets.{empty, member}
 use Rattle.lifetimes.specs.Reach.{allSets, noSets}
 use Rattle.methods.specs.Used.{usedSet}
@@ -20,7 +21,7 @@ abbrev pub drawsTo : ℕ → List ℕ → ℕ → ℕ
 drawsTo used sets lifetime = cond (member used lifetime) (getD sets lifetime 0) empty
 
 unfoldable pub visitorFrom : ℕ → List ℕ → BorrowingParamVisitor
-visitorFrom used sets = record { used = used; draws = map (drawsTo used sets) (range 0 64); stored = 0 }
+visitorFrom used sets = record { used = used; draws = map (drawsTo used sets) (range 0 mostLifetimes); stored = 0 }
 
 -- the set of a lifetime of an environment is all that outlives it
 abbrev pub newVisitor : ℕ → LifetimeEnv → BorrowingParamVisitor

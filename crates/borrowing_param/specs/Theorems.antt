@@ -77,7 +77,7 @@ ListingInOrder = (v : BorrowingParamVisitor) (structs params : List ℕ) → Non
     → Consistent (usedOf v) (answersFrom v 0 (typesIn structs params)) (listedEdges v (typesIn structs params))
 
 -- and small, of every method on which no refusal is due, so that memory can be sized by it: `Consistent`, which holds
--- of any visitor, allows 64 used lifetimes and 16,384 edges
+-- of any visitor, allows an edge from each path word to each lifetime that there may be
 pub record Small (b : Borrows) : Type 0 where
   pub few-used : length (b .used) ≤ mostUsed
   pub few-edges : length (b .edges) ≤ mostListed

@@ -6,6 +6,7 @@ use lib.Dec.{leb, ltb}
 use lib.ListN.{length, getD, take}
 use lib.Seq.{sets}
 use Rattle.answers.specs.declared.Refusal.the-variants.{NoRoom}
+use Rattle.lifetimes.specs.Limits.{mostLifetimes}
 use Rattle.lifetimes.specs.Sets.{member, members}
 use Rattle.types.specs.LoweredTypes.{LoweredType}
 use Rattle.borrowing_param.specs.declared.visitor.LifetimeEdge.{LifetimeEdge}
@@ -20,7 +21,7 @@ usedOf v = members (v .used)
 
 -- whether a lifetime is in a set of those that draw
 abbrev pub drawsIn : ℕ → ℕ → Bool
-drawsIn set lifetime = ltb lifetime 64 && member set lifetime
+drawsIn set lifetime = ltb lifetime mostLifetimes && member set lifetime
 
 -- whether it draws an edge to the used lifetime
 abbrev pub drawsOf : BorrowingParamVisitor → ℕ → ℕ → Bool

@@ -11,7 +11,8 @@ ghost use Rattle.methods.specs.Used.{mostUsed};
 ghost use Rattle.borrowing_param.specs.Borrows.{borrowMethod, borrowSheet, borrowsAnswer, BorrowsTo};
 ghost use Rattle.borrowing_param.specs.Borrows.{mostListed};
 ghost use Rattle.borrowing_param.specs.Consistent.{Consistent};
-ghost use Rattle.borrowing_param.specs.InnerSheet.{OfMethod, borrowBy};
+ghost use Rattle.borrowing_param.specs.InnerSheet.{OfMethod, smallBytes, borrowBy};
+use super::method::SheetMethod;
 use super::method::judge_sheet;
 use super::visitor::BorrowingParamVisitor;
 use answers::Refusal;
@@ -44,7 +45,7 @@ pub fn borrow_sheet(
         (take (r .params) (left answers)) (edgesIn (r .edges) (left edges))) ⌝ }
     ensures few { λ r. ⌜ (r .used ≤ mostUsed) × (r .edges ≤ mostListed) ⌝ }
 {
-    if sheet.len() <= 1024 {
+    if sheet.len() <= SheetMethod::SMALL_BYTES {
         return borrow_small(sheet, used, answers, edges);
     }
     borrow_large(sheet, used, answers, edges)
@@ -57,11 +58,11 @@ fn borrow_small(
     answers: &mut [usize],
     edges: &mut [usize],
 ) -> Borrows
-    requires { ⌜ length (now sheet) ≤ 1024 ⌝ }
+    requires { ⌜ length (now sheet) ≤ smallBytes ⌝ }
     ensures { λ r. ⌜ BorrowsTo (borrowSheet (held sheet) (room used) (room answers) (room edges))
         r used answers edges ⌝ }
 {
-    let mut scratch = [0usize; 512];
+    let mut scratch = [0usize; SheetMethod::SMALL_WORDS];
     borrow_within(sheet, &mut scratch, used, answers, edges)
 }
 
@@ -74,7 +75,7 @@ fn borrow_large(
     ensures { λ r. ⌜ BorrowsTo (borrowSheet (held sheet) (room used) (room answers) (room edges))
         r used answers edges ⌝ }
 {
-    let mut scratch = [0usize; 10240];
+    let mut scratch = [0usize; SheetMethod::MAX_WORDS];
     borrow_within(sheet, &mut scratch, used, answers, edges)
 }
 

@@ -7,8 +7,9 @@ ghost use Prim.Native.Nat.{_+_, _*_, _≤_, _<_};
 ghost use lib.ListN.{length, getD, take, drop};
 ghost use lib.Seq.{sets};
 ghost use Rattle.answers.specs.Lent.{held, left};
+ghost use Rattle.lifetimes.specs.Limits.{mostLifetimes};
 ghost use Rattle.lifetimes.specs.LoweredWords.{fromWord};
-ghost use Rattle.borrowing_param.specs.Edges.{width, edgeWords, edgeIn};
+ghost use Rattle.borrowing_param.specs.Edges.{width, mostDefs, edgeWords, edgeIn};
 ghost use Rattle.types.specs.LoweredTypes.{lifetimesOf};
 ghost use Rattle.borrowing_param.specs.Brings.{drawn, anyDrawn, oneEdge, optionOf, bring};
 ghost use Rattle.borrowing_param.specs.Visit.{drawsIn};
@@ -16,8 +17,10 @@ ghost use Rattle.borrowing_param.specs.Inner.{Below, Inside, typeIn, fir
 ghost use Rattle.borrowing_param.specs.Inner.{CountsFor, CountsAll, structOf, allIn, Stores, StoresWords};
 use super::visitor::BorrowingParamVisitor;
 use super::visitor::LifetimeEdge;
+use super::visitor::ParamBorrowInfo;
 use lifetimes::DefLifetime;
 use lifetimes::Lifetime;
+use lifetimes::LifetimeEnv;
 use lifetimes::LinkedWord;
 use lifetimes::MaybeStatic;
 use lifetimes::linked_word;
@@ -186,12 +189,18 @@ fn count_one(set: u64, words: &[usize], parts: Parts) -> usize
 pub(crate) fn past_last(set: u64) -> usize
     ensures { λ r. ⌜ Below set r ⌝ }
 {
-    64 - u64::leading_zeros(set) as usize
+    set::CAPACITY - u64::leading_zeros(set) as usize
 }
 
 // How many edges a parameter brings to all used lifetimes.
-pub(crate) fn count_all(used: u64, drawn: &[u64; 64], words: &[usize], parts: Parts) -> usize
-    requires { ⌜ Inside (now words) (parts .from) (parts .count) × (parts .count ≤ 16) × (length (now drawn) ≡ 64) ⌝ }
+pub(crate) fn count_all(
+    used: u64,
+    drawn: &[u64; LifetimeEnv::MAX_LIFETIMES],
+    words: &[usize],
+    parts: Parts,
+) -> usize
+    requires { ⌜ Inside (now words) (parts .from) (parts .count) × (parts .count ≤ mostDefs)
+        × (length (now drawn) ≡ mostLifetimes) ⌝ }
     ensures { λ r. ⌜ CountsAll used (held drawn) (typeIn (held words) parts) r ⌝ }
 {
     let limit = past_last(used);
@@ -228,10 +237,10 @@ fn store_struct(
     param: usize,
     edges: &mut [usize],
     at: usize,
-    pairs: &mut [u64; 16],
+    pairs: &mut [u64; ParamBorrowInfo::MAX_DEFS],
 ) -> usize
-    requires { ⌜ Inside (now words) (parts .from) (parts .count) × (parts .count ≤ 16) × (used < 64)
-        × (length (now pairs) ≡ 16) ⌝ }
+    requires { ⌜ Inside (now words) (parts .from) (parts .count) × (parts .count ≤ mostDefs) × (used < mostLifetimes)
+        × (length (now pairs) ≡ mostDefs) ⌝ }
     requires { ⌜ width * (at + length (structOf (drawsIn set) used param (typeIn (now words) parts)))
         ≤ length (now edges) ⌝ }
     ensures { λ r. ⌜ Stores (structOf (drawsIn set) used param (typeIn (held words) parts)) at (held pairs) (held edges)
@@ -262,8 +271,14 @@ fn store_struct(
 }
 
 // Store one edge of a struct behind so many, and its pair.
-fn store_pair(edge: LifetimeEdge, edges: &mut [usize], at: usize, pairs: &mut [u64; 16]) -> usize
-    requires { ⌜ (edge .kind ≡ 3) × (edge .def < 16) × (edge .used < 64) × (length (now pairs) ≡ 16)
+fn store_pair(
+    edge: LifetimeEdge,
+    edges: &mut [usize],
+    at: usize,
+    pairs: &mut [u64; ParamBorrowInfo::MAX_DEFS],
+) -> usize
+    requires { ⌜ (edge .kind ≡ 3) × (edge .def < mostDefs) × (edge .used < mostLifetimes)
+        × (length (now pairs) ≡ mostDefs)
         × (width * (at + 1) ≤ length (now edges)) ⌝ }
     ensures { λ r. ⌜ Stores (edge ∷ []) at (held pairs) (held edges) r (left pairs) (left edges) ⌝ }
 {
@@ -326,10 +341,10 @@ pub(crate) fn store_for(
     param: usize,
     edges: &mut [usize],
     at: usize,
-    pairs: &mut [u64; 16],
+    pairs: &mut [u64; ParamBorrowInfo::MAX_DEFS],
 ) -> usize
-    requires { ⌜ Inside (now words) (parts .from) (parts .count) × (parts .count ≤ 16) × (used < 64)
-        × (length (now pairs) ≡ 16) ⌝ }
+    requires { ⌜ Inside (now words) (parts .from) (parts .count) × (parts .count ≤ mostDefs) × (used < mostLifetimes)
+        × (length (now pairs) ≡ mostDefs) ⌝ }
     requires { ⌜ width * (at + length (bring (drawsIn set) used param (typeIn (now words) parts)))
         ≤ length (now edges) ⌝ }
     ensures { λ r. ⌜ Stores (bring (drawsIn set) used param (typeIn (held words) parts)) at (held pairs) (held edges) r
@@ -347,16 +362,16 @@ pub(crate) fn store_for(
 // Store the edges of a parameter to all used lifetimes, ascending, behind so many.
 pub(crate) fn store_all(
     used: u64,
-    drawn: &[u64; 64],
+    drawn: &[u64; LifetimeEnv::MAX_LIFETIMES],
     words: &[usize],
     parts: Parts,
     param: usize,
     edges: &mut [usize],
     at: usize,
-    pairs: &mut [u64; 16],
+    pairs: &mut [u64; ParamBorrowInfo::MAX_DEFS],
 ) -> usize
-    requires { ⌜ Inside (now words) (parts .from) (parts .count) × (parts .count ≤ 16) × (length (now pairs) ≡ 16)
-        × (length (now drawn) ≡ 64) ⌝ }
+    requires { ⌜ Inside (now words) (parts .from) (parts .count) × (parts .count ≤ mostDefs)
+        × (length (now pairs) ≡ mostDefs) × (length (now drawn) ≡ mostLifetimes) ⌝ }
     requires { ⌜ width * (at + length (allIn used (now drawn) (typeIn (now words) parts) param))
         ≤ length (now edges) ⌝ }
     ensures { λ r. ⌜ Stores (allIn used (held drawn) (typeIn (held words) parts) param) at (held pairs) (held edges) r

@@ -4,7 +4,9 @@ ghost use Prim.Native.Nat.{_+_, _*_, _≤_, _<_};
 ghost use lib.ListN.{length};
 ghost use Rattle.answers.specs.Refusals.{Refuses};
 ghost use Rattle.answers.specs.Lent.{held, room, left};
-ghost use Rattle.borrowing_param.specs.Edges.{width};
+ghost use Rattle.lifetimes.specs.Limits.{mostLifetimes};
+ghost use Rattle.methods.specs.Method.{mostParams};
+ghost use Rattle.borrowing_param.specs.Edges.{width, mostDefs};
 ghost use Rattle.borrowing_param.specs.Visit.{drawsIn};
 ghost use Rattle.borrowing_param.specs.BorrowMap.{listedEdges, borrowMap, mapAnswer, MapsTo};
 ghost use Rattle.borrowing_param.specs.Inner.{Stores, StoresWords};
@@ -13,11 +15,14 @@ use super::edges::count_all;
 use super::edges::past_last;
 use super::edges::store_for;
 use super::visitor::BorrowingParamVisitor;
+use super::visitor::ParamBorrowInfo;
 use super::visitor::number_of;
 use answers::Refusal;
 use answers::Verdict;
 use lifetimes::Lifetime;
+use lifetimes::LifetimeEnv;
 use lifetimes::set;
+use methods::MAX_PARAMS;
 use methods::check_structs_and_params;
 use records::copy_words;
 use types::Located;
@@ -83,7 +88,7 @@ fn map_params(
 {
     let used = visitor.used;
     let draws = visitor.draws;
-    let mut numbers = [0usize; 16];
+    let mut numbers = [0usize; MAX_PARAMS];
     let counted = count_params(used, &draws, params, &mut numbers);
     let count = counted.params;
     let total = counted.edges;
@@ -105,11 +110,11 @@ fn map_params(
 // How many parameters there are, and how many edges they bring to all used lifetimes; and the numbers of their answers.
 fn count_params(
     used: u64,
-    drawn: &[u64; 64],
+    drawn: &[u64; LifetimeEnv::MAX_LIFETIMES],
     params: &[usize],
-    numbers: &mut [usize; 16],
+    numbers: &mut [usize; MAX_PARAMS],
 ) -> Counted
-    requires { ⌜ Params (now params) × (length (now drawn) ≡ 64) × (length (now numbers) ≡ 16) ⌝ }
+    requires { ⌜ Params (now params) × (length (now drawn) ≡ mostLifetimes) × (length (now numbers) ≡ mostParams) ⌝ }
     ensures { λ r. ⌜ CountsParams used (held drawn) (paramTypes (held params)) (held numbers) r (left numbers) ⌝ }
 {
     let mut total = 0;
@@ -136,14 +141,19 @@ fn count_params(
 }
 
 // Store the edges of all parameters, by used lifetime. Answers how many there are.
-fn store_listed(used: u64, drawn: &[u64; 64], params: &[usize], edges: &mut [usize]) -> usize
-    requires { ⌜ Params (now params) × (length (now drawn) ≡ 64)
+fn store_listed(
+    used: u64,
+    drawn: &[u64; LifetimeEnv::MAX_LIFETIMES],
+    params: &[usize],
+    edges: &mut [usize],
+) -> usize
+    requires { ⌜ Params (now params) × (length (now drawn) ≡ mostLifetimes)
         × (width * length (listedEdges (visitorIn used (now drawn)) (paramTypes (now params))) ≤ length (now edges)) ⌝ }
     ensures { λ r. ⌜ StoresWords (listedEdges (visitorIn used (held drawn)) (paramTypes (held params))) 0 (held edges) r
         (left edges) ⌝ }
 {
     let limit = past_last(used);
-    let mut pairs = [0u64; 16];
+    let mut pairs = [set::EMPTY; ParamBorrowInfo::MAX_DEFS];
     let mut next = 0;
     let mut i = 0;
     'used: while i < limit {
@@ -165,9 +175,9 @@ fn store_to(
     used: usize,
     edges: &mut [usize],
     stored: usize,
-    pairs: &mut [u64; 16],
+    pairs: &mut [u64; ParamBorrowInfo::MAX_DEFS],
 ) -> usize
-    requires { ⌜ Params (now params) × (used < 64) × (length (now pairs) ≡ 16) ⌝ }
+    requires { ⌜ Params (now params) × (used < mostLifetimes) × (length (now pairs) ≡ mostDefs) ⌝ }
     requires { ⌜ width * (stored + length (bringFrom (drawsIn set) used 0 (paramTypes (now params))))
         ≤ length (now edges) ⌝ }
     ensures { λ r. ⌜ Stores (bringFrom (drawsIn set) used 0 (paramTypes (held params))) stored (held pairs) (held edges)

@@ -12,7 +12,7 @@ ghost use Rattle.lifetimes.specs.Env.{envOf, made};
 ghost use Rattle.sheet.specs.Shape.{recordsChecks};
 ghost use Rattle.sheet.specs.Inner.{Laid, recordsAt, Roomy};
 ghost use Rattle.borrowing_param.specs.SheetMethod.{lowerSheet, methodAnswer, methodWords};
-ghost use Rattle.borrowing_param.specs.InnerSheet.{records, methodOf, Judges};
+ghost use Rattle.borrowing_param.specs.InnerSheet.{records, smallBytes, methodOf, Judges};
 use answers::Listed;
 use answers::Refusal;
 use answers::Verdict;
@@ -20,6 +20,7 @@ use elision::measure;
 use lifetimes::LifetimeEnv;
 use lifetimes::Made;
 use methods::check_method;
+use records::End;
 use records::copy_words;
 use sheet::read_sheet;
 use sheet::record_words;
@@ -28,8 +29,21 @@ use sheet::record_words;
 // refusal all ends are 0, and the environment has no lifetimes.
 pub struct SheetMethod {
     pub verdict: Verdict,
-    pub ends: [usize; 10],
+    pub ends: [usize; SheetMethod::RECORDS],
     pub env: LifetimeEnv,
+}
+
+impl SheetMethod {
+    // How many records a sheet has.
+    pub const RECORDS: usize = 10;
+
+    // So many words take the records of any sheet.
+    pub const MAX_WORDS: usize = SheetMethod::RECORDS * End::MAX_WORDS;
+
+    // A sheet of so few bytes is judged in small scratch: a word has two of them, or more.
+    pub(crate) const SMALL_BYTES: usize = 1024;
+
+    pub(crate) const SMALL_WORDS: usize = SheetMethod::SMALL_BYTES / 2;
 }
 
 // Read a sheet, lower its lifetimes and judge its method. The words of its ten records are written to a slice, one
@@ -39,7 +53,7 @@ pub fn lower_sheet(sheet: &[u8], words: &mut [usize]) -> SheetMethod
     ensures answer { λ r. ⌜ r ≡ methodAnswer (lowerSheet (held sheet) (room words)) ⌝ }
     ensures stored { λ _. ⌜ Fills (methodWords (lowerSheet (held sheet) (room words))) words ⌝ }
 {
-    if sheet.len() <= 1024 {
+    if sheet.len() <= SheetMethod::SMALL_BYTES {
         return lower_small(sheet, words);
     }
     lower_large(sheet, words)
@@ -47,11 +61,11 @@ pub fn lower_sheet(sheet: &[u8], words: &mut [usize]) -> SheetMethod
 
 // The same with scratch of one size.
 fn lower_small(sheet: &[u8], words: &mut [usize]) -> SheetMethod
-    requires { ⌜ length (now sheet) ≤ 1024 ⌝ }
+    requires { ⌜ length (now sheet) ≤ smallBytes ⌝ }
     ensures { λ r. ⌜ r ≡ methodAnswer (lowerSheet (held sheet) (room words)) ⌝ }
     ensures { λ _. ⌜ Fills (methodWords (lowerSheet (held sheet) (room words))) words ⌝ }
 {
-    let mut scratch = [0usize; 512];
+    let mut scratch = [0usize; SheetMethod::SMALL_WORDS];
     lower_within(sheet, &mut scratch, words)
 }
 
@@ -59,7 +73,7 @@ fn lower_large(sheet: &[u8], words: &mut [usize]) -> SheetMethod
     ensures { λ r. ⌜ r ≡ methodAnswer (lowerSheet (held sheet) (room words)) ⌝ }
     ensures { λ _. ⌜ Fills (methodWords (lowerSheet (held sheet) (room words))) words ⌝ }
 {
-    let mut scratch = [0usize; 10240];
+    let mut scratch = [0usize; SheetMethod::MAX_WORDS];
     lower_within(sheet, &mut scratch, words)
 }
 
@@ -107,7 +121,7 @@ pub(crate) fn judge_sheet(sheet: &[u8], scratch: &mut [usize]) -> SheetMethod
 
 // The environment of records that were read, whose words stand one record after another, or the first refusal due on
 // them.
-fn lower_laid(words: &[usize], ends: [usize; 10]) -> Made
+fn lower_laid(words: &[usize], ends: [usize; SheetMethod::RECORDS]) -> Made
     requires { ⌜ Laid (now words) ends × NoneDue (recordsChecks (recordsAt (now words) ends)) ⌝ }
     ensures { λ r. ⌜ r ≡ made (envOf 0 0 []) (methodOf (recordsAt (held words) ends)) ⌝ }
 {
@@ -189,7 +203,7 @@ fn refused_method(refusal: Refusal) -> SheetMethod
     let env = made.env;
     SheetMethod {
         verdict: Verdict::Refused(refusal),
-        ends: [0; 10],
+        ends: [0; SheetMethod::RECORDS],
         env,
     }
 }

@@ -3,6 +3,7 @@ ghost use mathlib.Core.Path.{_≡_};
 ghost use mathlib.Core.Bool.{cond};
 ghost use lib.Dec.{eqb};
 ghost use Prim.Native.Nat.{_≤_};
+ghost use Rattle.borrowing_param.specs.Edges.{mostDefs};
 ghost use Rattle.borrowing_param.specs.Brings.{refuse};
 ghost use Rattle.borrowing_param.specs.Visit.{state, outcome, visit};
 ghost use Rattle.borrowing_param.specs.VisitParam.{visitParam};
@@ -21,6 +22,7 @@ use lifetimes::set;
 use methods::UsedLifetimes;
 use methods::check_structs_and_params;
 use methods::used_method_lifetimes;
+use records::End;
 use types::Kind;
 use types::Located;
 use types::Parts;
@@ -41,14 +43,14 @@ pub struct LifetimeEdge {
 pub struct ParamBorrowInfo {
     pub verdict: Verdict,
     pub number: usize,
-    pub pairs: [u64; 16],
+    pub pairs: [u64; ParamBorrowInfo::MAX_DEFS],
 }
 
 // The used lifetimes as a set; for each of them the set of the lifetimes that draw an edge to it, which are those that
 // outlive it (the Rust's `all_longer_lifetimes`); and how many edges are stored.
 pub struct BorrowingParamVisitor {
     pub used: u64,
-    pub draws: [u64; 64],
+    pub draws: [u64; LifetimeEnv::MAX_LIFETIMES],
     pub stored: usize,
 }
 
@@ -62,6 +64,11 @@ pub struct Created {
 pub struct Visited {
     pub info: ParamBorrowInfo,
     pub visitor: BorrowingParamVisitor,
+}
+
+impl ParamBorrowInfo {
+    // How many lifetimes a struct's definition may have.
+    pub const MAX_DEFS: usize = End::MAX_LIST;
 }
 
 impl BorrowingParamVisitor {
@@ -151,7 +158,7 @@ impl BorrowingParamVisitor {
 fn refused(visitor: BorrowingParamVisitor, refusal: Refusal) -> Visited
     ensures { λ r. ⌜ r ≡ record { info = refuse refusal; visitor = visitor } ⌝ }
 {
-    let pairs = [0u64; 16];
+    let pairs = [set::EMPTY; ParamBorrowInfo::MAX_DEFS];
     Visited {
         info: ParamBorrowInfo {
             verdict: Verdict::Refused(refusal),
@@ -187,7 +194,7 @@ fn visit_parts(
     param: usize,
     edges: &mut [usize],
 ) -> Visited
-    requires { ⌜ Inside (now params) (parts .from) (parts .count) × (parts .count ≤ 16)
+    requires { ⌜ Inside (now params) (parts .from) (parts .count) × (parts .count ≤ mostDefs)
         × Coded (now params) parts ⌝ }
     ensures { λ r. ⌜ outcome (r .info) (state (r .visitor) (left edges))
         ≡ visit (state visitor (held edges)) (typeIn (held params) parts) param ⌝ }
@@ -197,7 +204,7 @@ fn visit_parts(
     let stored = visitor.stored;
     let brought = count_all(used, &draws, params, parts);
     let number = number_of(params, parts, brought);
-    let mut pairs = [0u64; 16];
+    let mut pairs = [set::EMPTY; ParamBorrowInfo::MAX_DEFS];
     if brought == 0 {
         return Visited {
             info: ParamBorrowInfo {

@@ -1,5 +1,5 @@
 -- Slices that are always long enough: no further check is due, since what a sheet gives is bounded.
-use Prim.Native.Nat.{ℕ, _≤_}
+use Prim.Native.Nat.{ℕ, _*_, _≤_}
 use mathlib.Core.Path.{_≡_, refl, ap, _∙_}
 use mathlib.Core.List.{List, [], _∷_, _++_, flatMap}
 use native.Mathlib.Omega.{arith}
@@ -10,12 +10,14 @@ use Rattle.answers.specs.Lent.{roomCheck}
 use Rattle.answers.proofs.RefusalLaws.{due-given, due-refused, given-due, refused-due, first-more, none-more}
 use Rattle.sheet.specs.Text.{Records}
 use Rattle.sheet.specs.Reading.{sheetOf}
-use Rattle.borrowing_param.specs.Edges.{edgeWords}
+use Rattle.methods.specs.Method.{mostParams}
+use Rattle.methods.specs.Used.{mostUsed}
+use Rattle.borrowing_param.specs.Edges.{width, edgeWords}
 use Rattle.borrowing_param.specs.New.{created}
 use Rattle.borrowing_param.specs.Consistent.{Consistent}
 use Rattle.borrowing_param.specs.Theorems.{Small}
 use Rattle.borrowing_param.specs.SheetMethod.{envOfSheet, sheetRefusals}
-use Rattle.borrowing_param.specs.Borrows.{Borrows, sheetBorrows, roomChecks}
+use Rattle.borrowing_param.specs.Borrows.{Borrows, sheetBorrows, roomChecks, mostListed}
 use Rattle.borrowing_param.proofs.Joining.{words-many}
 use Rattle.borrowing_param.proofs.Forcing.{params-none}
 use Rattle.borrowing_param.proofs.Theorems.{listing-in-order, methods-are-small, sheets-give-methods}
@@ -49,7 +51,8 @@ module _ (bytes : List ℕ) where
       methods-are-small (envOfSheet sheet) (sheet .structs) (sheet .params) (sheet .output) (sheet .force)
       (sheets-give-methods bytes n)
 
-  pub room : (used answers edges counts : ℕ) → 34 ≤ used → 16 ≤ answers → 43520 ≤ edges → 3 ≤ counts → NoneDue (sheetRefusals bytes)
+  pub room : (used answers edges counts : ℕ) → mostUsed ≤ used → mostParams ≤ answers → width * mostListed ≤ edges
+      → 3 ≤ counts → NoneDue (sheetRefusals bytes)
       → NoneDue (roomChecks all used answers edges ++ (roomCheck counts (countWords all) ∷ []))
   room used answers edges counts a b c d n =
       let k = small n in

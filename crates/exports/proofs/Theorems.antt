@@ -12,7 +12,7 @@ use Rattle.answers.specs.Lent.{roomCheck}
 use Rattle.sheet.specs.Reading.{sheetOf}
 use Rattle.borrowing_param.specs.SheetMethod.{sheetRefusals}
 use Rattle.borrowing_param.specs.Borrows.{sheetBorrows, roomChecks}
-use Rattle.listing.specs.Listing.{listingOf, listingChecks}
+use Rattle.listing.specs.Listing.{roomBytes, listingOf, listingChecks}
 use Rattle.listing.proofs.Theorems.{program-answers}
 use Rattle.exports.specs.Calls.{lengthWord, listingTo, countWords, sheetTo}
 use Rattle.exports.specs.Theorems.{BytesEnough, WordsEnough, StatusTells}
@@ -24,8 +24,8 @@ bytes-enough bytes room words h g =
     let text = listingOf (sheetOf bytes) in
     further text (listingChecks bytes) (roomCheck room text ∷ roomCheck words (lengthWord text) ∷ [])
     (λ n.
-    let fits : length text ≤ 131072 =
-    subst (λ (t : List ℕ). length t ≤ 131072) (program-answers bytes .complete n) (program-answers bytes .fits) in
+    let fits : length text ≤ roomBytes =
+    subst (λ (t : List ℕ). length t ≤ roomBytes) (program-answers bytes .complete n) (program-answers bytes .fits) in
     next (le-ltb room (length text) (omega (arith, fits, h))) (next (le-ltb words 1 g) end))
 
 pub words-enough : WordsEnough

@@ -1,25 +1,28 @@
 -- The main theorems, stated. Their proofs are the terms of these types in proofs/Theorems.antt.
-use Prim.Native.Nat.{ℕ, _≤_}
+use Prim.Native.Nat.{ℕ, _*_, _≤_}
 use mathlib.Core.Path.{_≡_}
 use mathlib.Core.List.{List}
 use Rattle.answers.specs.declared.Refusal.{Refusal}
 use Rattle.answers.specs.Refusals.{unless, numberOf}
 use Rattle.sheet.specs.Reading.{sheetOf}
+use Rattle.methods.specs.Method.{mostParams}
+use Rattle.methods.specs.Used.{mostUsed}
+use Rattle.borrowing_param.specs.Edges.{width}
 use Rattle.borrowing_param.specs.SheetMethod.{sheetRefusals}
-use Rattle.borrowing_param.specs.Borrows.{sheetBorrows}
-use Rattle.listing.specs.Listing.{listingOf, listingChecks}
+use Rattle.borrowing_param.specs.Borrows.{sheetBorrows, mostListed}
+use Rattle.listing.specs.Listing.{roomBytes, listingOf, listingChecks}
 use Rattle.exports.specs.Calls.{listingTo, sheetTo}
 
--- The sizes that include/borrows.h names are always enough. With them, or more, no refusal comes from what is lent: a
--- listing's 9 is that of too many edges,
+-- The sizes that include/borrows.h names (131,072 bytes and a word; 34, 16, 43,520 and 3 words) are always enough. With
+-- them, or more, no refusal comes from what is lent: a listing's 9 is that of too many edges,
 abbrev pub BytesEnough : Type 0
-BytesEnough = (bytes : List ℕ) (room words : ℕ) → 131072 ≤ room → 1 ≤ words
+BytesEnough = (bytes : List ℕ) (room words : ℕ) → roomBytes ≤ room → 1 ≤ words
     → listingTo bytes room words ≡ unless (listingChecks bytes) (listingOf (sheetOf bytes))
 
 -- and the other call has no 9
 abbrev pub WordsEnough : Type 0
 WordsEnough = (bytes : List ℕ) (used answers edges counts : ℕ)
-    → 34 ≤ used → 16 ≤ answers → 43520 ≤ edges → 3 ≤ counts
+    → mostUsed ≤ used → mostParams ≤ answers → width * mostListed ≤ edges → 3 ≤ counts
     → sheetTo bytes used answers edges counts ≡ unless (sheetRefusals bytes) (sheetBorrows (sheetOf bytes))
 
 -- A status of 0 is never that of a refusal, and none is above 13

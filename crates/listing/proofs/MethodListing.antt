@@ -50,7 +50,7 @@ use Rattle.text.specs.Printing.{Prints}
 use Rattle.text.proofs.PrintLaws.{prints-length}
 use Rattle.listing.specs.InnerSections.{numbered, cutFrom, Ascend}
 use Rattle.listing.specs.InnerListing.{Lists, ListsWithin, methodBorrows, methodListing, listedMethod, Listable}
-use Rattle.listing.specs.InnerListing.{sections, tooMany}
+use Rattle.listing.specs.InnerListing.{sections, tooMany, listsRoom, edgesRoom}
 use Rattle.listing.proofs.ListingLaws.{cut-lists, ends-ascend, numbered-map}
 use Rattle.listing.proofs.RoomLaws.{lines-short, lifetimes-few}
 
@@ -75,7 +75,7 @@ pub record AllListed (env : LifetimeEnv) (lists ends : List ℕ) (l : reach.List
 pub record Mapped (v : BorrowingParamVisitor) (structs params answers edges : List ℕ) (m : BorrowMap)
     (answers₁ edges₁ : List ℕ) : Type 0 where
   pub sixteen : length answers ≡ 16
-  pub most : length edges ≤ 20480
+  pub most : length edges ≤ edgesRoom
   pub maps : m ≡ mapAnswer (borrowMap v structs params (length answers) (length edges))
   pub noted : answers₁ ≡ written (mapAnswers (borrowMap v structs params (length answers) (length edges))) answers
   pub stored : edges₁ ≡ written (spec.mapEdges (borrowMap v structs params (length answers) (length edges))) edges
@@ -120,7 +120,7 @@ module _ {env : LifetimeEnv} {used : ℕ} {structs params own given taken : List
   lists-many = rw length-map (length-range 0 (env .count))
 
   pub lists-short : (lists : List ℕ) {edges : ℕ} {out : List ℕ} → length lists < env .count * env .count
-      → ListsWithin listing ((4096 ≤ length lists) × (20480 ≤ edges)) out within.Short out
+      → ListsWithin listing ((listsRoom ≤ length lists) × (edgesRoom ≤ edges)) out within.Short out
   lists-short lists h = (λ a. omega (arith, h, mul-le-mul few few, a .0), refl)
 
   module _ {lists ends : List ℕ} {l : reach.Lists} {lists₁ ends₁ : List ℕ} (all : AllListed env lists ends l lists₁ ends₁) where
@@ -194,11 +194,11 @@ module _ {env : LifetimeEnv} {used : ℕ} {structs params own given taken : List
         abbrev mapped : Outcome Mapping
         mapped = borrowMap visitor structs params (length answers) (length edges)
 
-        abbrev answersRoom : Check
-        answersRoom = roomCheck (length answers) (answersFrom visitor 0 types)
+        abbrev answersAsk : Check
+        answersAsk = roomCheck (length answers) (answersFrom visitor 0 types)
 
-        abbrev edgesRoom : Check
-        edgesRoom = roomCheck (length edges) (flatMap edgeWords (listedEdges visitor types))
+        abbrev edgesAsk : Check
+        edgesAsk = roomCheck (length edges) (flatMap edgeWords (listedEdges visitor types))
 
         verdict-is : m .verdict ≡ verdictOf mapped
         verdict-is = ap (λ (x : BorrowMap). x .verdict) maps ∙ go mapped
@@ -207,7 +207,7 @@ module _ {env : LifetimeEnv} {used : ℕ} {structs params own given taken : List
             go (Gives x) = refl
             go (Refuses k) = refl
 
-        answers-fit : answersRoom .due ≡ false
+        answers-fit : answersAsk .due ≡ false
         answers-fit = le-ltb (length answers) (length (answersFrom visitor 0 types)) (omega (arith, few-answers, sixteen))
 
         words-are : length (flatMap edgeWords (listedEdges visitor types)) ≡ width * length (borrows .edges)
@@ -222,13 +222,13 @@ module _ {env : LifetimeEnv} {used : ℕ} {structs params own given taken : List
             (refused-first (mappingOf visitor types) k
             (mapChecks visitor structs params (length answers) (length edges)) (sym verdict-is ∙ v))))
           where
-            go : FirstDue k (edgesRoom ∷ []) → length edges < width * length (borrows .edges)
+            go : FirstDue k (edgesAsk ∷ []) → length edges < width * length (borrows .edges)
             go (here d e) = omega (arith, ltb-true (length edges) (length (flatMap edgeWords (listedEdges visitor types))) d, words-are)
 
         pub map-refused : {k : Refusal} (w : Within) (out : List ℕ) → m .verdict ≡ verdict.Refused k → w ≡ tooMany (length edges₁)
-            → ListsWithin listing ((4096 ≤ length lists) × (20480 ≤ length edges)) out w out
+            → ListsWithin listing ((listsRoom ≤ length lists) × (edgesRoom ≤ length edges)) out w out
         unfolding listedMethod borrowMap
-        map-refused {k} w out v e = rw (e, same) (go (ltb (length edges) 20480) refl)
+        map-refused {k} w out v e = rw (e, same) (go (ltb (length edges) edgesRoom) refl)
           where
             refuses : mapped ≡ Refuses k
             refuses =
@@ -239,12 +239,12 @@ module _ {env : LifetimeEnv} {used : ℕ} {structs params own given taken : List
             same : edges₁ ≡ edges
             same = stored ∙ ap (λ (o : Outcome Mapping). written (spec.mapEdges o) edges) refuses
 
-            go : (t : Bool) → ltb (length edges) 20480 ≡ t
-                → ListsWithin listing ((4096 ≤ length lists) × (20480 ≤ length edges)) out
+            go : (t : Bool) → ltb (length edges) edgesRoom ≡ t
+                → ListsWithin listing ((listsRoom ≤ length lists) × (edgesRoom ≤ length edges)) out
                 (cond t within.Short (within.Done (listed.Refused NoRoom))) out
-            go true s = (λ a. omega (arith, ltb-true (length edges) 20480 s, a .1), refl)
+            go true s = (λ a. omega (arith, ltb-true (length edges) edgesRoom s, a .1), refl)
             go false s =
-                let many : mostEdges < length (borrows .edges) = omega (arith, ltb-false (length edges) 20480 s, edges-many v) in (
+                let many : mostEdges < length (borrows .edges) = omega (arith, ltb-false (length edges) edgesRoom s, edges-many v) in (
                   due-refused (methodListing env used structs params own given taken) (here
                       (lt-ltb mostEdges (length (borrows .edges)) many) refl),
                   refl,
@@ -263,7 +263,7 @@ module _ {env : LifetimeEnv} {used : ℕ} {structs params own given taken : List
 
           edges-fit : width * length (borrows .edges) ≤ length edges
           edges-fit =
-              let n = none-split (structsAndParamsChecks structs params) (answersRoom ∷ edgesRoom ∷ []) map-none .1 in
+              let n = none-split (structsAndParamsChecks structs params) (answersAsk ∷ edgesAsk ∷ []) map-none .1 in
               omega (
                 arith,
                 ltb-false (length edges) (length (flatMap edgeWords (listedEdges visitor types)))
@@ -317,7 +317,7 @@ module _ {env : LifetimeEnv} {used : ℕ} {structs params own given taken : List
 
             pub method-listed : {n : ℕ} {out out₁ : List ℕ}
                 → Prints (sections (counts many) own given taken lists₁ ends₁ answers₂ edges₁) 0 out n out₁
-                → ListsWithin listing ((4096 ≤ length lists) × (20480 ≤ length edges)) out (within.Done (listed.Count n)) out₁
+                → ListsWithin listing ((listsRoom ≤ length lists) × (edgesRoom ≤ length edges)) out (within.Done (listed.Count n)) out₁
             unfolding listedMethod
             method-listed p = (
               methodListing env used structs params own given taken,

@@ -9,7 +9,7 @@ use Rattle.answers.specs.declared.Refusal.{Refusal}
 use Rattle.answers.specs.Refusals.{Outcome, Gives, Refuses, unless, FirstDue, NoneDue}
 use Rattle.answers.proofs.RefusalLaws.{given-due, refused-due}
 use Rattle.sheet.specs.Reading.{sheetOf}
-use Rattle.listing.specs.Listing.{said, listingOf, listingChecks}
+use Rattle.listing.specs.Listing.{roomBytes, said, listingOf, listingChecks}
 use Rattle.listing.proofs.SheetListing.{fits-room, refusal-short}
 
 module _ (bytes : List ℕ) where
@@ -21,6 +21,6 @@ module _ (bytes : List ℕ) where
   judge (Gives t) e = inr (given-due whole t (listingChecks bytes) e .0)
   judge (Refuses k) e = inl (k, refused-due whole k (listingChecks bytes) e)
 
-  pub fit : (o : Outcome (List ℕ)) → unless (listingChecks bytes) whole ≡ o → length (said o) ≤ 131072
+  pub fit : (o : Outcome (List ℕ)) → unless (listingChecks bytes) whole ≡ o → length (said o) ≤ roomBytes
   fit (Gives t) e = let g = given-due whole t (listingChecks bytes) e in rw (← g .1) (fits-room bytes (g .0))
   fit (Refuses k) e = omega (arith, refusal-short k)

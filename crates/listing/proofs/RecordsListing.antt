@@ -33,6 +33,7 @@ use Rattle.methods.specs.declared.used.UsedLifetimes.{UsedLifetimes}
 use Rattle.methods.specs.declared.used.UsedLifetimes.the-variants as answer
 use Rattle.methods.specs.Used.{usedSet, usedAnswer}
 use Rattle.text.specs.Decimal.{line}
+use Rattle.records.specs.Reading.{mostWords}
 use Rattle.sheet.specs.Text.{Records}
 use Rattle.sheet.specs.Shape.{sheetInShape, recordsChecks}
 use Rattle.sheet.proofs.Theorems.{shapes-are-short}
@@ -46,9 +47,9 @@ use Rattle.borrowing_param.proofs.MethodLaws.{method-first, method-none}
 use Rattle.listing.specs.declared.within.Within.{Within}
 use Rattle.listing.specs.declared.within.Within.the-variants as within
 use Rattle.listing.specs.Listing.{countLines, loweredHeading, longerLines, answerLines, edgeLines, mostEdges}
-use Rattle.listing.specs.Listing.{edgesCheck, listingOf}
+use Rattle.listing.specs.Listing.{roomBytes, edgesCheck, listingOf}
 use Rattle.listing.specs.InnerListing.{Lists, ListsWithin, Ample, listedRecords, methodBorrows, methodListing}
-use Rattle.listing.specs.InnerListing.{listedMethod, Listable}
+use Rattle.listing.specs.InnerListing.{listedMethod, Listable, perWord, loweredRoom, listsRoom, edgesRoom}
 use Rattle.listing.proofs.RoomLaws.{listing-short}
 
 -- checks at the end of which none is due
@@ -75,28 +76,28 @@ module _ (r : Records) (first : NoneDue (recordsChecks r)) (given taken : ℕ) w
   shape = not-false (sheetInShape r) (none-first first)
 
   -- scratch for the lowered words
-  steps-long : length (r .steps) ≤ 1024
+  steps-long : length (r .steps) ≤ mostWords
   steps-long =
       shapes-are-short r shape (r .steps)
       (List·Memᴰ·tail (List·Memᴰ·tail (List·Memᴰ·tail (List·Memᴰ·tail (List·Memᴰ·head refl)))))
 
-  returns-long : length (r .returns) ≤ 1024
+  returns-long : length (r .returns) ≤ mostWords
   returns-long =
       shapes-are-short r shape (r .returns)
       (List·Memᴰ·tail (List·Memᴰ·tail (List·Memᴰ·tail (List·Memᴰ·tail (List·Memᴰ·tail (List·Memᴰ·head refl))))))
 
-  eighth : {room n : ℕ} → room / 8 < n → n ≤ 1024 → 8192 ≤ room → ⊥
-  eighth {room} {n} h k a = omega (arith, h, k, a, div-add-mod' room 8, mod-lt room {m = 8} (omega arith))
+  eighth : {room n : ℕ} → room / perWord < n → n ≤ mostWords → loweredRoom ≤ room → ⊥
+  eighth {room} {n} h k a = omega (arith, h, k, a, div-add-mod' room perWord, mod-lt room {m = perWord} (omega arith))
 
-  pub steps-short : {lists edges : ℕ} {out : List ℕ} → given / 8 < length (r .steps)
+  pub steps-short : {lists edges : ℕ} {out : List ℕ} → given / perWord < length (r .steps)
       → ListsWithin (listedRecords r) (Ample given taken lists edges) out within.Short out
   steps-short h = (λ a. eighth h steps-long (a .0), refl)
 
-  pub returns-short : {lists edges : ℕ} {out : List ℕ} → taken / 8 < length (r .returns)
+  pub returns-short : {lists edges : ℕ} {out : List ℕ} → taken / perWord < length (r .returns)
       → ListsWithin (listedRecords r) (Ample given taken lists edges) out within.Short out
   returns-short h = (λ a. eighth h returns-long (a .1), refl)
 
-  module _ (steps-room : length (r .steps) ≤ given / 8) (returns-room : length (r .returns) ≤ taken / 8)
+  module _ (steps-room : length (r .steps) ≤ given / perWord) (returns-room : length (r .returns) ≤ taken / perWord)
       {a : ast-made.Made} (is : a ≡ ast.made (ast.envOf [] []) (ast.fromMethodItem (r .names) (r .bounds) (r .types))) where
     pub names-listed : {k : Refusal} {out : List ℕ} → a .verdict ≡ verdict.Refused k
         → Lists (listedRecords r) out (listed.Refused k) out
@@ -115,7 +116,7 @@ module _ (r : Records) (first : NoneDue (recordsChecks r)) (given taken : ℕ) w
           lowered-steps names self (r .steps),
           length-map (m .steps) wordOf,
           steps-room,
-          div-add-mod' given 8,
+          div-add-mod' given perWord,
         )))
         (next (le-ltb taken (length (words (m .returns)))
         (omega (
@@ -123,7 +124,7 @@ module _ (r : Records) (first : NoneDue (recordsChecks r)) (given taken : ℕ) w
           lowered-returns names self (r .steps) (r .returns),
           length-map (m .returns) wordOf,
           returns-room,
-          div-add-mod' taken 8,
+          div-add-mod' taken perWord,
         ))) end))
 
     abbrev lowered : Outcome rfc.Method
@@ -148,8 +149,8 @@ module _ (r : Records) (first : NoneDue (recordsChecks r)) (given taken : ℕ) w
 pub record Elided (r : Records) (own given taken : List ℕ) (a : ast-made.Made) (l : Lowering)
     (own₁ given₁ taken₁ : List ℕ) : Type 0 where
   pub first : NoneDue (recordsChecks r)
-  pub steps-room : length (r .steps) ≤ length given / 8
-  pub returns-room : length (r .returns) ≤ length taken / 8
+  pub steps-room : length (r .steps) ≤ length given / perWord
+  pub returns-room : length (r .returns) ≤ length taken / perWord
   pub names : a ≡ ast.made (ast.envOf [] []) (ast.fromMethodItem (r .names) (r .bounds) (r .types))
   pub fine : a .verdict ≡ verdict.Accepted
   pub lowers : l ≡ answered (a .env) (lowerRecords (a .env) (r .self) (r .steps) (r .returns) 1 (length given) (length taken))
@@ -255,14 +256,14 @@ module _ {r : Records} {own given taken : List ℕ} {a : ast-made.Made} {l : Low
             valid = env-none (l .env) (r .structs) (r .params) (r .output) (r .force) n;
             of = params-none (l .env) (r .structs) (r .params) (r .output) (r .force) n;
             below = used-below (l .env) (r .structs) (r .params) (r .output) (r .force) n used g;
-            short = λ few. subst (λ (t : List ℕ). length t ≤ 131072) text-is
+            short = λ few. subst (λ (t : List ℕ). length t ≤ roomBytes) text-is
                 (listing-short r (h .first) none
                 (subst (λ (b : Borrows). length (b .edges) ≤ mostEdges) (sym borrows-are) few));
           }
 
       pub records-listed : (lists edges : ℕ) (w : Within) (out out₁ : List ℕ)
           → ListsWithin (listedMethod (l .env) used (r .structs) (r .params) selves inputs outputs)
-          ((4096 ≤ lists) × (20480 ≤ edges)) out w out₁
+          ((listsRoom ≤ lists) × (edgesRoom ≤ edges)) out w out₁
           → ListsWithin (listedRecords r) (Ample (length given) (length taken) lists edges) out w out₁
       unfolding listedMethod
       records-listed lists edges w out out₁ h = go w h
@@ -276,7 +277,7 @@ module _ {r : Records} {own given taken : List ℕ} {a : ast-made.Made} {l : Low
 
           go : (w : Within)
               → ListsWithin (listedMethod (l .env) used (r .structs) (r .params) selves inputs outputs)
-              ((4096 ≤ lists) × (20480 ≤ edges)) out w out₁
+              ((listsRoom ≤ lists) × (edgesRoom ≤ edges)) out w out₁
               → ListsWithin (listedRecords r) (Ample (length given) (length taken) lists edges) out w out₁
           go (within.Done x) h = subst (λ (o : Outcome (List ℕ)). Lists o out x out₁) same h
           go within.Short h = (λ a. h .0 (a .2, a .3), h .1)

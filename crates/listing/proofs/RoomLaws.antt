@@ -1,11 +1,11 @@
--- How long a listing can be: all that is printed but the number of edges is below 100, so a line of n words has at most
--- 3 n + 1 bytes.
-use Prim.Native.Nat.{ℕ, suc, _+_, _*_, _≤_, _<_}
+-- How long a listing can be: line by line, a line by how many digits each of its columns has at most. The sum is
+-- `listingBytes`.
+use Prim.Native.Nat.{ℕ, zero, suc, _+_, _*_, _≤_, _<_}
 use mathlib.Core.Bool.{true}
 use mathlib.Core.Path.{_≡_, refl}
 use mathlib.Core.List.{List, [], _∷_, _++_, flatMap, List·Memᴰ, List·Memᴰ·head, List·Memᴰ·tail}
 use native.Mathlib.Omega.{arith}
-use lib.ListN.{length, getD, length-append, length-map}
+use lib.ListN.{length, getD, replicate, length-append, length-map}
 use borrow.Author.Tests.{ltb-false, not-false}
 use Rattle.lifetimes.specs.declared.bounds.Bound.{Bound}
 use Rattle.lifetimes.specs.declared.env.LifetimeEnv.{LifetimeEnv}
@@ -13,6 +13,8 @@ use Rattle.lifetimes.specs.declared.maybe_static.MaybeStatic.{MaybeStatic}
 use Rattle.answers.specs.Lists.{range}
 use Rattle.answers.specs.Refusals.{NoneDue}
 use Rattle.lifetimes.specs.LoweredWords.{wordOf}
+use Rattle.lifetimes.specs.Limits.{mostLifetimes}
+use Rattle.methods.specs.Method.{mostParams}
 use Rattle.lifetimes.specs.Env.{envChecks}
 use Rattle.answers.proofs.RefusalLaws.{none-first, none-split}
 use Rattle.lifetimes.proofs.ReachLaws.{reach-few, reach-inside}
@@ -41,26 +43,70 @@ use Rattle.borrowing_param.proofs.Forcing.{params-none}
 use Rattle.borrowing_param.proofs.MethodLaws.{env-valid, accepted-method}
 use Rattle.borrowing_param.proofs.Ordering.{listing-consistent}
 use Rattle.listing.specs.Listing.{countLines, loweredLines, longerLine, longerLines, answersFrom, answerLines}
-use Rattle.listing.specs.Listing.{edgeLine, edgeLines, listingOf}
+use Rattle.listing.specs.Listing.{countHeading, loweredHeading, longerHeading, answerHeading, edgeHeading}
+use Rattle.listing.specs.Listing.{edgeLine, edgeLines, listingOf, mostEdges, roomBytes}
+use Rattle.listing.specs.InnerListing.{loweredRoom}
 
 -- ---- lines
 
+-- words under columns: none has more digits than its column
+abbrev pub Under : List ℕ → List ℕ → Type 0
+Under [] [] = Unit {0}
+Under [] (w ∷ ws) = ⊥
+Under (d ∷ ds) [] = ⊥
+Under (d ∷ ds) (w ∷ ws) = (length (digits w) ≤ d) × Under ds ws
+
+-- so many bytes their line has at most: the digits, a space between, the line's end
+abbrev followingBytes : List ℕ → ℕ
+followingBytes [] = 1
+followingBytes (d ∷ ds) = 1 + d + followingBytes ds
+
+abbrev pub lineBytes : List ℕ → ℕ
+lineBytes [] = 1
+lineBytes (d ∷ ds) = d + followingBytes ds
+
+following-short : (ds ws : List ℕ) → Under ds ws → length (following ws) ≤ followingBytes ds
+unfolding following
+following-short [] [] u = omega arith
+following-short [] (w ∷ ws) u = absurd u
+following-short (d ∷ ds) [] u = absurd u
+following-short (d ∷ ds) (w ∷ ws) u = rw length-append (omega (arith, u .0, following-short ds ws (u .1)))
+
+pub line-short : (ds ws : List ℕ) → Under ds ws → length (line ws) ≤ lineBytes ds
+unfolding line
+line-short [] [] u = omega arith
+line-short [] (w ∷ ws) u = absurd u
+line-short (d ∷ ds) [] u = absurd u
+line-short (d ∷ ds) (w ∷ ws) u = rw length-append (omega (arith, u .0, following-short ds ws (u .1)))
+
+pub one-digit : {w : ℕ} → w < 10 → length (digits w) ≤ 1
+one-digit {w} h = digits-length 0 w (omega arith)
+
+pub two-digits : {w : ℕ} → w < 100 → length (digits w) ≤ 2
+two-digits {w} h = digits-length 1 w (omega arith)
+
+-- any number of words of two digits
 abbrev pub Below : ℕ → List ℕ → Type 0
 Below n [] = Unit {0}
 Below n (w ∷ ws) = (w < n) × Below n ws
 
-two-digits : {w : ℕ} → w < 100 → length (digits w) ≤ 2
-two-digits {w} h = digits-length 1 w (omega arith)
+abbrev pub wordsBytes : ℕ → ℕ
+wordsBytes n = (1 + 2) * n + 1
 
-following-short : (ws : List ℕ) → Below 100 ws → length (following ws) ≤ 3 * length ws + 1
-unfolding following
-following-short [] b = omega arith
-following-short (w ∷ ws) b = rw length-append (omega (arith, two-digits (b .0), following-short ws (b .1)))
+two-each : (ws : List ℕ) → Below 100 ws → Under (replicate (length ws) 2) ws
+two-each [] b = tt
+two-each (w ∷ ws) b = (two-digits (b .0), two-each ws (b .1))
 
-pub line-short : (ws : List ℕ) → Below 100 ws → length (line ws) ≤ 3 * length ws + 1
-unfolding line
-line-short [] b = omega arith
-line-short (w ∷ ws) b = rw length-append (omega (arith, two-digits (b .0), following-short ws (b .1)))
+following-even : (n : ℕ) → followingBytes (replicate n 2) ≡ wordsBytes n
+following-even zero = refl
+following-even (suc n) = omega (arith, following-even n)
+
+line-even : (n : ℕ) → lineBytes (replicate n 2) ≤ wordsBytes n
+line-even zero = omega arith
+line-even (suc n) = omega (arith, following-even n)
+
+pub words-short : (ws : List ℕ) → Below 100 ws → length (line ws) ≤ wordsBytes (length ws)
+words-short ws b = omega (arith, line-short (replicate (length ws) 2) ws (two-each ws b), line-even (length ws))
 
 -- a line for each of some things, each of at most so many bytes
 pub lines-short : {A : Type 0} (f : A → List ℕ) (n : ℕ) (l : List A) → ((a : A) → List·Memᴰ a l → length (f a) ≤ n)
@@ -82,60 +128,98 @@ small-below : (ls : List MaybeStatic) → AllSmall ls → Below 100 (words ls)
 small-below [] p = tt
 small-below (l ∷ ls) p = (omega (arith, p .0), small-below ls (p .1))
 
-counts-short : (lifetimes : ℕ) (b : Borrows) → lifetimes ≤ 64 → Consistent (b .used) (b .answers) (b .edges)
-    → length (b .edges) ≤ 4096 → length (countLines lifetimes b) ≤ 43
-unfolding line following
-counts-short lifetimes b few c some =
-    let p = two-digits {w = lifetimes} (omega (arith, few)) in
-    let q = two-digits {w = length (b .used)} (omega (arith, c .few-used)) in
-    let r = two-digits {w = length (b .answers)} (omega (arith, c .few-params)) in
-    let s = digits-of-word {n = length (b .edges)} (omega (arith, some)) in
-    rw (length-append, length-append, length-append, length-append, length-append) (omega (arith, p, q, r, s))
+-- lifetimes, used, params, edges
+abbrev countColumns : List ℕ
+countColumns = 2 ∷ 2 ∷ 2 ∷ 4 ∷ []
 
-answers-short : (param : ℕ) (l : List ℕ) → param + length l ≤ 16 → Below 100 l → length (answersFrom param l) ≤ 7 * length l
+abbrev countBytes : ℕ
+countBytes = length countHeading + lineBytes countColumns
+
+counts-short : (lifetimes : ℕ) (b : Borrows) → lifetimes ≤ mostLifetimes → Consistent (b .used) (b .answers) (b .edges)
+    → length (b .edges) ≤ mostEdges → length (countLines lifetimes b) ≤ countBytes
+counts-short lifetimes b few c some =
+    let words = lifetimes ∷ length (b .used) ∷ length (b .answers) ∷ length (b .edges) ∷ [] in
+    let short =
+    line-short countColumns words (
+      two-digits (omega (arith, few)),
+      (
+        two-digits (omega (arith, c .few-used)),
+        (two-digits (omega (arith, c .few-params)), (digits-length 3 (length (b .edges)) (omega (arith, some)), tt)),
+      ),
+    ) in
+    omega (arith, length-append countHeading (line words), short)
+
+-- param, answer
+abbrev answerColumns : List ℕ
+answerColumns = 2 ∷ 1 ∷ []
+
+abbrev answerBytes : ℕ
+answerBytes = length answerHeading + mostParams * lineBytes answerColumns
+
+answers-short : (param : ℕ) (l : List ℕ) → param + length l ≤ mostParams → Below 10 l
+    → length (answersFrom param l) ≤ lineBytes answerColumns * length l
 unfolding answersFrom
 answers-short param [] h b = omega arith
 answers-short param (a ∷ l) h b =
-    rw length-append
-    (omega (
-      arith,
-      line-short (param ∷ a ∷ []) (omega (arith, h), (b .0, tt)),
-      answers-short (suc param) l (omega (arith, h)) (b .1),
-    ))
+    let first =
+    line-short answerColumns (param ∷ a ∷ []) (two-digits (omega (arith, h)), (one-digit (b .0), tt)) in
+    let rest = answers-short (suc param) l (omega (arith, h)) (b .1) in
+    rw length-append (omega (arith, first, rest))
+
+-- used, param, kind, def, option
+abbrev edgeColumns : List ℕ
+edgeColumns = 2 ∷ 2 ∷ 1 ∷ 2 ∷ 1 ∷ []
+
+abbrev edgeBytes : ℕ
+edgeBytes = length edgeHeading + mostEdges * lineBytes edgeColumns
 
 edge-short : {used answers : List ℕ} {edges : List LifetimeEdge} → Consistent used answers edges → (e : LifetimeEdge)
-    → List·Memᴰ e edges → length (edgeLine e) ≤ 16
+    → List·Memᴰ e edges → length (edgeLine e) ≤ lineBytes edgeColumns
 edge-short c e m =
-    line-short (edgeWords e) (
-      omega (arith, c .used-below (e .used) (c .edge-used e m)),
+    line-short edgeColumns (edgeWords e) (
+      two-digits (omega (arith, c .used-below (e .used) (c .edge-used e m))),
       (
-        omega (arith, c .edge-param e m, c .few-params),
-        (omega (arith, c .edge-kind e m), (omega (arith, c .edge-def e m), (omega (arith, c .edge-option e m), tt))),
+        two-digits (omega (arith, c .edge-param e m, c .few-params)),
+        (
+          one-digit (omega (arith, c .edge-kind e m)),
+          (two-digits (omega (arith, c .edge-def e m)), (one-digit (omega (arith, c .edge-option e m)), tt)),
+        ),
       ),
     )
 
-below-answers : (l : List ℕ) → ((p : ℕ) → p < length l → getD l p 0 ≤ 4) → Below 100 l
+below-answers : (l : List ℕ) → ((p : ℕ) → p < length l → getD l p 0 ≤ 4) → Below 10 l
 below-answers [] h = tt
 below-answers (a ∷ l) h = (omega (arith, h 0 (omega arith)), below-answers l (λ p k. h (suc p) (omega (arith, k))))
 
-module _ (env : LifetimeEnv) (valid : NoneDue (envChecks env)) where
-  pub lifetimes-few : env .count ≤ 64
-  lifetimes-few = ltb-false 64 (env .count) (none-first valid)
+-- a lifetime, then what outlives it
+abbrev longerBytes : ℕ
+longerBytes = length longerHeading + mostLifetimes * wordsBytes (1 + mostLifetimes)
 
-  longer-short : (l : ℕ) → List·Memᴰ l (range 0 (env .count)) → length (longerLine env l) ≤ 196
+module _ (env : LifetimeEnv) (valid : NoneDue (envChecks env)) where
+  pub lifetimes-few : env .count ≤ mostLifetimes
+  lifetimes-few = ltb-false mostLifetimes (env .count) (none-first valid)
+
+  longer-short : (l : ℕ) → List·Memᴰ l (range 0 (env .count)) → length (longerLine env l) ≤ wordsBytes (1 + mostLifetimes)
   longer-short l m =
       let here : l < env .count = omega (arith, (range-has 0 (env .count) l) .0 m) in
       let small = below-from 100 (reachList true env l)
       (λ y k. omega (arith, reach-inside true env valid l here y k, lifetimes-few)) in
-      let short = line-short (l ∷ reachList true env l) (omega (arith, here, lifetimes-few), small) in
+      let short = words-short (l ∷ reachList true env l) (omega (arith, here, lifetimes-few), small) in
       omega (arith, short, reach-few true env valid l here, lifetimes-few)
 
-  all-longer-short : length (longerLines env) ≤ 12560
+  all-longer-short : length (longerLines env) ≤ longerBytes
   all-longer-short =
-      let short = lines-short (longerLine env) 196 (range 0 (env .count)) longer-short in
+      let short = lines-short (longerLine env) (wordsBytes (1 + mostLifetimes)) (range 0 (env .count)) longer-short in
       rw length-append (omega (arith, short, length-range 0 (env .count), lifetimes-few))
 
+-- self, steps, returns
+abbrev loweredBytes : ℕ
+loweredBytes = length loweredHeading + (wordsBytes 1 + (wordsBytes loweredRoom + wordsBytes loweredRoom))
+
 -- ---- the whole
+
+abbrev listingBytes : ℕ
+listingBytes = countBytes + loweredBytes + longerBytes + answerBytes + edgeBytes
 
 five-short : (a b c d e : List ℕ) {m n o p q : ℕ} → length a ≤ m → length b ≤ n → length c ≤ o → length d ≤ p
     → length e ≤ q → length (a ++ (b ++ (c ++ (d ++ e)))) ≤ m + n + o + p + q
@@ -169,14 +253,14 @@ module _ (r : Records) (first : NoneDue (recordsChecks r)) (none : NoneDue (lowe
       let q = none-split (rfc.methodChecks names (receiverOf (r .self)) (stepsOf (r .steps)) (stepsOf (r .returns))) _ (p .1) in
       (not-false (sheetInShape r) (none-first first), p .0, q .0)
 
-  lowered-short : length (loweredLines elided) ≤ 49166
+  lowered-short : length (loweredLines elided) ≤ loweredBytes
   lowered-short =
       let small =
       accepted-small names (receiverOf (r .self)) (accepted-names (r .names) (r .bounds) (r .types) (parts .1))
       (stepsOf (r .steps)) (stepsOf (r .returns)) (parts .2) in
-      let a = line-short (words (elided .self)) (small-below (elided .self) (small .0)) in
-      let b = line-short (words (elided .steps)) (small-below (elided .steps) (small .1 .0)) in
-      let c = line-short (words (elided .returns)) (small-below (elided .returns) (small .1 .1)) in
+      let a = words-short (words (elided .self)) (small-below (elided .self) (small .0)) in
+      let b = words-short (words (elided .steps)) (small-below (elided .steps) (small .1 .0)) in
+      let c = words-short (words (elided .returns)) (small-below (elided .returns) (small .1 .1)) in
       let steps =
       shapes-are-short r (parts .0) (r .steps)
       (List·Memᴰ·tail (List·Memᴰ·tail (List·Memᴰ·tail (List·Memᴰ·tail (List·Memᴰ·head refl))))) in
@@ -207,10 +291,9 @@ module _ (r : Records) (first : NoneDue (recordsChecks r)) (none : NoneDue (lowe
       listing-consistent (created (envOfSheet r) (r .structs) (r .params) (r .output) (r .force) .visitor) (r .structs) (r .params)
       (params-none (envOfSheet r) (r .structs) (r .params) (r .output) (r .force) (accepted-method r first none))
 
-  -- 131,072 bytes are enough
-  pub listing-short : length (sheetBorrows r .edges) ≤ 4096 → length (listingOf r) ≤ 131072
+  listing-bytes : length (sheetBorrows r .edges) ≤ mostEdges → length (listingOf r) ≤ listingBytes
   unfolding listingOf
-  listing-short few =
+  listing-bytes few =
       let valid = env-valid r (parts .1) (parts .2) in
       let b = sheetBorrows r in
       let counts = counts-short (envOfSheet r .count) b (lifetimes-few (envOfSheet r) valid) consistent few in
@@ -218,10 +301,13 @@ module _ (r : Records) (first : NoneDue (recordsChecks r)) (none : NoneDue (lowe
       let answers =
       answers-short 0 (b .answers) (omega (arith, consistent .few-params))
       (below-answers (b .answers) (consistent .most)) in
-      let edges = lines-short edgeLine 16 (b .edges) (edge-short consistent) in
-      let answered : length (answerLines (b .answers)) ≤ 125 = rw length-append (omega (arith, answers, consistent .few-params)) in
-      let edged : length (edgeLines (b .edges)) ≤ 65563 = rw length-append (omega (arith, edges, few)) in
-      let all =
+      let edges = lines-short edgeLine (lineBytes edgeColumns) (b .edges) (edge-short consistent) in
+      let answered : length (answerLines (b .answers)) ≤ answerBytes =
+      rw length-append (omega (arith, answers, consistent .few-params)) in
+      let edged : length (edgeLines (b .edges)) ≤ edgeBytes = rw length-append (omega (arith, edges, few)) in
       five-short (countLines (envOfSheet r .count) b) (loweredLines elided) (longerLines (envOfSheet r))
-      (answerLines (b .answers)) (edgeLines (b .edges)) counts lowered-short longer answered edged in
-      omega (arith, all)
+      (answerLines (b .answers)) (edgeLines (b .edges)) counts lowered-short longer answered edged
+
+  -- the room is enough
+  pub listing-short : length (sheetBorrows r .edges) ≤ mostEdges → length (listingOf r) ≤ roomBytes
+  listing-short few = omega (arith, listing-bytes few)

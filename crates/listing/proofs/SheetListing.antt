@@ -33,11 +33,13 @@ use Rattle.borrowing_param.proofs.SheetLaws.{text-first, read-none, read-parts,
 use Rattle.listing.specs.declared.within.Within.{Within}
 use Rattle.listing.specs.declared.within.Within.the-variants as within
 use Rattle.listing.specs.Listing as spec
-use Rattle.listing.specs.Listing.{mostEdges, edgesCheck, listingOf, listingChecks, refusalHeading, said, response}
+use Rattle.listing.specs.Listing.{mostEdges, edgesCheck, listingOf, listingChecks, refusalHeading, said}
+use Rattle.listing.specs.Listing.{response, roomBytes}
 use Rattle.text.specs.Printing.{Prints}
 use Rattle.text.proofs.PrintLaws.{prints-length}
 use Rattle.listing.specs.InnerListing.{listedSheet, listedRecords, Stands, Lists, ListsWithin, Ample}
-use Rattle.listing.proofs.RoomLaws.{line-short, listing-short}
+use Rattle.listing.specs.InnerListing.{loweredRoom, listsRoom, edgesRoom}
+use Rattle.listing.proofs.RoomLaws.{line-short, listing-short, lineBytes, two-digits}
 
 module _ (bytes : List ℕ) where
   abbrev sheet : Records
@@ -76,11 +78,17 @@ module _ (bytes : List ℕ) where
   -- ---- in ample scratch, or in smaller scratch first
 
   pub never-short : {B : Type 0} (w : Within) (out out₁ : List ℕ)
-      → ListsWithin (listedSheet bytes) (Ample 8192 8192 4096 20480) out w out₁ → w ≡ within.Short → B
+      → ListsWithin (listedSheet bytes) (Ample loweredRoom loweredRoom listsRoom edgesRoom) out w out₁ → w ≡ within.Short → B
   never-short w out out₁ h e =
       absurd
-      (subst (λ (y : Within). ListsWithin (listedSheet bytes) (Ample 8192 8192 4096 20480) out y out₁) e h .0
+      (subst (λ (y : Within). ListsWithin (listedSheet bytes) (Ample loweredRoom loweredRoom listsRoom edgesRoom) out y out₁) e h .0
       (omega arith, omega arith, omega arith, omega arith))
+
+  -- small scratch may be too short for some sheet
+  pub tried : (A : Type 0) (w : Within) (out out₁ : List ℕ) → ListsWithin (listedSheet bytes) A out w out₁
+      → ListsWithin (listedSheet bytes) ⊥ out w out₁
+  tried A (within.Done x) out out₁ h = h
+  tried A within.Short out out₁ h = (λ none. none, h .1)
 
   -- what was found in some scratch is found
   pub tried-done : (A : Type 0) (w : Within) (x : Listed) (out out₁ : List ℕ)
@@ -102,8 +110,8 @@ module _ (bytes : List ℕ) where
   given-none : {text : List ℕ} → listedSheet bytes ≡ Gives text → NoneDue (listingChecks bytes) × (whole ≡ text)
   given-none {text} e = given-due whole text (listingChecks bytes) e
 
-  -- any listing has room in 131,072 bytes
-  pub fits-room : NoneDue (listingChecks bytes) → length whole ≤ 131072
+  -- any listing has room
+  pub fits-room : NoneDue (listingChecks bytes) → length whole ≤ roomBytes
   unfolding listingChecks sheetRefusals
   fits-room n =
       let p = none-split (sheetRefusals bytes) (edgesCheck sheet ∷ []) n in
@@ -160,7 +168,7 @@ module _ (bytes : List ℕ) where
     listed-so (listed.Count n) out₁ (text, e, p) enough = listing-written e p (enough (given-none e .0))
     listed-so (listed.Refused k) out₁ (e, same) enough = rw same (refused-so e)
 
-    pub wide-enough : 131072 ≤ length out → NoneDue (listingChecks bytes) → length whole ≤ length out
+    pub wide-enough : roomBytes ≤ length out → NoneDue (listingChecks bytes) → length whole ≤ length out
     wide-enough h n = omega (arith, h, fits-room n)
 
     pub measured-enough : {n : ℕ} (m : Listed) (none none₁ : List ℕ) → Lists (listedSheet bytes) none m none₁
@@ -182,7 +190,7 @@ module _ (bytes : List ℕ) where
       p .stored ∙ sets-front out text fits ∙ ap (λ (t : List ℕ). t ++ drop (length t) out) (sym e),
     )
 
-    pub respond-listed : {n : ℕ} (m : Listed) (out₁ : List ℕ) → length out ≡ 131072
+    pub respond-listed : {n : ℕ} (m : Listed) (out₁ : List ℕ) → length out ≡ roomBytes
         → Lists (listedSheet bytes) out m out₁ → m ≡ listed.Count n → Responds n out₁
     unfolding response
     respond-listed {n} m out₁ h l counts = go (subst (λ (x : Listed). Lists (listedSheet bytes) out x out₁) counts l)
@@ -192,8 +200,8 @@ module _ (bytes : List ℕ) where
             let g = given-none e in
             responds n text out₁ (ap said e) (omega (arith, h, fits-room (g .0), ap length (g .1))) p
 
-pub refusal-short : (k : Refusal) → length (refusalHeading ++ line (numberOf k ∷ [])) ≤ 12
-refusal-short k = rw length-append (omega (arith, line-short (numberOf k ∷ []) (below k, tt)))
+pub refusal-short : (k : Refusal) → length (refusalHeading ++ line (numberOf k ∷ [])) ≤ length refusalHeading + lineBytes (2 ∷ [])
+refusal-short k = omega (arith, length-append refusalHeading (line (numberOf k ∷ [])), line-short (2 ∷ []) (numberOf k ∷ []) (two-digits (below k), tt))
   where
     below : (k : Refusal) → numberOf k < 100
     below Malformed = omega arith
@@ -212,7 +220,7 @@ module _ (k : Refusal) {number : ℕ} (is : number ≡ numberOf k) where
   refusal-fits : 0 + length (refusalHeading ++ line (number ∷ [])) < 2 ^ 64
   refusal-fits = rw is (omega (arith, refusal-short k))
 
-  pub respond-refused : (bytes out : List ℕ) {n : ℕ} (m : Listed) (out₁ : List ℕ) {out₂ : List ℕ} → length out ≡ 131072
+  pub respond-refused : (bytes out : List ℕ) {n : ℕ} (m : Listed) (out₁ : List ℕ) {out₂ : List ℕ} → length out ≡ roomBytes
       → Lists (listedSheet bytes) out m out₁ → m ≡ listed.Refused k
       → Prints (refusalHeading ++ line (number ∷ [])) 0 out₁ n out₂ → Responds bytes out n out₂
   unfolding response

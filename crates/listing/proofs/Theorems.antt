@@ -15,7 +15,7 @@ use Rattle.elision.specs.Examples as elision
 use Rattle.elision.proofs.Theorems as elision-proofs
 use Rattle.borrowing_param.specs.Examples as visits
 use Rattle.borrowing_param.proofs.Theorems as visits-proofs
-use Rattle.listing.specs.Listing.{said, response, listingOf, listingChecks, listing}
+use Rattle.listing.specs.Listing.{roomBytes, said, response, listingOf, listingChecks, listing}
 use Rattle.listing.specs.Examples.{reachExample, astExample, elisionExample, visitsExample, programExamples}
 use Rattle.listing.specs.Theorems.{ProgramAnswers, VisitsAsListed, ToldApart, ExamplesHold}
 use Rattle.listing.proofs.SheetListing.{fits-room}
@@ -32,7 +32,7 @@ program-answers bytes = record {
   complete = λ n. ap said (due-given (whole bytes) n);
   fits = fit bytes (unless (listingChecks bytes) (whole bytes)) refl;
   same = λ n. due-given (whole bytes)
-      (none-more n (next (le-ltb 131072 (length (whole bytes)) (fits-room bytes n)) end))
+      (none-more n (next (le-ltb roomBytes (length (whole bytes)) (fits-room bytes n)) end))
       ∙ ap (λ (o : Outcome (List ℕ)). Gives (said o)) (sym (due-given (whole bytes) n));
 }
 

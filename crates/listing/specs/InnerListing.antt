@@ -1,5 +1,5 @@
 -- For private functions only: a listing made in lent scratch. No public contract cites this file.
-use Prim.Native.Nat.{ℕ, _≤_, _<_}
+use Prim.Native.Nat.{ℕ, _*_, _≤_, _<_}
 use mathlib.Core.Bool.{true, cond}
 use mathlib.Core.Path.{_≡_}
 use mathlib.Core.List.{List, [], _∷_, _++_}
@@ -11,12 +11,14 @@ use Rattle.answers.specs.declared.Listed.{Listed}
 use Rattle.answers.specs.declared.Listed.the-variants as listed
 use Rattle.lifetimes.specs.declared.env.LifetimeEnv.{LifetimeEnv}
 use Rattle.answers.specs.Refusals.{check, Outcome, Gives, Refuses, unless, NoneDue}
+use Rattle.lifetimes.specs.Limits.{mostLifetimes}
 use Rattle.lifetimes.specs.Sets.{member}
 use Rattle.lifetimes.specs.Env.{envChecks}
+use Rattle.records.specs.Reading.{mostWords}
 use Rattle.sheet.specs.Text.{Records}
 use Rattle.text.specs.Decimal.{line}
 use Rattle.sheet.specs.Reading.{sheetOf}
-use Rattle.borrowing_param.specs.Edges.{edgesIn}
+use Rattle.borrowing_param.specs.Edges.{width, edgesIn}
 use Rattle.borrowing_param.specs.New.{newVisitor}
 use Rattle.borrowing_param.specs.SheetMethod.{loweringChecks}
 use Rattle.borrowing_param.specs.Borrows.{Borrows, borrowsBy}
@@ -25,6 +27,7 @@ use Rattle.listing.specs.declared.within.Within.{Within}
 use Rattle.listing.specs.declared.within.Within.the-variants as within
 use Rattle.listing.specs.Listing.{countHeading, countLines, loweredHeading, longerHeading, longerLines}
 use Rattle.listing.specs.Listing.{answerLines, edgeLines, mostEdges, edgesCheck, listingOf, listingChecks}
+use Rattle.listing.specs.Listing.{roomBytes}
 use Rattle.listing.specs.InnerSections.{numbered, cutFrom}
 
 -- what is listed, or why not
@@ -46,9 +49,23 @@ abbrev pub Lists : Outcome (List ℕ) → List ℕ → Listed → List ℕ → T
 Lists o out (listed.Count n) out₁ = (text : List ℕ) × (o ≡ Gives text) × Stands text out n out₁
 Lists o out (listed.Refused k) out₁ = (o ≡ Refuses k) × (out₁ ≡ out)
 
--- scratch of these sizes is enough for any sheet
+-- Scratch of these sizes is enough for any sheet. A step has two words or more and gives at most 16 lifetimes, so that
+-- a word of steps or returns gives at most eight
+abbrev pub perWord : ℕ
+perWord = 8
+
+abbrev pub loweredRoom : ℕ
+loweredRoom = perWord * mostWords
+
+abbrev pub listsRoom : ℕ
+listsRoom = mostLifetimes * mostLifetimes
+
+abbrev pub edgesRoom : ℕ
+edgesRoom = width * mostEdges
+
 abbrev pub Ample : ℕ → ℕ → ℕ → ℕ → Type 0
-Ample given taken lists edges = (8192 ≤ given) × (8192 ≤ taken) × (4096 ≤ lists) × (20480 ≤ edges)
+Ample given taken lists edges =
+    (loweredRoom ≤ given) × (loweredRoom ≤ taken) × (listsRoom ≤ lists) × (edgesRoom ≤ edges)
 
 -- the same in scratch that may be too short; only where it is not ample
 abbrev pub ListsWithin : Outcome (List ℕ) → Type 0 → List ℕ → Within → List ℕ → Type 0
@@ -77,7 +94,7 @@ pub record Listable (env : LifetimeEnv) (used : ℕ) (structs params own given t
   pub of : OfMethod structs params
   pub below : (k : ℕ) → member used k ≡ true → k < env .count
   pub short : length (methodBorrows env used structs params .edges) ≤ mostEdges
-      → length (methodListing env used structs params own given taken) ≤ 131072
+      → length (methodListing env used structs params own given taken) ≤ roomBytes
 
 -- the sections by what stands in slices: counts of lifetimes, used lifetimes, parameters and edges; lowered words;
 -- longer lists by their ends; answers; edges
@@ -91,4 +108,4 @@ sections counts own given taken lists ends answers edges =
 
 -- the edges do not fit so many words
 abbrev pub tooMany : ℕ → Within
-tooMany room = cond (ltb room 20480) within.Short (within.Done (listed.Refused NoRoom))
+tooMany room = cond (ltb room edgesRoom) within.Short (within.Done (listed.Refused NoRoom))

@@ -1,6 +1,6 @@
 -- The listing of a sheet (01, "The listing"): bytes, from the sheet's records. Each part is of the definitions that the
 -- contracts of the crates below cite.
-use Prim.Native.Nat.{ℕ, suc}
+use Prim.Native.Nat.{ℕ, suc, _*_}
 use mathlib.Core.Bool.{true}
 use mathlib.Core.List.{List, [], _∷_, _++_, flatMap}
 use lib.Dec.{ltb}
@@ -15,7 +15,7 @@ use Rattle.lifetimes.specs.Reach.{reachList}
 use Rattle.elision.specs.Rfc as rfc
 use Rattle.elision.specs.Lowering.{words}
 use Rattle.text.specs.Decimal.{newline, space, line}
-use Rattle.sheet.specs.Text.{Records}
+use Rattle.sheet.specs.Text.{Records, mostBytes}
 use Rattle.sheet.specs.Reading.{sheetOf}
 use Rattle.borrowing_param.specs.declared.visitor.LifetimeEdge.{LifetimeEdge}
 use Rattle.borrowing_param.specs.Edges.{edgeWords}
@@ -83,6 +83,10 @@ listingOf r =
 -- "It lends 4,096 edges": more are 9
 abbrev pub mostEdges : ℕ
 mostEdges = 4096
+
+-- so many bytes take any answer of the program: twice as many as a sheet may have
+abbrev pub roomBytes : ℕ
+roomBytes = 2 * mostBytes
 
 abbrev pub edgesCheck : Records → Check
 edgesCheck r = check (ltb mostEdges (length (sheetBorrows r .edges))) NoRoom

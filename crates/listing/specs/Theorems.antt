@@ -20,7 +20,8 @@ use Rattle.borrowing_param.specs.New.{created}
 use Rattle.borrowing_param.specs.SheetMethod.{envOfSheet, sheetRefusals}
 use Rattle.borrowing_param.specs.Borrows.{sheetBorrows}
 use Rattle.borrowing_param.specs.Theorems.{visitOf, visited}
-use Rattle.listing.specs.Listing.{mostEdges, listingOf, listingChecks, listing, refusalText, response}
+use Rattle.listing.specs.Listing.{mostEdges, roomBytes, listingOf, listingChecks, listing, refusalText}
+use Rattle.listing.specs.Listing.{response}
 use Rattle.listing.specs.Examples.{starred, Right}
 
 -- Condition 1. Whatever the bytes, a refusal is due on them or none is; what the program answers is that refusal's two
@@ -30,9 +31,9 @@ pub record Answered (bytes : List ℕ) : Type 0 where
   pub refused : (k : Refusal) → FirstDue k (listingChecks bytes) → response bytes ≡ refusalText k
   pub complete : NoneDue (listingChecks bytes) → response bytes ≡ listingOf (sheetOf bytes)
   -- it fits into the room of `respond`, so that 9 comes from the edges alone
-  pub fits : length (response bytes) ≤ 131072
+  pub fits : length (response bytes) ≤ roomBytes
   -- `listing`, lent as much, gives the same
-  pub same : NoneDue (listingChecks bytes) → listing bytes 131072 ≡ Gives (response bytes)
+  pub same : NoneDue (listingChecks bytes) → listing bytes roomBytes ≡ Gives (response bytes)
 
 abbrev pub ProgramAnswers : Type 0
 ProgramAnswers = (bytes : List ℕ) → Answered bytes

@@ -8,15 +8,31 @@ ghost use lib.ListN.{length};
 ghost use Rattle.answers.specs.Refusals.{Gives};
 ghost use Rattle.answers.specs.Lent.{counted, held, room, left, Fills};
 ghost use Rattle.listing.specs.Listing as spec;
-ghost use Rattle.listing.specs.InnerListing.{listedSheet, Lists, ListsWithin, Ample};
+ghost use Rattle.listing.specs.InnerListing.{listedSheet, Lists, ListsWithin};
 use super::sections::put_refusal;
+use super::within::EDGES_ROOM;
+use super::within::LISTS_ROOM;
+use super::within::LOWERED_ROOM;
+use super::within::PER_WORD;
 use super::within::Within;
 use super::within::list_within;
 use answers::Listed;
 use answers::Refusal;
+use borrowing_param::BorrowingParamVisitor;
+use borrowing_param::SheetMethod;
+use sheet::Text;
 
-// So many bytes take any answer of the program.
-pub const ROOM: usize = 131072;
+// So many bytes take any answer of the program: twice as many as a sheet may have.
+pub const ROOM: usize = 2 * Text::MAX_BYTES;
+
+// The sizes of scratch, by the bytes of a sheet; then there is scratch for any sheet.
+const SMALL: usize = 256;
+
+// The next.
+const MIDDLE: usize = 1024;
+
+// And the next.
+const LARGE: usize = 4096;
 
 // Write the listing of a sheet to a slice. The answer is how many bytes it has. Refused as the sheet is (10; 1 over all
 // records; 13; 2 to 7 at the first bad place; 8), then by 9 for more than 4,096 edges or where the slice is too short.
@@ -66,7 +82,7 @@ pub fn respond(sheet: &[u8], out: &mut [u8; ROOM]) -> usize
 fn list_sheet(sheet: &[u8], out: &mut [u8]) -> Listed
     ensures { λ r. ⌜ Lists (listedSheet (held sheet)) (held out) r (left out) ⌝ }
 {
-    list_sized(sheet, out, 256)
+    list_sized(sheet, out, SMALL)
 }
 
 // The same in scratch for sheets of so many bytes, and where that is too short, in the next larger. That it calls
@@ -74,43 +90,43 @@ fn list_sheet(sheet: &[u8], out: &mut [u8]) -> Listed
 fn list_sized(sheet: &[u8], out: &mut [u8], bytes: usize) -> Listed
     ensures { λ r. ⌜ Lists (listedSheet (held sheet)) (held out) r (left out) ⌝ }
 {
-    if bytes <= 256 {
+    if bytes <= SMALL {
         let tried = list_256(sheet, out);
         let Within::Done(answer) = tried else {
-            return list_sized(sheet, out, 1024);
+            return list_sized(sheet, out, MIDDLE);
         };
         return answer;
     }
-    if bytes <= 1024 {
+    if bytes <= MIDDLE {
         let tried = list_1024(sheet, out);
         let Within::Done(answer) = tried else {
-            return list_sized(sheet, out, 4096);
+            return list_sized(sheet, out, LARGE);
         };
         return answer;
     }
-    if bytes <= 4096 {
+    if bytes <= LARGE {
         let tried = list_4096(sheet, out);
         let Within::Done(answer) = tried else {
-            return list_sized(sheet, out, 65536);
+            return list_sized(sheet, out, Text::MAX_BYTES);
         };
         return answer;
     }
     list_any(sheet, out)
 }
 
-// In scratch of one size: for the words of any sheet of at most so many bytes; for what 24 words of steps and 12 of
-// returns give; for 12 lifetimes; for 20 edges.
+// In scratch of one size: for the words of any sheet of at most so many bytes, a word to two bytes; for what 24 words
+// of steps and 12 of returns give; for 12 lifetimes; for 20 edges.
 fn list_256(sheet: &[u8], out: &mut [u8]) -> Within
-    ensures { λ r. ⌜ ListsWithin (listedSheet (held sheet)) (Ample 192 96 144 100) (held out) r (left out) ⌝ }
+    ensures { λ r. ⌜ ListsWithin (listedSheet (held sheet)) ⊥ (held out) r (left out) ⌝ }
 {
-    if 256 < sheet.len() {
+    if SMALL < sheet.len() {
         return Within::Short;
     }
-    let mut words = [0usize; 128];
-    let mut given = [0usize; 192];
-    let mut taken = [0usize; 96];
-    let mut lists = [0usize; 144];
-    let mut edges = [0usize; 100];
+    let mut words = [0usize; SMALL / 2];
+    let mut given = [0usize; 24 * PER_WORD];
+    let mut taken = [0usize; 12 * PER_WORD];
+    let mut lists = [0usize; 12 * 12];
+    let mut edges = [0usize; 20 * BorrowingParamVisitor::EDGE_WORDS];
     list_within(
         sheet,
         &mut words,
@@ -124,16 +140,16 @@ fn list_256(sheet: &[u8], out: &mut [u8]) -> Within
 
 // The same for 64 words of steps, 32 of returns, 32 lifetimes, 128 edges.
 fn list_1024(sheet: &[u8], out: &mut [u8]) -> Within
-    ensures { λ r. ⌜ ListsWithin (listedSheet (held sheet)) (Ample 512 256 1024 640) (held out) r (left out) ⌝ }
+    ensures { λ r. ⌜ ListsWithin (listedSheet (held sheet)) ⊥ (held out) r (left out) ⌝ }
 {
-    if 1024 < sheet.len() {
+    if MIDDLE < sheet.len() {
         return Within::Short;
     }
-    let mut words = [0usize; 512];
-    let mut given = [0usize; 512];
-    let mut taken = [0usize; 256];
-    let mut lists = [0usize; 1024];
-    let mut edges = [0usize; 640];
+    let mut words = [0usize; MIDDLE / 2];
+    let mut given = [0usize; 64 * PER_WORD];
+    let mut taken = [0usize; 32 * PER_WORD];
+    let mut lists = [0usize; 32 * 32];
+    let mut edges = [0usize; 128 * BorrowingParamVisitor::EDGE_WORDS];
     list_within(
         sheet,
         &mut words,
@@ -147,16 +163,16 @@ fn list_1024(sheet: &[u8], out: &mut [u8]) -> Within
 
 // The same for 128 words of steps, 64 of returns, 64 lifetimes, 512 edges.
 fn list_4096(sheet: &[u8], out: &mut [u8]) -> Within
-    ensures { λ r. ⌜ ListsWithin (listedSheet (held sheet)) (Ample 1024 512 4096 2560) (held out) r (left out) ⌝ }
+    ensures { λ r. ⌜ ListsWithin (listedSheet (held sheet)) ⊥ (held out) r (left out) ⌝ }
 {
-    if 4096 < sheet.len() {
+    if LARGE < sheet.len() {
         return Within::Short;
     }
-    let mut words = [0usize; 2048];
-    let mut given = [0usize; 1024];
-    let mut taken = [0usize; 512];
-    let mut lists = [0usize; 4096];
-    let mut edges = [0usize; 2560];
+    let mut words = [0usize; LARGE / 2];
+    let mut given = [0usize; 128 * PER_WORD];
+    let mut taken = [0usize; 64 * PER_WORD];
+    let mut lists = [0usize; LISTS_ROOM];
+    let mut edges = [0usize; 512 * BorrowingParamVisitor::EDGE_WORDS];
     list_within(
         sheet,
         &mut words,
@@ -172,11 +188,11 @@ fn list_4096(sheet: &[u8], out: &mut [u8]) -> Within
 fn list_any(sheet: &[u8], out: &mut [u8]) -> Listed
     ensures { λ r. ⌜ Lists (listedSheet (held sheet)) (held out) r (left out) ⌝ }
 {
-    let mut words = [0usize; 10240];
-    let mut given = [0usize; 8192];
-    let mut taken = [0usize; 8192];
-    let mut lists = [0usize; 4096];
-    let mut edges = [0usize; 20480];
+    let mut words = [0usize; SheetMethod::MAX_WORDS];
+    let mut given = [0usize; LOWERED_ROOM];
+    let mut taken = [0usize; LOWERED_ROOM];
+    let mut lists = [0usize; LISTS_ROOM];
+    let mut edges = [0usize; EDGES_ROOM];
     let listed = list_within(
         sheet,
         &mut words,

@@ -12,6 +12,7 @@ use super::sections::put_counts;
 use super::sections::put_edges;
 use super::sections::put_longer;
 use super::sections::put_lowered;
+use lifetimes::LifetimeEnv;
 
 // All sections, one after another, from the front of a slice: how many lifetimes, used lifetimes, parameters and edges
 // there are (`counts`); lowered words; longer lists by their ends; answers; edges.
@@ -22,7 +23,7 @@ pub(crate) fn put_listing(
     given: &[usize],
     taken: &[usize],
     lists: &[usize],
-    ends: &[usize; 64],
+    ends: &[usize; LifetimeEnv::MAX_LIFETIMES],
     answers: &[usize],
     edges: &[usize],
 ) -> usize

@@ -8,19 +8,37 @@ ghost use Rattle.sheet.specs.Shape.{recordsChecks};
 ghost use Rattle.sheet.specs.Inner.{Laid, recordsAt, Roomy};
 ghost use Rattle.borrowing_param.specs.InnerSheet.{records};
 ghost use Rattle.listing.specs.InnerListing.{listedSheet, listedRecords, Ample, ListsWithin, listedMethod};
-ghost use Rattle.listing.specs.InnerListing.{Listable, tooMany};
+ghost use Rattle.listing.specs.InnerListing.{Listable, tooMany, listsRoom, edgesRoom};
 use super::whole::put_listing;
 use answers::Listed;
 use answers::Refusal;
 use answers::Verdict;
 use borrowing_param::BorrowingParamVisitor;
+use borrowing_param::SheetMethod;
 use elision::lower;
 use lifetimes::LifetimeEnv;
 use lifetimes::set;
+use methods::MAX_PARAMS;
 use methods::UsedLifetimes;
 use methods::used_method_lifetimes;
+use records::End;
 use sheet::read_sheet;
 use sheet::record_words;
+
+// How many lowered words a word of steps or returns gives at most: a step has two words or more and gives at most 16.
+pub(crate) const PER_WORD: usize = 8;
+
+// So many words take what any steps, and any returns, give.
+pub(crate) const LOWERED_ROOM: usize = PER_WORD * End::MAX_WORDS;
+
+// So many words take the longer lists of any method.
+pub(crate) const LISTS_ROOM: usize = LifetimeEnv::MAX_LIFETIMES * LifetimeEnv::MAX_LIFETIMES;
+
+// How many edges a listing may have.
+const MAX_EDGES: usize = 4096;
+
+// So many words take them.
+pub(crate) const EDGES_ROOM: usize = BorrowingParamVisitor::EDGE_WORDS * MAX_EDGES;
 
 // The answer, or that the scratch is too short.
 pub(crate) enum Within {
@@ -39,7 +57,7 @@ pub(crate) fn list_within(
     edges: &mut [usize],
     out: &mut [u8],
 ) -> Within
-    requires { ⌜ Roomy (now sheet) (length (now words)) × (length (now edges) ≤ 20480) ⌝ }
+    requires { ⌜ Roomy (now sheet) (length (now words)) × (length (now edges) ≤ edgesRoom) ⌝ }
     ensures { λ r. ⌜ ListsWithin (listedSheet (held sheet)) (Ample (room given) (room taken) (room lists) (room edges))
         (held out) r (left out) ⌝ }
 {
@@ -55,7 +73,7 @@ pub(crate) fn list_within(
 // List records that were read, whose words stand one record after another.
 fn list_laid(
     words: &[usize],
-    ends: [usize; 10],
+    ends: [usize; SheetMethod::RECORDS],
     given: &mut [usize],
     taken: &mut [usize],
     lists: &mut [usize],
@@ -63,7 +81,7 @@ fn list_laid(
     out: &mut [u8],
 ) -> Within
     requires { ⌜ Laid (now words) ends × NoneDue (recordsChecks (recordsAt (now words) ends))
-        × (length (now edges) ≤ 20480) ⌝ }
+        × (length (now edges) ≤ edgesRoom) ⌝ }
     ensures { λ r. ⌜ ListsWithin (listedRecords (recordsAt (held words) ends))
         (Ample (room given) (room taken) (room lists) (room edges)) (held out) r (left out) ⌝ }
 {
@@ -106,17 +124,17 @@ fn list_records(
 ) -> Within
     requires { ⌜ NoneDue (recordsChecks
         (records (now names) (now bounds) (now types) (now receiver) (now steps) (now returns) (now structs)
-        (now params) (now output) (now force))) × (length (now edges) ≤ 20480) ⌝ }
+        (now params) (now output) (now force))) × (length (now edges) ≤ edgesRoom) ⌝ }
     ensures { λ r. ⌜ ListsWithin
         (listedRecords
         (records (held names) (held bounds) (held types) (held receiver) (held steps) (held returns) (held structs)
         (held params) (held output) (held force))) (Ample (room given) (room taken) (room lists) (room edges))
         (held out) r (left out) ⌝ }
 {
-    if given.len() / 8 < steps.len() {
+    if given.len() / PER_WORD < steps.len() {
         return Within::Short;
     }
-    if taken.len() / 8 < returns.len() {
+    if taken.len() / PER_WORD < returns.len() {
         return Within::Short;
     }
     let ast = ast_lifetimes::LifetimeEnv::from_method_item(names, bounds, types);
@@ -166,20 +184,20 @@ fn list_method(
     out: &mut [u8],
 ) -> Within
     requires { ⌜ Listable env used (now structs) (now params) (now own) (now given) (now taken)
-        × (length (now edges) ≤ 20480) ⌝ }
+        × (length (now edges) ≤ edgesRoom) ⌝ }
     ensures { λ r. ⌜ ListsWithin
         (listedMethod env used (held structs) (held params) (held own) (held given) (held taken))
-        ((4096 ≤ room lists) × (20480 ≤ room edges)) (held out) r (left out) ⌝ }
+        ((listsRoom ≤ room lists) × (edgesRoom ≤ room edges)) (held out) r (left out) ⌝ }
 {
     let count = env.count;
     if lists.len() < count * count {
         return Within::Short;
     }
-    let mut ends = [0usize; 64];
+    let mut ends = [0usize; LifetimeEnv::MAX_LIFETIMES];
     let longer = env.all_lists(true, lists, &mut ends);
     let sets = longer.sets;
     let visitor = BorrowingParamVisitor::from_sets(used, &sets);
-    let mut answers = [0usize; 16];
+    let mut answers = [0usize; MAX_PARAMS];
     let map = visitor.borrow_map(structs, params, &mut answers, edges);
     let verdict = map.verdict;
     if let Verdict::Refused(_) = verdict {
@@ -205,7 +223,7 @@ fn list_method(
 fn too_many(room: usize) -> Within
     ensures { λ r. ⌜ r ≡ tooMany room ⌝ }
 {
-    if room < 20480 {
+    if room < EDGES_ROOM {
         return Within::Short;
     }
     Within::Done(Listed::Refused(Refusal::NoRoom))

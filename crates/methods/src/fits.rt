@@ -17,7 +17,7 @@ use types::type_at;
 pub(crate) const MAX_ROWS: usize = 32;
 
 // How many parameters a method may have.
-const MAX_PARAMS: usize = 16;
+pub const MAX_PARAMS: usize = 16;
 
 // Where types end that fit; or that one does not.
 pub(crate) enum Fit {

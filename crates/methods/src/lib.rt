@@ -18,6 +18,7 @@ pub use fields::FieldAnswer;
 pub use fields::FieldLifetimes;
 pub use fields::FieldPair;
 pub use fields::compute_for_struct_field;
+pub use fits::MAX_PARAMS;
 pub use method::check_method;
 pub use method::check_structs_and_params;
 pub use used::UsedLifetimes;

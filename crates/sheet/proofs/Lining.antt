@@ -18,7 +18,8 @@ use Rattle.sheet.specs.declared.lines.Read.the-variants as read
 use Rattle.sheet.specs.declared.lines.Judged.{Judged}
 use Rattle.sheet.specs.declared.lines.Judged.the-variants.{Good, TooLong}
 use Rattle.text.specs.Decimal.{line}
-use Rattle.sheet.specs.Text.{mostWord, mostWords}
+use Rattle.records.specs.Reading.{mostWords}
+use Rattle.sheet.specs.Text.{mostWord}
 use Rattle.sheet.specs.Reading.{LineStart, lineBefore, readLines, ten, allShort}
 use Rattle.answers.specs.Lists.{endsFrom}
 use Rattle.sheet.specs.Inner.{readFrom, NoLine, LineAt, LineRead, TenAt, judgedBy, LinesRead}

@@ -5,7 +5,8 @@ use mathlib.Core.Path.{_≡_, subst}
 use mathlib.Core.List.{List, List·Memᴰ}
 use native.Mathlib.Omega.{arith}
 use lib.ListN.{length}
-use Rattle.sheet.specs.Text.{Records, lists, mostWords}
+use Rattle.records.specs.Reading.{mostWords}
+use Rattle.sheet.specs.Text.{Records, lists}
 use Rattle.sheet.specs.Theorems.{IsSheet, ReadsBack}
 use Rattle.sheet.proofs.SheetLaws.{Read, NoSheet, Few, Many, read-cases, one-sheet, few-all, many-some}
 

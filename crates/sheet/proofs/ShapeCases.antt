@@ -19,7 +19,8 @@ use Rattle.ast_lifetimes.specs.Types.{typesInShape, readType}
 use Rattle.elision.specs.Steps.{selfInShape, stepsInShape, readStep}
 use Rattle.types.specs.Rows.{forceInShape, rowsOf, readRow, readKnown, forced, methodInShape}
 use Rattle.types.proofs.ShapeLaws.{four-in-shape}
-use Rattle.sheet.specs.Text.{Records, lists, mostWords}
+use Rattle.records.specs.Reading.{mostWords}
+use Rattle.sheet.specs.Text.{Records, lists}
 use Rattle.sheet.specs.Reading.{allShort, sheetOf, textChecks, readText}
 use Rattle.sheet.specs.Shape.{sheetInShape, sheetChecks, readSheet}
 use Rattle.sheet.specs.Theorems.{IsSheet, ReadsInShape}

@@ -15,7 +15,7 @@ use Rattle.answers.specs.declared.Refusal.the-variants.{Malformed, Unreadable}
 use Rattle.answers.specs.Refusals.{Gives, Refuses, unless}
 use Rattle.text.specs.Decimal.{line, following}
 use Rattle.sheet.specs.Text.{heading, Records, lists, wordsOf, text, mostWord, mostBytes}
-use Rattle.sheet.specs.Text.{mostWords}
+use Rattle.records.specs.Reading.{mostWords}
 use Rattle.sheet.specs.Reading.{behind, LineStart, readLines, recordsOf, ten, linesBehind, sheetIn, sheetOf}
 use Rattle.sheet.specs.Reading.{allShort, textChecks, readText}
 use Rattle.sheet.specs.Theorems.{IsSheet}

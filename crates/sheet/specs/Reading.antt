@@ -10,7 +10,8 @@ use Rattle.answers.specs.declared.Refusal.the-variants.{Malformed, Unreadable}
 use Rattle.answers.specs.Refusals.{Check, check, Outcome, unless}
 use Rattle.text.specs.Decimal.{newline, space}
 use Rattle.text.specs.Number.{isDigit}
-use Rattle.sheet.specs.Text.{heading, Records, lists, mostWord, mostBytes, mostWords}
+use Rattle.records.specs.Reading.{mostWords}
+use Rattle.sheet.specs.Text.{heading, Records, lists, mostWord, mostBytes}
 
 -- what follows the bytes of a prefix, where the bytes begin with it
 unfoldable pub behind : List ℕ → List ℕ → Option (List ℕ)

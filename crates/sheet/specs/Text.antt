@@ -41,15 +41,12 @@ wordsOf r = flatten (lists r)
 unfoldable pub text : Records → List ℕ
 text r = heading ++ flatMap line (lists r)
 
--- the limits: a word's, a sheet's in bytes, a record's in words
+-- the limits of a word, and of a sheet in bytes; that of a record in words is `mostWords` of `records`
 abbrev pub mostWord : ℕ
 mostWord = 65535
 
 abbrev pub mostBytes : ℕ
 mostBytes = 65536
-
-abbrev pub mostWords : ℕ
-mostWords = 1024
 
 -- no word above a limit
 abbrev pub WordsUpTo : ℕ → Records → Type 0

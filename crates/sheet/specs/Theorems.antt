@@ -11,7 +11,8 @@ use Rattle.answers.specs.declared.Refusal.{Refusal}
 use Rattle.answers.specs.declared.Refusal.the-variants.{Malformed, NoRoom, Unreadable, Retired}
 use Rattle.answers.specs.Refusals.{Outcome, Gives, Refuses}
 use Rattle.types.specs.Rows.{forced}
-use Rattle.sheet.specs.Text.{Records, lists, wordsOf, text, mostWord, mostBytes, mostWords, WordsUpTo}
+use Rattle.records.specs.Reading.{mostWords}
+use Rattle.sheet.specs.Text.{Records, lists, wordsOf, text, mostWord, mostBytes, WordsUpTo}
 use Rattle.sheet.specs.Reading.{readText}
 use Rattle.answers.specs.Lists.{endsFrom}
 use Rattle.sheet.specs.Answer.{readWords, readEnds}

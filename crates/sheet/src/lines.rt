@@ -8,7 +8,7 @@ ghost use lib.Dec.{leb};
 ghost use lib.ListN.{length, set};
 ghost use Rattle.answers.specs.Lent.{held, left};
 ghost use Rattle.sheet.specs.declared.lines.Judged.the-variants.{TooLong};
-ghost use Rattle.sheet.specs.Text.{mostWords};
+ghost use Rattle.records.specs.Reading.{mostWords};
 ghost use Rattle.sheet.specs.Inner.{LineRead, LinesRead};
 use records::End;
 use text::Found;

@@ -2,7 +2,6 @@
 -- itself is with a larger size, 65,536 at most.
 use Prim.Native.Nat.{ℕ, _-_, _<_}
 use borrow.Author.Needs.{needs}
-use Rattle.listing.specs.InnerListing.{Ample}
 use Rattle.listing.proofs.SheetListing.{tried-done, tried-again}
 use borrow.Fn.Kinds.{In}
 use borrow.Fn.PlainCycle.{Measures, is, falls, and}
@@ -43,7 +42,7 @@ list-sized-returns t c =
     let l = c .before .before .before .before .before .before .before .before in
     let s = l .before .before .before .before .before .args in
     let g = c .before .before .list-sized in
-    tried-again (s .sheet .now) (Ample 192 96 144 100) (l .list-256 .result) (g .result) (s .out .now)
+    tried-again (s .sheet .now) ⊥ (l .list-256 .result) (g .result) (s .out .now)
     (l .list-256 .last .1 .0) (g .last .1 .0) (l .list-256 .ensures)
     (c .before .before .before .before .enum-told .given .1) (g .ensures)
 
@@ -64,7 +63,7 @@ list-sized-returns-2 : (t : ℕ)
 list-sized-returns-2 t c =
     let l = c .before .before .before .before .before in
     let s = l .before .before .before .before .before .args in
-    tried-done (s .sheet .now) (Ample 192 96 144 100) (l .list-256 .result) _ (s .out .now) (l .list-256 .last .1 .0)
+    tried-done (s .sheet .now) ⊥ (l .list-256 .result) _ (s .out .now) (l .list-256 .last .1 .0)
     (l .list-256 .ensures) (c .before .tried .given .1)
 
 list-sized-returns-3 : (t : ℕ)
@@ -85,7 +84,7 @@ list-sized-returns-3 t c =
     let l = c .before .before .before .before .before .before .before .before in
     let s = l .before .before .before .before .before .before .args in
     let g = c .before .before .list-sized2 in
-    tried-again (s .sheet .now) (Ample 512 256 1024 640) (l .list-1024 .result) (g .result) (s .out .now)
+    tried-again (s .sheet .now) ⊥ (l .list-1024 .result) (g .result) (s .out .now)
     (l .list-1024 .last .1 .0) (g .last .1 .0) (l .list-1024 .ensures)
     (c .before .before .before .before .enum-told2 .given .1) (g .ensures)
 
@@ -106,7 +105,7 @@ list-sized-returns-4 : (t : ℕ)
 list-sized-returns-4 t c =
     let l = c .before .before .before .before .before in
     let s = l .before .before .before .before .before .before .args in
-    tried-done (s .sheet .now) (Ample 512 256 1024 640) (l .list-1024 .result) _ (s .out .now)
+    tried-done (s .sheet .now) ⊥ (l .list-1024 .result) _ (s .out .now)
     (l .list-1024 .last .1 .0) (l .list-1024 .ensures) (c .before .tried2 .given .1)
 
 list-sized-returns-5 : (t : ℕ)
@@ -127,7 +126,7 @@ list-sized-returns-5 t c =
     let l = c .before .before .before .before .before .before .before .before in
     let s = l .before .before .before .before .before .before .before .args in
     let g = c .before .before .list-sized3 in
-    tried-again (s .sheet .now) (Ample 1024 512 4096 2560) (l .list-4096 .result) (g .result) (s .out .now)
+    tried-again (s .sheet .now) ⊥ (l .list-4096 .result) (g .result) (s .out .now)
     (l .list-4096 .last .1 .0) (g .last .1 .0) (l .list-4096 .ensures)
     (c .before .before .before .before .enum-told3 .given .1) (g .ensures)
 
@@ -148,7 +147,7 @@ list-sized-returns-6 : (t : ℕ)
 list-sized-returns-6 t c =
     let l = c .before .before .before .before .before in
     let s = l .before .before .before .before .before .before .before .args in
-    tried-done (s .sheet .now) (Ample 1024 512 4096 2560) (l .list-4096 .result) _ (s .out .now)
+    tried-done (s .sheet .now) ⊥ (l .list-4096 .result) _ (s .out .now)
     (l .list-4096 .last .1 .0) (l .list-4096 .ensures) (c .before .tried3 .given .1)
 
 list-sized-returns-7 : (t : ℕ)

@@ -2,11 +2,12 @@
 use mathlib.Core.Path.{_≡_}
 use lib.ListN.{length}
 use Rattle.listing.proofs.SheetListing.{respond-listed, respond-refused}
+use Rattle.listing.specs.Listing.{roomBytes}
 use borrow.Author.Needs.{needs}
 use Rattle.listing.proofs.calls.respond.Statement.{statement}
 use Rattle.listing.proofs.calls.respond.Tie as tie
 
-full : (c : tie.After-list-sheet-arg) → length (c .before .before .args .out .now) ≡ 131072
+full : (c : tie.After-list-sheet-arg) → length (c .before .before .args .out .now) ≡ roomBytes
 full c = search needs
 
 returns : tie.Need-returns
