@@ -1,10 +1,10 @@
 -- What a parameter brings: whose its edges are, their form, the pairs that they carry; and that by a test which decides
 -- a property it brings what the property says.
 use Prim.Native.Nat.{ℕ, zero, suc, _+_, _≤_, _<_}
-use mathlib.Core.Bool.{Bool, true, false, cond, true≢false}
+use mathlib.Core.Bool.{Bool, true, false, cond, true≢false, _||_}
 use mathlib.Core.Path.{_≡_, refl, sym, ap, subst, _∙_}
 use mathlib.Core.Logic.{_⊎_, inl, inr, ⊎-elim, _↔_, ∥∥₁-elim}
-use mathlib.Core.List.{List, [], _∷_, map, List·Memᴰ, List·Memᴰ·head, List·Memᴰ·tail, List·Memᴰ·cases-cons}
+use mathlib.Core.List.{List, [], _∷_, _++_, map, List·Memᴰ, List·Memᴰ·head, List·Memᴰ·tail, List·Memᴰ·cases-cons}
 use mathlib.Core.List.{List·Memᴰ·eq-of-singleton, List·Memᴰ·not-nil, Pairwise, Pairwise·nil, Pairwise·cons}
 use native.Mathlib.Decide.{ℕ-discrete, decLt}
 use native.Mathlib.Bridge.{le-prop}
@@ -26,6 +26,7 @@ use Rattle.borrowing_param.specs.Edges.{edge}
 use Rattle.borrowing_param.specs.Brings.{drawn, anyDrawn, structEdges, optionOf, bringAs, bring, numberOf, note}
 use Rattle.borrowing_param.specs.Brings.{notes, noPairs, answerOf}
 use Rattle.borrowing_param.specs.Condition3.{Some, FilledBy, BroughtAs, Brought, ByDef, Answers}
+use Rattle.answers.specs.Lists.{any, numbered}
 
 -- ---- by a test that decides a property
 
@@ -38,12 +39,12 @@ module _ (draws : ℕ → Bool) (D : ℕ → Type 0) (test : (b : ℕ) → (draw
   draws-it m b e d = ap (drawn draws) e ∙ (test b) .1 d
 
   any-some : (ms : List MaybeStatic) → (anyDrawn draws ms ≡ true) ↔ Some D ms
-  unfolding anyDrawn
+  unfolding any
   any-some [] = (λ h. absurd (true≢false (sym h)), λ s. absurd (List·Memᴰ·not-nil (s .1)))
   any-some (m ∷ ms) = go (drawn draws m) refl (any-some ms)
     where
       go : (t : Bool) → drawn draws m ≡ t → (anyDrawn draws ms ≡ true) ↔ Some D ms
-          → (cond t true (anyDrawn draws ms) ≡ true) ↔ Some D (m ∷ ms)
+          → (t || anyDrawn draws ms ≡ true) ↔ Some D (m ∷ ms)
       go true e r = (λ h. let f = drawn-by m e in (f .0, List·Memᴰ·head (sym (f .1)), f .2), λ s. refl)
       go false e r = (
         λ h. let s = r .0 h in (s .0, List·Memᴰ·tail (s .1), s .2),
@@ -61,7 +62,7 @@ module _ (draws : ℕ → Bool) (D : ℕ → Type 0) (test : (b : ℕ) → (draw
 
   struct-by : (used param option from : ℕ) (ms : List MaybeStatic) (e : LifetimeEdge)
       → List·Memᴰ e (structEdges draws used param option from ms) ↔ From used param option from ms e
-  unfolding structEdges
+  unfolding numbered
   struct-by used param option from [] e = (λ m. absurd (List·Memᴰ·not-nil m), λ k. absurd (omega (arith, k .1 .1)))
   struct-by used param option from (m ∷ ms) e = go (drawn draws m) refl (struct-by used param option (suc from) ms e)
     where
@@ -82,8 +83,7 @@ module _ (draws : ℕ → Bool) (D : ℕ → Type 0) (test : (b : ℕ) → (draw
       go : (t : Bool) → drawn draws m ≡ t → List·Memᴰ e (structEdges draws used param option (suc from) ms)
           ↔ From used param option (suc from) ms e
           → List·Memᴰ e
-          (cond t (edge used param 3 from option ∷ structEdges draws used param option (suc from) ms)
-          (structEdges draws used param option (suc from) ms))
+          (cond t (edge used param 3 from option ∷ []) [] ++ structEdges draws used param option (suc from) ms)
           ↔ From used param option from (m ∷ ms) e
       go true h r = (
         λ k. ⊎-elim (λ g. let f = drawn-by m h in (0, (f .0, omega arith, f .1, f .2), g ∙ unshifted))
@@ -168,14 +168,13 @@ from-def draws used param option from ms e m =
 
 struct-ascends : (draws : ℕ → Bool) (used param option from : ℕ) (ms : List MaybeStatic)
     → Pairwise ByDef (structEdges draws used param option from ms)
-unfolding structEdges
+unfolding numbered
 struct-ascends draws used param option from [] = Pairwise·nil
 struct-ascends draws used param option from (m ∷ ms) =
     go (drawn draws m) (struct-ascends draws used param option (suc from) ms)
   where
     go : (t : Bool) → Pairwise ByDef (structEdges draws used param option (suc from) ms)
-        → Pairwise ByDef (cond t (edge used param 3 from option ∷ structEdges draws used param option (suc from) ms)
-        (structEdges draws used param option (suc from) ms))
+        → Pairwise ByDef (cond t (edge used param 3 from option ∷ []) [] ++ structEdges draws used param option (suc from) ms)
     go true r =
         Pairwise·cons {a = edge used param 3 from option}
         (λ x k. ∥∥₁-elim k le-prop (λ d. from-def draws used param option (suc from) ms x d)) r

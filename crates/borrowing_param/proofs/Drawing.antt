@@ -2,7 +2,7 @@
 -- the words that are left to a loop over path words; the first that draws; the path words of a struct, linked; how many
 -- draw; edges counted.
 use Prim.Native.Nat.{ℕ, zero, suc, _+_, _-_, _≤_, _<_}
-use mathlib.Core.Bool.{Bool, true, false, cond}
+use mathlib.Core.Bool.{Bool, true, false, cond, _||_}
 use mathlib.Core.Path.{_≡_, refl, sym, ap, _∙_}
 use mathlib.Core.Logic.{_⊎_}
 use mathlib.Core.List.{List, [], _∷_, _++_, map}
@@ -35,6 +35,7 @@ use Rattle.borrowing_param.specs.Edges.{edge}
 use Rattle.borrowing_param.specs.Brings.{drawn, anyDrawn, structEdges, optionOf, bringAs, bring}
 use Rattle.borrowing_param.specs.Visit.{drawsIn}
 use Rattle.borrowing_param.specs.Inner.{Inside, typeIn, firstFrom, countDrawn, oneIf, CountsFor}
+use Rattle.answers.specs.Lists.{any, count, numbered}
 
 -- ---- one lifetime
 
@@ -166,22 +167,22 @@ module _ (draws : ℕ → Bool) (words : List ℕ) (p : Parts) {first : First}
 
 -- whether there is a first one is whether any draws
 pub first-any : (draws : ℕ → Bool) (i : ℕ) {k : ℕ} (ms : List MaybeStatic) → At k ≡ firstFrom draws i ms → anyDrawn draws ms ≡ true
-unfolding firstFrom anyDrawn
+unfolding firstFrom any
 first-any draws i [] e = let z : _≡_ {A = ℕ} 0 1 = cc in absurd (omega arith)
 first-any draws i {k} (m ∷ ms) e = go (drawn draws m) (first-any draws (suc i) ms) e
   where
     go : (t : Bool) → (At k ≡ firstFrom draws (suc i) ms → anyDrawn draws ms ≡ true)
-        → At k ≡ cond t (At i) (firstFrom draws (suc i) ms) → cond t true (anyDrawn draws ms) ≡ true
+        → At k ≡ cond t (At i) (firstFrom draws (suc i) ms) → t || anyDrawn draws ms ≡ true
     go true r e = refl
     go false r e = r e
 
 pub none-any : (draws : ℕ → Bool) (i : ℕ) (ms : List MaybeStatic) → Absent ≡ firstFrom draws i ms → anyDrawn draws ms ≡ false
-unfolding firstFrom anyDrawn
+unfolding firstFrom any
 none-any draws i [] e = refl
 none-any draws i (m ∷ ms) e = go (drawn draws m) (none-any draws (suc i) ms) e
   where
     go : (t : Bool) → (Absent ≡ firstFrom draws (suc i) ms → anyDrawn draws ms ≡ false)
-        → Absent ≡ cond t (At i) (firstFrom draws (suc i) ms) → cond t true (anyDrawn draws ms) ≡ false
+        → Absent ≡ cond t (At i) (firstFrom draws (suc i) ms) → t || anyDrawn draws ms ≡ false
     go true r e = let z : _≡_ {A = ℕ} 0 1 = cc in absurd (omega arith)
     go false r e = r e
 
@@ -223,19 +224,19 @@ counting-start draws words from count =
 
 module _ {draws : ℕ → Bool} {words : List ℕ} {from count n i : ℕ} (inv : Counting draws words from count n i) where
   pub counting-end : count ≤ i → n ≡ countDrawn draws (allPath words from count)
-  unfolding countDrawn
+  unfolding count
   counting-end h = sym (add-zero n) ∙ (rw (left-none words from count i h) at (inv .counts))
 
   module _ (fits : Inside words from count) (h : i < count) {m : MaybeStatic} (is : m ≡ fromWord (getD words (from + i) 0)) where
     pub counting-one : true ≡ drawn draws m → Counting draws words from count (n + 1) (i + 1)
-    unfolding countDrawn
+    unfolding count
     counting-one q =
         let e : countDrawn draws (left words from count i) ≡ suc (countDrawn draws (left words from count (i + 1))) =
         rw (left-next words from count fits i h, ← is, ← q) in
         record { here = omega arith; few = omega (arith, inv .few); counts = omega (arith, e, inv .counts) }
 
     pub counting-none : false ≡ drawn draws m → Counting draws words from count n (i + 1)
-    unfolding countDrawn
+    unfolding count
     counting-none q =
         let e : countDrawn draws (left words from count i) ≡ countDrawn draws (left words from count (i + 1)) =
         rw (left-next words from count fits i h, ← is, ← q) in
@@ -245,13 +246,12 @@ module _ {draws : ℕ → Bool} {words : List ℕ} {from count n i : ℕ} (inv :
 
 struct-many : (draws : ℕ → Bool) (used param option def : ℕ) (ms : List MaybeStatic)
     → length (structEdges draws used param option def ms) ≡ countDrawn draws ms
-unfolding structEdges countDrawn
+unfolding numbered count
 struct-many draws used param option def [] = refl
 struct-many draws used param option def (m ∷ ms) = go (drawn draws m) (struct-many draws used param option (suc def) ms)
   where
     go : (t : Bool) → length (structEdges draws used param option (suc def) ms) ≡ countDrawn draws ms
-        → length (cond t (edge used param 3 def option ∷ structEdges draws used param option (suc def) ms)
-        (structEdges draws used param option (suc def) ms)) ≡ cond t (suc (countDrawn draws ms))
+        → length (cond t (edge used param 3 def option ∷ []) [] ++ structEdges draws used param option (suc def) ms) ≡ cond t (suc (countDrawn draws ms))
         (countDrawn draws ms)
     go true r = ap suc r
     go false r = r
@@ -282,7 +282,7 @@ module _ (draws : ℕ → Bool) (t : LoweredType) where
       }
 
 drawn-few : (draws : ℕ → Bool) (ms : List MaybeStatic) → countDrawn draws ms ≤ length ms
-unfolding countDrawn
+unfolding count
 drawn-few draws [] = omega arith
 drawn-few draws (m ∷ ms) = go (drawn draws m) (drawn-few draws ms)
   where

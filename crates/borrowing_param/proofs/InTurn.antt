@@ -14,7 +14,7 @@ use lib.Seq.{take-length}
 use Rattle.answers.specs.declared.Refusal.the-variants.{NoRoom}
 use Rattle.lifetimes.specs.declared.env.LifetimeEnv.{LifetimeEnv}
 use Rattle.answers.specs.Refusals.{NoneDue}
-use Rattle.answers.specs.Lists.{range}
+use Rattle.answers.specs.Lists.{range, numbered}
 use Rattle.lifetimes.specs.Sets.{member}
 use Rattle.answers.proofs.ListLaws.{length-range, getD-range, range-has}
 use Rattle.lifetimes.proofs.SetLaws.{members-has}
@@ -88,7 +88,7 @@ module _ (v : BorrowingParamVisitor) (all : List LoweredType) where
 
   turn-brings : (used k : ℕ) (ts : List LoweredType) → Same k ts
       → flatMap (λ p. bringTo v (typeAt all p) p used) (range k (length ts)) ≡ listedTo v k ts used
-  unfolding range flatMap listedTo
+  unfolding range flatMap numbered
   turn-brings used k [] s = refl
   turn-brings used k (t ∷ ts) s = rw (same-first k t ts s, turn-brings used (suc k) ts (same-rest k t ts s))
 

@@ -208,17 +208,17 @@ module _ (v : BorrowingParamVisitor) where
   pub listed-more : (param : ℕ) (t : LoweredType) (ts : List LoweredType)
       → length (flatMap (listedTo v param (t ∷ ts)) (usedOf v)) ≡ length (bringAll v t param) + length
       (flatMap (listedTo v (suc param) ts) (usedOf v))
-  unfolding listedTo
+  unfolding numbered
   listed-more param t ts =
       joined-many (bringTo v t param) (listedTo v (suc param) ts) (listedTo v param (t ∷ ts)) (λ x. refl) (usedOf v)
 
   pub listed-none : (param : ℕ) (l : List ℕ) → flatMap (listedTo v param []) l ≡ []
-  unfolding listedTo flatMap
+  unfolding numbered flatMap
   listed-none param [] = refl
   listed-none param (x ∷ l) = listed-none param l
 
   pub answers-many : (param : ℕ) (ts : List LoweredType) → length (answersFrom v param ts) ≡ length ts
-  unfolding answersFrom
+  unfolding numbered
   answers-many param [] = refl
   answers-many param (t ∷ ts) = ap suc (answers-many (suc param) ts)
 
@@ -232,12 +232,12 @@ module _ (v : BorrowingParamVisitor) where
 
   -- how many edges are stored does not matter
   answers-holding : (n param : ℕ) (ts : List LoweredType) → answersFrom (holding v n) param ts ≡ answersFrom v param ts
-  unfolding answersFrom
+  unfolding numbered
   answers-holding n param [] = refl
   answers-holding n param (t ∷ ts) = rw (answers-holding n (suc param) ts)
 
   to-holding : (n param : ℕ) (ts : List LoweredType) (used : ℕ) → listedTo (holding v n) param ts used ≡ listedTo v param ts used
-  unfolding listedTo
+  unfolding numbered
   to-holding n param [] used = refl
   to-holding n param (t ∷ ts) used = rw (to-holding n (suc param) ts used)
 
@@ -251,7 +251,7 @@ module _ (v : BorrowingParamVisitor) where
 
   -- by the sets alone
   pub to-is : (param : ℕ) (ts : List LoweredType) (used : ℕ) → listedTo v param ts used ≡ bringFrom (drawsOf v used) used param ts
-  unfolding listedTo bringFrom
+  unfolding numbered
   to-is param [] used = refl
   to-is param (t ∷ ts) used = rw (to-is (suc param) ts used)
 
@@ -278,13 +278,13 @@ module _ {draws : ℕ → Bool} {used : ℕ} {words : List ℕ} {types : List Lo
     {stored param at : ℕ} {pairs edges : List ℕ}
     (inv : StoringTo draws used words types at₀ pairs₀ edges₀ stored param at pairs edges) where
   pub to-end : length words ≤ at → Stores (bringFrom draws used 0 types) at₀ pairs₀ edges₀ stored pairs edges
-  unfolding bringFrom
+  unfolding numbered
   to-end h = storing-end (inv .storing) (rw (passing-end (inv .passing) h))
 
   module _ {p : Parts} (o : Passed words types (inv .left) at param p) where
     to-split : bringFrom draws used param (inv .left) ≡ bring draws used param (typeIn words p) ++ bringFrom draws used
         (param + 1) (o .rest)
-    unfolding bringFrom
+    unfolding numbered
     to-split = rw (o .split, add-one param)
 
     pub to-fits : width * (stored + length (bring draws used param (typeIn words p))) ≤ length edges
@@ -369,7 +369,7 @@ module _ {used : ℕ} {drawn words : List ℕ} {types : List LoweredType} {numbe
   v = visitorIn used drawn
 
   pub params-end : length words ≤ at → CountsParams used drawn types numbers₀ (record { params = param; edges = total }) numbers
-  unfolding answersFrom
+  unfolding numbered
   params-end h =
       let e = passing-end (inv .passing) h in
       let many : length (inv .left) ≡ 0 = ap length e in
@@ -387,7 +387,7 @@ module _ {used : ℕ} {drawn words : List ℕ} {types : List LoweredType} {numbe
 
       pub params-more : {number : ℕ} → number ≡ numberBy (p .kind) n
           → CountingParams used drawn words types numbers₀ (total + n) (param + 1) (p .next) (set numbers param number)
-      unfolding answersFrom
+      unfolding numbered
       params-more {number} q =
           let named : number ≡ numberOf (p .kind) (bringAll v (typeIn words p) param) =
           q ∙ ap (numberBy (p .kind)) (c .counts param) ∙ number-is (p .kind) (bringAll v (typeIn words p) param) in

@@ -31,6 +31,7 @@ use Rattle.borrowing_param.proofs.Drawing.{bring-few}
 use Rattle.borrowing_param.proofs.Bringing.{Formed, kindNumber, defs, bring-formed, bring-ascends, brought-by}
 use Rattle.borrowing_param.proofs.Visiting.{param-short}
 use Rattle.borrowing_param.proofs.Listing.{join-few, answers-many, alone-shape, few-types}
+use Rattle.answers.specs.Lists.{numbered}
 
 -- ---- edges one after another
 
@@ -86,7 +87,7 @@ module _ (v : BorrowingParamVisitor) where
 
   to-of : (param : ℕ) (ts : List LoweredType) (used : ℕ) (e : LifetimeEdge) → List·Memᴰ e (listedTo v param ts used)
       → Of param ts used e
-  unfolding listedTo
+  unfolding numbered
   to-of param [] used e m = absurd (List·Memᴰ·not-nil m)
   to-of param (t ∷ ts) used e m =
       ⊎-elim
@@ -105,7 +106,7 @@ module _ (v : BorrowingParamVisitor) where
 
   of-to : (param : ℕ) (ts : List LoweredType) (used n : ℕ) (e : LifetimeEdge) → n < length ts
       → List·Memᴰ e (bringTo v (typeAt ts n) (param + n) used) → List·Memᴰ e (listedTo v param ts used)
-  unfolding listedTo
+  unfolding numbered
   of-to param [] used n e h m = absurd (omega arith)
   of-to param (t ∷ ts) used zero e h m = Memᴰ·append-left (listedTo v (suc param) ts used) (rw add-zero at m)
   of-to param (t ∷ ts) used (suc n) e h m =
@@ -146,7 +147,7 @@ module _ (v : BorrowingParamVisitor) where
   -- ---- their order
 
   to-order : (param : ℕ) (ts : List LoweredType) (used : ℕ) → Pairwise Before (listedTo v param ts used)
-  unfolding listedTo
+  unfolding numbered
   to-order param [] used = Pairwise·nil
   to-order param (t ∷ ts) used =
       order-append (bringTo v t param used) (listedTo v (suc param) ts used)
@@ -171,7 +172,7 @@ module _ (v : BorrowingParamVisitor) where
 
   answer-at : (param : ℕ) (ts : List LoweredType) (n : ℕ) → n < length ts
       → getD (answersFrom v param ts) n 0 ≡ numberOf (typeAt ts n .kind) (bringAll v (typeAt ts n) (param + n))
-  unfolding answersFrom
+  unfolding numbered
   answer-at param [] n h = absurd (omega arith)
   answer-at param (t ∷ ts) zero h = rw add-zero
   answer-at param (t ∷ ts) (suc n) h = let same : param + suc n ≡ suc param + n = omega arith in
@@ -282,7 +283,7 @@ AllShort ts = (n : ℕ) → n < length ts → length (typeAt ts n .path) ≤ 16
 
 to-few : (v : BorrowingParamVisitor) (param : ℕ) (ts : List LoweredType) (used : ℕ) → AllShort ts
     → length (listedTo v param ts used) ≤ 16 * length ts
-unfolding listedTo
+unfolding numbered
 to-few v param [] used h = omega arith
 to-few v param (t ∷ ts) used h =
     rw (length-append (bringTo v t param used) (listedTo v (suc param) ts used))

@@ -14,7 +14,7 @@ use lib.ListN.{length, getD, set, length-append, length-set}
 use lib.Seq.{sets, length-sets}
 use Rattle.lifetimes.specs.declared.maybe_static.MaybeStatic.{MaybeStatic}
 use Rattle.lifetimes.specs.LoweredWords.{fromWord}
-use Rattle.answers.specs.Lists.{range, filter}
+use Rattle.answers.specs.Lists.{range, filter, numbered}
 use Rattle.lifetimes.specs.Sets.{member, insert, members}
 use Rattle.types.specs.declared.types.Kind.the-variants.{Plain, Opaque, Struct, Slice}
 use Rattle.types.specs.LoweredTypes.{LoweredType, lifetimesOf}
@@ -142,7 +142,7 @@ module _ (draws : ℕ → Bool) (used param option : ℕ) (words : List ℕ) (fr
   edges-all = ap (structEdges draws used param option 0) (sym (left-all words from count))
 
   pub edges-none : (def : ℕ) → count ≤ def → leftEdges draws used param option words from count def ≡ []
-  unfolding structEdges
+  unfolding numbered
   edges-none def h = rw (left-none words from count def h)
 
   module _ (fits : Inside words from count) (def : ℕ) (h : def < count) {m : MaybeStatic}
@@ -150,13 +150,13 @@ module _ (draws : ℕ → Bool) (used param option : ℕ) (words : List ℕ) (fr
     pub edges-one : true ≡ drawn draws m
         → leftEdges draws used param option words from count def ≡ (edge used param 3 def option ∷ [])
         ++ leftEdges draws used param option words from count (def + 1)
-    unfolding structEdges
+    unfolding numbered
     edges-one q = rw (left-next words from count fits def h, ← is, ← q, add-one def)
 
     pub edges-skip : false ≡ drawn draws m
         → leftEdges draws used param option words from count def ≡ leftEdges draws used param option words from count
         (def + 1)
-    unfolding structEdges
+    unfolding numbered
     edges-skip q = rw (left-next words from count fits def h, ← is, ← q, add-one def)
 
 -- one of them, with its pair

@@ -56,15 +56,15 @@ pub sheets-give-methods : SheetsGiveMethods
 sheets-give-methods bytes none = sheet-method bytes none
 
 pub examples-hold : ExamplesHold
-unfolding new.created new.visitorFrom map.listedTo map.listedEdges map.answersFrom map.borrowMap visit-param.visitParam
-    visit.visit visit.afterVisits brings.bring brings.anyDrawn brings.structEdges brings.notes used.usedSet
-    filterMap lists.numbered lists.any lists.all lists.count
+unfolding new.created new.visitorFrom lists.numbered lists.any lists.all lists.count lists.range lists.filter filterMap
+    flatMap flatten map.listedEdges map.borrowMap visit-param.visitParam
+    visit.visit visit.afterVisits brings.bring brings.notes used.usedSet
     rows.readKnown rows.readTypes rows.readRow rows.methodInShape types.readOpaque types.readStruct types.readSlice
     types.readBare types.readLowered reading.readAll reading.inShape reading.itemsOf refusals.unless env.envOf
-    bounds.boundsFrom lists.range lists.filter reach.reachSet reach.reachList reach.allSets walk.traversal walk.walk
-    walk.walkFor walk.unpushed walk.neighbours sets.member sets.insert sets.insertAll sets.members flatMap
+    bounds.boundsFrom reach.reachSet reach.reachList reach.allSets walk.traversal walk.walk
+    walk.walkFor walk.unpushed walk.neighbours sets.member sets.insert sets.insertAll sets.members
     sheets.lowerSheet sheets.sheetRefusals sheets.loweringChecks shape.sheetChecks read.textChecks read.sheetOf read.sheetIn
-    read.linesBehind read.ten read.readLines read.behind read.allShort flatten text.text decimal.line decimal.following
+    read.linesBehind read.ten read.readLines read.behind text.text decimal.line decimal.following
     decimal.digits decimal.digitsFor
     shape.sheetInShape shapes.namesInShape shapes.boundsInShape shapes.pairsOf ast-types.readType
     steps.readStep ast.nameChecks ast.allPairChecks ast.implied ast.allImplied ast.envOf ast.place

@@ -15,20 +15,19 @@ use Rattle.borrowing_param.specs.declared.visitor.BorrowingParamVisitor.
 use Rattle.borrowing_param.specs.Edges.{edgeWords}
 use Rattle.borrowing_param.specs.Brings.{numberOf}
 use Rattle.borrowing_param.specs.Visit.{usedOf, bringTo, bringAll}
+use Rattle.answers.specs.Lists.{numbered}
 
 -- what the parameters bring to one used lifetime, numbered from `param` on
-unfoldable pub listedTo : BorrowingParamVisitor → ℕ → List LoweredType → ℕ → List LifetimeEdge
-listedTo v param [] used = []
-listedTo v param (t ∷ ts) used = bringTo v t param used ++ listedTo v (suc param) ts used
+abbrev pub listedTo : BorrowingParamVisitor → ℕ → List LoweredType → ℕ → List LifetimeEdge
+listedTo v param ts used = numbered (λ p t. bringTo v t p used) param ts
 
 -- to all used lifetimes, ascending
 unfoldable pub listedEdges : BorrowingParamVisitor → List LoweredType → List LifetimeEdge
 listedEdges v types = flatMap (listedTo v 0 types) (usedOf v)
 
 -- the answers' numbers, the parameters numbered from `param` on
-unfoldable pub answersFrom : BorrowingParamVisitor → ℕ → List LoweredType → List ℕ
-answersFrom v param [] = []
-answersFrom v param (t ∷ ts) = numberOf (t .kind) (bringAll v t param) ∷ answersFrom v (suc param) ts
+abbrev pub answersFrom : BorrowingParamVisitor → ℕ → List LoweredType → List ℕ
+answersFrom v param ts = numbered (λ p t. numberOf (t .kind) (bringAll v t p) ∷ []) param ts
 
 -- what `borrow_map` gives: the answers by parameter, the edges in listing order
 pub record Mapping : Type 0 where

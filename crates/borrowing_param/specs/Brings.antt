@@ -16,27 +16,24 @@ use Rattle.types.specs.LoweredTypes.{LoweredType, lifetimesOf}
 use Rattle.borrowing_param.specs.declared.visitor.LifetimeEdge.{LifetimeEdge}
 use Rattle.borrowing_param.specs.declared.visitor.ParamBorrowInfo.{ParamBorrowInfo}
 use Rattle.borrowing_param.specs.Edges.{edge, mostDefs}
+use Rattle.answers.specs.Lists.{any, numbered}
 
 -- whether a lifetime draws, by a test of numbers: 'static never does
 abbrev pub drawn : (ℕ → Bool) → MaybeStatic → Bool
 drawn draws Static = false
 drawn draws (NonStatic l) = draws (l .0)
 
-unfoldable pub anyDrawn : (ℕ → Bool) → List MaybeStatic → Bool
-anyDrawn draws [] = false
-anyDrawn draws (m ∷ ms) = cond (drawn draws m) true (anyDrawn draws ms)
+abbrev pub anyDrawn : (ℕ → Bool) → List MaybeStatic → Bool
+anyDrawn draws ms = any (drawn draws) ms
 
 -- an opaque or a slice brings one edge, if one of its lifetimes draws
 abbrev pub oneEdge : (ℕ → Bool) → ℕ → ℕ → ℕ → List MaybeStatic → List LifetimeEdge
 oneEdge draws used param kind ms = cond (anyDrawn draws ms) (edge used param kind 0 0 ∷ []) []
 
 -- a struct brings an edge for each lifetime of its definition, from `def` on, that is filled by one that draws
-unfoldable pub structEdges : (ℕ → Bool) → ℕ → ℕ → ℕ → ℕ → List MaybeStatic → List LifetimeEdge
-structEdges draws used param option def [] = []
-structEdges draws used param option def (m ∷ ms) =
-    cond (drawn draws m)
-    (edge used param 3 def option ∷ structEdges draws used param option (suc def) ms)
-    (structEdges draws used param option (suc def) ms)
+abbrev pub structEdges : (ℕ → Bool) → ℕ → ℕ → ℕ → ℕ → List MaybeStatic → List LifetimeEdge
+structEdges draws used param option def ms =
+    numbered (λ d m. cond (drawn draws m) (edge used param 3 d option ∷ []) []) def ms
 
 -- "option (1 if under code 4)"
 abbrev pub optionOf : Bool → ℕ

@@ -24,6 +24,7 @@ use Rattle.borrowing_param.specs.declared.visitor.LifetimeEdge.{Lifetime
 use Rattle.borrowing_param.specs.Edges.{width, edgeWords}
 use Rattle.borrowing_param.specs.Brings.{drawn, structEdges, optionOf, bring, notes}
 use Rattle.borrowing_param.specs.Visit.{drawsIn}
+use Rattle.answers.specs.Lists.{count}
 
 -- so many words from a place on are there; none are there anywhere
 abbrev pub Inside : List ℕ → ℕ → ℕ → Type 0
@@ -44,9 +45,8 @@ FirstDrawn draws words p r =
     r ≡ firstFrom draws 0 (map fromWord (take (p .count) (drop (p .from) words)) ++ ownLifetimes (p .own))
 
 -- how many draw
-unfoldable pub countDrawn : (ℕ → Bool) → List MaybeStatic → ℕ
-countDrawn draws [] = 0
-countDrawn draws (m ∷ ms) = cond (drawn draws m) (suc (countDrawn draws ms)) (countDrawn draws ms)
+abbrev pub countDrawn : (ℕ → Bool) → List MaybeStatic → ℕ
+countDrawn draws ms = count (drawn draws) ms
 
 abbrev pub oneIf : Bool → ℕ
 oneIf true = 1

@@ -17,6 +17,7 @@ use Rattle.borrowing_param.specs.declared.visitor.BorrowingParamVisitor.
 use Rattle.borrowing_param.specs.Edges.{edgeWords}
 use Rattle.borrowing_param.specs.Brings.{bring}
 use Rattle.borrowing_param.specs.BorrowMap.{listedEdges, answersFrom, Mapping, mappingOf}
+use Rattle.answers.specs.Lists.{numbered}
 
 -- types one after another, to the end of some words
 pub data Lists : List ℕ → List LoweredType → Type 0 where
@@ -38,9 +39,8 @@ abbrev pub visitorIn : ℕ → List ℕ → BorrowingParamVisitor
 visitorIn used drawn = record { used = used; draws = drawn; stored = 0 }
 
 -- what some types, numbered from `param` on, bring to one used lifetime
-unfoldable pub bringFrom : (ℕ → Bool) → ℕ → ℕ → List LoweredType → List LifetimeEdge
-bringFrom draws used param [] = []
-bringFrom draws used param (t ∷ ts) = bring draws used param t ++ bringFrom draws used (suc param) ts
+abbrev pub bringFrom : (ℕ → Bool) → ℕ → ℕ → List LoweredType → List LifetimeEdge
+bringFrom draws used param ts = numbered (λ p t. bring draws used p t) param ts
 
 -- how many parameters there are, how many edges, and the numbers of the answers
 pub record CountsParams (used : ℕ) (drawn : List ℕ) (types : List LoweredType) (numbers : List ℕ) (r : Counted)

@@ -57,18 +57,16 @@ visits-right (x ∷ xs) p = (ap Visited (p .0), visits-right xs (p .1))
 
 pub program-right : Right programExamples
 unfolding response unless listingOf listingChecks sheets.sheetRefusals sheets.loweringChecks shape.sheetChecks read.textChecks
-    read.sheetOf
-    read.sheetIn read.linesBehind read.ten read.readLines read.behind read.allShort flatten flatMap decimal.line
+    read.sheetOf read.sheetIn read.linesBehind read.ten read.readLines read.behind flatten flatMap filterMap decimal.line
     decimal.following decimal.digits decimal.digitsFor
     shape.sheetInShape rows.methodInShape shapes.namesInShape shapes.boundsInShape shapes.pairsOf
     ast-types.readType steps.readStep reading.readAll reading.inShape reading.itemsOf
     declared.nameChecks declared.allPairChecks declared.implied declared.allImplied declared.envOf
     declared.place rfc.throughout rfc.ownFrom
     rows.readKnown rows.readTypes rows.readRow types.readOpaque types.readStruct types.readSlice types.readBare
-    types.readLowered lists.numbered lists.any lists.all lists.count
-    used.usedSet filterMap new.created new.visitorFrom map-of.listedTo map-of.listedEdges
-    map-of.answersFrom brings.bring brings.anyDrawn brings.structEdges
-    listings.answersFrom env.envOf bounds.boundsFrom lists.range lists.filter reaching.reachSet reaching.reachList reaching.allSets walk.traversal
+    types.readLowered lists.numbered lists.any lists.all lists.count lists.range lists.filter
+    used.usedSet new.created new.visitorFrom map-of.listedEdges brings.bring
+    env.envOf bounds.boundsFrom reaching.reachSet reaching.reachList reaching.allSets walk.traversal
     walk.walk walk.walkFor walk.unpushed walk.neighbours sets.member sets.insert sets.insertAll sets.members
 program-right = (refl, (refl, tt))
 

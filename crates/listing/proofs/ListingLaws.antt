@@ -6,10 +6,10 @@ use native.Mathlib.Nat.{zero-add}
 use native.Mathlib.Omega.{arith}
 use lib.ListN.{length, length-append}
 use lib.Seq.{slice}
-use Rattle.answers.specs.Lists.{range}
+use Rattle.answers.specs.Lists.{range, numbered}
 use Rattle.answers.specs.Lists.{endsFrom}
 use Rattle.text.specs.Decimal.{line}
-use Rattle.listing.specs.InnerSections.{numbered, cutFrom, Ascend}
+use Rattle.listing.specs.InnerSections.{listLines, cutFrom, Ascend}
 
 -- ---- lists by their ends
 
@@ -47,7 +47,7 @@ ends-ascend at size (l ∷ ls) past h =
 
 -- ---- numbered
 
-pub numbered-map : (f : ℕ → List ℕ) (x n : ℕ) → numbered x (map f (range x n)) ≡ flatMap (λ l. line (l ∷ f l)) (range x n)
+pub numbered-map : (f : ℕ → List ℕ) (x n : ℕ) → listLines x (map f (range x n)) ≡ flatMap (λ l. line (l ∷ f l)) (range x n)
 unfolding numbered range flatMap
 numbered-map f x zero = refl
 numbered-map f x (suc n) = ap (λ (t : List ℕ). line (x ∷ f x) ++ t) (numbered-map f (suc x) n)

@@ -48,7 +48,7 @@ use Rattle.listing.specs.Listing.{countHeading, loweredHeading, longerHe
 use Rattle.listing.specs.Listing.{edgeLines, mostEdges}
 use Rattle.text.specs.Printing.{Prints}
 use Rattle.text.proofs.PrintLaws.{prints-length}
-use Rattle.listing.specs.InnerSections.{numbered, cutFrom, Ascend}
+use Rattle.listing.specs.InnerSections.{listLines, cutFrom, Ascend}
 use Rattle.listing.specs.InnerListing.{Lists, ListsWithin, methodBorrows, methodListing, listedMethod, Listable}
 use Rattle.listing.specs.InnerListing.{sections, tooMany, listsRoom, edgesRoom}
 use Rattle.listing.proofs.ListingLaws.{cut-lists, ends-ascend, numbered-map}
@@ -165,7 +165,7 @@ module _ {env : LifetimeEnv} {used : ℕ} {structs params own given taken : List
         subst (λ (n : ℕ). cutFrom 0 lists₁ ends₁ n ≡ allLists true env) lists-many
         (rw (lists-are, ends-are) (cut-lists [] (allLists true env) behind past))
 
-    longer-are : longerHeading ++ numbered 0 (cutFrom 0 lists₁ ends₁ (env .count)) ≡ longerLines env
+    longer-are : longerHeading ++ listLines 0 (cutFrom 0 lists₁ ends₁ (env .count)) ≡ longerLines env
     unfolding allLists
     longer-are =
         rw lists-cut

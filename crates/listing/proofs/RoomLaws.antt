@@ -10,7 +10,7 @@ use borrow.Author.Tests.{ltb-false, not-false}
 use Rattle.lifetimes.specs.declared.bounds.Bound.{Bound}
 use Rattle.lifetimes.specs.declared.env.LifetimeEnv.{LifetimeEnv}
 use Rattle.lifetimes.specs.declared.maybe_static.MaybeStatic.{MaybeStatic}
-use Rattle.answers.specs.Lists.{range}
+use Rattle.answers.specs.Lists.{range, numbered}
 use Rattle.answers.specs.Refusals.{NoneDue}
 use Rattle.lifetimes.specs.LoweredWords.{wordOf}
 use Rattle.lifetimes.specs.Limits.{mostLifetimes}
@@ -158,7 +158,7 @@ answerBytes = length answerHeading + mostParams * lineBytes answerColumns
 
 answers-short : (param : ℕ) (l : List ℕ) → param + length l ≤ mostParams → Below 10 l
     → length (answersFrom param l) ≤ lineBytes answerColumns * length l
-unfolding answersFrom
+unfolding numbered
 answers-short param [] h b = omega arith
 answers-short param (a ∷ l) h b =
     let first =

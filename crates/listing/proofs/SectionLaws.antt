@@ -13,7 +13,8 @@ use Rattle.text.proofs.PrintLaws.{Leaves, leaves-all, leaves-rest, leaves-nothi
 use Rattle.sheet.proofs.Placing.{part-is}
 use Rattle.borrowing_param.specs.Edges.{width, edgeWords, edgeAt, edgesIn}
 use Rattle.listing.specs.Listing.{answersFrom, edgeLine}
-use Rattle.listing.specs.InnerSections.{numbered, cutFrom, Ascend}
+use Rattle.listing.specs.InnerSections.{listLines, cutFrom, Ascend}
+use Rattle.answers.specs.Lists.{numbered}
 
 -- ---- `put_numbered`: lists by their ends
 
@@ -24,8 +25,8 @@ left-suc h = omega arith
 pub record Numbering (words ends : List ℕ) (count at : ℕ) (out : List ℕ) (next : ℕ) (out₁ : List ℕ) (from i : ℕ) : Type 0 where
   pub here : i ≤ count
   pub ascends : Ascend from (length words) (drop i ends) (count - i)
-  pub left : Leaves (numbered 0 (cutFrom 0 words ends count)) at out
-      (numbered i (cutFrom from words (drop i ends) (count - i))) next out₁
+  pub left : Leaves (listLines 0 (cutFrom 0 words ends count)) at out
+      (listLines i (cutFrom from words (drop i ends) (count - i))) next out₁
 
 pub numbering-start : (words ends : List ℕ) (count at : ℕ) (out : List ℕ) → Ascend 0 (length words) ends count
     → length out < 2 ^ 64 → at < 2 ^ 64 → Numbering words ends count at out at out 0 0
@@ -34,7 +35,7 @@ numbering-start words ends count at out a h k =
 
 module _ {words ends : List ℕ} {count at : ℕ} {out : List ℕ} {next : ℕ} {out₁ : List ℕ} {from i : ℕ}
     (inv : Numbering words ends count at out next out₁ from i) where
-  pub numbering-end : count ≤ i → Prints (numbered 0 (cutFrom 0 words ends count)) at out next out₁
+  pub numbering-end : count ≤ i → Prints (listLines 0 (cutFrom 0 words ends count)) at out next out₁
   unfolding numbered cutFrom
   numbering-end h =
       let none : count - i ≡ 0 = omega (arith, h, inv .here) in
@@ -71,19 +72,19 @@ module _ {words ends : List ℕ} {count at : ℕ} {out : List ℕ} {next : ℕ} 
     abbrev listed : List ℕ
     listed = take (to - from) (drop from words)
 
-    on : numbered i (cutFrom from words (drop i ends) (count - i))
-        ≡ digits i ++ (following listed ++ numbered (suc i) (cutFrom to words (drop (suc i) ends) (count - suc i)))
+    on : listLines i (cutFrom from words (drop i ends) (count - i))
+        ≡ digits i ++ (following listed ++ listLines (suc i) (cutFrom to words (drop (suc i) ends) (count - suc i)))
     unfolding numbered cutFrom line
     on = rw (left-suc h, ends-on, ← part-is from to words (more .0)) (append-assoc (digits i) (following listed) _)
 
-    left-number : Leaves (numbered 0 (cutFrom 0 words ends count)) at out
-        (digits i ++ (following listed ++ numbered (suc i) (cutFrom to words (drop (suc i) ends) (count - suc i)))) next
+    left-number : Leaves (listLines 0 (cutFrom 0 words ends count)) at out
+        (digits i ++ (following listed ++ listLines (suc i) (cutFrom to words (drop (suc i) ends) (count - suc i)))) next
         out₁
     left-number = rw on at (inv .left)
 
     module _ {start : ℕ} {out₂ : List ℕ} (first : Prints (digits i) next out₁ start out₂) where
-      pub left-list : Leaves (numbered 0 (cutFrom 0 words ends count)) at out
-          (following listed ++ numbered (suc i) (cutFrom to words (drop (suc i) ends) (count - suc i))) start out₂
+      pub left-list : Leaves (listLines 0 (cutFrom 0 words ends count)) at out
+          (following listed ++ listLines (suc i) (cutFrom to words (drop (suc i) ends) (count - suc i))) start out₂
       left-list = leaves-rest _ left-number first
 
       pub numbering-more : {next₁ : ℕ} {out₃ : List ℕ} → Prints (following listed) start out₂ next₁ out₃
@@ -111,7 +112,7 @@ module _ {answers : List ℕ} {at : ℕ} {out : List ℕ} {next : ℕ} {out₁ :
   answering-size = leaves-size (inv .left)
 
   pub answering-end : length answers ≤ i → Prints (answersFrom 0 answers) at out next out₁
-  unfolding answersFrom
+  unfolding numbered
   answering-end h =
       let none : drop i answers ≡ [] = drop-of-length-le answers {i = i} h in
       leaves-nothing (rw none at (inv .left))
@@ -128,7 +129,7 @@ module _ {answers : List ℕ} {at : ℕ} {out : List ℕ} {next : ℕ} {out₁ :
     one-is = let e : i + 1 - i ≡ 1 = omega arith in rw (e, answer-on)
 
     on-answer : answersFrom i (drop i answers) ≡ digits i ++ (following one ++ answersFrom (suc i) (drop (suc i) answers))
-    unfolding answersFrom line
+    unfolding numbered line
     on-answer = rw (one-is, answer-on) (append-assoc (digits i) (following (getD answers i 0 ∷ [])) _)
 
     left-param : Leaves (answersFrom 0 answers) at out

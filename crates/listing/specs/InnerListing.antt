@@ -28,7 +28,7 @@ use Rattle.listing.specs.declared.within.Within.the-variants as within
 use Rattle.listing.specs.Listing.{countHeading, countLines, loweredHeading, longerHeading, longerLines}
 use Rattle.listing.specs.Listing.{answerLines, edgeLines, mostEdges, edgesCheck, listingOf, listingChecks}
 use Rattle.listing.specs.Listing.{roomBytes}
-use Rattle.listing.specs.InnerSections.{numbered, cutFrom}
+use Rattle.listing.specs.InnerSections.{listLines, cutFrom}
 
 -- what is listed, or why not
 abbrev pub listedSheet : List ℕ → Outcome (List ℕ)
@@ -102,7 +102,7 @@ unfoldable pub sections : List ℕ → List ℕ → List ℕ → List ℕ → Li
 sections counts own given taken lists ends answers edges =
     (countHeading ++ line counts)
     ++ ((loweredHeading ++ (line own ++ (line given ++ line taken)))
-    ++ ((longerHeading ++ numbered 0 (cutFrom 0 lists ends (getD counts 0 0)))
+    ++ ((longerHeading ++ listLines 0 (cutFrom 0 lists ends (getD counts 0 0)))
     ++ (answerLines answers
     ++ edgeLines (edgesIn (getD counts 3 0) edges))))
 

@@ -3,11 +3,11 @@ use Prim.Native.Nat.{ℕ, zero, suc, _≤_}
 use mathlib.Core.List.{List, [], _∷_, _++_}
 use lib.Seq.{slice}
 use Rattle.text.specs.Decimal.{line}
+use Rattle.answers.specs.Lists.{numbered}
 
 -- numbered lists, a line each
-unfoldable pub numbered : ℕ → List (List ℕ) → List ℕ
-numbered number [] = []
-numbered number (l ∷ ls) = line (number ∷ l) ++ numbered (suc number) ls
+abbrev pub listLines : ℕ → List (List ℕ) → List ℕ
+listLines number ls = numbered (λ n l. line (n ∷ l)) number ls
 
 -- so many lists that stand one after another in some words from a place on, by where each ends
 unfoldable pub cutFrom : ℕ → List ℕ → List ℕ → ℕ → List (List ℕ)

@@ -8,7 +8,7 @@ use lib.ListN.{length}
 use Rattle.answers.specs.declared.Refusal.{Refusal}
 use Rattle.answers.specs.declared.Refusal.the-variants.{NoRoom}
 use Rattle.lifetimes.specs.declared.env.LifetimeEnv.{LifetimeEnv}
-use Rattle.answers.specs.Lists.{range}
+use Rattle.answers.specs.Lists.{range, numbered}
 use Rattle.answers.specs.Refusals.{Check, check, Outcome, Gives, Refuses, unless, numberOf}
 use Rattle.answers.specs.Lent.{roomCheck}
 use Rattle.lifetimes.specs.Reach.{reachList}
@@ -52,9 +52,8 @@ longerLines env = longerHeading ++ flatMap (longerLine env) (range 0 (env .count
 abbrev pub answerHeading : List ℕ
 answerHeading = 112 ∷ 97 ∷ 114 ∷ 97 ∷ 109 ∷ space ∷ 97 ∷ 110 ∷ 115 ∷ 119 ∷ 101 ∷ 114 ∷ newline ∷ []
 
-unfoldable pub answersFrom : ℕ → List ℕ → List ℕ
-answersFrom param [] = []
-answersFrom param (a ∷ answers) = line (param ∷ a ∷ []) ++ answersFrom (suc param) answers
+abbrev pub answersFrom : ℕ → List ℕ → List ℕ
+answersFrom param answers = numbered (λ p a. line (p ∷ a ∷ [])) param answers
 
 abbrev pub answerLines : List ℕ → List ℕ
 answerLines answers = answerHeading ++ answersFrom 0 answers

@@ -8,7 +8,7 @@ ghost use Rattle.text.specs.Printing.{Prints};
 ghost use Rattle.borrowing_param.specs.Edges.{width, edgesIn};
 ghost use Rattle.listing.specs.Listing.{countHeading, loweredHeading, longerHeading, answersFrom, answerLines};
 ghost use Rattle.listing.specs.Listing.{edgeLine, edgeLines, refusalHeading};
-ghost use Rattle.listing.specs.InnerSections.{numbered, cutFrom, Ascend};
+ghost use Rattle.listing.specs.InnerSections.{listLines, cutFrom, Ascend};
 use borrowing_param::BorrowingParamVisitor;
 use text::put_following;
 use text::put_line;
@@ -60,7 +60,7 @@ pub(crate) fn put_longer(
     count: usize,
 ) -> usize
     requires { ⌜ Ascend 0 (length (now words)) (now ends) count ⌝ }
-    ensures { λ r. ⌜ Prints (longerHeading ++ numbered 0 (cutFrom 0 (held words) (held ends) count)) at (held out) r
+    ensures { λ r. ⌜ Prints (longerHeading ++ listLines 0 (cutFrom 0 (held words) (held ends) count)) at (held out) r
         (left out) ⌝ }
 {
     let heading = b"lifetime longer\n";
@@ -71,7 +71,7 @@ pub(crate) fn put_longer(
 // The lines of numbered lists.
 fn put_numbered(out: &mut [u8], at: usize, words: &[usize], ends: &[usize], count: usize) -> usize
     requires { ⌜ Ascend 0 (length (now words)) (now ends) count ⌝ }
-    ensures { λ r. ⌜ Prints (numbered 0 (cutFrom 0 (held words) (held ends) count)) at (held out) r (left out) ⌝ }
+    ensures { λ r. ⌜ Prints (listLines 0 (cutFrom 0 (held words) (held ends) count)) at (held out) r (left out) ⌝ }
 {
     let mut next = at;
     let mut from = 0;

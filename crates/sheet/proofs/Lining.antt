@@ -21,7 +21,7 @@ use Rattle.text.specs.Decimal.{line}
 use Rattle.records.specs.Reading.{mostWords}
 use Rattle.sheet.specs.Text.{mostWord}
 use Rattle.sheet.specs.Reading.{LineStart, lineBefore, readLines, ten, allShort}
-use Rattle.answers.specs.Lists.{endsFrom}
+use Rattle.answers.specs.Lists.{endsFrom, all}
 use Rattle.sheet.specs.Inner.{readFrom, NoLine, LineAt, LineRead, TenAt, judgedBy, LinesRead}
 use Rattle.sheet.proofs.SpellingLaws.{read-spelt}
 
@@ -50,7 +50,7 @@ flatten-more [] l = append-nil l
 flatten-more (k ∷ ls) l = rw append-assoc (ap (λ (x : List ℕ). k ++ x) (flatten-more ls l))
 
 few-more : (ls : List (List ℕ)) (l : List ℕ) → allShort (ls ++ (l ∷ [])) ≡ leb (length l) mostWords && allShort ls
-unfolding allShort
+unfolding all
 few-more [] l = refl
 few-more (k ∷ ls) l = rw (few-more ls l) (swap (leb (length k) mostWords) (leb (length l) mostWords) (allShort ls))
   where
@@ -110,7 +110,7 @@ pub record Lining (bytes : List ℕ) (from : ℕ) (words₀ words ends : List �
 
 pub lining-start : (bytes : List ℕ) (from : ℕ) (words ends : List ℕ) → length ends ≡ 10
     → Lining bytes from words words ends from 0 Good 0
-unfolding flatten endsFrom allShort
+unfolding flatten endsFrom all
 lining-start bytes from words ends h = record {
   lines = [];
   reads = refl;

@@ -25,6 +25,7 @@ use Rattle.sheet.specs.Reading.{allShort, sheetOf, textChecks, readText}
 use Rattle.sheet.specs.Shape.{sheetInShape, sheetChecks, readSheet}
 use Rattle.sheet.specs.Theorems.{IsSheet, ReadsInShape}
 use Rattle.sheet.proofs.SheetLaws.{Read, NoSheet, Few, Many, read-cases, one-sheet}
+use Rattle.answers.specs.Lists.{all}
 
 -- what ten records in shape say of those that each crate reads
 pub sheet-parts : (r : Records) → sheetInShape r ≡ true
@@ -61,7 +62,7 @@ force-short (w ∷ []) e = refl
 force-short (w ∷ v ∷ l) e = let z : _≡_ {A = ℕ} 0 1 = cc in absurd (omega arith)
 
 pub shape-short : (r : Records) → sheetInShape r ≡ true → allShort (lists r) ≡ true
-unfolding allShort
+unfolding all
 shape-short r e =
     let rows = length (rowsOf (r .structs)) in
     let parts = sheet-parts r e in

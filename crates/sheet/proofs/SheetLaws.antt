@@ -15,13 +15,14 @@ use Rattle.answers.specs.declared.Refusal.the-variants.{Malformed, Unreadable}
 use Rattle.answers.specs.Refusals.{Gives, Refuses, unless}
 use Rattle.text.specs.Decimal.{line, following}
 use Rattle.sheet.specs.Text.{heading, Records, lists, wordsOf, text, mostWord, mostBytes}
-use Rattle.records.specs.Reading.{mostWords}
+use Rattle.records.specs.Reading.{mostWords, fewWords}
 use Rattle.sheet.specs.Reading.{behind, LineStart, readLines, recordsOf, ten, linesBehind, sheetIn, sheetOf}
 use Rattle.sheet.specs.Reading.{allShort, textChecks, readText}
 use Rattle.sheet.specs.Theorems.{IsSheet}
 use Rattle.text.proofs.DigitLaws.{digits-some}
 use Rattle.sheet.proofs.TextLaws.{read-lines, behind-append, behind-splits}
 use Rattle.sheet.proofs.SpellingLaws.{read-spelt}
+use Rattle.answers.proofs.ListLaws.{all-has, not-all}
 
 -- ten lines are the lists of their records
 pub lists-of-ten : (ls : List (List ℕ)) → length ls ≡ 10 → lists (recordsOf ls) ≡ ls
@@ -86,22 +87,10 @@ in-sheet bytes r e = size (leb (length bytes) mostBytes) refl e
 
 -- records with few words, and a record with too many
 pub few-all : (ls : List (List ℕ)) → allShort ls ≡ true → (l : List ℕ) → List·Memᴰ l ls → length l ≤ mostWords
-unfolding allShort
-few-all [] e l m = absurd (List·Memᴰ·not-nil m)
-few-all (k ∷ ls) e l m =
-    let s = (and-eq-true-iff (leb (length k) mostWords) (allShort ls)) .0 e in
-    ⊎-elim (λ (q : l ≡ k). rw q (leb-true (length k) mostWords (s .0))) (λ i. few-all ls (s .1) l i) (List·Memᴰ·cases-cons m)
+few-all ls e l m = leb-true (length l) mostWords (all-has fewWords ls e l m)
 
 pub many-some : (ls : List (List ℕ)) → allShort ls ≡ false → (l : List ℕ) × List·Memᴰ l ls × (mostWords < length l)
-unfolding allShort
-many-some [] e = let z : _≡_ {A = ℕ} 0 1 = cc in absurd (omega arith)
-many-some (k ∷ ls) e = go (leb (length k) mostWords) refl (many-some ls) e
-  where
-    go : (t : Bool) → leb (length k) mostWords ≡ t
-        → (allShort ls ≡ false → (l : List ℕ) × List·Memᴰ l ls × (mostWords < length l)) → t && allShort ls ≡ false
-        → (l : List ℕ) × List·Memᴰ l (k ∷ ls) × (mostWords < length l)
-    go true q ih e = let f = ih e in (f .0, List·Memᴰ·tail (f .1), f .2)
-    go false q ih e = (k, List·Memᴰ·head refl, leb-false (length k) mostWords q)
+many-some ls e = let f = not-all fewWords ls e in (f .0, f .1, leb-false (length (f .0)) mostWords (f .2))
 
 pub total-words : (ls : List (List ℕ)) → ((l : List ℕ) → List·Memᴰ l ls → length l ≤ mostWords)
     → length (flatten ls) ≤ length ls * mostWords

@@ -10,8 +10,9 @@ use Rattle.answers.specs.declared.Refusal.the-variants.{Malformed, Unreadable}
 use Rattle.answers.specs.Refusals.{Check, check, Outcome, unless}
 use Rattle.text.specs.Decimal.{newline, space}
 use Rattle.text.specs.Number.{isDigit}
-use Rattle.records.specs.Reading.{mostWords}
+use Rattle.records.specs.Reading.{mostWords, fewWords}
 use Rattle.sheet.specs.Text.{heading, Records, lists, mostWord, mostBytes}
+use Rattle.answers.specs.Lists.{all}
 
 -- what follows the bytes of a prefix, where the bytes begin with it
 unfoldable pub behind : List ℕ → List ℕ → Option (List ℕ)
@@ -99,9 +100,8 @@ isNone none = true
 isNone (some r) = false
 
 -- no record has too many words
-unfoldable pub allShort : List (List ℕ) → Bool
-allShort [] = true
-allShort (l ∷ ls) = leb (length l) mostWords && allShort ls
+abbrev pub allShort : List (List ℕ) → Bool
+allShort ls = all fewWords ls
 
 -- The checks of a sheet's text, in 01's order: 10; then 1 for a record above 1,024 words, once the whole text is read
 unfoldable pub textChecks : List ℕ → List Check
