@@ -17,7 +17,7 @@ use Rattle.answers.specs.declared.Verdict.the-variants.{Accepted}
 use Rattle.ast_lifetimes.specs.declared.env.Counts.{Counts}
 use Rattle.ast_lifetimes.specs.Inner.{sidesOf, Built}
 use Rattle.ast_lifetimes.specs.Shapes.{implNames, methodNames, Pair, implPairs, methodPairs}
-use Rattle.ast_lifetimes.specs.Env.{nameChecks, allPairChecks, namesOf, boundsOf, envOf, envChecks, allNamesOf}
+use Rattle.ast_lifetimes.specs.Env.{nameChecks, allPairChecks, namesOf, boundsOf, namedEnv, envChecks, allNamesOf}
 use Rattle.ast_lifetimes.specs.Env.{impliedPairs, placeChecks, methodBounds}
 use Rattle.lifetimes.proofs.BoundsLaws.{below-larger, below-append, bounds-made}
 use Rattle.ast_lifetimes.proofs.Building.{pairs-below}
@@ -83,19 +83,19 @@ module _ (names bounds types : List ℕ) (n : NoneDue (placeChecks names bounds 
   pub accepted-small : allBelow 255 (methodBounds names bounds types) ≡ true
   accepted-small = below-larger _ 255 (omega (arith, accepted-names)) _ accepted-below
 
-  pub accepted-names-of : namesOf (envOf (allNamesOf names) (methodBounds names bounds types)) ≡ allNamesOf names
-  unfolding envOf
+  pub accepted-names-of : namesOf (namedEnv (allNamesOf names) (methodBounds names bounds types)) ≡ allNamesOf names
+  unfolding namedEnv
   accepted-names-of = take-append-seam (allNamesOf names) _
 
-  pub accepted-bounds-of : boundsOf (envOf (allNamesOf names) (methodBounds names bounds types)) ≡ methodBounds names bounds types
-  unfolding envOf
+  pub accepted-bounds-of : boundsOf (namedEnv (allNamesOf names) (methodBounds names bounds types)) ≡ methodBounds names bounds types
+  unfolding namedEnv
   accepted-bounds-of = bounds-made (methodBounds names bounds types)
 
-  pub accepted-valid : NoneDue (envChecks (envOf (allNamesOf names) (methodBounds names bounds types)))
-  unfolding envOf boundsFrom
+  pub accepted-valid : NoneDue (envChecks (namedEnv (allNamesOf names) (methodBounds names bounds types)))
+  unfolding namedEnv boundsFrom
   accepted-valid =
       let below : allBelow (length (allNamesOf names))
-      (boundsOf (envOf (allNamesOf names) (methodBounds names bounds types))) ≡ true =
+      (boundsOf (namedEnv (allNamesOf names) (methodBounds names bounds types))) ≡ true =
       rw accepted-bounds-of accepted-below in
       next (le-ltb 32 (length (allNamesOf names)) accepted-names)
       (next (le-ltb 256 (length (methodBounds names bounds types)) accepted-pushed) (next (ap not below) end))

@@ -18,7 +18,7 @@ use Rattle.answers.specs.Lists.{range}
 use Rattle.lifetimes.specs.Bounds.{above, byteOf, allBelow, boundsFrom}
 use Rattle.answers.proofs.ListLaws.{length-range}
 use Rattle.answers.proofs.Copying.{Copying, copying-more, drop-replicate}
-use Rattle.ast_lifetimes.specs.Env.{envOf}
+use Rattle.ast_lifetimes.specs.Env.{namedEnv}
 use Rattle.ast_lifetimes.specs.Inner.{sidesOf}
 use Rattle.ast_lifetimes.proofs.Building.{sides-below}
 
@@ -83,8 +83,8 @@ module _ {longs shorts : List ℕ} {pushed : ℕ} {bounds : List Bound} {i : ℕ
 -- the environment of the names in an array, and of the bounds
 pub assembled-env : (declared : List ℕ) {named : ℕ} (bs : List Bound) → named ≤ 32 → length declared ≡ 32 → {names : List ℕ}
     → names ≡ sets (replicate 32 0) 0 (take named declared) → {b : Bounds} → b ≡ boundsFrom bs
-    → record { names = names; named = named; bounds = b } ≡ envOf (take named declared) bs
-unfolding envOf
+    → record { names = names; named = named; bounds = b } ≡ namedEnv (take named declared) bs
+unfolding namedEnv
 assembled-env declared {named} bs room size copied joined =
     let n : length (take named declared) ≡ named = length-take-le named declared (omega arith) in
     let front : sets (replicate 32 0) 0 (take named declared) ≡ take named declared

@@ -29,7 +29,7 @@ use Rattle.records.specs.Reading.{shapeVerdict, fewWords}
 use Rattle.ast_lifetimes.specs.Shapes.{isName, namesInShape, implNames, methodNames, Pair, pairsOf}
 use Rattle.ast_lifetimes.specs.Shapes.{boundsInShape, implPairs, methodPairs}
 use Rattle.ast_lifetimes.specs.Types.{TypeName, typesInShape, typesOf}
-use Rattle.ast_lifetimes.specs.Env.{isDeclared, nameChecks, allPairChecks, boundsFor, allImplied, envOf, allNamesOf}
+use Rattle.ast_lifetimes.specs.Env.{isDeclared, nameChecks, allPairChecks, boundsFor, allImplied, namedEnv, allNamesOf}
 use Rattle.ast_lifetimes.specs.Env.{explicitBounds, impliedPairs, placeChecks, methodBounds, fromMethodItem, made}
 use Rattle.answers.specs.Lent.{judged}
 use Rattle.ast_lifetimes.specs.Inner.{sidesOf, Declares, Pushes, encodeAll, Below, Extends, Built}
@@ -390,12 +390,12 @@ module _ (names bounds types : List ℕ) where
   inShape = namesInShape names && (boundsInShape bounds && typesInShape types)
 
   pub shape-refused : {v : Verdict} {r : Refusal} → v ≡ shapeVerdict inShape → v ≡ Refused r
-      → record { verdict = v; env = envOf [] [] } ≡ made (envOf [] []) (fromMethodItem names bounds types)
+      → record { verdict = v; env = namedEnv [] [] } ≡ made (namedEnv [] []) (fromMethodItem names bounds types)
   unfolding fromMethodItem unless
   shape-refused {v} {r} is e = go inShape refl
     where
       go : (b : Bool) → inShape ≡ b
-          → record { verdict = v; env = envOf [] [] } ≡ made (envOf [] []) (fromMethodItem names bounds types)
+          → record { verdict = v; env = namedEnv [] [] } ≡ made (namedEnv [] []) (fromMethodItem names bounds types)
       go true h = let f : v ≡ Accepted = rw h at is in refused-accepted (sym e ∙ f)
       go false h = rw (is, h)
 
@@ -417,24 +417,24 @@ module _ (names bounds types : List ℕ) where
       {declared longs shorts : List ℕ} {counts : Counts}
       (b : Built names bounds types declared longs shorts counts) where
     pub place-refused : {r : Refusal} → counts .verdict ≡ Refused r
-        → record { verdict = counts .verdict; env = envOf [] [] }
-        ≡ made (envOf [] []) (fromMethodItem names bounds types)
+        → record { verdict = counts .verdict; env = namedEnv [] [] }
+        ≡ made (namedEnv [] []) (fromMethodItem names bounds types)
     unfolding fromMethodItem unless
     place-refused {r} e =
         let due : FirstDue r (placeChecks names bounds types) =
         refused-first (tt {0}) r (placeChecks names bounds types) (sym (b .verdict) ∙ e) in
-        rw (shape-holds is ok, due-refused (envOf (allNamesOf names) (methodBounds names bounds types)) due, e)
+        rw (shape-holds is ok, due-refused (namedEnv (allNamesOf names) (methodBounds names bounds types)) due, e)
 
     pub method-given : counts .verdict ≡ Accepted → {env : LifetimeEnv}
-        → env ≡ envOf (take (counts .named) declared) (sidesOf (counts .pushed) longs shorts)
-        → record { verdict = Accepted; env = env } ≡ made (envOf [] []) (fromMethodItem names bounds types)
+        → env ≡ namedEnv (take (counts .named) declared) (sidesOf (counts .pushed) longs shorts)
+        → record { verdict = Accepted; env = env } ≡ made (namedEnv [] []) (fromMethodItem names bounds types)
     unfolding fromMethodItem unless
     method-given e {env} q =
         let none : NoneDue (placeChecks names bounds types) =
         accepted-none (tt {0}) (placeChecks names bounds types) (sym (b .verdict) ∙ e) in
         rw (
           shape-holds is ok,
-          due-given (envOf (allNamesOf names) (methodBounds names bounds types)) none,
+          due-given (namedEnv (allNamesOf names) (methodBounds names bounds types)) none,
           q,
           b .named e,
           b .bounded e,

@@ -14,7 +14,7 @@ use Rattle.ast_lifetimes.specs.Shapes.{namesInShape, implNames, methodNa
 use Rattle.ast_lifetimes.specs.Shapes.{methodPairs}
 use Rattle.ast_lifetimes.specs.Types.{TypeName, Other, Named, Reference, Option, Result, typesInShape, typesOf}
 use Rattle.ast_lifetimes.specs.Env.{nameChecks, pairChecks, allPairChecks, boundOf, boundsFor, Behind, Ref}
-use Rattle.ast_lifetimes.specs.Env.{Nothing, behind, pathPairs, implied, allImplied, envOf, allNamesOf}
+use Rattle.ast_lifetimes.specs.Env.{Nothing, behind, pathPairs, implied, allImplied, namedEnv, allNamesOf}
 use Rattle.ast_lifetimes.specs.Env.{explicitBounds, impliedPairs, methodBounds, placeChecks, fromMethodItem}
 use Rattle.ast_lifetimes.specs.Entries.{Entry, Name, Bounded, Path, paths, entries, State, state, fold}
 use Rattle.ast_lifetimes.specs.Entries.{declare, push, step, built}
@@ -153,10 +153,10 @@ pub built-in-order : (names bounds types : List ℕ) → namesInShape names && (
     ≡ true → fromMethodItem names bounds types ≡ built names bounds types
 unfolding fromMethodItem unless
 built-in-order names bounds types shape =
-    let all = envOf (allNamesOf names) (methodBounds names bounds types) in
+    let all = namedEnv (allNamesOf names) (methodBounds names bounds types) in
     let more : unless (placeChecks names bounds types ++ []) all ≡ built names bounds types =
     sym (rw (← fold-entries names bounds types)
     at (after-unless (placeChecks names bounds types) []
-    (state (allNamesOf names) (methodBounds names bounds types)) all (λ s. Gives (envOf (s .names) (s .bounds)))
+    (state (allNamesOf names) (methodBounds names bounds types)) all (λ s. Gives (namedEnv (s .names) (s .bounds)))
     refl)) in
     rw shape (rw (append-nil (placeChecks names bounds types)) at more)

@@ -26,7 +26,7 @@ use Rattle.ast_lifetimes.specs.declared.env.LifetimeEnv.{LifetimeEnv}
 use Rattle.ast_lifetimes.specs.declared.implied.Implied.{Implied}
 use Rattle.records.specs.Reading.{shapeVerdict}
 use Rattle.ast_lifetimes.specs.Types.{typesInShape, typesOf}
-use Rattle.ast_lifetimes.specs.Env.{allPairChecks, allImplied, boundsFor, namesOf, boundsOf, envOf, envChecks}
+use Rattle.ast_lifetimes.specs.Env.{allPairChecks, allImplied, boundsFor, namesOf, boundsOf, namedEnv, envChecks}
 use Rattle.ast_lifetimes.specs.Env.{impliedOn, extendedWith, extendChecks, extendImplied, made}
 use Rattle.answers.specs.Lent.{judged}
 use Rattle.ast_lifetimes.specs.Inner.{sidesOf, Below, Splits, Extends}
@@ -125,7 +125,7 @@ module _ (e : LifetimeEnv) (types : List ℕ) {longs shorts longs₁ shorts₁ r
       (below-append _ _ _ (below-larger (e .named) 255 (omega (arith, few)) _ (valid-below e v))
       (below-larger _ 255 names _ (pairs-below (namesOf e) (e .bounds .pushed) (impliedOn e types) (extended-free a))))
 
-  pub extended-given : r .verdict ≡ Accepted → {env : LifetimeEnv} → env ≡ envOf (namesOf e) (sidesOf (r .pushed) longs₁ shorts₁)
+  pub extended-given : r .verdict ≡ Accepted → {env : LifetimeEnv} → env ≡ namedEnv (namesOf e) (sidesOf (r .pushed) longs₁ shorts₁)
       → record { verdict = Accepted; env = env }
       ≡ made e (unless (allPairChecks (namesOf e) (e .bounds .pushed) (impliedOn e types)) (extendedWith e types))
   extended-given a {env} is =

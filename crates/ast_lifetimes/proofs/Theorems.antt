@@ -23,7 +23,7 @@ use Rattle.ast_lifetimes.proofs.EntryLaws as entry-laws
 use Rattle.ast_lifetimes.proofs.DepthFirstLaws.{found, found-only}
 
 pub built-in-order : BuiltInOrder
-unfolding env.fromMethodItem env.envOf
+unfolding env.fromMethodItem env.namedEnv
 built-in-order names bounds types = record {
   folded = entry-laws.built-in-order names bounds types;
   names-first = λ e h. sym (ap (λ (d : LifetimeEnv). env.namesOf d) (given e h)) ∙ take-append-seam (env.allNamesOf names) _;
@@ -32,16 +32,16 @@ built-in-order names bounds types = record {
 }
   where
     given : (e : LifetimeEnv) → env.fromMethodItem names bounds types ≡ refusals.Gives e
-        → env.envOf (env.allNamesOf names) (env.methodBounds names bounds types) ≡ e
+        → env.namedEnv (env.allNamesOf names) (env.methodBounds names bounds types) ≡ e
     given e h =
-        (given-due (env.envOf (env.allNamesOf names) (env.methodBounds names bounds types)) e
-        (env.methodChecks names bounds types) h) .1
+        (given-due (env.namedEnv (env.allNamesOf names) (env.methodBounds names bounds types)) e
+        (env.itemChecks names bounds types) h) .1
 
 pub accepted-is-valid : AcceptedIsValid
 unfolding env.fromMethodItem
 accepted-is-valid names bounds types e h =
-    let g = given-due (env.envOf (env.allNamesOf names) (env.methodBounds names bounds types)) e
-    (env.methodChecks names bounds types) h in
+    let g = given-due (env.namedEnv (env.allNamesOf names) (env.methodBounds names bounds types)) e
+    (env.itemChecks names bounds types) h in
     rw (sym (g .1)) (accepted-valid names bounds types (none-rest (g .0)))
 
 pub ast-reach-is-outlives : AstReachIsOutlives
@@ -68,7 +68,7 @@ listed-depth-first longer names bs word h = record {
 }
 
 pub examples-hold : ExamplesHold
-unfolding env.fromMethodItem env.envOf env.listThan env.place env.nameChecks env.allPairChecks env.implied
+unfolding env.fromMethodItem env.namedEnv env.listThan env.place env.nameChecks env.allPairChecks env.implied
     env.allImplied shapes.namesInShape shapes.boundsInShape shapes.pairsOf types.readType
     reading.readAll reading.inShape reading.itemsOf refusals.unless lists.all lists.any lists.count bounds.boundsFrom lists.filter walk.traversal walk.walk
     walk.walkFor walk.unpushed walk.neighbours sets.member sets.insert

@@ -11,7 +11,7 @@ use Rattle.ast_lifetimes.specs.declared.env.LifetimeEnv.{LifetimeEnv}
 use Rattle.ast_lifetimes.specs.Shapes.{implNames, methodNames, Pair, implPairs, methodPairs}
 use Rattle.ast_lifetimes.specs.Types.{TypeName, Other, Named, Reference, Option, Result, typesOf}
 use Rattle.ast_lifetimes.specs.Env.{mostNames, isDeclared, pairChecks, boundOf, Behind, Ref, Nothing, behind}
-use Rattle.ast_lifetimes.specs.Env.{pathPairs, envOf}
+use Rattle.ast_lifetimes.specs.Env.{pathPairs, namedEnv}
 
 -- what the records say, in order: a name; a bound between two names; a path behind a named reference, with its
 -- lifetimes
@@ -73,4 +73,4 @@ step s (Path r lifetimes) = fold push s (pathPairs (s .names) (s .bounds) r life
 
 abbrev pub built : List ℕ → List ℕ → List ℕ → Outcome LifetimeEnv
 built names bounds types =
-    bind (fold step (state [] []) (entries names bounds types)) (λ s. Gives (envOf (s .names) (s .bounds)))
+    bind (fold step (state [] []) (entries names bounds types)) (λ s. Gives (namedEnv (s .names) (s .bounds)))

@@ -111,8 +111,8 @@ abbrev pub boundsOf : LifetimeEnv → List Bound
 boundsOf e = listOf (e .bounds)
 
 -- an environment with these names in the first places of its array, and these bounds
-unfoldable pub envOf : List ℕ → List Bound → LifetimeEnv
-envOf names bs = record {
+unfoldable pub namedEnv : List ℕ → List Bound → LifetimeEnv
+namedEnv names bs = record {
   names = names ++ replicate (mostNames - length names) 0;
   named = length names;
   bounds = boundsFrom bs;
@@ -145,8 +145,8 @@ placeChecks names bounds types =
     ++ allPairChecks (allNamesOf names) (length (implPairs bounds) + length (methodPairs bounds))
     (impliedPairs names bounds types))))
 
-abbrev pub methodChecks : List ℕ → List ℕ → List ℕ → List Check
-methodChecks names bounds types =
+abbrev pub itemChecks : List ℕ → List ℕ → List ℕ → List Check
+itemChecks names bounds types =
     check (not (namesInShape names && (boundsInShape bounds && typesInShape types))) Malformed
     ∷ placeChecks names bounds types
 
@@ -157,8 +157,8 @@ methodBounds names bounds types =
 
 unfoldable pub fromMethodItem : List ℕ → List ℕ → List ℕ → Outcome LifetimeEnv
 fromMethodItem names bounds types =
-    unless (methodChecks names bounds types)
-    (envOf (allNamesOf names) (methodBounds names bounds types))
+    unless (itemChecks names bounds types)
+    (namedEnv (allNamesOf names) (methodBounds names bounds types))
 
 -- `extend_implicit_lifetime_bounds` of an environment made in any way: the types' shape (1), the environment (4, 8),
 -- then what the types imply (3, 4)
@@ -167,7 +167,7 @@ abbrev pub impliedOn : LifetimeEnv → List ℕ → List Pair
 impliedOn e types = allImplied (namesOf e) (boundsOf e) (typesOf types)
 
 abbrev pub extendedWith : LifetimeEnv → List ℕ → LifetimeEnv
-extendedWith e types = envOf (namesOf e) (boundsOf e ++ boundsFor (namesOf e) (impliedOn e types))
+extendedWith e types = namedEnv (namesOf e) (boundsOf e ++ boundsFor (namesOf e) (impliedOn e types))
 
 abbrev pub extendChecks : LifetimeEnv → List ℕ → List Check
 extendChecks e types =

@@ -9,7 +9,7 @@ use Rattle.lifetimes.specs.declared.bounds.Bound.{Bound}
 use Rattle.answers.specs.Refusals.{Outcome, Gives, Refuses, over}
 use Rattle.lifetimes.specs.Bounds.{above}
 use Rattle.ast_lifetimes.specs.declared.env.LifetimeEnv.{LifetimeEnv}
-use Rattle.ast_lifetimes.specs.Env.{boundsOf, envOf, fromMethodItem, listThan}
+use Rattle.ast_lifetimes.specs.Env.{boundsOf, namedEnv, fromMethodItem, listThan}
 
 pub data Question : Type 0 where
   -- the bounds of the records names, bounds, types
@@ -26,7 +26,7 @@ bounds o = over boundsOf o
 
 abbrev pub answer : Question → Answer
 answer (Bounds names bs types) = Pushed (bounds (fromMethodItem names bs types))
-answer (LongerThan names bs word) = Listed (listThan true (envOf names bs) word 32)
+answer (LongerThan names bs word) = Listed (listThan true (namedEnv names bs) word 32)
 
 pub record Example : Type 0 where
   pub question : Question

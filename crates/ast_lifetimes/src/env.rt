@@ -12,7 +12,7 @@ ghost use mathlib.Core.Bool.{_&&_};
 ghost use Rattle.records.specs.Reading.{shapeVerdict};
 ghost use Rattle.ast_lifetimes.specs.Shapes.{namesInShape, boundsInShape};
 ghost use Rattle.ast_lifetimes.specs.Types.{typesInShape};
-ghost use Rattle.ast_lifetimes.specs.Env.{allPairChecks, envOf, envChecks, namesOf, fromMethodItem, impliedOn};
+ghost use Rattle.ast_lifetimes.specs.Env.{allPairChecks, namedEnv, envChecks, namesOf, fromMethodItem, impliedOn};
 ghost use Rattle.ast_lifetimes.specs.Env.{mostNames, extendedWith, extendImplied, listThan, made};
 ghost use Rattle.ast_lifetimes.specs.Inner.{sidesOf, Splits, Built};
 ghost use Rattle.lifetimes.specs.Limits.{mostBounds};
@@ -61,7 +61,7 @@ impl LifetimeEnv {
 
     // The environment without names, which stands beside a refusal.
     pub fn none() -> LifetimeEnv
-        ensures answer { λ r. ⌜ r ≡ envOf [] [] ⌝ }
+        ensures answer { λ r. ⌜ r ≡ namedEnv [] [] ⌝ }
     {
         LifetimeEnv {
             names: [0usize; LifetimeEnv::MAX_NAMES],
@@ -74,7 +74,7 @@ impl LifetimeEnv {
     // the types imply. Refused by 1 over all three records, then by 2, 3, 4 at the first bad place, with an environment
     // without names beside the refusal.
     pub fn from_method_item(names: &[usize], bounds: &[usize], types: &[usize]) -> Made
-        ensures answer { λ r. ⌜ r ≡ made (envOf [] []) (fromMethodItem (held names) (held bounds) (held types)) ⌝ }
+        ensures answer { λ r. ⌜ r ≡ made (namedEnv [] []) (fromMethodItem (held names) (held bounds) (held types)) ⌝ }
     {
         let shape = shape_of(names, bounds, types);
         let Verdict::Accepted = shape else {
@@ -316,7 +316,7 @@ fn build(
 
 // A refusal, beside an environment without names.
 fn refused(verdict: Verdict) -> Made
-    ensures { λ r. ⌜ r ≡ record { verdict = verdict; env = envOf [] [] } ⌝ }
+    ensures { λ r. ⌜ r ≡ record { verdict = verdict; env = namedEnv [] [] } ⌝ }
 {
     Made {
         verdict,
@@ -336,7 +336,7 @@ fn assembled(
     requires { ⌜ (length (now declared) ≡ mostNames) × (length (now longs) ≡ mostBounds)
         × (length (now shorts) ≡ mostBounds) ⌝ }
     requires { ⌜ allBelow 255 (sidesOf pushed (now longs) (now shorts)) ≡ true ⌝ }
-    ensures { λ r. ⌜ r ≡ envOf (take named (held declared)) (sidesOf pushed (held longs) (held shorts)) ⌝ }
+    ensures { λ r. ⌜ r ≡ namedEnv (take named (held declared)) (sidesOf pushed (held longs) (held shorts)) ⌝ }
 {
     let bounds = joined(longs, shorts, pushed);
     let mut names = [0usize; LifetimeEnv::MAX_NAMES];

@@ -23,7 +23,7 @@ use Rattle.types.specs.declared.types.Kind.the-variants.{Plain, Opaque, Struct,
 use Rattle.types.specs.LoweredTypes.{LoweredType, lifetimesOf}
 use Rattle.borrowing_param.specs.declared.visitor.LifetimeEdge.{LifetimeEdge}
 use Rattle.borrowing_param.specs.Edges.{edge}
-use Rattle.borrowing_param.specs.Brings.{drawn, anyDrawn, structEdges, optionOf, bringAs, bring, numberOf, note}
+use Rattle.borrowing_param.specs.Brings.{drawn, anyDrawn, structEdges, optionOf, bringAs, bring, answerNumber, note}
 use Rattle.borrowing_param.specs.Brings.{notes, noPairs, answerOf}
 use Rattle.borrowing_param.specs.Condition3.{Some, FilledBy, BroughtAs, Brought, ByDef, Answers}
 use Rattle.answers.specs.Lists.{any, numbered}
@@ -276,7 +276,7 @@ no-pair def used h = true≢false (sym h ∙ rw (zeros (decLt def 16)) (member-e
 -- ---- the answer
 
 -- 3 is the number of a struct with an edge
-number-three : (k : Kind) (es : List LifetimeEdge) → numberOf k es ≡ 3 → kindNumber k ≡ 3
+number-three : (k : Kind) (es : List LifetimeEdge) → answerNumber k es ≡ 3 → kindNumber k ≡ 3
 number-three Plain es h = absurd (omega arith)
 number-three Opaque [] h = absurd (omega arith)
 number-three Opaque (e ∷ es) h = absurd (omega arith)
@@ -284,7 +284,7 @@ number-three Slice [] h = absurd (omega arith)
 number-three Slice (e ∷ es) h = absurd (omega arith)
 number-three (Struct row) es h = refl
 
-number-other : (k : Kind) (es : List LifetimeEdge) → (numberOf k es ≡ 3 → ⊥) → (kindNumber k ≡ 3 → ⊥) ⊎ (es ≡ [])
+number-other : (k : Kind) (es : List LifetimeEdge) → (answerNumber k es ≡ 3 → ⊥) → (kindNumber k ≡ 3 → ⊥) ⊎ (es ≡ [])
 number-other Plain es h = inl (λ e. omega arith)
 number-other Opaque es h = inl (λ e. omega arith)
 number-other Slice es h = inl (λ e. omega arith)
@@ -297,7 +297,7 @@ pub answers : (k : Kind) (param few : ℕ) (es : List LifetimeEdge) → few ≤ 
     → Answers es param k (answerOf k es)
 answers k param few es small form = record { number = refl; pairs = carried; no-pairs = none }
   where
-    carried : numberOf k es ≡ 3 → (def used : ℕ) → (member (getD (notes noPairs es) def 0) used ≡ true)
+    carried : answerNumber k es ≡ 3 → (def used : ℕ) → (member (getD (notes noPairs es) def 0) used ≡ true)
         ↔ ((option : ℕ) × List·Memᴰ (edge used param 3 def option) es)
     carried h def used =
         let three = number-three k es h in
@@ -314,7 +314,7 @@ answers k param few es small form = record { number = refl; pairs = carried; no-
             let g : c .0 ≡ edge used param 3 def (c .0 .option) = rw (c .2, c .3, f .visits, what) in
             subst (λ (x : LifetimeEdge). List·Memᴰ x es) g (c .1)
 
-    none : (numberOf k es ≡ 3 → ⊥) → notes noPairs es ≡ noPairs
+    none : (answerNumber k es ≡ 3 → ⊥) → notes noPairs es ≡ noPairs
     none h = notes-none noPairs es
         (λ e m q. ⊎-elim (λ n. n (sym (form e m .1 .what) ∙ q)) (λ g. List·Memᴰ·not-nil (subst (List·Memᴰ e) g m))
         (number-other k es h))

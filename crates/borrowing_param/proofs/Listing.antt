@@ -41,7 +41,7 @@ use Rattle.borrowing_param.specs.declared.listed.Counted.{Counted}
 use Rattle.borrowing_param.specs.declared.visitor.LifetimeEdge.{LifetimeEdge}
 use Rattle.borrowing_param.specs.declared.visitor.BorrowingParamVisitor.{BorrowingParamVisitor}
 use Rattle.borrowing_param.specs.Edges.{width, mostDefs, edgeWords}
-use Rattle.borrowing_param.specs.Brings.{bring, numberOf}
+use Rattle.borrowing_param.specs.Brings.{bring, answerNumber}
 use Rattle.borrowing_param.specs.Visit.{usedOf, drawsIn, drawsOf, bringTo, bringAll, holding}
 use Rattle.borrowing_param.specs.BorrowMap.{listedTo, listedEdges, answersFrom, Mapping, mappingOf, borrowMap}
 use Rattle.borrowing_param.specs.BorrowMap.{mapAnswer, mapAnswers, mapEdges, MapsTo}
@@ -389,7 +389,7 @@ module _ {used : ℕ} {drawn words : List ℕ} {types : List LoweredType} {numbe
           → CountingParams used drawn words types numbers₀ (total + n) (param + 1) (p .next) (set numbers param number)
       unfolding numbered
       params-more {number} q =
-          let named : number ≡ numberOf (p .kind) (bringAll v (typeIn words p) param) =
+          let named : number ≡ answerNumber (p .kind) (bringAll v (typeIn words p) param) =
           q ∙ ap (numberBy (p .kind)) (c .counts param) ∙ number-is (p .kind) (bringAll v (typeIn words p) param) in
           let split : total + length (flatMap (listedTo v param (typeIn words p ∷ o .rest)) (members used))
           ≡ length (listedEdges v types) = rw (o .split) at (inv .sum) in

@@ -52,7 +52,7 @@ module _ (r : Records) where
   astPlaces = ast.placeChecks (r .names) (r .bounds) (r .types)
 
   abbrev elisionChecks : List Check
-  elisionChecks = rfc.methodChecks names (receiverOf (r .self)) (stepsOf (r .steps)) (stepsOf (r .returns))
+  elisionChecks = rfc.elisionChecks names (receiverOf (r .self)) (stepsOf (r .steps)) (stepsOf (r .returns))
 
   abbrev hirPlaces : List Check
   hirPlaces = placeChecks (r .structs) (r .params) (r .output)
@@ -66,7 +66,7 @@ module _ (r : Records) where
   -- the environment is one on which nothing is due
   module _ (placed : NoneDue astPlaces) (elided : NoneDue elisionChecks) where
     named : astEnvOf r .named ≡ length names
-    unfolding ast.envOf
+    unfolding ast.namedEnv
     named = refl
 
     few : loweredOf r .count ≤ 64
@@ -106,11 +106,11 @@ module _ (r : Records) where
     refuses f h = rw (due-refused (envOfSheet r) f) h
 
     -- names, bounds and types
-    module _ {a : ast-made.Made} (is : a ≡ ast.made (ast.envOf [] []) (ast.fromMethodItem (r .names) (r .bounds) (r .types))) where
+    module _ {a : ast-made.Made} (is : a ≡ ast.made (ast.namedEnv [] []) (ast.fromMethodItem (r .names) (r .bounds) (r .types))) where
       pub names-first : {k : Refusal} → a .verdict ≡ verdict.Refused k → FirstDue k (loweringChecks r)
       unfolding loweringChecks ast.fromMethodItem
       names-first {k} v =
-          let d = refused-first (astEnvOf r) k (ast.methodChecks (r .names) (r .bounds) (r .types))
+          let d = refused-first (astEnvOf r) k (ast.itemChecks (r .names) (r .bounds) (r .types))
           (sym (ap (λ (x : ast-made.Made). x .verdict) is) ∙ v) in
           let s : not (namesInShape (r .names) && (boundsInShape (r .bounds) && typesInShape (r .types))) ≡ false = rw (shapes .0) in
           first-more _ (first-behind (next s end) d)
@@ -120,15 +120,15 @@ module _ (r : Records) where
       names-refused v h = refuses (names-first v) h
 
       module _ (fine : a .verdict ≡ verdict.Accepted) where
-        ast-none : NoneDue (ast.methodChecks (r .names) (r .bounds) (r .types))
+        ast-none : NoneDue (ast.itemChecks (r .names) (r .bounds) (r .types))
         unfolding ast.fromMethodItem
         ast-none =
-            accepted-none (astEnvOf r) (ast.methodChecks (r .names) (r .bounds) (r .types))
+            accepted-none (astEnvOf r) (ast.itemChecks (r .names) (r .bounds) (r .types))
             (sym (ap (λ (x : ast-made.Made). x .verdict) is) ∙ fine)
 
         pub ast-is : a .env ≡ astEnvOf r
         unfolding ast.fromMethodItem
-        ast-is = ap (λ (x : ast-made.Made). x .env) is ∙ ap (resultOr (ast.envOf [] [])) (due-given (astEnvOf r) ast-none)
+        ast-is = ap (λ (x : ast-made.Made). x .env) is ∙ ap (resultOr (ast.namedEnv [] [])) (due-given (astEnvOf r) ast-none)
 
         pub placed : NoneDue astPlaces
         placed = none-rest ast-none

@@ -20,7 +20,7 @@ use Rattle.types.specs.LoweredTypes.{LoweredType}
 use Rattle.methods.specs.Method.{typesIn, structsAndParamsChecks}
 use Rattle.borrowing_param.specs.declared.visitor.LifetimeEdge.{LifetimeEdge}
 use Rattle.borrowing_param.specs.declared.visitor.BorrowingParamVisitor.{BorrowingParamVisitor}
-use Rattle.borrowing_param.specs.Brings.{optionOf, bring, numberOf}
+use Rattle.borrowing_param.specs.Brings.{optionOf, bring, answerNumber}
 use Rattle.borrowing_param.specs.Visit.{usedOf, drawsOf, bringTo, bringAll}
 use Rattle.borrowing_param.specs.VisitParam.{typeAt}
 use Rattle.borrowing_param.specs.BorrowMap.{listedTo, listedEdges, answersFrom}
@@ -171,7 +171,7 @@ module _ (v : BorrowingParamVisitor) where
   -- ---- the answers' numbers
 
   answer-at : (param : ℕ) (ts : List LoweredType) (n : ℕ) → n < length ts
-      → getD (answersFrom v param ts) n 0 ≡ numberOf (typeAt ts n .kind) (bringAll v (typeAt ts n) (param + n))
+      → getD (answersFrom v param ts) n 0 ≡ answerNumber (typeAt ts n .kind) (bringAll v (typeAt ts n) (param + n))
   unfolding numbered
   answer-at param [] n h = absurd (omega arith)
   answer-at param (t ∷ ts) zero h = rw add-zero
@@ -179,10 +179,10 @@ module _ (v : BorrowingParamVisitor) where
       rw same (answer-at (suc param) ts n (omega arith))
 
   pub answer-is : (ts : List LoweredType) (n : ℕ) → n < length ts
-      → getD (answersFrom v 0 ts) n 0 ≡ numberOf (typeAt ts n .kind) (bringAll v (typeAt ts n) n)
-  answer-is ts n h = answer-at 0 ts n h ∙ ap (λ (k : ℕ). numberOf (typeAt ts n .kind) (bringAll v (typeAt ts n) k)) (zero-add n)
+      → getD (answersFrom v 0 ts) n 0 ≡ answerNumber (typeAt ts n .kind) (bringAll v (typeAt ts n) n)
+  answer-is ts n h = answer-at 0 ts n h ∙ ap (λ (k : ℕ). answerNumber (typeAt ts n .kind) (bringAll v (typeAt ts n) k)) (zero-add n)
 
-number-most : (k : Kind) (es : List LifetimeEdge) → numberOf k es ≤ 4
+number-most : (k : Kind) (es : List LifetimeEdge) → answerNumber k es ≤ 4
 number-most Plain es = omega arith
 number-most Opaque [] = omega arith
 number-most Opaque (e ∷ es) = omega arith
@@ -192,7 +192,7 @@ number-most (Struct row) [] = omega arith
 number-most (Struct row) (e ∷ es) = omega arith
 
 -- from 2 on there is an edge
-number-some : (k : Kind) (es : List LifetimeEdge) → 2 ≤ numberOf k es → (e : LifetimeEdge) × List·Memᴰ e es
+number-some : (k : Kind) (es : List LifetimeEdge) → 2 ≤ answerNumber k es → (e : LifetimeEdge) × List·Memᴰ e es
 number-some Plain es h = absurd (omega arith)
 number-some Opaque [] h = absurd (omega arith)
 number-some Opaque (e ∷ es) h = (e, List·Memᴰ·head refl)
@@ -208,7 +208,7 @@ someNumber Opaque = 4
 someNumber Slice = 2
 someNumber (Struct row) = 3
 
-number-with : (k : Kind) (es : List LifetimeEdge) (e : LifetimeEdge) → List·Memᴰ e es → numberOf k es ≡ someNumber k
+number-with : (k : Kind) (es : List LifetimeEdge) (e : LifetimeEdge) → List·Memᴰ e es → answerNumber k es ≡ someNumber k
 number-with k [] e m = absurd (List·Memᴰ·not-nil m)
 number-with Plain (x ∷ es) e m = refl
 number-with Opaque (x ∷ es) e m = refl

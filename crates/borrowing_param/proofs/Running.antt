@@ -21,7 +21,7 @@ use Rattle.borrowing_param.specs.declared.visitor.ParamBorrowInfo.{Param
 use Rattle.borrowing_param.specs.declared.visitor.BorrowingParamVisitor.{BorrowingParamVisitor}
 use Rattle.borrowing_param.specs.Edges.{width, edgeWords, edgesOf}
 use Rattle.borrowing_param.specs.Brings.{refuse}
-use Rattle.borrowing_param.specs.Visit.{usedOf, holding, State, state, VisitOutcome, outcome, roomFor, stored}
+use Rattle.borrowing_param.specs.Visit.{usedOf, holding, State, state, VisitOutcome, outcome, roomFor, withEdges}
 use Rattle.borrowing_param.specs.Visit.{visitWith, afterVisits, visitAt}
 use Rattle.borrowing_param.specs.Visits.{unrefusedBy, allOf, edgesAfter, NoneRefused, Visits}
 use Rattle.borrowing_param.proofs.Joining.{join-cons, join-append, perm-length, perm-member, join-perm}
@@ -46,7 +46,7 @@ module _ (s : State) (info : ParamBorrowInfo) (es : List LifetimeEdge) where
       go [] k = absurd (omega arith)
       go (e ∷ l) k = lt-leb (width * (s .visitor .stored + length (e ∷ l))) (length (s .words)) k
 
-  pub visit-stores : width * (s .visitor .stored + length es) ≤ length (s .words) → visitWith s info es ≡ outcome info (stored s es)
+  pub visit-stores : width * (s .visitor .stored + length es) ≤ length (s .words) → visitWith s info es ≡ outcome info (withEdges s es)
   visit-stores h = rw (room h)
 
   pub visit-refused : width * s .visitor .stored ≤ length (s .words)

@@ -67,6 +67,6 @@ unfolding new.created new.visitorFrom lists.numbered lists.any lists.all lists.c
     read.linesBehind read.ten read.readLines read.behind text.text decimal.line decimal.following
     decimal.digits decimal.digitsFor
     shape.sheetInShape shapes.namesInShape shapes.boundsInShape shapes.pairsOf ast-types.readType
-    steps.readStep ast.nameChecks ast.allPairChecks ast.implied ast.allImplied ast.envOf ast.place
+    steps.readStep ast.nameChecks ast.allPairChecks ast.implied ast.allImplied ast.namedEnv ast.place
     rfc.throughout rfc.ownFrom
 examples-hold = ((refl, (refl, tt)), (refl, (refl, (refl, (refl, (refl, (refl, (refl, (refl, (refl, (refl, (refl, (refl, (refl, (refl, (refl, (refl, (refl, (refl, (refl, (refl, (refl, (refl, (refl, (refl, (refl, (refl, (refl, (refl, (refl, (refl, (refl, tt))))))))))))))))))))))))))))))))

@@ -40,7 +40,7 @@ use Rattle.borrowing_param.specs.declared.visitor.LifetimeEdge.{Lifetime
 use Rattle.borrowing_param.specs.declared.visitor.BorrowingParamVisitor.{BorrowingParamVisitor}
 use Rattle.borrowing_param.specs.declared.visitor.ParamBorrowInfo.{ParamBorrowInfo}
 use Rattle.borrowing_param.specs.Edges.{width}
-use Rattle.borrowing_param.specs.Brings.{numberOf, notes, noPairs, answerOf, refuse}
+use Rattle.borrowing_param.specs.Brings.{answerNumber, notes, noPairs, answerOf, refuse}
 use Rattle.borrowing_param.specs.Visit.{bringAll, holding, State, state, outcome, visitWith, visit}
 use Rattle.borrowing_param.specs.VisitParam.{typeAt, visitChecks, visitParam}
 use Rattle.borrowing_param.specs.Inner.{Inside, typeIn, nthType, FoundAt, numberBy, allIn, CountsAll, Stores}
@@ -218,7 +218,7 @@ parts-there f e =
 -- ---- the answer's number
 
 -- by how many edges there are, and by the edges
-pub number-is : (k : Kind) (es : List LifetimeEdge) → numberBy k (length es) ≡ numberOf k es
+pub number-is : (k : Kind) (es : List LifetimeEdge) → numberBy k (length es) ≡ answerNumber k es
 number-is Plain es = refl
 number-is Opaque [] = refl
 number-is Opaque (e ∷ es) = rw (ne-eqb (suc (length es)) 0 (λ z. omega arith))
@@ -283,7 +283,7 @@ number-worked f g borrowed-slice borrowed-opaque false false = omega arith
 
 -- a visit that brings nothing leaves all as it was
 stays : (v : BorrowingParamVisitor) (words : List ℕ) (k : Kind) (l : List LifetimeEdge) → length l ≡ 0
-    → outcome (record { verdict = Accepted; number = numberOf k l; pairs = noPairs }) (state v words)
+    → outcome (record { verdict = Accepted; number = answerNumber k l; pairs = noPairs }) (state v words)
     ≡ visitWith (state v words) (answerOf k l) l
 unfolding flatMap notes
 stays v words k [] e = rw (add-zero (v .stored))
@@ -314,7 +314,7 @@ module _ (v : BorrowingParamVisitor) (words : List ℕ) (t : LoweredType) (param
   many : n ≡ length es
   many = c .counts param
 
-  named : number ≡ numberOf (t .kind) es
+  named : number ≡ answerNumber (t .kind) es
   named = q ∙ ap (numberBy (t .kind)) many ∙ number-is (t .kind) es
 
   pub visit-nothing : n ≡ 0 → outcome (record { verdict = Accepted; number = number; pairs = noPairs }) (state v words)

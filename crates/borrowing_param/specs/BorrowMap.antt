@@ -13,7 +13,7 @@ use Rattle.borrowing_param.specs.declared.listed.BorrowMap.{BorrowMap}
 use Rattle.borrowing_param.specs.declared.visitor.LifetimeEdge.{LifetimeEdge}
 use Rattle.borrowing_param.specs.declared.visitor.BorrowingParamVisitor.{BorrowingParamVisitor}
 use Rattle.borrowing_param.specs.Edges.{edgeWords}
-use Rattle.borrowing_param.specs.Brings.{numberOf}
+use Rattle.borrowing_param.specs.Brings.{answerNumber}
 use Rattle.borrowing_param.specs.Visit.{usedOf, bringTo, bringAll}
 use Rattle.answers.specs.Lists.{numbered}
 
@@ -27,7 +27,7 @@ listedEdges v types = flatMap (listedTo v 0 types) (usedOf v)
 
 -- the answers' numbers, the parameters numbered from `param` on
 abbrev pub answersFrom : BorrowingParamVisitor → ℕ → List LoweredType → List ℕ
-answersFrom v param ts = numbered (λ p t. numberOf (t .kind) (bringAll v t p) ∷ []) param ts
+answersFrom v param ts = numbered (λ p t. answerNumber (t .kind) (bringAll v t p) ∷ []) param ts
 
 -- what `borrow_map` gives: the answers by parameter, the edges in listing order
 pub record Mapping : Type 0 where

@@ -51,14 +51,14 @@ unfoldable pub bring : (ℕ → Bool) → ℕ → ℕ → LoweredType → List L
 bring draws used param t = bringAs (t .kind) draws used param t
 
 -- the answer's number: 0 `NotBorrowed`, 1 `TemporarySlice`, 2 `BorrowedSlice`, 3 `Struct`, 4 `BorrowedOpaque`
-abbrev pub numberOf : Kind → List LifetimeEdge → ℕ
-numberOf Plain es = 0
-numberOf Opaque [] = 0
-numberOf Opaque (e ∷ es) = 4
-numberOf Slice [] = 1
-numberOf Slice (e ∷ es) = 2
-numberOf (Struct row) [] = 0
-numberOf (Struct row) (e ∷ es) = 3
+abbrev pub answerNumber : Kind → List LifetimeEdge → ℕ
+answerNumber Plain es = 0
+answerNumber Opaque [] = 0
+answerNumber Opaque (e ∷ es) = 4
+answerNumber Slice [] = 1
+answerNumber Slice (e ∷ es) = 2
+answerNumber (Struct row) [] = 0
+answerNumber (Struct row) (e ∷ es) = 3
 
 -- the pairs of def and used that `Struct` carries: for each lifetime of its definition the set of the used ones. An
 -- edge of another kind carries none
@@ -73,7 +73,7 @@ abbrev pub noPairs : List ℕ
 noPairs = replicate mostDefs 0
 
 abbrev pub answerOf : Kind → List LifetimeEdge → ParamBorrowInfo
-answerOf kind es = record { verdict = Accepted; number = numberOf kind es; pairs = notes noPairs es }
+answerOf kind es = record { verdict = Accepted; number = answerNumber kind es; pairs = notes noPairs es }
 
 -- "A refusal answers its number alone"
 abbrev pub refuse : Refusal → ParamBorrowInfo

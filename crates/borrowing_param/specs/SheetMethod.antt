@@ -14,7 +14,7 @@ use Rattle.elision.specs.Steps.{receiverOf, stepsOf}
 use Rattle.elision.specs.Rfc as rfc
 use Rattle.elision.specs.Lowering.{finished}
 use Rattle.methods.specs.Method.{placeChecks, outputLifetimes, anyPast}
-use Rattle.sheet.specs.Text.{Records, lists, wordsOf}
+use Rattle.sheet.specs.Text.{records, Records, lists, wordsOf}
 use Rattle.sheet.specs.Reading.{sheetOf}
 use Rattle.answers.specs.Lists.{endsFrom}
 use Rattle.sheet.specs.Answer.{withRoom}
@@ -28,7 +28,7 @@ loweredOf r =
 
 -- the AST's environment, of names, bounds and types; and the method's
 abbrev pub astEnvOf : Records → ast-env.LifetimeEnv
-astEnvOf r = ast.envOf (ast.allNamesOf (r .names)) (ast.methodBounds (r .names) (r .bounds) (r .types))
+astEnvOf r = ast.namedEnv (ast.allNamesOf (r .names)) (ast.methodBounds (r .names) (r .bounds) (r .types))
 
 abbrev pub envOfSheet : Records → LifetimeEnv
 envOfSheet r = finished (astEnvOf r) (loweredOf r .count)
@@ -38,7 +38,7 @@ envOfSheet r = finished (astEnvOf r) (loweredOf r .count)
 unfoldable pub loweringChecks : Records → List Check
 loweringChecks r =
     ast.placeChecks (r .names) (r .bounds) (r .types)
-    ++ (rfc.methodChecks (ast.allNamesOf (r .names)) (receiverOf (r .self)) (stepsOf (r .steps)) (stepsOf (r .returns))
+    ++ (rfc.elisionChecks (ast.allNamesOf (r .names)) (receiverOf (r .self)) (stepsOf (r .steps)) (stepsOf (r .returns))
     ++ (placeChecks (r .structs) (r .params) (r .output)
     ++ (check (anyPast (loweredOf r .count) (outputLifetimes (r .structs) (r .output))) OutOfRange ∷ [])))
 
@@ -53,7 +53,7 @@ lowerSheet bytes room = unless (withRoom (sheetRefusals bytes) room (sheetOf byt
 -- what the call answers, and what it writes
 abbrev pub methodAnswer : Outcome Records → SheetMethod
 methodAnswer (Gives r) = record { verdict = verdict.Accepted; ends = endsFrom 0 (lists r); env = envOfSheet r }
-methodAnswer (Refuses k) = record { verdict = verdict.Refused k; ends = replicate 10 0; env = envOf 0 0 [] }
+methodAnswer (Refuses k) = record { verdict = verdict.Refused k; ends = replicate records 0; env = envOf 0 0 [] }
 
 abbrev pub methodWords : Outcome Records → Outcome (List ℕ)
 methodWords o = over wordsOf o

@@ -60,13 +60,13 @@ abbrev pub roomFor : State → List LifetimeEdge → Bool
 roomFor s [] = true
 roomFor s (e ∷ es) = leb (width * (s .visitor .stored + length (e ∷ es))) (length (s .words))
 
-abbrev pub stored : State → List LifetimeEdge → State
-stored s es =
+abbrev pub withEdges : State → List LifetimeEdge → State
+withEdges s es =
     state (holding (s .visitor) (s .visitor .stored + length es))
     (sets (s .words) (width * s .visitor .stored) (flatMap edgeWords es))
 
 abbrev pub visitWith : State → ParamBorrowInfo → List LifetimeEdge → VisitOutcome
-visitWith s info es = cond (roomFor s es) (outcome info (stored s es)) (outcome (refuse NoRoom) s)
+visitWith s info es = cond (roomFor s es) (outcome info (withEdges s es)) (outcome (refuse NoRoom) s)
 
 -- one visit of a parameter of this type
 unfoldable pub visit : State → LoweredType → ℕ → VisitOutcome

@@ -19,6 +19,7 @@ use answers::Refusal;
 use answers::Verdict;
 use lifetimes::LifetimeEnv;
 use lifetimes::set;
+use sheet::Text;
 use sheet::record_words;
 
 // How many used lifetimes, parameters and edges there are, or why the call is refused; beside a refusal none.
@@ -100,10 +101,10 @@ fn borrow_within(
     let env = method.env;
     borrow_method(
         env,
-        record_words(scratch, ends, 6),
-        record_words(scratch, ends, 7),
-        record_words(scratch, ends, 8),
-        record_words(scratch, ends, 9),
+        record_words(scratch, ends, Text::STRUCTS),
+        record_words(scratch, ends, Text::PARAMS),
+        record_words(scratch, ends, Text::OUTPUT),
+        record_words(scratch, ends, Text::FORCE),
         used,
         answers,
         edges,

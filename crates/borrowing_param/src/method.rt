@@ -22,6 +22,7 @@ use lifetimes::Made;
 use methods::check_method;
 use records::End;
 use records::copy_words;
+use sheet::Text;
 use sheet::read_sheet;
 use sheet::record_words;
 
@@ -126,16 +127,16 @@ fn lower_laid(words: &[usize], ends: [usize; SheetMethod::RECORDS]) -> Made
     ensures { λ r. ⌜ r ≡ made (envOf 0 0 []) (methodOf (recordsAt (held words) ends)) ⌝ }
 {
     lower_records(
-        record_words(words, ends, 0),
-        record_words(words, ends, 1),
-        record_words(words, ends, 2),
-        record_words(words, ends, 3),
-        record_words(words, ends, 4),
-        record_words(words, ends, 5),
-        record_words(words, ends, 6),
-        record_words(words, ends, 7),
-        record_words(words, ends, 8),
-        record_words(words, ends, 9),
+        record_words(words, ends, Text::NAMES),
+        record_words(words, ends, Text::BOUNDS),
+        record_words(words, ends, Text::TYPES),
+        record_words(words, ends, Text::SELF),
+        record_words(words, ends, Text::STEPS),
+        record_words(words, ends, Text::RETURNS),
+        record_words(words, ends, Text::STRUCTS),
+        record_words(words, ends, Text::PARAMS),
+        record_words(words, ends, Text::OUTPUT),
+        record_words(words, ends, Text::FORCE),
     )
 }
 

@@ -29,7 +29,7 @@ use Rattle.ast_lifetimes.specs.Env.{namesOf, envChecks}
 use Rattle.elision.specs.declared.method.Lowering.{Lowering}
 use Rattle.elision.specs.declared.method.Totals.{Totals}
 use Rattle.elision.specs.Steps.{selfInShape, stepsInShape, stepsOf, receiverOf}
-use Rattle.elision.specs.Rfc.{Method, methodChecks, rfc141}
+use Rattle.elision.specs.Rfc.{Method, elisionChecks, rfc141}
 use Rattle.elision.specs.Machine.{runMethod}
 use Rattle.elision.specs.Lowering.{words, recordsOf, inShapeAll, measureChecks, roomChecks, lowerChecks}
 use Rattle.elision.specs.Lowering.{measureRecords, finished, finishEnv, lowerRecords, answered, LowersTo}
@@ -120,7 +120,7 @@ module _ {e : ast.LifetimeEnv} {self steps returns : List ℕ} (h : Valid e self
   records = recordsOf e self steps returns
 
   abbrev checks : List Check
-  checks = methodChecks (namesOf e) (receiverOf self) (stepsOf steps) (stepsOf returns)
+  checks = elisionChecks (namesOf e) (receiverOf self) (stepsOf steps) (stepsOf returns)
 
   abbrev run : Outcome Method
   run = runMethod (namesOf e) (receiverOf self) (stepsOf steps) (stepsOf returns)
@@ -229,8 +229,8 @@ module _ {e : ast.LifetimeEnv} {self steps returns : List ℕ} {m : Lowering} (h
   pub lower-shaped : (stepsInShape steps ≡ true) × (stepsInShape returns ≡ true)
   lower-shaped = all-shaped self steps returns (not-false (inShapeAll self steps returns) (none-first (h .none)))
 
-  parted : NoneDue (envChecks e) × NoneDue (methodChecks (namesOf e) (receiverOf self) (stepsOf steps) (stepsOf returns))
-  parted = none-split (envChecks e) (methodChecks (namesOf e) (receiverOf self) (stepsOf steps) (stepsOf returns))
+  parted : NoneDue (envChecks e) × NoneDue (elisionChecks (namesOf e) (receiverOf self) (stepsOf steps) (stepsOf returns))
+  parted = none-split (envChecks e) (elisionChecks (namesOf e) (receiverOf self) (stepsOf steps) (stepsOf returns))
       (none-rest (h .none))
 
   pub lower-named : e .named ≤ 32

@@ -20,7 +20,7 @@ use Rattle.elision.specs.declared.lowerer.Standing.the-variants.{Input, 
 use Rattle.elision.specs.declared.lowerer.Lowerer.{Lowerer}
 use Rattle.elision.specs.Steps.{Step, Lifetime, Generics, SelfType, Receiver, readStep, stepsOf}
 use Rattle.elision.specs.Rfc.{throughout, Occurrence, occurs, makes, isNew, anonymous, countOf, elidedCheck}
-use Rattle.elision.specs.Rfc.{checks, selfOccurrences, occurrences, stepChecks, inputs, outputs, methodChecks}
+use Rattle.elision.specs.Rfc.{checks, selfOccurrences, occurrences, stepChecks, inputs, outputs, elisionChecks}
 use Rattle.elision.specs.Rfc.{sourceCheck, sourceAt, valueAt, checksAt, Item, isSelfType, hasSelfType}
 use Rattle.elision.specs.Rfc.{occurrencesAt, ownFrom, loweredAt}
 use Rattle.elision.specs.Machine.{Answer, answer, inTurn, fits, lowerStep, oneStep, runSteps}
@@ -169,7 +169,7 @@ module _ (names : List ℕ) (self : Receiver) where
   unfolding throughout
   first-few h = rw (append-nil (selfOccurrences self)) h
 
-  pub method-few : (steps returns : List Step) → length names ≤ 64 → NoneDue (methodChecks names self steps returns)
+  pub method-few : (steps returns : List Step) → length names ≤ 64 → NoneDue (elisionChecks names self steps returns)
       → countOf names (occurrences self (inputs steps ++ outputs returns)) ≤ 64
   method-few steps returns h n =
       let p = none-split (checks names self [] (selfOccurrences self))

@@ -18,7 +18,7 @@ use Rattle.elision.specs.Steps.{readStep, stepsOf}
 use Rattle.elision.specs.Rfc.{throughout, Occurrence, occurs, values, Item, input, output, standingIn, padded}
 use Rattle.elision.specs.Rfc.{isSelfType, hasSelfType, stepOccurrences, occurrencesAt, occurrences, ownFrom}
 use Rattle.elision.specs.Rfc.{loweredAt, inputs, outputs, selfOccurrences, loweredSelf, loweredSteps}
-use Rattle.elision.specs.Rfc.{loweredReturns, methodChecks, methodOf, rfc141}
+use Rattle.elision.specs.Rfc.{loweredReturns, elisionChecks, methodOf, rfc141}
 use Rattle.elision.specs.Machine.{fits, runMethod}
 use Rattle.elision.proofs.RfcLaws.{method-said}
 use Rattle.elision.proofs.ReadingLaws.{AllFit, steps-fit}
@@ -173,7 +173,7 @@ module _ (names : List ℕ) (self : Receiver) where
       one (SelfRef word) = omega arith
 
   -- and each of them has a word of at most 64
-  pub accepted-small : length names ≤ 32 → (steps returns : List Step) → NoneDue (methodChecks names self steps returns)
+  pub accepted-small : length names ≤ 32 → (steps returns : List Step) → NoneDue (elisionChecks names self steps returns)
       → AllSmall (loweredSelf names self)
       × (AllSmall (loweredSteps names self steps) × AllSmall (loweredReturns names self steps returns))
   unfolding rfc141

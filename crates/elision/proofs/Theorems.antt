@@ -34,15 +34,15 @@ rfc141-says names self steps returns = record {
   again = laws.again-is names self;
   count = λ m e. sym
       (ap (λ (x : rfc.Method). x .count)
-      ((given-due (rfc.methodOf names self steps returns) m (rfc.methodChecks names self steps returns) e) .1));
+      ((given-due (rfc.methodOf names self steps returns) m (rfc.elisionChecks names self steps returns) e) .1));
   few = laws.method-few names self steps returns;
   given = λ m. (
-    given-due (rfc.methodOf names self steps returns) m (rfc.methodChecks names self steps returns),
+    given-due (rfc.methodOf names self steps returns) m (rfc.elisionChecks names self steps returns),
     λ h. due-given (rfc.methodOf names self steps returns) (h .0) ∙ rw (h .1),
   );
   refused =
       λ r. (
-        refused-due (rfc.methodOf names self steps returns) r (rfc.methodChecks names self steps returns),
+        refused-due (rfc.methodOf names self steps returns) r (rfc.elisionChecks names self steps returns),
         due-refused (rfc.methodOf names self steps returns),
       );
 }
@@ -65,7 +65,7 @@ step-refused-if-first-due names out s = record {
 }
 
 pub examples-hold : ExamplesHold
-unfolding lowering.lowerRecords env.envOf env.place lists.all hir.boundsFrom refusals.unless rfc.throughout lists.count
+unfolding lowering.lowerRecords env.namedEnv env.place lists.all hir.boundsFrom refusals.unless rfc.throughout lists.count
     lists.any rfc.ownFrom steps.readStep reading.readAll reading.inShape reading.itemsOf
     machine.inTurn machine.lowerWord machine.lowerStep machine.oneStep machine.wordedStep machine.unused
 examples-hold = ((refl, (refl, (refl, (refl, (refl, tt))))), (refl, (refl, (refl, tt))))

@@ -8,7 +8,7 @@ use lib.ListN.{length}
 use Rattle.answers.specs.declared.Refusal.the-variants.{Undeclared, NoSource, Ambiguous}
 use Rattle.answers.specs.declared.Verdict.the-variants.{Refused}
 use Rattle.answers.specs.Refusals.{Outcome, Gives, Refuses, over}
-use Rattle.ast_lifetimes.specs.Env.{envOf}
+use Rattle.ast_lifetimes.specs.Env.{namedEnv}
 use Rattle.elision.specs.declared.lowerer.Stepped.{Stepped}
 use Rattle.elision.specs.Steps.{NoSelf, stepsOf}
 use Rattle.elision.specs.Rfc.{Method, positions, occurrences, inputs}
@@ -38,7 +38,8 @@ abbrev pub wordsOf : Outcome Method → Outcome Words
 wordsOf o = over (λ m. record { self = words (m .self); steps = words (m .steps); returns = words (m .returns) }) o
 
 abbrev pub answer : Question → Answer
-answer (Lower names self steps returns) = Lowered (wordsOf (lowerRecords (envOf names []) self steps returns 16 16 16))
+answer (Lower names self steps returns) =
+    Lowered (wordsOf (lowerRecords (namedEnv names []) self steps returns 16 16 16))
 answer (Positions names steps) = Count (length (positions names (occurrences NoSelf (inputs (stepsOf steps)))))
 answer (OneStep names out step) = Steps (stepped (unused names) (wordedStep names out step (unused names)))
 

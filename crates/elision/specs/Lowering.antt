@@ -18,7 +18,7 @@ use Rattle.ast_lifetimes.specs.declared.env.LifetimeEnv as ast
 use Rattle.ast_lifetimes.specs.Env.{namesOf, envChecks}
 use Rattle.elision.specs.declared.method.Lowering.{Lowering}
 use Rattle.elision.specs.Steps.{selfInShape, stepsInShape, stepsOf, receiverOf}
-use Rattle.elision.specs.Rfc.{Method, methodOf, methodChecks}
+use Rattle.elision.specs.Rfc.{Method, methodOf, elisionChecks}
 
 -- 01's lowered words: 0 static, k the lifetime numbered k − 1
 abbrev pub words : List MaybeStatic → List ℕ
@@ -37,7 +37,7 @@ abbrev pub measureChecks : ast.LifetimeEnv → List ℕ → List ℕ → List �
 measureChecks e self steps returns =
     check (not (inShapeAll self steps returns)) Malformed
     ∷ (envChecks e
-    ++ methodChecks (namesOf e) (receiverOf self) (stepsOf steps) (stepsOf returns))
+    ++ elisionChecks (namesOf e) (receiverOf self) (stepsOf steps) (stepsOf returns))
 
 -- then a slice too short (9)
 abbrev pub roomChecks : Method → ℕ → ℕ → ℕ → List Check

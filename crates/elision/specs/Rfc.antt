@@ -216,8 +216,8 @@ abbrev pub countAll : List ℕ → Receiver → List Step → List Step → ℕ
 countAll names self steps returns = countOf names (occurrences self (inputs steps ++ outputs returns))
 
 -- by place: self, steps, returns; within a step the words in order, then the appended ones
-abbrev pub methodChecks : List ℕ → Receiver → List Step → List Step → List Check
-methodChecks names self steps returns =
+abbrev pub elisionChecks : List ℕ → Receiver → List Step → List Step → List Check
+elisionChecks names self steps returns =
     checks names self [] (selfOccurrences self)
     ++ (throughout (stepChecks names self) [] (inputs steps)
     ++ throughout (stepChecks names self) (inputs steps) (outputs returns))
@@ -239,4 +239,4 @@ methodOf names self steps returns = record {
 
 -- what RFC 141 gives for a method, or the first refusal due
 unfoldable pub rfc141 : List ℕ → Receiver → List Step → List Step → Outcome Method
-rfc141 names self steps returns = unless (methodChecks names self steps returns) (methodOf names self steps returns)
+rfc141 names self steps returns = unless (elisionChecks names self steps returns) (methodOf names self steps returns)

@@ -18,7 +18,7 @@ use Rattle.elision.specs.declared.lowerer.Lowerer.{Lowerer}
 use Rattle.elision.specs.Steps.{Step, Receiver, wordsOf, allWords, stepsInShape, stepsOf}
 use Rattle.elision.specs.Rfc.{Occurrence, occurs, makes, isNew, anonymous, countOf, sourceAt, valueAt, checksAt}
 use Rattle.elision.specs.Rfc.{Item, isSelfType, hasSelfType, occurrencesAt, occurrences, ownFrom, loweredAt}
-use Rattle.elision.specs.Rfc.{inputs, outputs, Method, methodChecks, methodOf, rfc141}
+use Rattle.elision.specs.Rfc.{inputs, outputs, Method, elisionChecks, methodOf, rfc141}
 use Rattle.elision.specs.Machine.{inTurn, oneStep, unused, selfRef, stepped, wordedStep, runSteps, runMethod}
 use Rattle.elision.specs.StepChecks.{wordChecks, stepChecks, wordedChecks}
 use Rattle.elision.specs.Examples.{starred, further, Right}
@@ -53,12 +53,12 @@ pub record Says (names : List ℕ) (self : Receiver) (steps returns : List Step)
   -- the count, never above 64, and what is given and refused
   pub count : (m : Method) → rfc141 names self steps returns ≡ Gives m → m .count ≡ length names
       + anonymous (occurrences self (inputs steps ++ outputs returns))
-  pub few : length names ≤ 64 → NoneDue (methodChecks names self steps returns)
+  pub few : length names ≤ 64 → NoneDue (elisionChecks names self steps returns)
       → countOf names (occurrences self (inputs steps ++ outputs returns)) ≤ 64
   pub given : (m : Method) → (rfc141 names self steps returns ≡ Gives m)
-      ↔ (NoneDue (methodChecks names self steps returns) × (methodOf names self steps returns ≡ m))
+      ↔ (NoneDue (elisionChecks names self steps returns) × (methodOf names self steps returns ≡ m))
   pub refused : (r : Refusal) → (rfc141 names self steps returns ≡ Refuses r)
-      ↔ FirstDue r (methodChecks names self steps returns)
+      ↔ FirstDue r (elisionChecks names self steps returns)
 
 abbrev pub Rfc141Says : Type 0
 Rfc141Says = (names : List ℕ) (self : Receiver) (steps returns : List Step) → Says names self steps returns

@@ -61,7 +61,7 @@ unfolding response unless listingOf listingChecks sheets.sheetRefusals sheets.lo
     decimal.following decimal.digits decimal.digitsFor
     shape.sheetInShape rows.methodInShape shapes.namesInShape shapes.boundsInShape shapes.pairsOf
     ast-types.readType steps.readStep reading.readAll reading.inShape reading.itemsOf
-    declared.nameChecks declared.allPairChecks declared.implied declared.allImplied declared.envOf
+    declared.nameChecks declared.allPairChecks declared.implied declared.allImplied declared.namedEnv
     declared.place rfc.throughout rfc.ownFrom
     rows.readKnown rows.readTypes rows.readRow types.readOpaque types.readStruct types.readSlice types.readBare
     types.readLowered lists.numbered lists.any lists.all lists.count lists.range lists.filter

@@ -98,7 +98,7 @@ module _ (r : Records) (first : NoneDue (recordsChecks r)) (given taken : ℕ) w
   returns-short h = (λ a. eighth h returns-long (a .1), refl)
 
   module _ (steps-room : length (r .steps) ≤ given / perWord) (returns-room : length (r .returns) ≤ taken / perWord)
-      {a : ast-made.Made} (is : a ≡ ast.made (ast.envOf [] []) (ast.fromMethodItem (r .names) (r .bounds) (r .types))) where
+      {a : ast-made.Made} (is : a ≡ ast.made (ast.namedEnv [] []) (ast.fromMethodItem (r .names) (r .bounds) (r .types))) where
     pub names-listed : {k : Refusal} {out : List ℕ} → a .verdict ≡ verdict.Refused k
         → Lists (listedRecords r) out (listed.Refused k) out
     names-listed v = refuses r (names-first r first is v)
@@ -151,7 +151,7 @@ pub record Elided (r : Records) (own given taken : List ℕ) (a : ast-made.Made)
   pub first : NoneDue (recordsChecks r)
   pub steps-room : length (r .steps) ≤ length given / perWord
   pub returns-room : length (r .returns) ≤ length taken / perWord
-  pub names : a ≡ ast.made (ast.envOf [] []) (ast.fromMethodItem (r .names) (r .bounds) (r .types))
+  pub names : a ≡ ast.made (ast.namedEnv [] []) (ast.fromMethodItem (r .names) (r .bounds) (r .types))
   pub fine : a .verdict ≡ verdict.Accepted
   pub lowers : l ≡ answered (a .env) (lowerRecords (a .env) (r .self) (r .steps) (r .returns) 1 (length given) (length taken))
   pub own-written : own₁

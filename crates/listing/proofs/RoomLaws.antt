@@ -246,11 +246,11 @@ module _ (r : Records) (first : NoneDue (recordsChecks r)) (none : NoneDue (lowe
 
   parts : (sheetInShape r ≡ true)
       × NoneDue (ast.placeChecks (r .names) (r .bounds) (r .types))
-      × NoneDue (rfc.methodChecks names (receiverOf (r .self)) (stepsOf (r .steps)) (stepsOf (r .returns)))
+      × NoneDue (rfc.elisionChecks names (receiverOf (r .self)) (stepsOf (r .steps)) (stepsOf (r .returns)))
   unfolding loweringChecks
   parts =
       let p = none-split (ast.placeChecks (r .names) (r .bounds) (r .types)) _ none in
-      let q = none-split (rfc.methodChecks names (receiverOf (r .self)) (stepsOf (r .steps)) (stepsOf (r .returns))) _ (p .1) in
+      let q = none-split (rfc.elisionChecks names (receiverOf (r .self)) (stepsOf (r .steps)) (stepsOf (r .returns))) _ (p .1) in
       (not-false (sheetInShape r) (none-first first), p .0, q .0)
 
   lowered-short : length (loweredLines elided) ≤ loweredBytes

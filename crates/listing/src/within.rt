@@ -22,6 +22,7 @@ use methods::MAX_PARAMS;
 use methods::UsedLifetimes;
 use methods::used_method_lifetimes;
 use records::End;
+use sheet::Text;
 use sheet::read_sheet;
 use sheet::record_words;
 
@@ -86,16 +87,16 @@ fn list_laid(
         (Ample (room given) (room taken) (room lists) (room edges)) (held out) r (left out) ⌝ }
 {
     list_records(
-        record_words(words, ends, 0),
-        record_words(words, ends, 1),
-        record_words(words, ends, 2),
-        record_words(words, ends, 3),
-        record_words(words, ends, 4),
-        record_words(words, ends, 5),
-        record_words(words, ends, 6),
-        record_words(words, ends, 7),
-        record_words(words, ends, 8),
-        record_words(words, ends, 9),
+        record_words(words, ends, Text::NAMES),
+        record_words(words, ends, Text::BOUNDS),
+        record_words(words, ends, Text::TYPES),
+        record_words(words, ends, Text::SELF),
+        record_words(words, ends, Text::STEPS),
+        record_words(words, ends, Text::RETURNS),
+        record_words(words, ends, Text::STRUCTS),
+        record_words(words, ends, Text::PARAMS),
+        record_words(words, ends, Text::OUTPUT),
+        record_words(words, ends, Text::FORCE),
         given,
         taken,
         lists,

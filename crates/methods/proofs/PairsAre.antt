@@ -21,7 +21,7 @@ use Rattle.types.specs.Rows.{rowsOf}
 use Rattle.methods.specs.declared.fields.FieldPair.{FieldPair}
 use Rattle.methods.specs.Method.{rowAt}
 use Rattle.methods.specs.Fields.{fieldAt, fieldPair, filledBy, pairsFrom, fieldChecks, fieldPairs}
-use Rattle.methods.specs.Theorems.{ByDef, FilledBy, FieldPairsAre}
+use Rattle.methods.specs.Theorems.{ByDef, FieldFilled, FieldPairsAre}
 use Rattle.answers.specs.Lists.{numbered}
 
 module _ (declared : ℕ) where
@@ -94,7 +94,7 @@ module _ (declared : ℕ) where
       go Static r = r
       go (NonStatic l) r = two (ltb (l .0) declared) (l .0) r
 
-  all-filled : (path : List ℕ) → FilledBy declared path (pairsFrom declared 0 path)
+  all-filled : (path : List ℕ) → FieldFilled declared path (pairsFrom declared 0 path)
   all-filled path = record {
     members = λ j k. (
       λ m. let r = pairs-from 0 j k path m in

@@ -45,7 +45,7 @@ abbrev pub ByDef : FieldPair → FieldPair → Type 0
 ByDef p q = p .def .0 < q .def .0
 
 -- the pairs of a field with these path words in a row with so many lifetimes
-pub record FilledBy (declared : ℕ) (path : List ℕ) (pairs : List FieldPair) : Type 0 where
+pub record FieldFilled (declared : ℕ) (path : List ℕ) (pairs : List FieldPair) : Type 0 where
   pub members : (j k : ℕ) → List·Memᴰ (fieldPair j k) pairs
       ↔ ((j < length path) × (defFromWord (getD path j 0) ≡ definition.NonStatic (defLifetime k)) × (k < declared))
   pub ascending : Pairwise ByDef pairs
@@ -54,7 +54,7 @@ pub record FilledBy (declared : ℕ) (path : List ℕ) (pairs : List FieldPair) 
 -- field's definition with the outer row's lifetime that fills it; static and numbers past the row's d are left out")
 abbrev pub FieldPairsAre : Type 0
 FieldPairsAre = (structs : List ℕ) (row field : ℕ) (pairs : List FieldPair) → fieldPairs structs row field ≡ Gives pairs
-    → FilledBy (rowAt (rowsOf structs) row .lifetimes) (fieldAt (rowsOf structs) row field .path) pairs
+    → FieldFilled (rowAt (rowsOf structs) row .lifetimes) (fieldAt (rowsOf structs) row field .path) pairs
 
 -- The examples
 abbrev pub ExamplesHold : Type 0

@@ -62,6 +62,6 @@ examples-hold = (
 pub sheet-examples-hold : SheetExamplesHold
 unfolding readSheet sheetChecks textChecks sheetOf sheetIn linesBehind ten readLines behind all unless flatten
     flatMap text line following digits digitsFor
-    sheetInShape methodInShape namesInShape  boundsInShape inShape itemsOf readAll readType readStep readKnown
+    sheetInShape methodInShape namesInShape boundsInShape inShape itemsOf readAll readType readStep readKnown
     readLowered readBare readOpaque readSlice readStruct
 sheet-examples-hold = (refl, (refl, (refl, (refl, (refl, (refl, (refl, (refl, (refl, (refl, (refl, (refl, tt))))))))))))

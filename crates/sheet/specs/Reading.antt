@@ -11,7 +11,7 @@ use Rattle.answers.specs.Refusals.{Check, check, Outcome, unless}
 use Rattle.text.specs.Decimal.{newline, space}
 use Rattle.text.specs.Number.{isDigit}
 use Rattle.records.specs.Reading.{mostWords, fewWords}
-use Rattle.sheet.specs.Text.{heading, Records, lists, mostWord, mostBytes}
+use Rattle.sheet.specs.Text.{records, heading, Records, lists, mostWord, mostBytes}
 use Rattle.answers.specs.Lists.{all}
 
 -- what follows the bytes of a prefix, where the bytes begin with it
@@ -80,7 +80,7 @@ recordsOf ls =
 
 unfoldable pub ten : Option (List (List ℕ)) → Option Records
 ten none = none
-ten (some ls) = cond (eqb (length ls) 10) (some (recordsOf ls)) none
+ten (some ls) = cond (eqb (length ls) records) (some (recordsOf ls)) none
 
 -- the lines behind the heading
 unfoldable pub linesBehind : Option (List ℕ) → Option (List (List ℕ))

@@ -41,6 +41,10 @@ wordsOf r = flatten (lists r)
 unfoldable pub text : Records → List ℕ
 text r = heading ++ flatMap line (lists r)
 
+-- how many records there are
+abbrev pub records : ℕ
+records = 10
+
 -- the limits of a word, and of a sheet in bytes; that of a record in words is `mostWords` of `records`
 abbrev pub mostWord : ℕ
 mostWord = 65535

@@ -10,6 +10,8 @@ ghost use Rattle.answers.specs.Lent.{held, left};
 ghost use Rattle.sheet.specs.declared.lines.Judged.the-variants.{TooLong};
 ghost use Rattle.records.specs.Reading.{mostWords};
 ghost use Rattle.sheet.specs.Inner.{LineRead, LinesRead};
+ghost use Rattle.sheet.specs.Text.{records};
+use super::reading::Text;
 use records::End;
 use text::Found;
 use text::read_number;
@@ -91,16 +93,16 @@ pub(crate) fn lines(
     bytes: &[u8],
     from: usize,
     words: &mut [usize],
-    ends: &mut [usize; 10],
+    ends: &mut [usize; Text::RECORDS],
 ) -> Judged
-    requires { ⌜ length (now ends) ≡ 10 ⌝ }
+    requires { ⌜ length (now ends) ≡ records ⌝ }
     ensures { λ r. ⌜ LinesRead (held bytes) from (held words) (left words) (left ends) r ⌝ }
 {
     let mut at = from;
     let mut count = 0;
     let mut judged = Judged::Good;
     let mut i = 0;
-    while i < 10 {
+    while i < Text::RECORDS {
         let read = line(bytes, at, words, count);
         let Read::Words {
             at: next,

@@ -20,12 +20,35 @@ use answers::Verdict;
 // refusal all ends are 0.
 pub struct Text {
     pub verdict: Verdict,
-    pub ends: [usize; 10],
+    pub ends: [usize; Text::RECORDS],
 }
 
 impl Text {
     // How many bytes a sheet may have.
     pub const MAX_BYTES: usize = 65536;
+
+    // How many records it has, and the number of each.
+    pub const RECORDS: usize = 10;
+
+    pub const NAMES: usize = 0;
+
+    pub const BOUNDS: usize = 1;
+
+    pub const TYPES: usize = 2;
+
+    pub const SELF: usize = 3;
+
+    pub const STEPS: usize = 4;
+
+    pub const RETURNS: usize = 5;
+
+    pub const STRUCTS: usize = 6;
+
+    pub const PARAMS: usize = 7;
+
+    pub const OUTPUT: usize = 8;
+
+    pub const FORCE: usize = 9;
 
     // How many bytes the heading line has.
     pub const HEADING: usize = 66;
@@ -45,7 +68,7 @@ pub fn read_text(sheet: &[u8], words: &mut [usize]) -> Text
         return judged;
     };
     let ends = judged.ends;
-    if !write_all(sheet, ends[9], words) {
+    if !write_all(sheet, ends[Text::FORCE], words) {
         return refused(Refusal::NoRoom);
     }
     judged
@@ -57,7 +80,7 @@ pub(crate) fn refused(refusal: Refusal) -> Text
 {
     Text {
         verdict: Verdict::Refused(refusal),
-        ends: [0; 10],
+        ends: [0; Text::RECORDS],
     }
 }
 
@@ -82,7 +105,7 @@ pub(crate) fn scan(sheet: &[u8], scratch: &mut [usize]) -> Text
     if !headed(sheet) {
         return refused(Refusal::Unreadable);
     }
-    let mut ends = [0usize; 10];
+    let mut ends = [0usize; Text::RECORDS];
     match lines(sheet, Text::HEADING, scratch, &mut ends) {
         Judged::Unreadable => refused(Refusal::Unreadable),
         Judged::TooLong => refused(Refusal::Malformed),
@@ -112,7 +135,7 @@ fn write(sheet: &[u8], words: &mut [usize])
     requires { ⌜ NoneDue (textChecks (now sheet)) ⌝ }
     ensures { λ _. ⌜ left words ≡ sets (held words) 0 (wordsOf (sheetOf (held sheet))) ⌝ }
 {
-    let mut ends = [0usize; 10];
+    let mut ends = [0usize; Text::RECORDS];
     lines(sheet, Text::HEADING, words, &mut ends);
 }
 

@@ -3,13 +3,15 @@ ghost use Prim.Native.Nat.{_<_};
 ghost use mathlib.Core.Path.{_≡_};
 ghost use Rattle.answers.specs.Lent.{held};
 ghost use Rattle.sheet.specs.Answer.{recordWords, startOf};
+ghost use Rattle.sheet.specs.Text.{records};
+use super::reading::Text;
 
 // The words of the record with a number, 0 to 9, in a slice where ten records end at these places: as `read_text` and
 // `read_sheet` write and answer them. None where there is no such record, or where records in this slice cannot end so.
-pub fn record_words(words: &[usize], ends: [usize; 10], i: usize) -> &[usize]
+pub fn record_words(words: &[usize], ends: [usize; Text::RECORDS], i: usize) -> &[usize]
     ensures answer { λ r. ⌜ now r ≡ recordWords (held words) ends i ⌝ }
 {
-    if 10 <= i {
+    if Text::RECORDS <= i {
         return &words[0..0];
     }
     let from = start_of(ends, i);
@@ -24,8 +26,8 @@ pub fn record_words(words: &[usize], ends: [usize; 10], i: usize) -> &[usize]
 }
 
 // Where a record starts.
-fn start_of(ends: [usize; 10], i: usize) -> usize
-    requires { ⌜ i < 10 ⌝ }
+fn start_of(ends: [usize; Text::RECORDS], i: usize) -> usize
+    requires { ⌜ i < records ⌝ }
     ensures { λ r. ⌜ r ≡ startOf ends i ⌝ }
 {
     if i == 0 {

@@ -105,7 +105,7 @@ fn read_within(sheet: &[u8], scratch: &mut [usize], words: &mut [usize]) -> Text
     if let Verdict::Refused(refusal) = shape {
         return refused(refusal);
     }
-    let Listed::Count(_) = copy_words(scratch, ends[9], words) else {
+    let Listed::Count(_) = copy_words(scratch, ends[Text::FORCE], words) else {
         return refused(Refusal::NoRoom);
     };
     text
