@@ -97,10 +97,9 @@ impl BorrowingParamVisitor {
             }
             UsedLifetimes::Set(used) => {
                 let reach = env.reach_sets(true);
-                let sets = reach.sets;
                 Created {
                     verdict: Verdict::Accepted,
-                    visitor: BorrowingParamVisitor::from_sets(used, &sets),
+                    visitor: BorrowingParamVisitor::from_sets(used, &reach.sets),
                 }
             }
         }

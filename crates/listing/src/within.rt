@@ -196,8 +196,7 @@ fn list_method(
     }
     let mut ends = [0usize; LifetimeEnv::MAX_LIFETIMES];
     let longer = env.all_lists(true, lists, &mut ends);
-    let sets = longer.sets;
-    let visitor = BorrowingParamVisitor::from_sets(used, &sets);
+    let visitor = BorrowingParamVisitor::from_sets(used, &longer.sets);
     let mut answers = [0usize; MAX_PARAMS];
     let map = visitor.borrow_map(structs, params, &mut answers, edges);
     let verdict = map.verdict;
