@@ -20,7 +20,7 @@ use Rattle.ast_lifetimes.specs.Shapes.{implNames, methodNames, Pair, imp
 use Rattle.ast_lifetimes.specs.Env.{nameChecks, allPairChecks, namesOf, boundsOf, namedEnv, envChecks, allNamesOf}
 use Rattle.ast_lifetimes.specs.Env.{impliedPairs, placeChecks, methodBounds}
 use Rattle.lifetimes.proofs.BoundsLaws.{below-larger, below-append, bounds-made}
-use Rattle.ast_lifetimes.proofs.Building.{pairs-below}
+use Rattle.ast_lifetimes.proofs.BuildLaws.{pairs-below}
 
 names-few : (before names : List ℕ) → NoneDue (nameChecks before names) → length before ≤ 32 → length before + length names ≤ 32
 unfolding nameChecks

@@ -18,7 +18,7 @@ use Rattle.ast_lifetimes.specs.Env.{Nothing, behind, pathPairs, implied,
 use Rattle.ast_lifetimes.specs.Env.{explicitBounds, impliedPairs, methodBounds, placeChecks, fromMethodItem}
 use Rattle.ast_lifetimes.specs.Entries.{Entry, Name, Bounded, Path, paths, entries, State, state, fold}
 use Rattle.ast_lifetimes.specs.Entries.{declare, push, step, built}
-use Rattle.ast_lifetimes.proofs.PairLaws.{allPairChecks-append}
+use Rattle.ast_lifetimes.proofs.BoundsLaws.{allPairChecks-append}
 
 -- some checks, and then what follows if none is due
 after-unless : {A B : Type 0} (checks more : List Check) (a : A) (b : B) (f : A → Outcome B) → f a ≡ unless more b

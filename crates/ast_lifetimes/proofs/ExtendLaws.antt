@@ -31,9 +31,9 @@ use Rattle.ast_lifetimes.specs.Env.{impliedOn, extendedWith, extendCheck
 use Rattle.answers.specs.Lent.{judged}
 use Rattle.ast_lifetimes.specs.Inner.{sidesOf, Below, Splits, Extends}
 use Rattle.answers.proofs.VerdictLaws.{refused-accepted, unless-after}
-use Rattle.ast_lifetimes.proofs.PairLaws.{sides-more}
+use Rattle.ast_lifetimes.proofs.BoundsLaws.{sides-more}
 use Rattle.lifetimes.proofs.BoundsLaws.{below-larger, below-append}
-use Rattle.ast_lifetimes.proofs.Building.{pairs-below, sides-below}
+use Rattle.ast_lifetimes.proofs.BuildLaws.{pairs-below, sides-below}
 
 -- the loop of `split`
 pub record Splitting (bounds : Bounds) (longs shorts : List ℕ) (i : ℕ) : Type 0 where

@@ -17,7 +17,7 @@ use Rattle.ast_lifetimes.specs.Shapes.{Pair}
 use Rattle.ast_lifetimes.specs.Types.{TypeName, Other, Named, Reference, Option, Result}
 use Rattle.ast_lifetimes.specs.Env.{boundOf, boundsFor, Behind, Nothing, behind, pathPairs, implied, allImplied}
 use Rattle.ast_lifetimes.specs.Inner.{encode, encodeAll, sidesOf, Reaches, Extends}
-use Rattle.ast_lifetimes.proofs.Extending.{Run, run-start, run-same, run-end, run-refused, run-more}
+use Rattle.ast_lifetimes.proofs.ImpliedLoops.{Run, run-start, run-same, run-end, run-refused, run-more}
 
 -- the pairs of the types that are left, the first of them behind b
 unfoldable pub pendingPairs : List ℕ → Behind → List Bound → List TypeName → List Pair

@@ -2,19 +2,19 @@
 -- Verdicts, and the shape of the records:
 pub mod ShapeLaws
 pub mod ReadingLaws
-pub mod TypeLaws
+pub mod TypesLaws
 -- Names, pairs, what types imply:
-pub mod NameLaws
-pub mod PairLaws
+pub mod NamesLaws
+pub mod BoundsLaws
 pub mod OutlivedLaws
-pub mod Extending
+pub mod ImpliedLoops
 pub mod PathLaws
 pub mod ImpliedLaws
 -- The environment:
-pub mod AstEnvLaws
-pub mod Assembling
-pub mod Listing
-pub mod Building
+pub mod EnvLaws
+pub mod AssembledLaws
+pub mod ThanLaws
+pub mod BuildLaws
 pub mod AcceptedLaws
 pub mod ExtendLaws
 pub mod EntryLaws

@@ -25,7 +25,7 @@ use Rattle.sheet.specs.Reading.{sheetOf}
 use Rattle.sheet.specs.Shape.{sheetChecks}
 use Rattle.sheet.specs.Answer.{recordWords}
 use Rattle.sheet.specs.Inner.{Laid}
-use Rattle.sheet.proofs.Placing.{laid-words, laid-record}
+use Rattle.sheet.proofs.LaidLaws.{laid-words, laid-record}
 use Rattle.borrowing_param.specs.declared.borrows.Borrows as answer
 use Rattle.borrowing_param.specs.declared.listed.BorrowMap.{BorrowMap}
 use Rattle.borrowing_param.specs.declared.method.SheetMethod.{SheetMethod}
@@ -40,10 +40,10 @@ use Rattle.borrowing_param.specs.Borrows.{Borrows, borrowsBy, borrowsOf,
 use Rattle.borrowing_param.specs.Borrows.{borrowSheet, borrowsAnswer, usedWords, answerWords, edgesWords}
 use Rattle.borrowing_param.specs.Borrows.{BorrowsTo, mostListed}
 use Rattle.borrowing_param.specs.InnerSheet.{Judges, borrowBy, OfMethod}
-use Rattle.borrowing_param.proofs.Joining.{words-read}
-use Rattle.borrowing_param.proofs.Forcing.{params-none}
-use Rattle.borrowing_param.proofs.Ordering.{listing-consistent}
-use Rattle.borrowing_param.proofs.Sizing.{method-small}
+use Rattle.borrowing_param.proofs.JoinLaws.{words-read}
+use Rattle.borrowing_param.proofs.Condition3Laws.{params-none}
+use Rattle.borrowing_param.proofs.ConsistentLaws.{listing-consistent}
+use Rattle.borrowing_param.proofs.SmallLaws.{method-small}
 use Rattle.borrowing_param.proofs.MethodLaws.{accepted-method}
 use Rattle.borrowing_param.proofs.SheetLaws.{read-parts}
 

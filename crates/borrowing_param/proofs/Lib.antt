@@ -1,17 +1,17 @@
 -- Laws: joined lists and words of edges; a run of visits; what a parameter brings; which lifetimes draw; storing edges;
 -- a visit; a new visitor; the numberings; the listing, its order, its size, and the visits that give it.
-pub mod Joining
-pub mod Running
-pub mod Bringing
-pub mod Drawing
-pub mod Storing
-pub mod Visiting
-pub mod Creating
-pub mod Forcing
-pub mod Listing
-pub mod Ordering
-pub mod Sizing
-pub mod InTurn
+pub mod JoinLaws
+pub mod VisitsLaws
+pub mod BringsLaws
+pub mod EdgesLaws
+pub mod EdgesLoops
+pub mod VisitorLaws
+pub mod NewLaws
+pub mod Condition3Laws
+pub mod ListedLaws
+pub mod ConsistentLaws
+pub mod SmallLaws
+pub mod InTurnLaws
 -- A sheet's method:
 pub mod MethodLaws
 pub mod SheetLaws

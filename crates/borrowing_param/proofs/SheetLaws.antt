@@ -32,8 +32,8 @@ use Rattle.sheet.specs.Answer.{recordWords}
 use Rattle.sheet.specs.Shape as shape
 use Rattle.sheet.specs.Shape.{sheetAnswer, sheetEnds, callChecks}
 use Rattle.sheet.specs.Inner.{recordsAt, Laid, Roomy}
-use Rattle.sheet.proofs.Answers.{last-end}
-use Rattle.sheet.proofs.Placing.{laid-words, laid-records, roomy-fits}
+use Rattle.sheet.proofs.ReadingLaws.{last-end}
+use Rattle.sheet.proofs.LaidLaws.{laid-words, laid-records, roomy-fits}
 use Rattle.borrowing_param.specs.declared.method.SheetMethod.{SheetMethod}
 use Rattle.borrowing_param.specs.SheetMethod.{envOfSheet, loweringChecks, sheetRefusals, lowerSheet, methodAnswer}
 use Rattle.borrowing_param.specs.SheetMethod.{methodWords}

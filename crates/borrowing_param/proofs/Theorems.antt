@@ -30,11 +30,11 @@ use Rattle.borrowing_param.specs.BorrowMap as map
 use Rattle.borrowing_param.specs.SheetMethod as sheets
 use Rattle.borrowing_param.specs.Theorems.{EdgesByPlace, Condition3, ListingInOrder, MethodsAreSmall, ListingIsVisits}
 use Rattle.borrowing_param.specs.Theorems.{SheetsGiveMethods, ExamplesHold}
-use Rattle.borrowing_param.proofs.Joining.{edge-by-place}
-use Rattle.borrowing_param.proofs.Forcing.{all-visits}
-use Rattle.borrowing_param.proofs.Ordering.{listing-consistent}
-use Rattle.borrowing_param.proofs.Sizing.{method-small}
-use Rattle.borrowing_param.proofs.InTurn.{as-visited}
+use Rattle.borrowing_param.proofs.JoinLaws.{edge-by-place}
+use Rattle.borrowing_param.proofs.Condition3Laws.{all-visits}
+use Rattle.borrowing_param.proofs.ConsistentLaws.{listing-consistent}
+use Rattle.borrowing_param.proofs.SmallLaws.{method-small}
+use Rattle.borrowing_param.proofs.InTurnLaws.{as-visited}
 use Rattle.borrowing_param.proofs.BorrowLaws.{sheet-method}
 
 pub condition3 : Condition3

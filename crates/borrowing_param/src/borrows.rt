@@ -12,7 +12,6 @@ ghost use Rattle.borrowing_param.specs.Borrows.{borrowMethod, borrowShee
 ghost use Rattle.borrowing_param.specs.Borrows.{mostListed};
 ghost use Rattle.borrowing_param.specs.Consistent.{Consistent};
 ghost use Rattle.borrowing_param.specs.InnerSheet.{OfMethod, smallBytes, borrowBy};
-use super::method::SheetMethod;
 use super::method::judge_sheet;
 use super::visitor::BorrowingParamVisitor;
 use answers::Refusal;
@@ -46,7 +45,7 @@ pub fn borrow_sheet(
         (take (r .params) (left answers)) (edgesIn (r .edges) (left edges))) ⌝ }
     ensures few { λ r. ⌜ (r .used ≤ mostUsed) × (r .edges ≤ mostListed) ⌝ }
 {
-    if sheet.len() <= SheetMethod::SMALL_BYTES {
+    if sheet.len() <= Text::MIDDLE {
         return borrow_small(sheet, used, answers, edges);
     }
     borrow_large(sheet, used, answers, edges)
@@ -63,7 +62,7 @@ fn borrow_small(
     ensures { λ r. ⌜ BorrowsTo (borrowSheet (held sheet) (room used) (room answers) (room edges))
         r used answers edges ⌝ }
 {
-    let mut scratch = [0usize; SheetMethod::SMALL_WORDS];
+    let mut scratch = [0usize; Text::MIDDLE / 2];
     borrow_within(sheet, &mut scratch, used, answers, edges)
 }
 
@@ -76,7 +75,7 @@ fn borrow_large(
     ensures { λ r. ⌜ BorrowsTo (borrowSheet (held sheet) (room used) (room answers) (room edges))
         r used answers edges ⌝ }
 {
-    let mut scratch = [0usize; SheetMethod::MAX_WORDS];
+    let mut scratch = [0usize; Text::MAX_WORDS];
     borrow_within(sheet, &mut scratch, used, answers, edges)
 }
 

@@ -20,7 +20,6 @@ use elision::measure;
 use lifetimes::LifetimeEnv;
 use lifetimes::Made;
 use methods::check_method;
-use records::End;
 use records::copy_words;
 use sheet::Text;
 use sheet::read_sheet;
@@ -30,21 +29,8 @@ use sheet::record_words;
 // refusal all ends are 0, and the environment has no lifetimes.
 pub struct SheetMethod {
     pub verdict: Verdict,
-    pub ends: [usize; SheetMethod::RECORDS],
+    pub ends: [usize; Text::RECORDS],
     pub env: LifetimeEnv,
-}
-
-impl SheetMethod {
-    // How many records a sheet has.
-    pub const RECORDS: usize = 10;
-
-    // So many words take the records of any sheet.
-    pub const MAX_WORDS: usize = SheetMethod::RECORDS * End::MAX_WORDS;
-
-    // A sheet of so few bytes is judged in small scratch: a word has two of them, or more.
-    pub(crate) const SMALL_BYTES: usize = 1024;
-
-    pub(crate) const SMALL_WORDS: usize = SheetMethod::SMALL_BYTES / 2;
 }
 
 // Read a sheet, lower its lifetimes and judge its method. The words of its ten records are written to a slice, one
@@ -54,7 +40,7 @@ pub fn lower_sheet(sheet: &[u8], words: &mut [usize]) -> SheetMethod
     ensures answer { λ r. ⌜ r ≡ methodAnswer (lowerSheet (held sheet) (room words)) ⌝ }
     ensures stored { λ _. ⌜ Fills (methodWords (lowerSheet (held sheet) (room words))) words ⌝ }
 {
-    if sheet.len() <= SheetMethod::SMALL_BYTES {
+    if sheet.len() <= Text::MIDDLE {
         return lower_small(sheet, words);
     }
     lower_large(sheet, words)
@@ -66,7 +52,7 @@ fn lower_small(sheet: &[u8], words: &mut [usize]) -> SheetMethod
     ensures { λ r. ⌜ r ≡ methodAnswer (lowerSheet (held sheet) (room words)) ⌝ }
     ensures { λ _. ⌜ Fills (methodWords (lowerSheet (held sheet) (room words))) words ⌝ }
 {
-    let mut scratch = [0usize; SheetMethod::SMALL_WORDS];
+    let mut scratch = [0usize; Text::MIDDLE / 2];
     lower_within(sheet, &mut scratch, words)
 }
 
@@ -74,7 +60,7 @@ fn lower_large(sheet: &[u8], words: &mut [usize]) -> SheetMethod
     ensures { λ r. ⌜ r ≡ methodAnswer (lowerSheet (held sheet) (room words)) ⌝ }
     ensures { λ _. ⌜ Fills (methodWords (lowerSheet (held sheet) (room words))) words ⌝ }
 {
-    let mut scratch = [0usize; SheetMethod::MAX_WORDS];
+    let mut scratch = [0usize; Text::MAX_WORDS];
     lower_within(sheet, &mut scratch, words)
 }
 
@@ -122,7 +108,7 @@ pub(crate) fn judge_sheet(sheet: &[u8], scratch: &mut [usize]) -> SheetMethod
 
 // The environment of records that were read, whose words stand one record after another, or the first refusal due on
 // them.
-fn lower_laid(words: &[usize], ends: [usize; SheetMethod::RECORDS]) -> Made
+fn lower_laid(words: &[usize], ends: [usize; Text::RECORDS]) -> Made
     requires { ⌜ Laid (now words) ends × NoneDue (recordsChecks (recordsAt (now words) ends)) ⌝ }
     ensures { λ r. ⌜ r ≡ made (envOf 0 0 []) (methodOf (recordsAt (held words) ends)) ⌝ }
 {
@@ -204,7 +190,7 @@ fn refused_method(refusal: Refusal) -> SheetMethod
     let env = made.env;
     SheetMethod {
         verdict: Verdict::Refused(refusal),
-        ends: [0; SheetMethod::RECORDS],
+        ends: [0; Text::RECORDS],
         env,
     }
 }

@@ -23,7 +23,7 @@ use Rattle.elision.specs.Rfc.{Method}
 use Rattle.elision.specs.Machine.{Answer, answer, laid, lowerWord, unused, selfRef, lowerSelf, runSteps}
 use Rattle.elision.specs.Machine.{runMethod}
 use Rattle.elision.specs.Inner.{shown, worded, Shows, Given, Lowers, totals, RunsAll}
-use Rattle.elision.proofs.Running.{single-word, accepted-word, refused-word}
+use Rattle.elision.proofs.LowererLoops.{single-word, accepted-word, refused-word}
 
 -- ---- the record `self`
 

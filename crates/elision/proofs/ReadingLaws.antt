@@ -25,8 +25,8 @@ use Rattle.elision.specs.Rfc.{sourceCheck, sourceAt, valueAt, checksAt, 
 use Rattle.elision.specs.Rfc.{occurrencesAt, ownFrom, loweredAt}
 use Rattle.elision.specs.Machine.{Answer, answer, inTurn, fits, lowerStep, oneStep, runSteps}
 use Rattle.elision.proofs.RfcLaws.{count-more, own-again, occurrences-last}
-use Rattle.elision.proofs.Recording.{one-fits}
-use Rattle.elision.proofs.Taking.{step-fits}
+use Rattle.elision.proofs.PutLoops.{one-fits}
+use Rattle.elision.proofs.TookLaws.{step-fits}
 use Rattle.answers.specs.Lists.{count}
 
 module _ (names : List ℕ) (self : Receiver) where

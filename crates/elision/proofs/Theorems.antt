@@ -15,8 +15,8 @@ use Rattle.elision.specs.Theorems.{ElisionIsRfc141, Rfc141Says, StepsOne
 use Rattle.elision.specs.Theorems.{ExamplesHold}
 use Rattle.elision.proofs.RfcLaws.{method-said}
 use Rattle.elision.proofs.ReadingLaws as laws
-use Rattle.elision.proofs.Lending.{steps-whole, steps-together}
-use Rattle.elision.proofs.StepRefusing.{step-refused, worded-refused, self-refused}
+use Rattle.elision.proofs.LentStepLaws.{steps-whole, steps-together}
+use Rattle.elision.proofs.StepCheckLaws.{step-refused, worded-refused, self-refused}
 
 pub elision-is-rfc141 : ElisionIsRfc141
 elision-is-rfc141 = method-said

@@ -18,8 +18,8 @@ use Rattle.borrowing_param.specs.Consistent.{Consistent}
 use Rattle.borrowing_param.specs.Theorems.{Small}
 use Rattle.borrowing_param.specs.SheetMethod.{envOfSheet, sheetRefusals}
 use Rattle.borrowing_param.specs.Borrows.{Borrows, sheetBorrows, roomChecks, mostListed}
-use Rattle.borrowing_param.proofs.Joining.{words-many}
-use Rattle.borrowing_param.proofs.Forcing.{params-none}
+use Rattle.borrowing_param.proofs.JoinLaws.{words-many}
+use Rattle.borrowing_param.proofs.Condition3Laws.{params-none}
 use Rattle.borrowing_param.proofs.Theorems.{listing-in-order, methods-are-small, sheets-give-methods}
 use Rattle.exports.specs.Calls.{countWords}
 

@@ -1,7 +1,7 @@
 -- Laws of the definitions, and of the loops over plain values.
 -- Of definitions:
 pub mod SetLaws
-pub mod WordLaws
+pub mod MaybeStaticLaws
 pub mod BoundsLaws
 pub mod EnvLaws
 pub mod NeighbourLaws
@@ -16,13 +16,13 @@ pub mod LinkedLaws
 -- The main theorems:
 pub mod Theorems
 -- Of loops:
-pub mod MembersLoop
-pub mod PairLaws
-pub mod Linking
-pub mod Skipping
-pub mod Walking
-pub mod Laying
+pub mod SetLoops
+pub mod EnvLoops
+pub mod IndexLoops
+pub mod AdvanceLoops
+pub mod WalkLoops
+pub mod ReachLoops
 -- Of walks by hand:
 pub mod LinkedView
 -- Answers:
-pub mod Traversing
+pub mod ReachAnswers

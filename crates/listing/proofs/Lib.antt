@@ -1,10 +1,10 @@
 -- Laws: the sections; how long a listing can be; a method, ten records and a sheet listed in
 -- scratch; what a response is; what visits give; the examples. The main theorems.
-pub mod SectionLaws
+pub mod SectionsLaws
 pub mod ListingLaws
-pub mod MethodListing
-pub mod RecordsListing
-pub mod SheetListing
+pub mod WithinMethodLaws
+pub mod WithinRecordsLaws
+pub mod CallsLaws
 pub mod RoomLaws
 pub mod ProgramLaws
 pub mod VisitLaws

@@ -10,7 +10,7 @@ use Rattle.answers.specs.Refusals.{Outcome, Gives, Refuses, unless, FirstDue, N
 use Rattle.answers.proofs.RefusalLaws.{given-due, refused-due}
 use Rattle.sheet.specs.Reading.{sheetOf}
 use Rattle.listing.specs.Listing.{roomBytes, said, listingOf, listingChecks}
-use Rattle.listing.proofs.SheetListing.{fits-room, refusal-short}
+use Rattle.listing.proofs.CallsLaws.{fits-room, refusal-short}
 
 module _ (bytes : List ℕ) where
   abbrev pub whole : List ℕ

@@ -39,9 +39,9 @@ use Rattle.borrowing_param.specs.Consistent.{Consistent}
 use Rattle.borrowing_param.specs.SheetMethod.{loweredOf, envOfSheet, loweringChecks}
 use Rattle.borrowing_param.specs.Borrows.{Borrows, sheetBorrows}
 use Rattle.borrowing_param.specs.New.{created}
-use Rattle.borrowing_param.proofs.Forcing.{params-none}
+use Rattle.borrowing_param.proofs.Condition3Laws.{params-none}
 use Rattle.borrowing_param.proofs.MethodLaws.{env-valid, accepted-method}
-use Rattle.borrowing_param.proofs.Ordering.{listing-consistent}
+use Rattle.borrowing_param.proofs.ConsistentLaws.{listing-consistent}
 use Rattle.listing.specs.Listing.{countLines, loweredLines, longerLine, longerLines, answersFrom, answerLines}
 use Rattle.listing.specs.Listing.{countHeading, loweredHeading, longerHeading, answerHeading, edgeHeading}
 use Rattle.listing.specs.Listing.{edgeLine, edgeLines, listingOf, mostEdges, roomBytes}

@@ -18,7 +18,7 @@ use Rattle.borrowing_param.proofs.Theorems as visits-proofs
 use Rattle.listing.specs.Listing.{roomBytes, said, response, listingOf, listingChecks, listing}
 use Rattle.listing.specs.Examples.{reachExample, astExample, elisionExample, visitsExample, programExamples}
 use Rattle.listing.specs.Theorems.{ProgramAnswers, VisitsAsListed, ToldApart, ExamplesHold}
-use Rattle.listing.proofs.SheetListing.{fits-room}
+use Rattle.listing.proofs.CallsLaws.{fits-room}
 use Rattle.listing.proofs.ProgramLaws.{whole, judge, fit}
 use Rattle.listing.proofs.VisitLaws.{as-listed}
 use Rattle.listing.proofs.ExampleLaws.{right-more, reach-right, ast-right, elision-right, visits-right}

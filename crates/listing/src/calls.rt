@@ -19,20 +19,10 @@ use super::within::list_within;
 use answers::Listed;
 use answers::Refusal;
 use borrowing_param::BorrowingParamVisitor;
-use borrowing_param::SheetMethod;
 use sheet::Text;
 
 // So many bytes take any answer of the program: twice as many as a sheet may have.
 pub const ROOM: usize = 2 * Text::MAX_BYTES;
-
-// The sizes of scratch, by the bytes of a sheet; then there is scratch for any sheet.
-const SMALL: usize = 256;
-
-// The next.
-const MIDDLE: usize = 1024;
-
-// And the next.
-const LARGE: usize = 4096;
 
 // Write the listing of a sheet to a slice. The answer is how many bytes it has. Refused as the sheet is (10; 1 over all
 // records; 13; 2 to 7 at the first bad place; 8), then by 9 for more than 4,096 edges or where the slice is too short.
@@ -82,7 +72,7 @@ pub fn respond(sheet: &[u8], out: &mut [u8; ROOM]) -> usize
 fn list_sheet(sheet: &[u8], out: &mut [u8]) -> Listed
     ensures { λ r. ⌜ Lists (listedSheet (held sheet)) (held out) r (left out) ⌝ }
 {
-    list_sized(sheet, out, SMALL)
+    list_sized(sheet, out, Text::SMALL)
 }
 
 // The same in scratch for sheets of so many bytes, and where that is too short, in the next larger. That it calls
@@ -90,21 +80,21 @@ fn list_sheet(sheet: &[u8], out: &mut [u8]) -> Listed
 fn list_sized(sheet: &[u8], out: &mut [u8], bytes: usize) -> Listed
     ensures { λ r. ⌜ Lists (listedSheet (held sheet)) (held out) r (left out) ⌝ }
 {
-    if bytes <= SMALL {
+    if bytes <= Text::SMALL {
         let tried = list_256(sheet, out);
         let Within::Done(answer) = tried else {
-            return list_sized(sheet, out, MIDDLE);
+            return list_sized(sheet, out, Text::MIDDLE);
         };
         return answer;
     }
-    if bytes <= MIDDLE {
+    if bytes <= Text::MIDDLE {
         let tried = list_1024(sheet, out);
         let Within::Done(answer) = tried else {
-            return list_sized(sheet, out, LARGE);
+            return list_sized(sheet, out, Text::LARGE);
         };
         return answer;
     }
-    if bytes <= LARGE {
+    if bytes <= Text::LARGE {
         let tried = list_4096(sheet, out);
         let Within::Done(answer) = tried else {
             return list_sized(sheet, out, Text::MAX_BYTES);
@@ -119,10 +109,10 @@ fn list_sized(sheet: &[u8], out: &mut [u8], bytes: usize) -> Listed
 fn list_256(sheet: &[u8], out: &mut [u8]) -> Within
     ensures { λ r. ⌜ ListsWithin (listedSheet (held sheet)) ⊥ (held out) r (left out) ⌝ }
 {
-    if SMALL < sheet.len() {
+    if Text::SMALL < sheet.len() {
         return Within::Short;
     }
-    let mut words = [0usize; SMALL / 2];
+    let mut words = [0usize; Text::SMALL / 2];
     let mut given = [0usize; 24 * PER_WORD];
     let mut taken = [0usize; 12 * PER_WORD];
     let mut lists = [0usize; 12 * 12];
@@ -142,10 +132,10 @@ fn list_256(sheet: &[u8], out: &mut [u8]) -> Within
 fn list_1024(sheet: &[u8], out: &mut [u8]) -> Within
     ensures { λ r. ⌜ ListsWithin (listedSheet (held sheet)) ⊥ (held out) r (left out) ⌝ }
 {
-    if MIDDLE < sheet.len() {
+    if Text::MIDDLE < sheet.len() {
         return Within::Short;
     }
-    let mut words = [0usize; MIDDLE / 2];
+    let mut words = [0usize; Text::MIDDLE / 2];
     let mut given = [0usize; 64 * PER_WORD];
     let mut taken = [0usize; 32 * PER_WORD];
     let mut lists = [0usize; 32 * 32];
@@ -165,10 +155,10 @@ fn list_1024(sheet: &[u8], out: &mut [u8]) -> Within
 fn list_4096(sheet: &[u8], out: &mut [u8]) -> Within
     ensures { λ r. ⌜ ListsWithin (listedSheet (held sheet)) ⊥ (held out) r (left out) ⌝ }
 {
-    if LARGE < sheet.len() {
+    if Text::LARGE < sheet.len() {
         return Within::Short;
     }
-    let mut words = [0usize; LARGE / 2];
+    let mut words = [0usize; Text::LARGE / 2];
     let mut given = [0usize; 128 * PER_WORD];
     let mut taken = [0usize; 64 * PER_WORD];
     let mut lists = [0usize; LISTS_ROOM];
@@ -188,7 +178,7 @@ fn list_4096(sheet: &[u8], out: &mut [u8]) -> Within
 fn list_any(sheet: &[u8], out: &mut [u8]) -> Listed
     ensures { λ r. ⌜ Lists (listedSheet (held sheet)) (held out) r (left out) ⌝ }
 {
-    let mut words = [0usize; SheetMethod::MAX_WORDS];
+    let mut words = [0usize; Text::MAX_WORDS];
     let mut given = [0usize; LOWERED_ROOM];
     let mut taken = [0usize; LOWERED_ROOM];
     let mut lists = [0usize; LISTS_ROOM];

@@ -14,7 +14,6 @@ use answers::Listed;
 use answers::Refusal;
 use answers::Verdict;
 use borrowing_param::BorrowingParamVisitor;
-use borrowing_param::SheetMethod;
 use elision::lower;
 use lifetimes::LifetimeEnv;
 use lifetimes::set;
@@ -74,7 +73,7 @@ pub(crate) fn list_within(
 // List records that were read, whose words stand one record after another.
 fn list_laid(
     words: &[usize],
-    ends: [usize; SheetMethod::RECORDS],
+    ends: [usize; Text::RECORDS],
     given: &mut [usize],
     taken: &mut [usize],
     lists: &mut [usize],

@@ -35,7 +35,7 @@ use Rattle.methods.specs.Used.{outputNumbers}
 use Rattle.methods.specs.Inner.{FitIs, TypesFit, ParamsFit, Indexes, CollectIs, within, past, TypesCollect}
 use Rattle.methods.specs.Inner.{InShape, Judges}
 use Rattle.methods.proofs.PassLaws.{items-start, items-types}
-use Rattle.methods.proofs.FitLaws.{fit-goes, fit-stops}
+use Rattle.methods.proofs.FitsLaws.{fit-goes, fit-stops}
 
 -- ---- by place
 

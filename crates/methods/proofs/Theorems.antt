@@ -13,8 +13,8 @@ use Rattle.methods.specs.Method as method
 use Rattle.methods.specs.Used as used
 use Rattle.methods.specs.Fields as fields
 use Rattle.methods.specs.Theorems.{UsedLifetimesAre, ForceIsRetired, FieldPairsAre, ExamplesHold}
-use Rattle.methods.proofs.UsedAre.{used-are, force-is-refused}
-use Rattle.methods.proofs.PairsAre.{pairs-are}
+use Rattle.methods.proofs.UsedSetLaws.{used-are, force-is-refused}
+use Rattle.methods.proofs.FieldPairLaws.{pairs-are}
 
 pub used-lifetimes-are : UsedLifetimesAre
 used-lifetimes-are = used-are

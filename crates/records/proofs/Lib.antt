@@ -2,5 +2,5 @@
 -- copying words.
 pub mod ReadingLaws
 pub mod EndLaws
-pub mod Shaping
+pub mod ShapeLoops
 pub mod CopyLaws

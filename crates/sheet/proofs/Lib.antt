@@ -5,12 +5,12 @@ pub mod SheetLaws
 pub mod ReadingCases
 pub mod ShapeCases
 -- Of loops:
-pub mod Numbering
-pub mod Matching
-pub mod Wording
-pub mod Lining
+pub mod NumberLaws
+pub mod HeadingLaws
+pub mod WordLaws
+pub mod LinesLaws
 -- Answers:
-pub mod Answers
-pub mod Placing
+pub mod ReadingLaws
+pub mod LaidLaws
 -- The main theorems:
 pub mod Theorems

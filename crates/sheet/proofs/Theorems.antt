@@ -19,7 +19,7 @@ use Rattle.sheet.specs.Theorems.{TextIsOneToOne, ReadingIsInverse, Readi
 use Rattle.sheet.specs.Theorems.{ShapesAreShort, CallReadsText, CallReadsSheet, RecordsInPlace, RoomForAnySheet}
 use Rattle.sheet.specs.Theorems.{WordsTakeTwoBytes, ExamplesHold, SheetExamplesHold}
 use Rattle.sheet.proofs.SheetLaws.{text-lists, text-bytes, total-words, few-all}
-use Rattle.sheet.proofs.Answers.{call-gives, list-between}
+use Rattle.sheet.proofs.ReadingLaws.{call-gives, list-between}
 use Rattle.sheet.proofs.ReadingCases.{reads-back}
 use Rattle.sheet.proofs.ShapeCases.{shape-short, reads-in-shape}
 

@@ -15,6 +15,7 @@ use super::lines::lines;
 use super::shapes::both;
 use answers::Refusal;
 use answers::Verdict;
+use records::End;
 
 // Whether a text is refused, and where the words of each of its ten records end, one record after another. Beside a
 // refusal all ends are 0.
@@ -26,6 +27,16 @@ pub struct Text {
 impl Text {
     // How many bytes a sheet may have.
     pub const MAX_BYTES: usize = 65536;
+
+    // So many bytes have sheets for which smaller scratch is kept: a word takes two bytes at least.
+    pub const SMALL: usize = 256;
+
+    pub const MIDDLE: usize = 1024;
+
+    pub const LARGE: usize = 4096;
+
+    // How many words its records may have together.
+    pub const MAX_WORDS: usize = Text::RECORDS * End::MAX_WORDS;
 
     // How many records it has, and the number of each.
     pub const RECORDS: usize = 10;

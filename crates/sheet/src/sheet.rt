@@ -25,7 +25,7 @@ pub fn read_sheet(sheet: &[u8], words: &mut [usize]) -> Text
     ensures answer { λ r. ⌜ r ≡ sheetAnswer (held sheet) (room words) ⌝ }
     ensures stored { λ _. ⌜ Fills (sheetWords (held sheet) (room words)) words ⌝ }
 {
-    read_sized(sheet, words, 256)
+    read_sized(sheet, words, Text::SMALL)
 }
 
 // The same with scratch for sheets of so many bytes, or of more where this sheet has more. That it calls itself keeps
@@ -35,19 +35,19 @@ fn read_sized(sheet: &[u8], words: &mut [usize], bytes: usize) -> Text
     ensures { λ r. ⌜ r ≡ sheetAnswer (held sheet) (room words) ⌝ }
     ensures { λ _. ⌜ Fills (sheetWords (held sheet) (room words)) words ⌝ }
 {
-    if bytes <= 256 {
-        if sheet.len() <= 256 {
+    if bytes <= Text::SMALL {
+        if sheet.len() <= Text::SMALL {
             return read_256(sheet, words);
         }
-        return read_sized(sheet, words, 1024);
+        return read_sized(sheet, words, Text::MIDDLE);
     }
-    if bytes <= 1024 {
-        if sheet.len() <= 1024 {
+    if bytes <= Text::MIDDLE {
+        if sheet.len() <= Text::MIDDLE {
             return read_1024(sheet, words);
         }
-        return read_sized(sheet, words, 4096);
+        return read_sized(sheet, words, Text::LARGE);
     }
-    if sheet.len() <= 4096 {
+    if sheet.len() <= Text::LARGE {
         return read_4096(sheet, words);
     }
     read_any(sheet, words)
@@ -59,7 +59,7 @@ fn read_256(sheet: &[u8], words: &mut [usize]) -> Text
     ensures { λ r. ⌜ r ≡ sheetAnswer (held sheet) (room words) ⌝ }
     ensures { λ _. ⌜ Fills (sheetWords (held sheet) (room words)) words ⌝ }
 {
-    let mut scratch = [0usize; 128];
+    let mut scratch = [0usize; Text::SMALL / 2];
     read_within(sheet, &mut scratch, words)
 }
 
@@ -68,7 +68,7 @@ fn read_1024(sheet: &[u8], words: &mut [usize]) -> Text
     ensures { λ r. ⌜ r ≡ sheetAnswer (held sheet) (room words) ⌝ }
     ensures { λ _. ⌜ Fills (sheetWords (held sheet) (room words)) words ⌝ }
 {
-    let mut scratch = [0usize; 512];
+    let mut scratch = [0usize; Text::MIDDLE / 2];
     read_within(sheet, &mut scratch, words)
 }
 
@@ -77,7 +77,7 @@ fn read_4096(sheet: &[u8], words: &mut [usize]) -> Text
     ensures { λ r. ⌜ r ≡ sheetAnswer (held sheet) (room words) ⌝ }
     ensures { λ _. ⌜ Fills (sheetWords (held sheet) (room words)) words ⌝ }
 {
-    let mut scratch = [0usize; 2048];
+    let mut scratch = [0usize; Text::LARGE / 2];
     read_within(sheet, &mut scratch, words)
 }
 
@@ -85,7 +85,7 @@ fn read_any(sheet: &[u8], words: &mut [usize]) -> Text
     ensures { λ r. ⌜ r ≡ sheetAnswer (held sheet) (room words) ⌝ }
     ensures { λ _. ⌜ Fills (sheetWords (held sheet) (room words)) words ⌝ }
 {
-    let mut scratch = [0usize; 10240];
+    let mut scratch = [0usize; Text::MAX_WORDS];
     read_within(sheet, &mut scratch, words)
 }
 

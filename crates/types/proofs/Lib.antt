@@ -6,7 +6,7 @@ pub mod LocatedLaws
 pub mod FoundLaws
 pub mod LifetimeLaws
 pub mod EndLaws
-pub mod Counting
+pub mod ShapeLoops
 pub mod ShapeLaws
 -- The main theorem:
 pub mod Theorems

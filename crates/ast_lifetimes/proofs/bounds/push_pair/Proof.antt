@@ -4,7 +4,7 @@ use native.Mathlib.Omega.{arith}
 use lib.ListN.{length, take}
 use lib.Seq.{length-take-le}
 use borrow.Author.Needs.{needs}
-use Rattle.ast_lifetimes.proofs.PairLaws.{push-longer, push-shorter, push-full, push-given}
+use Rattle.ast_lifetimes.proofs.BoundsLaws.{push-longer, push-shorter, push-full, push-given}
 use Rattle.ast_lifetimes.proofs.bounds.push_pair.Statement.{statement}
 use Rattle.ast_lifetimes.proofs.bounds.push_pair.Tie as tie
 

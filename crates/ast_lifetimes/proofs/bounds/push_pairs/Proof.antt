@@ -1,9 +1,9 @@
--- `push_pairs` meets its contract. The loop's invariant is `Pushing` of proofs/PairLaws.antt; the measure is how many
+-- `push_pairs` meets its contract. The loop's invariant is `Pushing` of proofs/BoundsLaws.antt; the measure is how many
 -- pairs are to be pushed.
 use Prim.Native.Nat.{_-_}
 use lib.ListN.{take}
 use borrow.Author.Needs.{needs}
-use Rattle.ast_lifetimes.proofs.PairLaws.{Pushing, pushing-start, pushing-refused, pushing-more, pushing-end}
+use Rattle.ast_lifetimes.proofs.BoundsLaws.{Pushing, pushing-start, pushing-refused, pushing-more, pushing-end}
 use Rattle.ast_lifetimes.proofs.bounds.push_pairs.Statement.{statement}
 use Rattle.ast_lifetimes.proofs.bounds.push_pairs.Tie as tie
 

@@ -1,6 +1,6 @@
 -- `assembled` meets its contract: the names are copied to the front of their array, and the bounds are joined.
 use borrow.Author.Needs.{needs}
-use Rattle.ast_lifetimes.proofs.Assembling.{assembled-env}
+use Rattle.ast_lifetimes.proofs.AssembledLaws.{assembled-env}
 use Rattle.ast_lifetimes.proofs.env.assembled.Statement.{statement}
 use Rattle.ast_lifetimes.proofs.env.assembled.Tie as tie
 

@@ -1,13 +1,13 @@
--- `build` meets its contract. Each stage, accepted or refused, is a law of proofs/Building.antt; `one` to `four` say
+-- `build` meets its contract. Each stage, accepted or refused, is a law of proofs/BuildLaws.antt; `one` to `four` say
 -- what stands after the accepted stages.
 use mathlib.Core.Path.{refl}
 use native.Mathlib.Omega.{arith}
 use borrow.Author.Needs.{needs}
 use Rattle.ast_lifetimes.specs.Types.{typesOf}
-use Rattle.ast_lifetimes.proofs.Building.{Shaped, shaped, ImplNamed, ImplBound, AllNamed, AllBound}
-use Rattle.ast_lifetimes.proofs.Building.{impl-names-refused, impl-named, impl-pairs-refused, impl-bound}
-use Rattle.ast_lifetimes.proofs.Building.{method-names-refused, all-named, method-pairs-refused, all-bound}
-use Rattle.ast_lifetimes.proofs.Building.{bound-below, all-built}
+use Rattle.ast_lifetimes.proofs.BuildLaws.{Shaped, shaped, ImplNamed, ImplBound, AllNamed, AllBound}
+use Rattle.ast_lifetimes.proofs.BuildLaws.{impl-names-refused, impl-named, impl-pairs-refused, impl-bound}
+use Rattle.ast_lifetimes.proofs.BuildLaws.{method-names-refused, all-named, method-pairs-refused, all-bound}
+use Rattle.ast_lifetimes.proofs.BuildLaws.{bound-below, all-built}
 use Rattle.ast_lifetimes.proofs.env.build.Statement.{statement}
 use Rattle.ast_lifetimes.proofs.env.build.Tie as tie
 

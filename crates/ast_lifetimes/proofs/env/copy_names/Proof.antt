@@ -4,7 +4,7 @@ use Prim.Native.Nat.{_-_}
 use native.Mathlib.Omega.{arith}
 use borrow.Author.Needs.{needs}
 use Rattle.answers.proofs.Copying.{Copying, copying-start, copying-end}
-use Rattle.ast_lifetimes.proofs.Assembling.{names-more}
+use Rattle.ast_lifetimes.proofs.AssembledLaws.{names-more}
 use Rattle.ast_lifetimes.proofs.env.copy_names.Statement.{statement}
 use Rattle.ast_lifetimes.proofs.env.copy_names.Tie as tie
 

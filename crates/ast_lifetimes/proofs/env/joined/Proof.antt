@@ -1,9 +1,9 @@
--- `joined` meets its contract. The loop's invariant is `Storing` of proofs/Assembling.antt; the measure is how many
+-- `joined` meets its contract. The loop's invariant is `Storing` of proofs/AssembledLaws.antt; the measure is how many
 -- sides are to be read.
 use Prim.Native.Nat.{_-_}
 use native.Mathlib.Omega.{arith}
 use borrow.Author.Needs.{needs}
-use Rattle.ast_lifetimes.proofs.Assembling.{Storing, storing-start, storing-small, storing-more, joined-bounds}
+use Rattle.ast_lifetimes.proofs.AssembledLaws.{Storing, storing-start, storing-small, storing-more, joined-bounds}
 use Rattle.ast_lifetimes.proofs.env.joined.Statement.{statement}
 use Rattle.ast_lifetimes.proofs.env.joined.Tie as tie
 

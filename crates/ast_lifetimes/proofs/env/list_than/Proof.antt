@@ -5,7 +5,7 @@ use borrow.Author.Needs.{needs}
 use Rattle.answers.specs.Refusals.{NoneDue}
 use Rattle.answers.proofs.RefusalLaws.{refused-first, accepted-none}
 use Rattle.ast_lifetimes.specs.Env.{envChecks}
-use Rattle.ast_lifetimes.proofs.Listing.{few-names, than-refused, than-unknown, than-traversal}
+use Rattle.ast_lifetimes.proofs.ThanLaws.{few-names, than-refused, than-unknown, than-traversal}
 use Rattle.ast_lifetimes.proofs.env.list_than.Statement.{statement}
 use Rattle.ast_lifetimes.proofs.env.list_than.Tie as tie
 

@@ -1,6 +1,6 @@
 -- `shape_of` meets its contract: the first record that is not in shape decides.
 use borrow.Author.Needs.{needs}
-use Rattle.ast_lifetimes.proofs.AstEnvLaws.{shape-names, shape-bounds, shape-types}
+use Rattle.ast_lifetimes.proofs.EnvLaws.{shape-names, shape-bounds, shape-types}
 use Rattle.ast_lifetimes.proofs.env.shape_of.Statement.{statement}
 use Rattle.ast_lifetimes.proofs.env.shape_of.Tie as tie
 

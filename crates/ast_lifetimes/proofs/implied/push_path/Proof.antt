@@ -11,8 +11,8 @@ use lib.Seq.{slice, length-take-le}
 use Rattle.ast_lifetimes.specs.Shapes.{isName, pair}
 use Rattle.ast_lifetimes.specs.Env.{place, among, pathPairs}
 use Rattle.ast_lifetimes.specs.Inner.{sidesOf, Reaches, isImplied, Joins}
-use Rattle.ast_lifetimes.proofs.Extending.{Run, run-start, extends-one, accepted-sides, extends-refused}
-use Rattle.ast_lifetimes.proofs.Extending.{run-same, run-end, run-refused, run-more}
+use Rattle.ast_lifetimes.proofs.ImpliedLoops.{Run, run-start, extends-one, accepted-sides, extends-refused}
+use Rattle.ast_lifetimes.proofs.ImpliedLoops.{run-same, run-end, run-refused, run-more}
 use Rattle.ast_lifetimes.proofs.PathLaws.{implied-test, path-pushed, path-passed, path-end}
 use Rattle.ast_lifetimes.proofs.implied.push_path.Statement.{statement}
 use Rattle.ast_lifetimes.proofs.implied.push_path.Tie as tie

@@ -1,6 +1,6 @@
 -- `declare` meets its contract: a 33rd, one that is declared, or one more.
 use borrow.Author.Needs.{needs}
-use Rattle.ast_lifetimes.proofs.NameLaws.{declare-full, declare-again, declare-given}
+use Rattle.ast_lifetimes.proofs.NamesLaws.{declare-full, declare-again, declare-given}
 use Rattle.ast_lifetimes.proofs.names.declare.Statement.{statement}
 use Rattle.ast_lifetimes.proofs.names.declare.Tie as tie
 

@@ -1,9 +1,9 @@
--- `declare_all` meets its contract. The loop's invariant is `Declaring` of proofs/NameLaws.antt; the measure is how
+-- `declare_all` meets its contract. The loop's invariant is `Declaring` of proofs/NamesLaws.antt; the measure is how
 -- many words are to be read.
 use Prim.Native.Nat.{_-_}
 use borrow.Author.Needs.{needs}
-use Rattle.ast_lifetimes.proofs.NameLaws.{Declaring, declaring-start, declaring-refused, declaring-more}
-use Rattle.ast_lifetimes.proofs.NameLaws.{declaring-end}
+use Rattle.ast_lifetimes.proofs.NamesLaws.{Declaring, declaring-start, declaring-refused, declaring-more}
+use Rattle.ast_lifetimes.proofs.NamesLaws.{declaring-end}
 use Rattle.ast_lifetimes.proofs.names.declare_all.Statement.{statement}
 use Rattle.ast_lifetimes.proofs.names.declare_all.Tie as tie
 

@@ -1,9 +1,9 @@
--- `position` meets its contract. The loop's invariant is `Placing` of proofs/NameLaws.antt; the measure is how many
+-- `position` meets its contract. The loop's invariant is `Placing` of proofs/NamesLaws.antt; the measure is how many
 -- names are to be read.
 use Prim.Native.Nat.{_-_}
 use native.Mathlib.Omega.{arith}
 use borrow.Author.Needs.{needs}
-use Rattle.ast_lifetimes.proofs.NameLaws.{Placing, placing-start, placing-found, placing-more, placing-end}
+use Rattle.ast_lifetimes.proofs.NamesLaws.{Placing, placing-start, placing-found, placing-more, placing-end}
 use Rattle.ast_lifetimes.proofs.names.position.Statement.{statement}
 use Rattle.ast_lifetimes.proofs.names.position.Tie as tie
 

@@ -1,11 +1,11 @@
--- `type_end` meets its contract: each way out is one law of proofs/TypeLaws.antt. It calls itself with less nesting.
+-- `type_end` meets its contract: each way out is one law of proofs/TypesLaws.antt. It calls itself with less nesting.
 use Prim.Native.Nat.{ℕ, _<_}
 use borrow.Author.Needs.{needs}
 use borrow.Fn.Kinds.{In}
 use borrow.Fn.PlainCycle.{Measures, is, falls, and}
-use Rattle.ast_lifetimes.proofs.TypeLaws.{Stands, type-deep, type-none, type-other, type-path}
-use Rattle.ast_lifetimes.proofs.TypeLaws.{type-reference-short, type-reference, type-option, type-result-missing}
-use Rattle.ast_lifetimes.proofs.TypeLaws.{type-result, type-no-code}
+use Rattle.ast_lifetimes.proofs.TypesLaws.{Stands, type-deep, type-none, type-other, type-path}
+use Rattle.ast_lifetimes.proofs.TypesLaws.{type-reference-short, type-reference, type-option, type-result-missing}
+use Rattle.ast_lifetimes.proofs.TypesLaws.{type-result, type-no-code}
 use Rattle.records.proofs.EndLaws.{ends-told, ends-within, lifetimes-end}
 use Rattle.ast_lifetimes.proofs.types.type_end.Reads as type-end
 use Rattle.ast_lifetimes.proofs.types.type_end.Kinds as type-end-kinds

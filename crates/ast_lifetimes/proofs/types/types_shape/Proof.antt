@@ -5,7 +5,7 @@ use native.Mathlib.Omega.{arith}
 use lib.ListN.{length}
 use borrow.Author.Needs.{needs}
 use Rattle.records.proofs.EndLaws.{ends-told, ends-past}
-use Rattle.records.proofs.Shaping.{Shaping, shaping-long, shaping-start, shaping-missing, shaping-more, shaping-end}
+use Rattle.records.proofs.ShapeLoops.{Shaping, shaping-long, shaping-start, shaping-missing, shaping-more, shaping-end}
 use Rattle.ast_lifetimes.specs.Types.{readType}
 use Rattle.ast_lifetimes.proofs.types.types_shape.Statement.{statement}
 use Rattle.ast_lifetimes.proofs.types.types_shape.Tie as tie

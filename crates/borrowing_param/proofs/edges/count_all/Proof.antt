@@ -1,4 +1,4 @@
--- `count_all` meets its contract. The loop's invariant is `CountingAll` of proofs/Storing.antt; the measure is how many
+-- `count_all` meets its contract. The loop's invariant is `CountingAll` of proofs/EdgesLoops.antt; the measure is how many
 -- lifetimes are to be looked at.
 use Prim.Native.Nat.{_-_}
 use mathlib.Core.Path.{_≡_, sym, ap, _∙_}
@@ -7,9 +7,9 @@ use native.Mathlib.Omega.{arith}
 use Rattle.lifetimes.specs.declared.lifetime.Lifetime.{Lifetime}
 use Rattle.lifetimes.specs.Sets.{member}
 use Rattle.borrowing_param.specs.Inner.{typeIn, Below}
-use Rattle.borrowing_param.proofs.Drawing.{path-few}
-use Rattle.borrowing_param.proofs.Storing.{below-64, CountingAll, counting-all, counted-few, counting-all-more}
-use Rattle.borrowing_param.proofs.Storing.{counting-all-not, counting-all-end}
+use Rattle.borrowing_param.proofs.EdgesLaws.{path-few}
+use Rattle.borrowing_param.proofs.EdgesLoops.{below-64, CountingAll, counting-all, counted-few, counting-all-more}
+use Rattle.borrowing_param.proofs.EdgesLoops.{counting-all-not, counting-all-end}
 use borrow.Author.Needs.{needs}
 use Rattle.borrowing_param.proofs.edges.count_all.Statement.{statement}
 use Rattle.borrowing_param.proofs.edges.count_all.Tie as tie

@@ -1,5 +1,5 @@
--- `count_for` meets its contract: a law of proofs/Drawing.antt for each kind.
-use Rattle.borrowing_param.proofs.Drawing.{count-plain, count-opaque, count-slice, count-struct}
+-- `count_for` meets its contract: a law of proofs/EdgesLaws.antt for each kind.
+use Rattle.borrowing_param.proofs.EdgesLaws.{count-plain, count-opaque, count-slice, count-struct}
 use borrow.Author.Needs.{needs}
 use Rattle.borrowing_param.proofs.edges.count_for.Statement.{statement}
 use Rattle.borrowing_param.proofs.edges.count_for.Tie as tie

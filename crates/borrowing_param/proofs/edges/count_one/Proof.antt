@@ -1,7 +1,7 @@
 -- `count_one` meets its contract.
 use mathlib.Core.Path.{sym, ap, _∙_}
 use Rattle.borrowing_param.specs.Inner.{oneIf}
-use Rattle.borrowing_param.proofs.Drawing.{first-any, none-any}
+use Rattle.borrowing_param.proofs.EdgesLaws.{first-any, none-any}
 use borrow.Author.Needs.{needs}
 use Rattle.borrowing_param.proofs.edges.count_one.Statement.{statement}
 use Rattle.borrowing_param.proofs.edges.count_one.Tie as tie

@@ -1,11 +1,11 @@
--- `count_words` meets its contract. The loop's invariant is `Counting` of proofs/Drawing.antt; the measure is how many
+-- `count_words` meets its contract. The loop's invariant is `Counting` of proofs/EdgesLaws.antt; the measure is how many
 -- words are to be read.
 use Prim.Native.Nat.{_-_}
 use mathlib.Core.Path.{sym, _∙_}
 use mathlib.Core.Logic.{⊎-elim}
 use Rattle.borrowing_param.specs.Visit.{drawsIn}
-use Rattle.borrowing_param.proofs.Drawing.{part-many, part-word, Counting, counting-start, counting-one}
-use Rattle.borrowing_param.proofs.Drawing.{counting-none, counting-end}
+use Rattle.borrowing_param.proofs.EdgesLaws.{part-many, part-word, Counting, counting-start, counting-one}
+use Rattle.borrowing_param.proofs.EdgesLaws.{counting-none, counting-end}
 use borrow.Author.Needs.{needs}
 use Rattle.borrowing_param.proofs.edges.count_words.Statement.{statement}
 use Rattle.borrowing_param.proofs.edges.count_words.Tie as tie

@@ -1,5 +1,5 @@
 -- `edge_at` meets its contract: the edge's words are there, or the slice ends before.
-use Rattle.borrowing_param.proofs.Joining.{edge-absent, edge-there}
+use Rattle.borrowing_param.proofs.JoinLaws.{edge-absent, edge-there}
 use borrow.Author.Needs.{needs}
 use Rattle.borrowing_param.proofs.edges.edge_at.Statement.{statement}
 use Rattle.borrowing_param.proofs.edges.edge_at.Tie as tie

@@ -1,5 +1,5 @@
--- `first_drawn` meets its contract: each way out is a law of proofs/Drawing.antt.
-use Rattle.borrowing_param.proofs.Drawing.{drawn-path, drawn-own, drawn-absent}
+-- `first_drawn` meets its contract: each way out is a law of proofs/EdgesLaws.antt.
+use Rattle.borrowing_param.proofs.EdgesLaws.{drawn-path, drawn-own, drawn-absent}
 use borrow.Author.Needs.{needs}
 use Rattle.borrowing_param.proofs.edges.first_drawn.Statement.{statement}
 use Rattle.borrowing_param.proofs.edges.first_drawn.Tie as tie

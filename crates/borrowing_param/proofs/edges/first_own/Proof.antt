@@ -1,6 +1,6 @@
 -- `first_own` meets its contract.
 use mathlib.Core.Path.{sym, _∙_}
-use Rattle.borrowing_param.proofs.Drawing.{one-first, one-absent}
+use Rattle.borrowing_param.proofs.EdgesLaws.{one-first, one-absent}
 use borrow.Author.Needs.{needs}
 use Rattle.borrowing_param.proofs.edges.first_own.Statement.{statement}
 use Rattle.borrowing_param.proofs.edges.first_own.Tie as tie

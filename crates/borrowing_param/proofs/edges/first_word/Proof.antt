@@ -1,11 +1,11 @@
--- `first_word` meets its contract. The loop's invariant is `Searching` of proofs/Drawing.antt; the measure is how many
+-- `first_word` meets its contract. The loop's invariant is `Searching` of proofs/EdgesLaws.antt; the measure is how many
 -- words are to be read.
 use Prim.Native.Nat.{_-_}
 use mathlib.Core.Path.{sym, _∙_}
 use native.Mathlib.Omega.{arith}
 use Rattle.borrowing_param.specs.Visit.{drawsIn}
-use Rattle.borrowing_param.proofs.Drawing.{Searching, searching-start, searching-found, searching-more}
-use Rattle.borrowing_param.proofs.Drawing.{searching-end}
+use Rattle.borrowing_param.proofs.EdgesLaws.{Searching, searching-start, searching-found, searching-more}
+use Rattle.borrowing_param.proofs.EdgesLaws.{searching-end}
 use borrow.Author.Needs.{needs}
 use Rattle.borrowing_param.proofs.edges.first_word.Statement.{statement}
 use Rattle.borrowing_param.proofs.edges.first_word.Tie as tie

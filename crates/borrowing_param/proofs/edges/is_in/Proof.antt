@@ -1,5 +1,5 @@
 -- `is_in` meets its contract.
-use Rattle.borrowing_param.proofs.Drawing.{past-all, by-set}
+use Rattle.borrowing_param.proofs.EdgesLaws.{past-all, by-set}
 use borrow.Author.Needs.{needs}
 use Rattle.borrowing_param.proofs.edges.is_in.Statement.{statement}
 use Rattle.borrowing_param.proofs.edges.is_in.Tie as tie

@@ -3,7 +3,7 @@ use mathlib.Core.Path.{refl}
 use borrow.Author.Needs.{needs}
 use denote.Enum.Declared.{tagOf}
 use Rattle.lifetimes.proofs.linked.LinkedWord as LinkedWord
-use Rattle.borrowing_param.proofs.Drawing.{link-only, link-told}
+use Rattle.borrowing_param.proofs.EdgesLaws.{link-only, link-told}
 use Rattle.borrowing_param.proofs.edges.linked_lifetime.Statement.{statement}
 use Rattle.borrowing_param.proofs.edges.linked_lifetime.Tie as tie
 

@@ -1,7 +1,7 @@
 -- `past_last` meets its contract: a number has no ones above its leading zeros.
 use native.Mathlib.Omega.{arith}
 use lib.Count.{leading-le}
-use Rattle.borrowing_param.proofs.Storing.{below-leading}
+use Rattle.borrowing_param.proofs.EdgesLoops.{below-leading}
 use Rattle.borrowing_param.proofs.edges.past_last.Statement.{statement}
 use Rattle.borrowing_param.proofs.edges.past_last.Tie as tie
 

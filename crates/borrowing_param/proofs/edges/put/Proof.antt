@@ -1,7 +1,7 @@
 -- `put` meets its contract.
 use native.Mathlib.Omega.{arith}
 use lib.ListN.{length-set}
-use Rattle.borrowing_param.proofs.Storing.{put-words}
+use Rattle.borrowing_param.proofs.EdgesLoops.{put-words}
 use borrow.Author.Needs.{needs}
 use Rattle.borrowing_param.proofs.edges.put.Statement.{statement}
 use Rattle.borrowing_param.proofs.edges.put.Tie as tie

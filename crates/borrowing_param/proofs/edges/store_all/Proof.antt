@@ -1,4 +1,4 @@
--- `store_all` meets its contract. The loop's invariant is `Storing` of proofs/Storing.antt, over the edges that are
+-- `store_all` meets its contract. The loop's invariant is `Storing` of proofs/EdgesLoops.antt, over the edges that are
 -- left; the measure is how many lifetimes are to be looked at.
 use Prim.Native.Nat.{_+_, _-_}
 use mathlib.Core.Path.{sym, ap, _∙_}
@@ -9,9 +9,9 @@ use Rattle.lifetimes.specs.Sets.{member}
 use Rattle.borrowing_param.specs.Brings.{bring}
 use Rattle.borrowing_param.specs.Visit.{drawsIn}
 use Rattle.borrowing_param.specs.Inner.{typeIn, Below, allIn}
-use Rattle.borrowing_param.proofs.Storing.{below-64, Storing, storing-start, storing-fits, storing-part}
-use Rattle.borrowing_param.proofs.Storing.{storing-none, storing-end, leftAll, all-left, all-end, all-here}
-use Rattle.borrowing_param.proofs.Storing.{all-not}
+use Rattle.borrowing_param.proofs.EdgesLoops.{below-64, Storing, storing-start, storing-fits, storing-part}
+use Rattle.borrowing_param.proofs.EdgesLoops.{storing-none, storing-end, leftAll, all-left, all-end, all-here}
+use Rattle.borrowing_param.proofs.EdgesLoops.{all-not}
 use borrow.Author.Needs.{needs}
 use Rattle.borrowing_param.proofs.edges.store_all.Statement.{statement}
 use Rattle.borrowing_param.proofs.edges.store_all.Tie as tie

@@ -1,6 +1,6 @@
--- `store_for` meets its contract: a law of proofs/Storing.antt for each kind.
-use Rattle.borrowing_param.proofs.Storing.{room-opaque, room-slice, room-struct, for-plain, for-opaque}
-use Rattle.borrowing_param.proofs.Storing.{for-slice, for-struct}
+-- `store_for` meets its contract: a law of proofs/EdgesLoops.antt for each kind.
+use Rattle.borrowing_param.proofs.EdgesLoops.{room-opaque, room-slice, room-struct, for-plain, for-opaque}
+use Rattle.borrowing_param.proofs.EdgesLoops.{for-slice, for-struct}
 use borrow.Author.Needs.{needs}
 use Rattle.borrowing_param.proofs.edges.store_for.Statement.{statement}
 use Rattle.borrowing_param.proofs.edges.store_for.Tie as tie

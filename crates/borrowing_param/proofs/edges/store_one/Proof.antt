@@ -1,7 +1,7 @@
 -- `store_one` meets its contract.
 use mathlib.Core.Path.{sym, _∙_}
-use Rattle.borrowing_param.proofs.Drawing.{first-any, none-any}
-use Rattle.borrowing_param.proofs.Storing.{one-stored, one-room, none-stored}
+use Rattle.borrowing_param.proofs.EdgesLaws.{first-any, none-any}
+use Rattle.borrowing_param.proofs.EdgesLoops.{one-stored, one-room, none-stored}
 use borrow.Author.Needs.{needs}
 use Rattle.borrowing_param.proofs.edges.store_one.Statement.{statement}
 use Rattle.borrowing_param.proofs.edges.store_one.Tie as tie

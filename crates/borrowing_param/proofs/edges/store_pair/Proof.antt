@@ -1,7 +1,7 @@
 -- `store_pair` meets its contract.
 use mathlib.Core.Path.{ap}
 use Rattle.lifetimes.specs.declared.lifetime.Lifetime.{Lifetime}
-use Rattle.borrowing_param.proofs.Storing.{pair-stored}
+use Rattle.borrowing_param.proofs.EdgesLoops.{pair-stored}
 use borrow.Author.Needs.{needs}
 use Rattle.borrowing_param.proofs.edges.store_pair.Statement.{statement}
 use Rattle.borrowing_param.proofs.edges.store_pair.Tie as tie

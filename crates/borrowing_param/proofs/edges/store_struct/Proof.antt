@@ -1,4 +1,4 @@
--- `store_struct` meets its contract. The loop's invariant is `Storing` of proofs/Storing.antt, over the edges that are
+-- `store_struct` meets its contract. The loop's invariant is `Storing` of proofs/EdgesLoops.antt, over the edges that are
 -- left; the measure is how many words are to be read.
 use Prim.Native.Nat.{ℕ, _+_, _-_, _*_, _≤_}
 use mathlib.Core.Path.{_≡_, refl, sym, _∙_}
@@ -11,9 +11,9 @@ use Rattle.borrowing_param.specs.declared.visitor.LifetimeEdge.{Lifetime
 use Rattle.borrowing_param.specs.Edges.{edge, width}
 use Rattle.borrowing_param.specs.Brings.{structEdges}
 use Rattle.borrowing_param.specs.Visit.{drawsIn}
-use Rattle.borrowing_param.proofs.Drawing.{allPath, part-many, part-word}
-use Rattle.borrowing_param.proofs.Storing.{Storing, storing-start, storing-fits, storing-part, storing-none}
-use Rattle.borrowing_param.proofs.Storing.{storing-end, leftEdges, edges-all, edges-none, edges-one, edges-skip}
+use Rattle.borrowing_param.proofs.EdgesLaws.{allPath, part-many, part-word}
+use Rattle.borrowing_param.proofs.EdgesLoops.{Storing, storing-start, storing-fits, storing-part, storing-none}
+use Rattle.borrowing_param.proofs.EdgesLoops.{storing-end, leftEdges, edges-all, edges-none, edges-one, edges-skip}
 use borrow.Author.Needs.{needs}
 use Rattle.borrowing_param.proofs.edges.store_struct.Statement.{statement}
 use Rattle.borrowing_param.proofs.edges.store_struct.Tie as tie

@@ -1,4 +1,4 @@
--- `count_params` meets its contract. The loop's invariant is `CountingParams` of proofs/Listing.antt; the measure is
+-- `count_params` meets its contract. The loop's invariant is `CountingParams` of proofs/ListedLaws.antt; the measure is
 -- how many words are to be read.
 use Prim.Native.Nat.{_-_}
 use native.Mathlib.Omega.{arith}
@@ -6,8 +6,8 @@ use lib.ListN.{length}
 use Rattle.types.proofs.LocatedLaws.{type-coded}
 use Rattle.types.proofs.FoundLaws.{code-told}
 use Rattle.borrowing_param.specs.InnerMap.{paramTypes}
-use Rattle.borrowing_param.proofs.Listing.{CountingParams, params-start, params-end, params-more, one-more}
-use Rattle.borrowing_param.proofs.Listing.{brought-few, passing-missing, passing-next}
+use Rattle.borrowing_param.proofs.ListedLaws.{CountingParams, params-start, params-end, params-more, one-more}
+use Rattle.borrowing_param.proofs.ListedLaws.{brought-few, passing-missing, passing-next}
 use borrow.Author.Needs.{needs}
 use Rattle.borrowing_param.proofs.listed.count_params.Statement.{statement}
 use Rattle.borrowing_param.proofs.listed.count_params.Tie as tie

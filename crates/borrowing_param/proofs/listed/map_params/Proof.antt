@@ -1,8 +1,8 @@
--- `map_params` meets its contract: its three answers are laws of proofs/Listing.antt.
+-- `map_params` meets its contract: its three answers are laws of proofs/ListedLaws.antt.
 use mathlib.Core.Path.{_≡_, refl, sym}
 use lib.ListN.{length, length-map}
 use Rattle.borrowing_param.specs.InnerMap.{paramTypes}
-use Rattle.borrowing_param.proofs.Listing.{no-room-answers, no-room-edges, numbers-size, listed-room, mapped}
+use Rattle.borrowing_param.proofs.ListedLaws.{no-room-answers, no-room-edges, numbers-size, listed-room, mapped}
 use borrow.Author.Needs.{needs}
 use Rattle.borrowing_param.proofs.listed.map_params.Statement.{statement}
 use Rattle.borrowing_param.proofs.listed.map_params.Tie as tie

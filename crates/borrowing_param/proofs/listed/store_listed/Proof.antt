@@ -1,4 +1,4 @@
--- `store_listed` meets its contract. The loop's invariant is `Storing` of proofs/Storing.antt, over the edges that are
+-- `store_listed` meets its contract. The loop's invariant is `Storing` of proofs/EdgesLoops.antt, over the edges that are
 -- left; the measure is how many lifetimes are to be looked at.
 use Prim.Native.Nat.{_+_, _-_}
 use mathlib.Core.Path.{refl, sym, ap, _∙_}
@@ -11,9 +11,9 @@ use Rattle.borrowing_param.specs.Visit.{drawsIn}
 use Rattle.borrowing_param.specs.BorrowMap.{listedEdges}
 use Rattle.borrowing_param.specs.Inner.{Below}
 use Rattle.borrowing_param.specs.InnerMap.{paramTypes, visitorIn, bringFrom}
-use Rattle.borrowing_param.proofs.Storing.{below-64, Storing, storing-start, storing-fits, storing-part}
-use Rattle.borrowing_param.proofs.Storing.{storing-none, storing-end}
-use Rattle.borrowing_param.proofs.Listing.{leftListed, listed-left, listed-end, listed-here, listed-not}
+use Rattle.borrowing_param.proofs.EdgesLoops.{below-64, Storing, storing-start, storing-fits, storing-part}
+use Rattle.borrowing_param.proofs.EdgesLoops.{storing-none, storing-end}
+use Rattle.borrowing_param.proofs.ListedLaws.{leftListed, listed-left, listed-end, listed-here, listed-not}
 use borrow.Author.Needs.{needs}
 use Rattle.borrowing_param.proofs.listed.store_listed.Statement.{statement}
 use Rattle.borrowing_param.proofs.listed.store_listed.Tie as tie

@@ -1,12 +1,12 @@
--- `store_to` meets its contract. The loop's invariant is `StoringTo` of proofs/Listing.antt; the measure is how many
+-- `store_to` meets its contract. The loop's invariant is `StoringTo` of proofs/ListedLaws.antt; the measure is how many
 -- words are to be read.
 use Prim.Native.Nat.{_-_}
 use native.Mathlib.Omega.{arith}
 use lib.ListN.{length}
 use Rattle.borrowing_param.specs.Visit.{drawsIn}
 use Rattle.borrowing_param.specs.InnerMap.{paramTypes}
-use Rattle.borrowing_param.proofs.Listing.{StoringTo, to-start, to-end, to-fits, to-more, to-few}
-use Rattle.borrowing_param.proofs.Listing.{passing-missing, passing-next}
+use Rattle.borrowing_param.proofs.ListedLaws.{StoringTo, to-start, to-end, to-fits, to-more, to-few}
+use Rattle.borrowing_param.proofs.ListedLaws.{passing-missing, passing-next}
 use borrow.Author.Needs.{needs}
 use Rattle.borrowing_param.proofs.listed.store_to.Statement.{statement}
 use Rattle.borrowing_param.proofs.listed.store_to.Tie as tie

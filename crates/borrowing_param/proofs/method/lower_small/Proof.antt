@@ -1,5 +1,5 @@
 -- `lower_small` meets its contract: the scratch is large enough.
-use Rattle.sheet.proofs.Placing.{half-room}
+use Rattle.sheet.proofs.LaidLaws.{half-room}
 use borrow.Author.Needs.{needs}
 use Rattle.borrowing_param.proofs.method.lower_small.Statement.{statement}
 use Rattle.borrowing_param.proofs.method.lower_small.Tie as tie

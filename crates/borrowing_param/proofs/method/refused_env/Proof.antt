@@ -1,5 +1,5 @@
 -- `refused_env` meets its contract: a refusal, beside the environment without lifetimes.
-use Rattle.borrowing_param.proofs.Visiting.{no-lifetimes}
+use Rattle.borrowing_param.proofs.VisitorLaws.{no-lifetimes}
 use borrow.Author.Needs.{needs}
 use Rattle.borrowing_param.proofs.method.refused_env.Statement.{statement}
 use Rattle.borrowing_param.proofs.method.refused_env.Tie as tie

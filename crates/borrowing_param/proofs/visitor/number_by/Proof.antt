@@ -2,7 +2,7 @@
 -- number in each of the four cases.
 use mathlib.Core.Path.{refl}
 use native.Mathlib.Omega.{arith}
-use Rattle.borrowing_param.proofs.Visiting.{fact-few, both-fewer, number-worked}
+use Rattle.borrowing_param.proofs.VisitorLaws.{fact-few, both-fewer, number-worked}
 use borrow.Author.Needs.{needs}
 use Rattle.borrowing_param.proofs.visitor.number_by.Statement.{statement}
 use Rattle.borrowing_param.proofs.visitor.number_by.Tie as tie

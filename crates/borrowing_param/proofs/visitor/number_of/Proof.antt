@@ -1,5 +1,5 @@
--- `number_of` meets its contract: its three answers are laws of proofs/Visiting.antt.
-use Rattle.borrowing_param.proofs.Visiting.{number-plain, number-struct, number-facts}
+-- `number_of` meets its contract: its three answers are laws of proofs/VisitorLaws.antt.
+use Rattle.borrowing_param.proofs.VisitorLaws.{number-plain, number-struct, number-facts}
 use borrow.Author.Needs.{needs}
 use Rattle.borrowing_param.proofs.visitor.number_of.Statement.{statement}
 use Rattle.borrowing_param.proofs.visitor.number_of.Tie as tie

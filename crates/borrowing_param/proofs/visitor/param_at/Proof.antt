@@ -1,7 +1,7 @@
--- `param_at` meets its contract. The loop's invariant is `Finding` of proofs/Visiting.antt; the measure is how many
+-- `param_at` meets its contract. The loop's invariant is `Finding` of proofs/VisitorLaws.antt; the measure is how many
 -- types are to be passed.
 use Prim.Native.Nat.{_-_}
-use Rattle.borrowing_param.proofs.Visiting.{Finding, finding-start, finding-end, finding-missing, finding-more}
+use Rattle.borrowing_param.proofs.VisitorLaws.{Finding, finding-start, finding-end, finding-missing, finding-more}
 use borrow.Author.Needs.{needs}
 use Rattle.borrowing_param.proofs.visitor.param_at.Statement.{statement}
 use Rattle.borrowing_param.proofs.visitor.param_at.Tie as tie

@@ -1,11 +1,11 @@
--- `visit_parts` meets its contract: its four answers are laws of proofs/Visiting.antt.
+-- `visit_parts` meets its contract: its four answers are laws of proofs/VisitorLaws.antt.
 use mathlib.Core.Path.{_≡_, refl, ap, _∙_}
 use lib.ListN.{length, length-map}
 use Rattle.borrowing_param.specs.declared.visitor.Visited.{Visited}
 use Rattle.borrowing_param.specs.Visit.{outcome, state}
 use Rattle.borrowing_param.specs.Inner.{typeIn}
-use Rattle.borrowing_param.proofs.Visiting.{visit-nothing, visit-no-room, visit-room, no-room-at-all}
-use Rattle.borrowing_param.proofs.Visiting.{no-room-behind, room-behind, brought-room}
+use Rattle.borrowing_param.proofs.VisitorLaws.{visit-nothing, visit-no-room, visit-room, no-room-at-all}
+use Rattle.borrowing_param.proofs.VisitorLaws.{no-room-behind, room-behind, brought-room}
 use borrow.Author.Needs.{needs}
 use Rattle.borrowing_param.proofs.visitor.visit_parts.Statement.{statement}
 use Rattle.borrowing_param.proofs.visitor.visit_parts.Tie as tie

@@ -1,9 +1,9 @@
--- `first_of` meets its contract. The loop's invariant is `Firsts` of proofs/Filling.antt; the measure is how many
+-- `first_of` meets its contract. The loop's invariant is `Firsts` of proofs/LaidLoops.antt; the measure is how many
 -- lifetimes are to be copied.
 use mathlib.Core.Path.{_≡_, refl}
 use native.Mathlib.Omega.{arith}
 use lib.ListN.{length, length-map}
-use Rattle.elision.proofs.Filling.{Firsts, firsts-start, firsts-few, firsts-more, firsts-end}
+use Rattle.elision.proofs.LaidLoops.{Firsts, firsts-start, firsts-few, firsts-more, firsts-end}
 use Prim.Native.Nat.{_-_}
 use borrow.Author.Needs.{needs}
 use Rattle.elision.proofs.lowerer.first_of.Statement.{statement}

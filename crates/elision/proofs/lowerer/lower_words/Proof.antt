@@ -1,9 +1,9 @@
--- `lower_words` meets its contract. The loop's invariant is `Running` of proofs/Running.antt; the measure is how many
+-- `lower_words` meets its contract. The loop's invariant is `Running` of proofs/LowererLoops.antt; the measure is how many
 -- words are to be lowered.
 use Prim.Native.Nat.{_-_}
 use borrow.Author.Needs.{needs}
-use Rattle.elision.proofs.Running.{Running, running-start, running-few, running-refused, running-more}
-use Rattle.elision.proofs.Running.{running-end}
+use Rattle.elision.proofs.LowererLoops.{Running, running-start, running-few, running-refused, running-more}
+use Rattle.elision.proofs.LowererLoops.{running-end}
 use Rattle.elision.proofs.lowerer.lower_words.Statement.{statement}
 use Rattle.elision.proofs.lowerer.lower_words.Tie as tie
 

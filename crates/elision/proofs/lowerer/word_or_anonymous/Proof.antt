@@ -1,5 +1,5 @@
 -- `word_or_anonymous` meets its contract.
-use Rattle.elision.proofs.ListLaws.{getD-any, getD-past}
+use Rattle.elision.proofs.LaidLaws.{getD-any, getD-past}
 use borrow.Author.Needs.{needs}
 use Rattle.elision.proofs.lowerer.word_or_anonymous.Statement.{statement}
 use Rattle.elision.proofs.lowerer.word_or_anonymous.Tie as tie

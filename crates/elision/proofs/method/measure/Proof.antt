@@ -3,7 +3,7 @@ use native.Mathlib.Omega.{arith}
 use mathlib.Core.Path.{_≡_, sym, _∙_}
 use lib.ListN.{length, length-map}
 use Rattle.answers.proofs.RefusalLaws.{refused-first, accepted-none}
-use Rattle.ast_lifetimes.proofs.Listing.{few-names}
+use Rattle.ast_lifetimes.proofs.ThanLaws.{few-names}
 use Rattle.elision.proofs.EntryLaws.{measure-shape, Shaped, shape-told, measure-shaped, measure-env, Valid}
 use Rattle.elision.proofs.EntryLaws.{measure-refused, measure-all}
 use borrow.Author.Needs.{needs}

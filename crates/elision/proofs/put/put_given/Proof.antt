@@ -1,5 +1,5 @@
--- `put_given` meets its contract, by `given-puts` of proofs/Showing.antt.
-use Rattle.elision.proofs.Showing.{given-puts}
+-- `put_given` meets its contract, by `given-puts` of proofs/PutLaws.antt.
+use Rattle.elision.proofs.PutLaws.{given-puts}
 use borrow.Author.Needs.{needs}
 use Rattle.elision.proofs.put.put_given.Statement.{statement}
 use Rattle.elision.proofs.put.put_given.Tie as tie

@@ -1,8 +1,8 @@
--- `put_list` meets its contract. The loop's invariant is `Storing` of proofs/Showing.antt; the measure is how many
+-- `put_list` meets its contract. The loop's invariant is `Storing` of proofs/PutLaws.antt; the measure is how many
 -- words are to be stored.
 use Prim.Native.Nat.{_-_}
 use borrow.Author.Needs.{needs}
-use Rattle.elision.proofs.Showing.{Storing, storing-start, storing-more, storing-end}
+use Rattle.elision.proofs.PutLaws.{Storing, storing-start, storing-more, storing-end}
 use Rattle.elision.proofs.put.put_list.Statement.{statement}
 use Rattle.elision.proofs.put.put_list.Tie as tie
 

@@ -1,7 +1,7 @@
 -- `put_record` meets its contract: a record without words leaves all as it was.
 use native.Mathlib.Omega.{arith}
 use borrow.Author.Needs.{needs}
-use Rattle.elision.proofs.Recording.{recording-start, recording-end}
+use Rattle.elision.proofs.PutLoops.{recording-start, recording-end}
 use Rattle.elision.proofs.put.put_record.Statement.{statement}
 use Rattle.elision.proofs.put.put_record.Tie as tie
 

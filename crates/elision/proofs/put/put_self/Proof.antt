@@ -1,5 +1,5 @@
--- `put_self` meets its contract: each way out is one law of proofs/Showing.antt.
-use Rattle.elision.proofs.Showing.{self-again, self-refused, self-first}
+-- `put_self` meets its contract: each way out is one law of proofs/PutLaws.antt.
+use Rattle.elision.proofs.PutLaws.{self-again, self-refused, self-first}
 use borrow.Author.Needs.{needs}
 use Rattle.elision.proofs.put.put_self.Statement.{statement}
 use Rattle.elision.proofs.put.put_self.Tie as tie

@@ -1,9 +1,9 @@
--- `put_step` meets its contract: each arm is one law of proofs/Showing.antt.
+-- `put_step` meets its contract: each arm is one law of proofs/PutLaws.antt.
 use Prim.Native.Nat.{ℕ, _-_, _≤_}
 use mathlib.Core.List.{List}
 use native.Mathlib.Omega.{arith}
-use Rattle.elision.proofs.Taking.{Part, part-lifetime, part-generics, part-self}
-use Rattle.elision.proofs.Showing.{puts-lifetime, puts-generics, puts-self, puts-missing}
+use Rattle.elision.proofs.TookLaws.{Part, part-lifetime, part-generics, part-self}
+use Rattle.elision.proofs.PutLaws.{puts-lifetime, puts-generics, puts-self, puts-missing}
 use borrow.Author.Needs.{needs}
 use Rattle.elision.proofs.put.put_step.Statement.{statement}
 use Rattle.elision.proofs.put.put_step.Tie as tie

@@ -1,11 +1,11 @@
--- `put_steps` meets its contract. The loop's invariant is `Recording` of proofs/Recording.antt; the measure is how many
+-- `put_steps` meets its contract. The loop's invariant is `Recording` of proofs/PutLoops.antt; the measure is how many
 -- words are to be read.
 use Prim.Native.Nat.{_-_}
 use native.Mathlib.Omega.{arith}
 use lib.ListN.{length}
 use borrow.Author.Needs.{needs}
-use Rattle.elision.proofs.Recording.{Recording, recording-start, recording-room, recording-refused}
-use Rattle.elision.proofs.Recording.{recording-less, recording-more, recording-end}
+use Rattle.elision.proofs.PutLoops.{Recording, recording-start, recording-room, recording-refused}
+use Rattle.elision.proofs.PutLoops.{recording-less, recording-more, recording-end}
 use Rattle.elision.proofs.put.put_steps.Statement.{statement}
 use Rattle.elision.proofs.put.put_steps.Tie as tie
 

@@ -1,8 +1,8 @@
--- `put_words` meets its contract. The loop's invariant is `Putting` of proofs/Running.antt; the measure is how many
+-- `put_words` meets its contract. The loop's invariant is `Putting` of proofs/LowererLoops.antt; the measure is how many
 -- words are to be lowered.
 use Prim.Native.Nat.{_-_}
 use borrow.Author.Needs.{needs}
-use Rattle.elision.proofs.Running.{Putting, putting-start, putting-refused, putting-more, putting-end}
+use Rattle.elision.proofs.LowererLoops.{Putting, putting-start, putting-refused, putting-more, putting-end}
 use Rattle.elision.proofs.put.put_words.Statement.{statement}
 use Rattle.elision.proofs.put.put_words.Tie as tie
 

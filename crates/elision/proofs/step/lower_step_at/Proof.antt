@@ -1,9 +1,9 @@
--- `lower_step_at` meets its contract: each arm is one law of proofs/Taking.antt.
+-- `lower_step_at` meets its contract: each arm is one law of proofs/TookLaws.antt.
 use Prim.Native.Nat.{ℕ, _≤_}
 use mathlib.Core.List.{List}
 use native.Mathlib.Omega.{arith}
-use Rattle.elision.proofs.Taking.{Part, part-generics, part-self, takes-lifetime, takes-generics, takes-self}
-use Rattle.elision.proofs.Taking.{takes-missing}
+use Rattle.elision.proofs.TookLaws.{Part, part-generics, part-self, takes-lifetime, takes-generics, takes-self}
+use Rattle.elision.proofs.TookLaws.{takes-missing}
 use borrow.Author.Needs.{needs}
 use Rattle.elision.proofs.step.lower_step_at.Statement.{statement}
 use Rattle.elision.proofs.step.lower_step_at.Tie as tie

@@ -5,7 +5,7 @@ use native.Mathlib.Omega.{arith}
 use lib.ListN.{length}
 use borrow.Author.Needs.{needs}
 use Rattle.records.proofs.EndLaws.{ends-told, ends-past}
-use Rattle.records.proofs.Shaping.{Shaping, shaping-long, shaping-start, shaping-missing, shaping-more, shaping-end}
+use Rattle.records.proofs.ShapeLoops.{Shaping, shaping-long, shaping-start, shaping-missing, shaping-more, shaping-end}
 use Rattle.elision.specs.Steps.{readStep}
 use Rattle.elision.proofs.steps.steps_shape.Statement.{statement}
 use Rattle.elision.proofs.steps.steps_shape.Tie as tie

@@ -1,11 +1,11 @@
--- `filled` meets its contract. The loop's invariant is `Filling` of proofs/PairLaws.antt; the measure is how many words
+-- `filled` meets its contract. The loop's invariant is `Filling` of proofs/EnvLoops.antt; the measure is how many words
 -- are to be read.
 use borrow.Author.Needs.{needs}
 use Prim.Native.Nat.{_-_}
 use native.Mathlib.Omega.{arith}
 use lib.ListN.{length}
-use Rattle.lifetimes.proofs.PairLaws.{pair-second, Filling, filling-start, filling-small, filling-room}
-use Rattle.lifetimes.proofs.PairLaws.{filling-more, filling-end}
+use Rattle.lifetimes.proofs.EnvLoops.{pair-second, Filling, filling-start, filling-small, filling-room}
+use Rattle.lifetimes.proofs.EnvLoops.{filling-more, filling-end}
 use Rattle.lifetimes.proofs.env.filled.Statement.{statement}
 use Rattle.lifetimes.proofs.env.filled.Tie as tie
 

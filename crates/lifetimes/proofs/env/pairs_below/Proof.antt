@@ -1,11 +1,11 @@
--- `pairs_below` meets its contract. The loop's invariant is `Below` of proofs/PairLaws.antt; the measure is how many
+-- `pairs_below` meets its contract. The loop's invariant is `Below` of proofs/EnvLoops.antt; the measure is how many
 -- words are to be read.
 use borrow.Author.Needs.{needs}
 use Prim.Native.Nat.{_-_}
 use mathlib.Core.Path.{sym, _∙_}
 use lib.ListN.{length}
 use borrow.Author.Tests.{not-true, not-false}
-use Rattle.lifetimes.proofs.PairLaws.{pair-second, Below, below-start, below-refused, below-more, below-end}
+use Rattle.lifetimes.proofs.EnvLoops.{pair-second, Below, below-start, below-refused, below-more, below-end}
 use Rattle.lifetimes.proofs.env.pairs_below.Statement.{statement}
 use Rattle.lifetimes.proofs.env.pairs_below.Tie as tie
 

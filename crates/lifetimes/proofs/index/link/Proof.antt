@@ -9,8 +9,8 @@ use Rattle.lifetimes.specs.Bounds.{listOf}
 use Rattle.lifetimes.specs.Walk.{orderOf}
 use Rattle.lifetimes.specs.Index.{Fine, linkedIn, graphIn}
 use Rattle.lifetimes.proofs.ReverseLaws.{linked-length, linked-fine, linked-at, place-below}
-use Rattle.lifetimes.proofs.Linking.{Linking, linking-start, linking-end, linking-near, linking-far}
-use Rattle.lifetimes.proofs.Linking.{linking-more}
+use Rattle.lifetimes.proofs.IndexLoops.{Linking, linking-start, linking-end, linking-near, linking-far}
+use Rattle.lifetimes.proofs.IndexLoops.{linking-more}
 use Rattle.lifetimes.proofs.index.link.Statement.{statement}
 use Rattle.lifetimes.proofs.index.link.Tie as tie
 

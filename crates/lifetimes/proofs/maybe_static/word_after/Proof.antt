@@ -1,6 +1,6 @@
 -- `word_after` meets its contract: the code's test is whether the word fits.
 use borrow.Author.Needs.{needs}
-use Rattle.lifetimes.proofs.WordLaws.{word-absent, word-fits}
+use Rattle.lifetimes.proofs.MaybeStaticLaws.{word-absent, word-fits}
 use Rattle.lifetimes.proofs.maybe_static.word_after.Statement.{statement}
 use Rattle.lifetimes.proofs.maybe_static.word_after.Tie as tie
 

@@ -9,7 +9,7 @@ use borrow.Author.Tests.{le-leb}
 use mathlib.Core.List.{flatten}
 use lib.ListN.{length}
 use Rattle.lifetimes.specs.Index.{listsFrom}
-use Rattle.lifetimes.proofs.Laying.{lists-few}
+use Rattle.lifetimes.proofs.ReachLoops.{lists-few}
 use Rattle.lifetimes.proofs.reach.all_fit.Statement.{statement}
 use Rattle.lifetimes.proofs.reach.all_fit.Tie as tie
 

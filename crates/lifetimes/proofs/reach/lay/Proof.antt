@@ -6,7 +6,7 @@ use borrow.Author.Needs.{needs}
 use lib.ListN.{length, take, length-set}
 use lib.Seq.{length-take-le, length-sets}
 use Rattle.lifetimes.specs.Index.{Graph, Indexed, Within}
-use Rattle.lifetimes.proofs.Laying.{Laying, laying-start, laying-room, laying-more, laying-end}
+use Rattle.lifetimes.proofs.ReachLoops.{Laying, laying-start, laying-room, laying-more, laying-end}
 use Rattle.lifetimes.proofs.reach.lay.Statement.{statement}
 use Rattle.lifetimes.proofs.reach.lay.Tie as tie
 

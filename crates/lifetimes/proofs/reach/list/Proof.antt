@@ -8,7 +8,7 @@ use Rattle.lifetimes.specs.Walk.{orderOf}
 use Rattle.lifetimes.specs.Index.{graphIn}
 use Rattle.lifetimes.proofs.EnvLaws.{Valid, valid}
 use Rattle.lifetimes.proofs.IndexLaws.{bounds-length, bounds-fine, bounds-within, zeros}
-use Rattle.lifetimes.proofs.Traversing.{list-by}
+use Rattle.lifetimes.proofs.ReachAnswers.{list-by}
 use Rattle.lifetimes.proofs.reach.list.Statement.{statement}
 use Rattle.lifetimes.proofs.reach.list.Tie as tie
 

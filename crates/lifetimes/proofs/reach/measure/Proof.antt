@@ -6,7 +6,7 @@ use borrow.Author.Needs.{needs}
 use lib.ListN.{length, length-set}
 use lib.Seq.{length-take-le}
 use Rattle.lifetimes.specs.Index.{Graph, Indexed, Within}
-use Rattle.lifetimes.proofs.Laying.{Measuring, measuring-start, measuring-more, measuring-end}
+use Rattle.lifetimes.proofs.ReachLoops.{Measuring, measuring-start, measuring-more, measuring-end}
 use Rattle.lifetimes.proofs.reach.measure.Statement.{statement}
 use Rattle.lifetimes.proofs.reach.measure.Tie as tie
 

@@ -8,7 +8,7 @@ use Rattle.answers.specs.Refusals.{NoneDue}
 use Rattle.lifetimes.specs.Env.{envChecks}
 use Rattle.lifetimes.specs.Index.{listBy}
 use Rattle.answers.proofs.RefusalLaws.{refused-first, accepted-none}
-use Rattle.lifetimes.proofs.Traversing.{list-refused, list-past, list-short, list-given}
+use Rattle.lifetimes.proofs.ReachAnswers.{list-refused, list-past, list-short, list-given}
 use Rattle.lifetimes.proofs.reach.traverse.Statement.{statement}
 use Rattle.lifetimes.proofs.reach.traverse.Tie as tie
 

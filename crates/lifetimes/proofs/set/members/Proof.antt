@@ -1,11 +1,11 @@
--- `set::members` meets its contract. The loop's invariant is `Listing` of proofs/MembersLoop.antt; the measure is how
+-- `set::members` meets its contract. The loop's invariant is `Listing` of proofs/SetLoops.antt; the measure is how
 -- many lifetimes are to be looked at.
 use Prim.Native.Nat.{_-_}
 use mathlib.Core.Logic.{⊎-elim}
 use mathlib.Core.Path.{sym, _∙_}
 use borrow.Author.Needs.{needs}
-use Rattle.lifetimes.proofs.MembersLoop.{Listing, too-short, listing-start, listing-room, listing-member}
-use Rattle.lifetimes.proofs.MembersLoop.{listing-other, listing-end}
+use Rattle.lifetimes.proofs.SetLoops.{Listing, too-short, listing-start, listing-room, listing-member}
+use Rattle.lifetimes.proofs.SetLoops.{listing-other, listing-end}
 use Rattle.lifetimes.proofs.set.members.Statement.{statement}
 use Rattle.lifetimes.proofs.set.members.Tie as tie
 

@@ -6,9 +6,9 @@ use borrow.Author.Needs.{needs}
 use borrow.Author.Tests.{not-true, not-false}
 use Rattle.lifetimes.specs.declared.lifetime.Lifetime.{Lifetime}
 use Rattle.lifetimes.specs.Index.{Graph, Chained, Ready}
-use Rattle.lifetimes.proofs.Skipping.{Skipping, skipping-start, skipping-at, skipping-depth, skipping-top}
-use Rattle.lifetimes.proofs.Skipping.{skipping-pop, skipping-end, skipping-far, skipping-before, skipping-seen}
-use Rattle.lifetimes.proofs.Skipping.{skipping-found}
+use Rattle.lifetimes.proofs.AdvanceLoops.{Skipping, skipping-start, skipping-at, skipping-depth, skipping-top}
+use Rattle.lifetimes.proofs.AdvanceLoops.{skipping-pop, skipping-end, skipping-far, skipping-before, skipping-seen}
+use Rattle.lifetimes.proofs.AdvanceLoops.{skipping-found}
 use Rattle.lifetimes.proofs.walk.advance.Statement.{statement}
 use Rattle.lifetimes.proofs.walk.advance.Tie as tie
 

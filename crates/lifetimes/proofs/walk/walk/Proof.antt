@@ -6,8 +6,8 @@ use native.Mathlib.Omega.{arith}
 use borrow.Author.Needs.{needs}
 use lib.ListN.{length, length-set}
 use Rattle.lifetimes.specs.Index.{Graph, Indexed, Within, Steps}
-use Rattle.lifetimes.proofs.Walking.{last-small, Walking, walking-start, walking-end, walking-small}
-use Rattle.lifetimes.proofs.Walking.{walking-more, walking-held, stacked-push, stacked-same, going-full}
+use Rattle.lifetimes.proofs.WalkLoops.{last-small, Walking, walking-start, walking-end, walking-small}
+use Rattle.lifetimes.proofs.WalkLoops.{walking-more, walking-held, stacked-push, stacked-same, going-full}
 use Rattle.lifetimes.proofs.walk.walk.Statement.{statement}
 use Rattle.lifetimes.proofs.walk.walk.Tie as tie
 

@@ -2,7 +2,7 @@
 -- itself is with a larger size, 65,536 at most.
 use Prim.Native.Nat.{ℕ, _-_, _<_}
 use borrow.Author.Needs.{needs}
-use Rattle.listing.proofs.SheetListing.{tried-done, tried-again}
+use Rattle.listing.proofs.CallsLaws.{tried-done, tried-again}
 use borrow.Fn.Kinds.{In}
 use borrow.Fn.PlainCycle.{Measures, is, falls, and}
 use Rattle.listing.proofs.calls.list_sized.Reads as list-sized

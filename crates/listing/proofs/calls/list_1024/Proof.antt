@@ -1,6 +1,6 @@
 -- `list_1024` meets its contract: a word takes two bytes.
-use Rattle.sheet.proofs.Placing.{half-room}
-use Rattle.listing.proofs.SheetListing.{tried}
+use Rattle.sheet.proofs.LaidLaws.{half-room}
+use Rattle.listing.proofs.CallsLaws.{tried}
 use borrow.Author.Needs.{needs}
 use Rattle.listing.proofs.calls.list_1024.Statement.{statement}
 use Rattle.listing.proofs.calls.list_1024.Tie as tie

@@ -1,6 +1,6 @@
 -- `list_any` meets its contract: such scratch is ample.
-use Rattle.sheet.proofs.Placing.{any-room}
-use Rattle.listing.proofs.SheetListing.{never-short, tried-done}
+use Rattle.sheet.proofs.LaidLaws.{any-room}
+use Rattle.listing.proofs.CallsLaws.{never-short, tried-done}
 use borrow.Author.Needs.{needs}
 use Rattle.listing.proofs.calls.list_any.Statement.{statement}
 use Rattle.listing.proofs.calls.list_any.Tie as tie

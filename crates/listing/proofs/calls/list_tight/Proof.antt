@@ -1,6 +1,6 @@
 -- `list_tight` meets its contract: the listing is measured before it is written.
 use mathlib.Core.List.{[]}
-use Rattle.listing.proofs.SheetListing.{measured-refused, too-long, listed-so, measured-enough}
+use Rattle.listing.proofs.CallsLaws.{measured-refused, too-long, listed-so, measured-enough}
 use borrow.Author.Needs.{needs}
 use Rattle.listing.proofs.calls.list_tight.Statement.{statement}
 use Rattle.listing.proofs.calls.list_tight.Tie as tie

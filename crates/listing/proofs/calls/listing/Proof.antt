@@ -1,5 +1,5 @@
 -- `listing` meets its contract: where the slice takes any listing, all of it fits.
-use Rattle.listing.proofs.SheetListing.{listed-so, wide-enough}
+use Rattle.listing.proofs.CallsLaws.{listed-so, wide-enough}
 use borrow.Author.Needs.{needs}
 use Rattle.listing.proofs.calls.listing.Statement.{statement}
 use Rattle.listing.proofs.calls.listing.Tie as tie

@@ -1,7 +1,7 @@
 -- `respond` meets its contract: a listing or a refusal, and both fit.
 use mathlib.Core.Path.{_≡_}
 use lib.ListN.{length}
-use Rattle.listing.proofs.SheetListing.{respond-listed, respond-refused}
+use Rattle.listing.proofs.CallsLaws.{respond-listed, respond-refused}
 use Rattle.listing.specs.Listing.{roomBytes}
 use borrow.Author.Needs.{needs}
 use Rattle.listing.proofs.calls.respond.Statement.{statement}

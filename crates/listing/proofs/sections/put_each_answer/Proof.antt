@@ -4,7 +4,7 @@ use mathlib.Core.Path.{_≡_}
 use native.Mathlib.Omega.{arith}
 use lib.ListN.{length}
 use borrow.Author.Needs.{needs}
-use Rattle.listing.proofs.SectionLaws.{Answering, answering-start, answering-end, answering-more, answering-size}
+use Rattle.listing.proofs.SectionsLaws.{Answering, answering-start, answering-end, answering-more, answering-size}
 use Rattle.text.proofs.PrintLaws.{prints}
 use Rattle.listing.proofs.sections.put_each_answer.Statement.{statement}
 use Rattle.listing.proofs.sections.put_each_answer.Tie as tie

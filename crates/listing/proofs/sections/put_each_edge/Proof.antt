@@ -1,7 +1,7 @@
 -- `put_each_edge` meets its contract: each turn prints one edge.
 use Prim.Native.Nat.{_-_}
 use borrow.Author.Needs.{needs}
-use Rattle.listing.proofs.SectionLaws.{Edging, edging-start, edging-end, edging-more, edging-size}
+use Rattle.listing.proofs.SectionsLaws.{Edging, edging-start, edging-end, edging-more, edging-size}
 use Rattle.text.proofs.PrintLaws.{prints}
 use Rattle.listing.proofs.sections.put_each_edge.Statement.{statement}
 use Rattle.listing.proofs.sections.put_each_edge.Tie as tie

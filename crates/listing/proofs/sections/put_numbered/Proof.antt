@@ -2,8 +2,8 @@
 use Prim.Native.Nat.{_-_}
 use native.Mathlib.Omega.{arith}
 use borrow.Author.Needs.{needs}
-use Rattle.listing.proofs.SectionLaws.{Numbering, numbering-start, numbering-end, numbering-there}
-use Rattle.listing.proofs.SectionLaws.{numbering-inside, numbering-more, numbering-size}
+use Rattle.listing.proofs.SectionsLaws.{Numbering, numbering-start, numbering-end, numbering-there}
+use Rattle.listing.proofs.SectionsLaws.{numbering-inside, numbering-more, numbering-size}
 use Rattle.text.proofs.PrintLaws.{prints}
 use Rattle.listing.proofs.sections.put_numbered.Statement.{statement}
 use Rattle.listing.proofs.sections.put_numbered.Tie as tie

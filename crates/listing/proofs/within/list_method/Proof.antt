@@ -1,11 +1,11 @@
--- `list_method` meets its contract: each way out is one law of proofs/MethodListing.antt.
+-- `list_method` meets its contract: each way out is one law of proofs/WithinMethodLaws.antt.
 use mathlib.Core.Path.{refl}
 use native.Mathlib.Nat.{mul-le-mul}
 use native.Mathlib.Omega.{arith}
 use lib.ListN.{replicate}
 use Rattle.listing.proofs.RoomLaws.{lifetimes-few}
-use Rattle.listing.proofs.MethodListing.{AllListed, Mapped, lists-short, map-refused, params-inside}
-use Rattle.listing.proofs.MethodListing.{lists-ascend, edges-inside, method-listed}
+use Rattle.listing.proofs.WithinMethodLaws.{AllListed, Mapped, lists-short, map-refused, params-inside}
+use Rattle.listing.proofs.WithinMethodLaws.{lists-ascend, edges-inside, method-listed}
 use borrow.Author.Needs.{needs}
 use Rattle.listing.proofs.within.list_method.Statement.{statement}
 use Rattle.listing.proofs.within.list_method.Tie as tie

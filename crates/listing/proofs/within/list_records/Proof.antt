@@ -1,10 +1,10 @@
--- `list_records` meets its contract: each way out is one law of proofs/RecordsListing.antt.
+-- `list_records` meets its contract: each way out is one law of proofs/WithinRecordsLaws.antt.
 use lib.ListN.{length, replicate}
 use Rattle.sheet.specs.Text.{Records}
 use Rattle.borrowing_param.specs.InnerSheet.{records}
-use Rattle.listing.proofs.RecordsListing.{steps-short, returns-short, names-listed, steps-listed, Elided}
-use Rattle.listing.proofs.RecordsListing.{own-stands, steps-stand, returns-stand, used-listed, listable}
-use Rattle.listing.proofs.RecordsListing.{records-listed}
+use Rattle.listing.proofs.WithinRecordsLaws.{steps-short, returns-short, names-listed, steps-listed, Elided}
+use Rattle.listing.proofs.WithinRecordsLaws.{own-stands, steps-stand, returns-stand, used-listed, listable}
+use Rattle.listing.proofs.WithinRecordsLaws.{records-listed}
 use borrow.Author.Needs.{needs}
 use Rattle.listing.proofs.within.list_records.Statement.{statement}
 use Rattle.listing.proofs.within.list_records.Tie as tie

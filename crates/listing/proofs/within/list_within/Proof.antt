@@ -1,6 +1,6 @@
--- `list_within` meets its contract: each way out is one law of proofs/SheetListing.antt.
+-- `list_within` meets its contract: each way out is one law of proofs/CallsLaws.antt.
 use Rattle.borrowing_param.proofs.SheetLaws.{judge-shape}
-use Rattle.listing.proofs.SheetListing.{text-refused, text-listed}
+use Rattle.listing.proofs.CallsLaws.{text-refused, text-listed}
 use borrow.Author.Needs.{needs}
 use Rattle.listing.proofs.within.list_within.Statement.{statement}
 use Rattle.listing.proofs.within.list_within.Tie as tie

@@ -8,8 +8,8 @@ use borrow.Author.Needs.{needs}
 use Rattle.types.specs.Rows.{rowsOf, structsInShape}
 use Rattle.types.proofs.ShapeLaws.{counted-shape}
 use Rattle.methods.specs.Inner.{FieldIs}
-use Rattle.methods.proofs.FieldLaws.{compute-torn, compute-other, Indexed, few-rows, path-linked}
-use Rattle.methods.proofs.FieldLaws.{compute-refused, compute-given}
+use Rattle.methods.proofs.FieldsLaws.{compute-torn, compute-other, Indexed, few-rows, path-linked}
+use Rattle.methods.proofs.FieldsLaws.{compute-refused, compute-given}
 use Rattle.methods.proofs.fields.compute_for_struct_field.Statement.{statement}
 use Rattle.methods.proofs.fields.compute_for_struct_field.Tie as tie
 

@@ -1,4 +1,4 @@
--- `field_at` meets its contract: each way out is one law of proofs/FieldLaws.antt.
+-- `field_at` meets its contract: each way out is one law of proofs/FieldsLaws.antt.
 use mathlib.Core.Bool.{false}
 use mathlib.Core.Path.{_≡_, ap}
 use native.Mathlib.Omega.{arith}
@@ -8,8 +8,8 @@ use Rattle.types.proofs.FoundLaws.{found-told, missing-told}
 use Rattle.methods.specs.Fields.{isStruct}
 use Rattle.methods.specs.declared.fields.Field.the-variants.{Missing}
 use Rattle.methods.specs.Inner.{FieldIs}
-use Rattle.methods.proofs.FieldLaws.{field-no-row, field-past, FieldStands, field-stands, field-lost}
-use Rattle.methods.proofs.FieldLaws.{field-other, field-struct}
+use Rattle.methods.proofs.FieldsLaws.{field-no-row, field-past, FieldStands, field-stands, field-lost}
+use Rattle.methods.proofs.FieldsLaws.{field-other, field-struct}
 use Rattle.methods.proofs.fields.field_at.Statement.{statement}
 use Rattle.methods.proofs.fields.field_at.Tie as tie
 

@@ -1,4 +1,4 @@
--- `pairs_of` meets its contract. The loop's invariant is `Pairing` of proofs/FieldLaws.antt; the measure is how many
+-- `pairs_of` meets its contract. The loop's invariant is `Pairing` of proofs/FieldsLaws.antt; the measure is how many
 -- words are left.
 use Prim.Native.Nat.{_-_, _<_}
 use borrow.Author.Needs.{needs}
@@ -7,8 +7,8 @@ use native.Mathlib.Omega.{arith}
 use denote.Enum.Declared.{tagOf}
 use Rattle.lifetimes.proofs.linked.LinkedPair as LinkedPair
 use Rattle.lifetimes.proofs.LinkedLaws.{pair-only}
-use Rattle.methods.proofs.FieldLaws.{Pairing, pairing-start, Linking, linking, pairing-static, pairing-past}
-use Rattle.methods.proofs.FieldLaws.{pairing-more, pairing-none, pairing-some}
+use Rattle.methods.proofs.FieldsLaws.{Pairing, pairing-start, Linking, linking, pairing-static, pairing-past}
+use Rattle.methods.proofs.FieldsLaws.{pairing-more, pairing-none, pairing-some}
 use Rattle.methods.proofs.fields.pairs_of.Statement.{statement}
 use Rattle.methods.proofs.fields.pairs_of.Tie as tie
 

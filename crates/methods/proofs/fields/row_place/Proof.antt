@@ -1,9 +1,9 @@
--- `row_place` meets its contract. The loop's invariant is `Placing` of proofs/FieldLaws.antt; the measure is how many
+-- `row_place` meets its contract. The loop's invariant is `Placing` of proofs/FieldsLaws.antt; the measure is how many
 -- rows are left.
 use Prim.Native.Nat.{_-_}
 use borrow.Author.Needs.{needs}
 use native.Mathlib.Omega.{arith}
-use Rattle.methods.proofs.FieldLaws.{Placing, placing-start, placing-here, placing-more, placing-end}
+use Rattle.methods.proofs.FieldsLaws.{Placing, placing-start, placing-here, placing-more, placing-end}
 use Rattle.methods.proofs.fields.row_place.Statement.{statement}
 use Rattle.methods.proofs.fields.row_place.Tie as tie
 

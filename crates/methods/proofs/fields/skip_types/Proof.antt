@@ -1,10 +1,10 @@
--- `skip_types` meets its contract. The loop's invariant is `Skips` of proofs/FieldLaws.antt; the measure is how many
+-- `skip_types` meets its contract. The loop's invariant is `Skips` of proofs/FieldsLaws.antt; the measure is how many
 -- types are left.
 use Prim.Native.Nat.{_-_}
 use Rattle.types.proofs.LocatedLaws.{type-located}
 use borrow.Author.Needs.{needs}
 use Rattle.types.proofs.FoundLaws.{found-told, missing-told}
-use Rattle.methods.proofs.FieldLaws.{Skips, skips-start, skips-lost, skips-more, skips-end}
+use Rattle.methods.proofs.FieldsLaws.{Skips, skips-start, skips-lost, skips-more, skips-end}
 use Rattle.methods.proofs.fields.skip_types.Statement.{statement}
 use Rattle.methods.proofs.fields.skip_types.Tie as tie
 

@@ -1,11 +1,11 @@
--- `index_rows` meets its contract. The loop's invariant is `Indexing` of proofs/IndexLaws.antt; the measure is how many
+-- `index_rows` meets its contract. The loop's invariant is `Indexing` of proofs/RowLaws.antt; the measure is how many
 -- rows are to be read.
 use Prim.Native.Nat.{_-_}
 use lib.ListN.{length-set}
 use native.Mathlib.Omega.{arith}
 use borrow.Author.Needs.{needs}
-use Rattle.methods.proofs.IndexLaws.{Indexing, indexing-start, row-here, indexing-full, indexing-stops}
-use Rattle.methods.proofs.IndexLaws.{indexing-more, indexing-end}
+use Rattle.methods.proofs.RowLaws.{Indexing, indexing-start, row-here, indexing-full, indexing-stops}
+use Rattle.methods.proofs.RowLaws.{indexing-more, indexing-end}
 use Rattle.methods.proofs.fits.index_rows.Statement.{statement}
 use Rattle.methods.proofs.fits.index_rows.Tie as tie
 

@@ -1,5 +1,5 @@
 -- `params_fit` meets its contract: a misfit among the first sixteen comes before a 17th.
-use Rattle.methods.proofs.FitLaws.{params-unfit, params-full, params-misfit, params-fit}
+use Rattle.methods.proofs.FitsLaws.{params-unfit, params-full, params-misfit, params-fit}
 use borrow.Author.Needs.{needs}
 use Rattle.methods.proofs.fits.params_fit.Statement.{statement}
 use Rattle.methods.proofs.fits.params_fit.Tie as tie

@@ -1,7 +1,7 @@
--- `type_fits` meets its contract: each way out is one law of proofs/FitLaws.antt.
+-- `type_fits` meets its contract: each way out is one law of proofs/FitsLaws.antt.
 use mathlib.Core.Path.{sym, _∙_}
 use Rattle.types.proofs.FoundLaws.{found-told, missing-told}
-use Rattle.methods.proofs.FitLaws.{type-missing, type-unfit, type-fit}
+use Rattle.methods.proofs.FitsLaws.{type-missing, type-unfit, type-fit}
 use Rattle.types.proofs.LocatedLaws.{type-located}
 use borrow.Author.Needs.{needs}
 use Rattle.methods.proofs.fits.type_fits.Statement.{statement}

@@ -1,8 +1,8 @@
--- `types_fit` meets its contract. The loop's invariant is `Fitting` of proofs/FitLaws.antt; the measure is how many
+-- `types_fit` meets its contract. The loop's invariant is `Fitting` of proofs/FitsLaws.antt; the measure is how many
 -- types are to be read.
 use Prim.Native.Nat.{_-_}
 use borrow.Author.Needs.{needs}
-use Rattle.methods.proofs.FitLaws.{Fitting, fitting-start, fitting-stops, fitting-more, fitting-end}
+use Rattle.methods.proofs.FitsLaws.{Fitting, fitting-start, fitting-stops, fitting-more, fitting-end}
 use Rattle.methods.proofs.fits.types_fit.Statement.{statement}
 use Rattle.methods.proofs.fits.types_fit.Tie as tie
 

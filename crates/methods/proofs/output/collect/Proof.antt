@@ -1,5 +1,5 @@
 -- `collect` meets its contract: static is in no set, and a lifetime below the count is put in.
-use Rattle.methods.proofs.CollectLaws.{collect-static, collect-past, collect-one}
+use Rattle.methods.proofs.OutputLaws.{collect-static, collect-past, collect-one}
 use native.Mathlib.Omega.{arith}
 use borrow.Author.Needs.{needs}
 use Rattle.methods.proofs.output.collect.Statement.{statement}

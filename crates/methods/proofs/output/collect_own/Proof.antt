@@ -1,5 +1,5 @@
 -- `collect_own` meets its contract: one lifetime or none.
-use Rattle.methods.proofs.CollectLaws.{own-collected, own-absent}
+use Rattle.methods.proofs.OutputLaws.{own-collected, own-absent}
 use borrow.Author.Needs.{needs}
 use Rattle.methods.proofs.output.collect_own.Statement.{statement}
 use Rattle.methods.proofs.output.collect_own.Tie as tie

@@ -1,9 +1,9 @@
--- `collect_path` meets its contract. The loop's invariant is `Pathing` of proofs/CollectLaws.antt; the measure is how
+-- `collect_path` meets its contract. The loop's invariant is `Pathing` of proofs/OutputLaws.antt; the measure is how
 -- many words are to be read.
 use Prim.Native.Nat.{_-_}
 use borrow.Author.Needs.{needs}
 use native.Mathlib.Omega.{arith}
-use Rattle.methods.proofs.CollectLaws.{Pathing, pathing-start, pathing-stops, pathing-more, pathing-end}
+use Rattle.methods.proofs.OutputLaws.{Pathing, pathing-start, pathing-stops, pathing-more, pathing-end}
 use Rattle.methods.proofs.output.collect_path.Statement.{statement}
 use Rattle.methods.proofs.output.collect_path.Tie as tie
 

@@ -5,9 +5,9 @@ use mathlib.Core.Logic.{inl, inr}
 use native.Mathlib.Omega.{arith}
 use borrow.Author.Needs.{needs}
 use lib.ListN.{length}
-use Rattle.sheet.proofs.Numbering.{found-number, found-nothing}
-use Rattle.sheet.proofs.Wording.{Wording, empty-line, wording-start, wording-size}
-use Rattle.sheet.proofs.Wording.{wording-none, wording-cut, wording-bad, wording-end, wording-more}
+use Rattle.sheet.proofs.NumberLaws.{found-number, found-nothing}
+use Rattle.sheet.proofs.WordLaws.{Wording, empty-line, wording-start, wording-size}
+use Rattle.sheet.proofs.WordLaws.{wording-none, wording-cut, wording-bad, wording-end, wording-more}
 use Rattle.sheet.proofs.lines.line.Statement.{statement}
 use Rattle.sheet.proofs.lines.line.Tie as tie
 

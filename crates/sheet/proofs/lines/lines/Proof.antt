@@ -2,7 +2,7 @@
 use Prim.Native.Nat.{_-_}
 use mathlib.Core.Path.{_∙_}
 use borrow.Author.Needs.{needs}
-use Rattle.sheet.proofs.Lining.{
+use Rattle.sheet.proofs.LinesLaws.{
   read-words,
   read-nothing,
   Lining,

@@ -4,8 +4,8 @@ use mathlib.Core.Path.{_≡_, refl, _∙_}
 use native.Mathlib.Omega.{arith}
 use borrow.Author.Needs.{needs}
 use Rattle.sheet.specs.Text.{heading}
-use Rattle.sheet.proofs.Matching.{Comparing, behind-short, matching-start, comparing-here, comparing-more}
-use Rattle.sheet.proofs.Matching.{comparing-end}
+use Rattle.sheet.proofs.HeadingLaws.{Comparing, behind-short, matching-start, comparing-here, comparing-more}
+use Rattle.sheet.proofs.HeadingLaws.{comparing-end}
 use Rattle.sheet.proofs.reading.headed.Statement.{statement}
 use Rattle.sheet.proofs.reading.headed.Tie as tie
 

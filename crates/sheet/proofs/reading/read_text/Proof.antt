@@ -2,7 +2,7 @@
 use mathlib.Core.Path.{_∙_}
 use borrow.Author.Needs.{needs}
 use borrow.Author.Tests.{not-true, not-false}
-use Rattle.sheet.proofs.Answers.{none-due, read-refused, read-short, read-wrote}
+use Rattle.sheet.proofs.ReadingLaws.{none-due, read-refused, read-short, read-wrote}
 use Rattle.sheet.proofs.reading.read_text.Statement.{statement}
 use Rattle.sheet.proofs.reading.read_text.Tie as tie
 

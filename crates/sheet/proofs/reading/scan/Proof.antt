@@ -3,8 +3,8 @@
 use mathlib.Core.Path.{_∙_}
 use native.Mathlib.Omega.{arith}
 use borrow.Author.Tests.{not-true, not-false}
-use Rattle.sheet.proofs.Answers.{too-many, no-heading, heading-not, heading-is, measured-none}
-use Rattle.sheet.proofs.Answers.{measured-unreadable, measured-malformed, measured-accepted, scan-refused, wrote}
+use Rattle.sheet.proofs.ReadingLaws.{too-many, no-heading, heading-not, heading-is, measured-none}
+use Rattle.sheet.proofs.ReadingLaws.{measured-unreadable, measured-malformed, measured-accepted, scan-refused, wrote}
 use borrow.Author.Needs.{needs}
 use Rattle.sheet.proofs.reading.scan.Statement.{statement}
 use Rattle.sheet.proofs.reading.scan.Tie as tie

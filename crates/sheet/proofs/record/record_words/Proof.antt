@@ -1,5 +1,5 @@
--- `record_words` meets its contract: each way out is one law of proofs/Placing.antt.
-use Rattle.sheet.proofs.Placing.{no-record, turned-ends, past-words, record-there}
+-- `record_words` meets its contract: each way out is one law of proofs/LaidLaws.antt.
+use Rattle.sheet.proofs.LaidLaws.{no-record, turned-ends, past-words, record-there}
 use borrow.Author.Needs.{needs}
 use Rattle.sheet.proofs.record.record_words.Statement.{statement}
 use Rattle.sheet.proofs.record.record_words.Tie as tie

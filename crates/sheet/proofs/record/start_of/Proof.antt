@@ -1,5 +1,5 @@
 -- `start_of` meets its contract: the first starts at 0, each other where the one before ends.
-use Rattle.sheet.proofs.Placing.{start-next}
+use Rattle.sheet.proofs.LaidLaws.{start-next}
 use borrow.Author.Needs.{needs}
 use Rattle.sheet.proofs.record.start_of.Statement.{statement}
 use Rattle.sheet.proofs.record.start_of.Tie as tie

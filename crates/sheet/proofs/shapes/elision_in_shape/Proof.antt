@@ -2,7 +2,7 @@
 use Rattle.elision.specs.Steps.{selfInShape, stepsInShape}
 use mathlib.Core.Path.{_∙_}
 use native.Mathlib.Omega.{arith}
-use Rattle.sheet.proofs.Placing.{laid-words, shape-is, all-three}
+use Rattle.sheet.proofs.LaidLaws.{laid-words, shape-is, all-three}
 use borrow.Author.Needs.{needs}
 use Rattle.sheet.proofs.shapes.elision_in_shape.Statement.{statement}
 use Rattle.sheet.proofs.shapes.elision_in_shape.Tie as tie

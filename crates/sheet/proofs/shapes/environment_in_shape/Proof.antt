@@ -3,7 +3,7 @@ use Rattle.ast_lifetimes.specs.Shapes.{namesInShape, boundsInShape}
 use Rattle.ast_lifetimes.specs.Types.{typesInShape}
 use mathlib.Core.Path.{_∙_}
 use native.Mathlib.Omega.{arith}
-use Rattle.sheet.proofs.Placing.{laid-words, shape-is, all-three}
+use Rattle.sheet.proofs.LaidLaws.{laid-words, shape-is, all-three}
 use borrow.Author.Needs.{needs}
 use Rattle.sheet.proofs.shapes.environment_in_shape.Statement.{statement}
 use Rattle.sheet.proofs.shapes.environment_in_shape.Tie as tie

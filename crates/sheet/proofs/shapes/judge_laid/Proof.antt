@@ -1,6 +1,6 @@
 -- `judge_laid` meets its contract: the records of each crate are judged, those of the method last.
 use borrow.Author.Tests.{not-true, not-false}
-use Rattle.sheet.proofs.Placing.{sheet-torn, sheet-judged}
+use Rattle.sheet.proofs.LaidLaws.{sheet-torn, sheet-judged}
 use borrow.Author.Needs.{needs}
 use Rattle.sheet.proofs.shapes.judge_laid.Statement.{statement}
 use Rattle.sheet.proofs.shapes.judge_laid.Tie as tie

@@ -1,7 +1,7 @@
 -- `judge_method` meets its contract: the four records are judged together.
 use mathlib.Core.Path.{_∙_}
 use native.Mathlib.Omega.{arith}
-use Rattle.sheet.proofs.Placing.{laid-words, method-is}
+use Rattle.sheet.proofs.LaidLaws.{laid-words, method-is}
 use borrow.Author.Needs.{needs}
 use Rattle.sheet.proofs.shapes.judge_method.Statement.{statement}
 use Rattle.sheet.proofs.shapes.judge_method.Tie as tie

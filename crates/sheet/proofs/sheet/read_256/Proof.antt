@@ -1,5 +1,5 @@
 -- `read_256` meets its contract: a word takes two bytes.
-use Rattle.sheet.proofs.Placing.{half-room}
+use Rattle.sheet.proofs.LaidLaws.{half-room}
 use borrow.Author.Needs.{needs}
 use Rattle.sheet.proofs.sheet.read_256.Statement.{statement}
 use Rattle.sheet.proofs.sheet.read_256.Tie as tie

@@ -1,5 +1,5 @@
 -- `read_any` meets its contract: no sheet has more words.
-use Rattle.sheet.proofs.Placing.{any-room}
+use Rattle.sheet.proofs.LaidLaws.{any-room}
 use borrow.Author.Needs.{needs}
 use Rattle.sheet.proofs.sheet.read_any.Statement.{statement}
 use Rattle.sheet.proofs.sheet.read_any.Tie as tie

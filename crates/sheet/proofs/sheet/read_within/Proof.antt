@@ -1,8 +1,8 @@
 -- `read_within` meets its contract: refused as the text is, refused for its records, refused for want of room, or written.
 use mathlib.Core.Path.{_∙_}
 use borrow.Author.Needs.{needs}
-use Rattle.sheet.proofs.Answers.{sheet-refused, sheet-unshaped}
-use Rattle.sheet.proofs.Placing.{scanned-laid, scanned-shape, scanned-short, scanned-wrote}
+use Rattle.sheet.proofs.ReadingLaws.{sheet-refused, sheet-unshaped}
+use Rattle.sheet.proofs.LaidLaws.{scanned-laid, scanned-shape, scanned-short, scanned-wrote}
 use Rattle.sheet.proofs.sheet.read_within.Statement.{statement}
 use Rattle.sheet.proofs.sheet.read_within.Tie as tie
 

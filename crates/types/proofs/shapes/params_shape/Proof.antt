@@ -5,8 +5,8 @@ use lib.ListN.{length}
 use native.Mathlib.Omega.{arith}
 use Rattle.records.proofs.EndLaws.{ends-told, ends-past}
 use Rattle.types.specs.Rows.{readKnown}
-use Rattle.types.proofs.Counting.{Counting, counting-start, counting-long, counting-end}
-use Rattle.types.proofs.Counting.{counting-missing, counting-more}
+use Rattle.types.proofs.ShapeLoops.{Counting, counting-start, counting-long, counting-end}
+use Rattle.types.proofs.ShapeLoops.{counting-missing, counting-more}
 use Rattle.types.proofs.shapes.params_shape.Statement.{statement}
 use Rattle.types.proofs.shapes.params_shape.Tie as tie
 

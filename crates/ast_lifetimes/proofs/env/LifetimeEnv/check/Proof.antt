@@ -1,6 +1,6 @@
 -- `LifetimeEnv::check` meets its contract: the names, then the bounds.
 use borrow.Author.Needs.{needs}
-use Rattle.ast_lifetimes.proofs.AstEnvLaws.{check-names, check-bounds}
+use Rattle.ast_lifetimes.proofs.EnvLaws.{check-names, check-bounds}
 use Rattle.ast_lifetimes.proofs.env.LifetimeEnv.check.Statement.{statement}
 use Rattle.ast_lifetimes.proofs.env.LifetimeEnv.check.Tie as tie
 

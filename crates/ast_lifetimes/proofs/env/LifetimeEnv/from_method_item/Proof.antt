@@ -1,9 +1,9 @@
--- `from_method_item` meets its contract: refused by the shape, refused at a place, or given, as proofs/Building.antt
+-- `from_method_item` meets its contract: refused by the shape, refused at a place, or given, as proofs/BuildLaws.antt
 -- says.
 use mathlib.Core.Path.{refl, _∙_}
 use borrow.Author.Needs.{needs}
 use Rattle.ast_lifetimes.proofs.AcceptedLaws.{built-small}
-use Rattle.ast_lifetimes.proofs.Building.{shape-refused, shape-given, place-refused, method-given}
+use Rattle.ast_lifetimes.proofs.BuildLaws.{shape-refused, shape-given, place-refused, method-given}
 use Rattle.ast_lifetimes.proofs.env.LifetimeEnv.from_method_item.Statement.{statement}
 use Rattle.ast_lifetimes.proofs.env.LifetimeEnv.from_method_item.Tie as tie
 

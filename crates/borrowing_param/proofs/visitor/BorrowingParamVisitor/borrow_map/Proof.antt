@@ -1,5 +1,5 @@
--- `borrow_map` meets its contract: each way out is a law of proofs/Listing.antt.
-use Rattle.borrowing_param.proofs.Listing.{are-params, map-none, map-torn, map-listed}
+-- `borrow_map` meets its contract: each way out is a law of proofs/ListedLaws.antt.
+use Rattle.borrowing_param.proofs.ListedLaws.{are-params, map-none, map-torn, map-listed}
 use borrow.Author.Needs.{needs}
 use Rattle.borrowing_param.proofs.visitor.BorrowingParamVisitor.borrow_map.Statement.{statement}
 use Rattle.borrowing_param.proofs.visitor.BorrowingParamVisitor.borrow_map.Tie as tie

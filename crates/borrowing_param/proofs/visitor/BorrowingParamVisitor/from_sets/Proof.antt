@@ -1,4 +1,4 @@
--- `from_sets` meets its contract. The loop's invariant is `Keeping` of proofs/Creating.antt; the measure is how many
+-- `from_sets` meets its contract. The loop's invariant is `Keeping` of proofs/NewLaws.antt; the measure is how many
 -- lifetimes are to be looked at.
 use Prim.Native.Nat.{_-_}
 use mathlib.Core.Path.{sym, ap, _∙_}
@@ -6,8 +6,8 @@ use borrow.Author.Tests.{not-true, not-false}
 use Rattle.lifetimes.specs.declared.lifetime.Lifetime.{Lifetime}
 use Rattle.lifetimes.specs.Sets.{member}
 use Rattle.borrowing_param.specs.Inner.{Below}
-use Rattle.borrowing_param.proofs.Creating.{Keeping, keeping-start, keeping-not, keeping-one, keeping-end}
-use Rattle.borrowing_param.proofs.Storing.{below-64}
+use Rattle.borrowing_param.proofs.NewLaws.{Keeping, keeping-start, keeping-not, keeping-one, keeping-end}
+use Rattle.borrowing_param.proofs.EdgesLoops.{below-64}
 use borrow.Author.Needs.{needs}
 use Rattle.borrowing_param.proofs.visitor.BorrowingParamVisitor.from_sets.Statement.{statement}
 use Rattle.borrowing_param.proofs.visitor.BorrowingParamVisitor.from_sets.Tie as tie

@@ -1,5 +1,5 @@
--- `new` meets its contract: its two answers are laws of proofs/Creating.antt.
-use Rattle.borrowing_param.proofs.Creating.{new-refused, new-given}
+-- `new` meets its contract: its two answers are laws of proofs/NewLaws.antt.
+use Rattle.borrowing_param.proofs.NewLaws.{new-refused, new-given}
 use borrow.Author.Needs.{needs}
 use Rattle.borrowing_param.proofs.visitor.BorrowingParamVisitor.new.Statement.{statement}
 use Rattle.borrowing_param.proofs.visitor.BorrowingParamVisitor.new.Tie as tie

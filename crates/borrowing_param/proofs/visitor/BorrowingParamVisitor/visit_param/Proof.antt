@@ -1,10 +1,10 @@
--- `visit_param` meets its contract: each way out is a law of proofs/Visiting.antt.
+-- `visit_param` meets its contract: each way out is a law of proofs/VisitorLaws.antt.
 use mathlib.Core.Path.{ap, sym, _∙_}
 use Rattle.types.proofs.FoundLaws.{found-told, missing-told}
 use Rattle.borrowing_param.specs.declared.visitor.Visited.{Visited}
 use Rattle.borrowing_param.specs.Visit.{outcome, state}
-use Rattle.borrowing_param.proofs.Visiting.{nowhere-refused, records-refused, records-accepted, parts-there}
-use Rattle.borrowing_param.proofs.Visiting.{visit-refuses, visit-goes-on}
+use Rattle.borrowing_param.proofs.VisitorLaws.{nowhere-refused, records-refused, records-accepted, parts-there}
+use Rattle.borrowing_param.proofs.VisitorLaws.{visit-refuses, visit-goes-on}
 use borrow.Author.Needs.{needs}
 use Rattle.borrowing_param.proofs.visitor.BorrowingParamVisitor.visit_param.Statement.{statement}
 use Rattle.borrowing_param.proofs.visitor.BorrowingParamVisitor.visit_param.Tie as tie

@@ -1,5 +1,5 @@
--- `is_self` meets its contract: each way out is one law of proofs/Stepping.antt.
-use Rattle.elision.proofs.Stepping.{self-long, self-kept, type-refused, type-given}
+-- `is_self` meets its contract: each way out is one law of proofs/LowererLaws.antt.
+use Rattle.elision.proofs.LowererLaws.{self-long, self-kept, type-refused, type-given}
 use borrow.Author.Needs.{needs}
 use Rattle.elision.proofs.lowerer.Lowerer.is_self.Statement.{statement}
 use Rattle.elision.proofs.lowerer.Lowerer.is_self.Tie as tie

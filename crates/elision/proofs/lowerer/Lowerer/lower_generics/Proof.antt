@@ -1,5 +1,5 @@
--- `lower_generics` meets its contract: each way out is one law of proofs/Stepping.antt.
-use Rattle.elision.proofs.Stepping.{generics-large, generics-long, generics-refused, generics-given}
+-- `lower_generics` meets its contract: each way out is one law of proofs/LowererLaws.antt.
+use Rattle.elision.proofs.LowererLaws.{generics-large, generics-long, generics-refused, generics-given}
 use borrow.Author.Needs.{needs}
 use Rattle.elision.proofs.lowerer.Lowerer.lower_generics.Statement.{statement}
 use Rattle.elision.proofs.lowerer.Lowerer.lower_generics.Tie as tie

@@ -1,5 +1,5 @@
--- `lower_self_ref` meets its contract: each way out is one law of proofs/Stepping.antt.
-use Rattle.elision.proofs.Stepping.{self-refused, self-given}
+-- `lower_self_ref` meets its contract: each way out is one law of proofs/LowererLaws.antt.
+use Rattle.elision.proofs.LowererLaws.{self-refused, self-given}
 use borrow.Author.Needs.{needs}
 use Rattle.elision.proofs.lowerer.Lowerer.lower_self_ref.Statement.{statement}
 use Rattle.elision.proofs.lowerer.Lowerer.lower_self_ref.Tie as tie

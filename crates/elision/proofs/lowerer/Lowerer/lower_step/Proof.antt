@@ -1,6 +1,6 @@
--- `lower_step` of the lowerer meets its contract: each way out is one law of proofs/Wording.antt.
+-- `lower_step` of the lowerer meets its contract: each way out is one law of proofs/WordedLaws.antt.
 use borrow.Author.Needs.{needs}
-use Rattle.elision.proofs.Wording.{worded-none, worded-more, worded-one}
+use Rattle.elision.proofs.WordedLaws.{worded-none, worded-more, worded-one}
 use Rattle.elision.proofs.lowerer.Lowerer.lower_step.Statement.{statement}
 use Rattle.elision.proofs.lowerer.Lowerer.lower_step.Tie as tie
 

@@ -12,7 +12,7 @@ use Rattle.lifetimes.specs.Index.{graphOf, Fits}
 use Rattle.answers.proofs.RefusalLaws.{refused-first, accepted-none}
 use Rattle.lifetimes.proofs.EnvLaws.{Valid, valid}
 use Rattle.lifetimes.proofs.IndexLaws.{bounds-length, bounds-fine, bounds-within, zeros}
-use Rattle.lifetimes.proofs.Traversing.{lists-refused, lists-no-ends, lists-no-words, lists-given}
+use Rattle.lifetimes.proofs.ReachAnswers.{lists-refused, lists-no-ends, lists-no-words, lists-given}
 use Rattle.lifetimes.proofs.env.LifetimeEnv.all_lists.Statement.{statement}
 use Rattle.lifetimes.proofs.env.LifetimeEnv.all_lists.Tie as tie
 

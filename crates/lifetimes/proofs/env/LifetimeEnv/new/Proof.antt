@@ -5,7 +5,7 @@ use borrow.Author.Needs.{needs}
 use borrow.Author.Tests.{not-true, not-false}
 use Rattle.lifetimes.specs.Env.{pairsOf}
 use Rattle.lifetimes.proofs.BoundsLaws.{below-larger}
-use Rattle.lifetimes.proofs.PairLaws.{new-half, new-lifetimes, new-bounds, new-declared, new-outside, new-given}
+use Rattle.lifetimes.proofs.EnvLoops.{new-half, new-lifetimes, new-bounds, new-declared, new-outside, new-given}
 use Rattle.lifetimes.proofs.env.LifetimeEnv.new.Statement.{statement}
 use Rattle.lifetimes.proofs.env.LifetimeEnv.new.Tie as tie
 

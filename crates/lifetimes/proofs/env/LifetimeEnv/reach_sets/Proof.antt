@@ -10,7 +10,7 @@ use Rattle.lifetimes.specs.Index.{graphOf}
 use Rattle.answers.proofs.RefusalLaws.{refused-first, accepted-none}
 use Rattle.lifetimes.proofs.EnvLaws.{Valid, valid}
 use Rattle.lifetimes.proofs.IndexLaws.{bounds-length, bounds-fine, bounds-within, zeros}
-use Rattle.lifetimes.proofs.Traversing.{sets-refused, sets-given}
+use Rattle.lifetimes.proofs.ReachAnswers.{sets-refused, sets-given}
 use Rattle.lifetimes.proofs.env.LifetimeEnv.reach_sets.Statement.{statement}
 use Rattle.lifetimes.proofs.env.LifetimeEnv.reach_sets.Tie as tie
 

@@ -2,7 +2,7 @@
 use mathlib.Core.Path.{ap}
 use borrow.Author.Needs.{needs}
 use Rattle.lifetimes.specs.LoweredWords.{fromWord}
-use Rattle.lifetimes.proofs.WordLaws.{word-before}
+use Rattle.lifetimes.proofs.MaybeStaticLaws.{word-before}
 use Rattle.lifetimes.proofs.maybe_static.MaybeStatic.from_word.Statement.{statement}
 use Rattle.lifetimes.proofs.maybe_static.MaybeStatic.from_word.Tie as tie
 

@@ -1,6 +1,6 @@
 -- `MaybeStatic::word` meets its contract: 'static has the word 0, and a lifetime the word above its number.
 use borrow.Author.Needs.{needs}
-use Rattle.lifetimes.proofs.WordLaws.{word-above}
+use Rattle.lifetimes.proofs.MaybeStaticLaws.{word-above}
 use Rattle.lifetimes.proofs.maybe_static.MaybeStatic.word.Statement.{statement}
 use Rattle.lifetimes.proofs.maybe_static.MaybeStatic.word.Tie as tie
 

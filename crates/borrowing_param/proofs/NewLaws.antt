@@ -36,7 +36,7 @@ use Rattle.methods.proofs.Theorems.{used-lifetimes-are}
 use Rattle.borrowing_param.specs.declared.visitor.BorrowingParamVisitor.{BorrowingParamVisitor}
 use Rattle.borrowing_param.specs.New.{drawsTo, visitorFrom, noVisitor, created}
 use Rattle.borrowing_param.specs.Inner.{Below}
-use Rattle.borrowing_param.proofs.Storing.{past-limit}
+use Rattle.borrowing_param.proofs.EdgesLoops.{past-limit}
 
 -- ---- a list made place by place
 

@@ -28,7 +28,7 @@ use Rattle.answers.proofs.LentLaws.{answers-refusal, answers-list, no-room, has
 use Rattle.answers.proofs.Copying.{sets-front, drop-replicate}
 use Rattle.lifetimes.proofs.EnvLaws.{valid}
 use Rattle.lifetimes.proofs.ReachLaws.{traversal-linked}
-use Rattle.lifetimes.proofs.Laying.{length-ends}
+use Rattle.lifetimes.proofs.ReachLoops.{length-ends}
 
 -- the list over the index in an order is the environment's
 pub list-by : (ast d : Bool) (e : LifetimeEnv) (x : ℕ) → listOver (graphIn (orderOf ast) d (boundsOf e)) x ≡ listBy ast d e x

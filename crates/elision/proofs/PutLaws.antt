@@ -32,7 +32,7 @@ use Rattle.elision.specs.Inner.{StandsAt, shown, Puts, Shows, Given, Low
 use Rattle.elision.specs.Inner as inner
 use Rattle.elision.proofs.RfcLaws.{laid-values}
 use Rattle.elision.proofs.StepLaws.{ends-lifetime, ends-generics, ends-self}
-use Rattle.elision.proofs.Taking.{told}
+use Rattle.elision.proofs.TookLaws.{told}
 use Rattle.records.proofs.ReadingLaws.{fails-read}
 
 -- ---- what `put_words` answers, by its verdict

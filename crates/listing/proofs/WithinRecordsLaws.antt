@@ -40,8 +40,8 @@ use Rattle.sheet.proofs.Theorems.{shapes-are-short}
 use Rattle.borrowing_param.specs.New.{created}
 use Rattle.borrowing_param.specs.SheetMethod.{loweredOf, astEnvOf, envOfSheet, loweringChecks}
 use Rattle.borrowing_param.specs.Borrows.{Borrows, sheetBorrows}
-use Rattle.borrowing_param.proofs.Creating.{used-refused, gives, accepted, used-below, env-none}
-use Rattle.borrowing_param.proofs.Forcing.{params-none}
+use Rattle.borrowing_param.proofs.NewLaws.{used-refused, gives, accepted, used-below, env-none}
+use Rattle.borrowing_param.proofs.Condition3Laws.{params-none}
 use Rattle.borrowing_param.proofs.MethodLaws.{names-first, ast-is, names-are, steps-first, env-is, measure-none}
 use Rattle.borrowing_param.proofs.MethodLaws.{method-first, method-none}
 use Rattle.listing.specs.declared.within.Within.{Within}

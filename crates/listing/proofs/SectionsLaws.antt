@@ -10,7 +10,7 @@ use lib.Seq.{drop-cons, drop-drop}
 use Rattle.text.specs.Decimal.{digits, following, line}
 use Rattle.text.specs.Printing.{Prints}
 use Rattle.text.proofs.PrintLaws.{Leaves, leaves-all, leaves-rest, leaves-nothing, leaves-size}
-use Rattle.sheet.proofs.Placing.{part-is}
+use Rattle.sheet.proofs.LaidLaws.{part-is}
 use Rattle.borrowing_param.specs.Edges.{width, edgeWords, edgeAt, edgesIn}
 use Rattle.listing.specs.Listing.{answersFrom, edgeLine}
 use Rattle.listing.specs.InnerSections.{listLines, cutFrom, Ascend}

@@ -48,11 +48,11 @@ use Rattle.borrowing_param.specs.BorrowMap.{mapAnswer, mapAnswers, mapEd
 use Rattle.borrowing_param.specs.Inner.{Inside, typeIn, numberBy, Below, CountsAll, StoresWords, Stores}
 use Rattle.borrowing_param.specs.InnerMap.{Lists, done, more, paramTypes, Params, visitorIn, bringFrom}
 use Rattle.borrowing_param.specs.InnerMap.{CountsParams, roomChecks, mapOf}
-use Rattle.borrowing_param.proofs.Joining.{join-cons, words-many}
-use Rattle.borrowing_param.proofs.Drawing.{bring-few}
-use Rattle.borrowing_param.proofs.Storing.{Storing, storing-start, storing-end, storing-fits, storing-part}
-use Rattle.borrowing_param.proofs.Storing.{usedFrom, used-all, used-end, used-here, used-not}
-use Rattle.borrowing_param.proofs.Visiting.{known-reads, number-is, parts-type}
+use Rattle.borrowing_param.proofs.JoinLaws.{join-cons, words-many}
+use Rattle.borrowing_param.proofs.EdgesLaws.{bring-few}
+use Rattle.borrowing_param.proofs.EdgesLoops.{Storing, storing-start, storing-end, storing-fits, storing-part}
+use Rattle.borrowing_param.proofs.EdgesLoops.{usedFrom, used-all, used-end, used-here, used-not}
+use Rattle.borrowing_param.proofs.VisitorLaws.{known-reads, number-is, parts-type}
 use Rattle.answers.specs.Lists.{numbered}
 
 -- ---- the types of a record in shape

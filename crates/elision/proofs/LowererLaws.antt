@@ -26,7 +26,7 @@ use Rattle.elision.specs.Rfc.{padded, standingIn}
 use Rattle.elision.specs.Machine.{Answer, answer, lowerWord, lowerWords, valuesIn, laid, lowerStep, oneStep}
 use Rattle.elision.specs.Machine.{unused, selfRef, stepped}
 use Rattle.elision.specs.Inner.{worded, ran}
-use Rattle.elision.proofs.Running.{single-word, accepted-word, refused-word}
+use Rattle.elision.proofs.LowererLoops.{single-word, accepted-word, refused-word}
 
 abbrev refusedStep : Lowerer → Refusal → Stepped
 refusedStep s k = record { verdict = verdict.Refused k; lowerer = s; lifetimes = laid [] }

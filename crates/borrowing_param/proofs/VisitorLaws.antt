@@ -44,7 +44,7 @@ use Rattle.borrowing_param.specs.Brings.{answerNumber, notes, noPairs, a
 use Rattle.borrowing_param.specs.Visit.{bringAll, holding, State, state, outcome, visitWith, visit}
 use Rattle.borrowing_param.specs.VisitParam.{typeAt, visitChecks, visitParam}
 use Rattle.borrowing_param.specs.Inner.{Inside, typeIn, nthType, FoundAt, numberBy, allIn, CountsAll, Stores}
-use Rattle.borrowing_param.proofs.Running.{visit-stores}
+use Rattle.borrowing_param.proofs.VisitsLaws.{visit-stores}
 
 -- ---- the type with a number
 

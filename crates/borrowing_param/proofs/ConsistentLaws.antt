@@ -26,11 +26,11 @@ use Rattle.borrowing_param.specs.VisitParam.{typeAt}
 use Rattle.borrowing_param.specs.BorrowMap.{listedTo, listedEdges, answersFrom}
 use Rattle.borrowing_param.specs.Condition3.{ByDef, BroughtAs}
 use Rattle.borrowing_param.specs.Consistent.{Before, Consistent}
-use Rattle.borrowing_param.proofs.Joining.{join-part}
-use Rattle.borrowing_param.proofs.Drawing.{bring-few}
-use Rattle.borrowing_param.proofs.Bringing.{Formed, kindNumber, defs, bring-formed, bring-ascends, brought-by}
-use Rattle.borrowing_param.proofs.Visiting.{param-short}
-use Rattle.borrowing_param.proofs.Listing.{join-few, answers-many, alone-shape, few-types}
+use Rattle.borrowing_param.proofs.JoinLaws.{join-part}
+use Rattle.borrowing_param.proofs.EdgesLaws.{bring-few}
+use Rattle.borrowing_param.proofs.BringsLaws.{Formed, kindNumber, defs, bring-formed, bring-ascends, brought-by}
+use Rattle.borrowing_param.proofs.VisitorLaws.{param-short}
+use Rattle.borrowing_param.proofs.ListedLaws.{join-few, answers-many, alone-shape, few-types}
 use Rattle.answers.specs.Lists.{numbered}
 
 -- ---- edges one after another

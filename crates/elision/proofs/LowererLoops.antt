@@ -32,7 +32,7 @@ use Rattle.elision.specs.Machine.{lowerWords, lowered, laid, firstOr}
 use Rattle.elision.specs.Inner.{worded, ran, shown, Puts}
 use Rattle.answers.proofs.Copying.{sets-append}
 use Rattle.answers.proofs.VerdictLaws.{refused-accepted}
-use Rattle.elision.proofs.Filling.{Filled, filled-none, filled-more, filled-laid}
+use Rattle.elision.proofs.LaidLoops.{Filled, filled-none, filled-more, filled-laid}
 
 -- ---- one word gives one lifetime
 

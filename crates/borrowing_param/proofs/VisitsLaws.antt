@@ -24,9 +24,9 @@ use Rattle.borrowing_param.specs.Brings.{refuse}
 use Rattle.borrowing_param.specs.Visit.{usedOf, holding, State, state, VisitOutcome, outcome, roomFor, withEdges}
 use Rattle.borrowing_param.specs.Visit.{visitWith, afterVisits, visitAt}
 use Rattle.borrowing_param.specs.Visits.{unrefusedBy, allOf, edgesAfter, NoneRefused, Visits}
-use Rattle.borrowing_param.proofs.Joining.{join-cons, join-append, perm-length, perm-member, join-perm}
-use Rattle.borrowing_param.proofs.Joining.{sets-behind, words-many, words-read, of-append, Once, of-others}
-use Rattle.borrowing_param.proofs.Joining.{of-part}
+use Rattle.borrowing_param.proofs.JoinLaws.{join-cons, join-append, perm-length, perm-member, join-perm}
+use Rattle.borrowing_param.proofs.JoinLaws.{sets-behind, words-many, words-read, of-append, Once, of-others}
+use Rattle.borrowing_param.proofs.JoinLaws.{of-part}
 
 -- ---- one visit, by whether there is room
 

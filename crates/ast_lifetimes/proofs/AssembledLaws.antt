@@ -20,7 +20,7 @@ use Rattle.answers.proofs.ListLaws.{length-range}
 use Rattle.answers.proofs.Copying.{Copying, copying-more, drop-replicate}
 use Rattle.ast_lifetimes.specs.Env.{namedEnv}
 use Rattle.ast_lifetimes.specs.Inner.{sidesOf}
-use Rattle.ast_lifetimes.proofs.Building.{sides-below}
+use Rattle.ast_lifetimes.proofs.BuildLaws.{sides-below}
 
 -- ---- `copy_names`
 

@@ -22,7 +22,7 @@ use Rattle.methods.specs.declared.fits.Fit.the-variants.{To, Misfit}
 use Rattle.methods.specs.Method.{rowAt, typeChecks, rowChecks}
 use Rattle.methods.specs.Inner.{Holding, TypesFit, Indexes}
 use Rattle.methods.proofs.PassLaws.{Items, items-start, NextItem, items-next, RowParts, row-parts}
-use Rattle.methods.proofs.FitLaws.{fit-goes, fit-stops}
+use Rattle.methods.proofs.FitsLaws.{fit-goes, fit-stops}
 use Rattle.answers.specs.Lists.{numbered}
 
 -- the rows that are left to check, and what the array holds of those that were

@@ -19,7 +19,7 @@ use Rattle.ast_lifetimes.specs.Env.{place, allPairChecks, boundOf, bound
 use Rattle.answers.specs.Lent.{judged}
 use Rattle.ast_lifetimes.specs.Inner.{sidesOf, Pushes, Reaches, Joins, Extends}
 use Rattle.answers.proofs.VerdictLaws.{refused-accepted, judged-after, judged-stays}
-use Rattle.ast_lifetimes.proofs.PairLaws.{allPairChecks-append}
+use Rattle.ast_lifetimes.proofs.BoundsLaws.{allPairChecks-append}
 
 -- a run under way: `left` of the pairs `all` is to be pushed
 pub record Run (names : List ℕ) (all left : List Pair) (longs₀ shorts₀ : List ℕ) (pushed : ℕ)

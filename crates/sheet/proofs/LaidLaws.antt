@@ -37,7 +37,7 @@ use Rattle.sheet.specs.Answer.{answerOf, startOf, recordWords, measured}
 use Rattle.sheet.specs.Shape.{sheetInShape, sheetAnswer, sheetWords}
 use Rattle.sheet.specs.Inner.{recordAt, recordsAt, Laid, recordsVerdict, Counted, Roomy}
 use Rattle.sheet.proofs.SheetLaws.{few-all, total-words}
-use Rattle.sheet.proofs.Answers.{last-end, list-between, none-due, counted, sheet-short, sheet-wrote}
+use Rattle.sheet.proofs.ReadingLaws.{last-end, list-between, none-due, counted, sheet-short, sheet-wrote}
 use Rattle.sheet.proofs.Theorems.{room-for-any-sheet, words-take-two-bytes}
 
 -- a part, by its length

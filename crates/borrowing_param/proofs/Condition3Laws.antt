@@ -39,12 +39,12 @@ use Rattle.borrowing_param.specs.Visits.{unrefusedBy, allOf}
 use Rattle.borrowing_param.specs.New.{drawsTo, visitorFrom, newVisitor, created}
 use Rattle.borrowing_param.specs.Condition3.{Above, Param}
 use Rattle.borrowing_param.specs.Theorems.{IsNew, answerAt, AllVisits}
-use Rattle.borrowing_param.proofs.Joining.{Once, join-part}
-use Rattle.borrowing_param.proofs.Running.{kept, unrefused-kept, visits-all}
-use Rattle.borrowing_param.proofs.Bringing.{brought-by, bring-ascends, bring-formed, Formed, kindNumber, defs}
-use Rattle.borrowing_param.proofs.Bringing.{answers}
-use Rattle.borrowing_param.proofs.Visiting.{param-short}
-use Rattle.borrowing_param.proofs.Creating.{places, draws-at, set-there, places-none, env-none, few-lifetimes, used-below}
+use Rattle.borrowing_param.proofs.JoinLaws.{Once, join-part}
+use Rattle.borrowing_param.proofs.VisitsLaws.{kept, unrefused-kept, visits-all}
+use Rattle.borrowing_param.proofs.BringsLaws.{brought-by, bring-ascends, bring-formed, Formed, kindNumber, defs}
+use Rattle.borrowing_param.proofs.BringsLaws.{answers}
+use Rattle.borrowing_param.proofs.VisitorLaws.{param-short}
+use Rattle.borrowing_param.proofs.NewLaws.{places, draws-at, set-there, places-none, env-none, few-lifetimes, used-below}
 
 -- ---- by the numberings
 

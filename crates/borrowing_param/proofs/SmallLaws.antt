@@ -15,10 +15,10 @@ use Rattle.borrowing_param.specs.Visit.{usedOf}
 use Rattle.borrowing_param.specs.New.{created}
 use Rattle.borrowing_param.specs.Borrows.{borrowsOf}
 use Rattle.borrowing_param.specs.Theorems.{Small}
-use Rattle.borrowing_param.proofs.Visiting.{param-short}
-use Rattle.borrowing_param.proofs.Listing.{alone-shape, few-types}
-use Rattle.borrowing_param.proofs.Ordering.{edges-few}
-use Rattle.borrowing_param.proofs.Forcing.{params-none, created-new}
+use Rattle.borrowing_param.proofs.VisitorLaws.{param-short}
+use Rattle.borrowing_param.proofs.ListedLaws.{alone-shape, few-types}
+use Rattle.borrowing_param.proofs.ConsistentLaws.{edges-few}
+use Rattle.borrowing_param.proofs.Condition3Laws.{params-none, created-new}
 
 module _ (env : LifetimeEnv) (structs params output force : List ℕ)
     (none : NoneDue (methodChecks env structs params output force)) where

@@ -23,8 +23,8 @@ use Rattle.borrowing_param.specs.Edges.{edge, width, edgeWords}
 use Rattle.borrowing_param.specs.Brings.{drawn, anyDrawn, oneEdge, structEdges, bring, note, notes}
 use Rattle.borrowing_param.specs.Visit.{drawsIn}
 use Rattle.borrowing_param.specs.Inner.{Inside, CountsFor, Below, allIn, CountsAll, structOf, StoresWords, Stores}
-use Rattle.borrowing_param.proofs.Joining.{join-cons, join-append, sets-behind, words-many}
-use Rattle.borrowing_param.proofs.Drawing.{left, allPath, left-all, left-none, left-next, bring-few}
+use Rattle.borrowing_param.proofs.JoinLaws.{join-cons, join-append, sets-behind, words-many}
+use Rattle.borrowing_param.proofs.EdgesLaws.{left, allPath, left-all, left-none, left-next, bring-few}
 
 -- ---- some edges, and then others
 

@@ -27,7 +27,7 @@ use Rattle.answers.proofs.RefusalLaws.{due-given, due-refused, refused-first, a
 use Rattle.answers.proofs.RefusalLaws.{none-more, none-split, first-behind}
 use Rattle.answers.proofs.ListLaws.{range-has, length-range}
 use Rattle.lifetimes.proofs.ReachLaws.{reach-few}
-use Rattle.lifetimes.proofs.Laying.{length-ends}
+use Rattle.lifetimes.proofs.ReachLoops.{length-ends}
 use Rattle.types.specs.LoweredTypes.{LoweredType}
 use Rattle.methods.specs.Method.{typesIn, structsAndParamsChecks}
 use Rattle.text.specs.Decimal.{line}
@@ -40,8 +40,8 @@ use Rattle.borrowing_param.specs.BorrowMap as spec
 use Rattle.borrowing_param.specs.BorrowMap.{Mapping, mappingOf, mapChecks, borrowMap, mapAnswer, mapAnswers}
 use Rattle.borrowing_param.specs.BorrowMap.{answersFrom, listedEdges}
 use Rattle.borrowing_param.specs.Borrows.{Borrows}
-use Rattle.borrowing_param.proofs.Joining.{words-many, words-read}
-use Rattle.borrowing_param.proofs.Ordering.{listing-consistent}
+use Rattle.borrowing_param.proofs.JoinLaws.{words-many, words-read}
+use Rattle.borrowing_param.proofs.ConsistentLaws.{listing-consistent}
 use Rattle.listing.specs.declared.within.Within.{Within}
 use Rattle.listing.specs.declared.within.Within.the-variants as within
 use Rattle.listing.specs.Listing.{countHeading, loweredHeading, longerHeading, longerLines, answerLines}

@@ -13,7 +13,7 @@ use Rattle.text.specs.Decimal.{newline, space}
 use Rattle.sheet.specs.Reading.{LineStart, WordStart, Behind, lineBefore, wordBefore, readLines}
 use Rattle.sheet.specs.Inner.{readFrom, LineAt}
 use Rattle.sheet.proofs.TextLaws.{word-line}
-use Rattle.sheet.proofs.Numbering.{at-end, NumberAt}
+use Rattle.sheet.proofs.NumberLaws.{at-end, NumberAt}
 
 -- words before the words of the first line
 abbrev pub wordsBefore : List ℕ → Option (List (List ℕ)) → Option (List (List ℕ))

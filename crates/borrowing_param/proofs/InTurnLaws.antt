@@ -30,11 +30,11 @@ use Rattle.borrowing_param.specs.Visits.{unrefusedBy, Visits}
 use Rattle.borrowing_param.specs.New.{created}
 use Rattle.borrowing_param.specs.BorrowMap.{listedTo, listedEdges}
 use Rattle.borrowing_param.specs.Theorems.{answerAt, inTurn, visitOf, visited, RoomForAll, AsVisited}
-use Rattle.borrowing_param.proofs.Joining.{of-part, of-others}
-use Rattle.borrowing_param.proofs.Running.{filled, kept, filled-many, take-member}
-use Rattle.borrowing_param.proofs.Forcing.{all-visits, unrefused-new, once-used}
-use Rattle.borrowing_param.proofs.Listing.{listed-more, listed-none}
-use Rattle.borrowing_param.proofs.Ordering.{to-used, answer-is}
+use Rattle.borrowing_param.proofs.JoinLaws.{of-part, of-others}
+use Rattle.borrowing_param.proofs.VisitsLaws.{filled, kept, filled-many, take-member}
+use Rattle.borrowing_param.proofs.Condition3Laws.{all-visits, unrefused-new, once-used}
+use Rattle.borrowing_param.proofs.ListedLaws.{listed-more, listed-none}
+use Rattle.borrowing_param.proofs.ConsistentLaws.{to-used, answer-is}
 
 -- ---- room for all that is brought, and for a part
 
