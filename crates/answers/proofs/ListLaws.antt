@@ -10,7 +10,7 @@ use native.Mathlib.Decide.{ℕ-discrete}
 use native.Mathlib.Bridge.{le-prop}
 use native.Mathlib.Omega.{arith}
 use lib.ListN.{length, getD}
-use Rattle.answers.specs.Lists.{range, any, all, filter, count, numbered, endsFrom}
+use Rattle.answers.specs.Lists.{range, any, all, filter, count, numbered}
 
 -- ---- numbers in a row
 

@@ -2,15 +2,13 @@
 -- 256, each between names.
 use Prim.Native.Nat.{ℕ, suc, _+_, _≤_}
 use mathlib.Core.Bool.{true, not}
-use mathlib.Core.Path.{_≡_, refl, sym, _∙_, ap}
+use mathlib.Core.Path.{_≡_, sym, _∙_, ap}
 use mathlib.Core.List.{List, [], _∷_, _++_}
 use native.Mathlib.Omega.{arith}
-use borrow.Author.Tests.{leb-false, le-ltb, lt-ltb}
+use borrow.Author.Tests.{leb-false, le-ltb}
 use lib.ListN.{length, length-append, length-map}
 use lib.Seq.{take-append-seam}
-use Rattle.answers.specs.declared.Refusal.the-variants.{OutOfRange}
-use Rattle.lifetimes.specs.declared.bounds.Bound.{Bound}
-use Rattle.answers.specs.Refusals.{check, NoneDue, next, end}
+use Rattle.answers.specs.Refusals.{NoneDue, next, end}
 use Rattle.lifetimes.specs.Bounds.{allBelow, boundsFrom}
 use Rattle.answers.proofs.RefusalLaws.{accepted-none, none-first, none-rest, none-split}
 use Rattle.answers.specs.declared.Verdict.the-variants.{Accepted}

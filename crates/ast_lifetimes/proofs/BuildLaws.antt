@@ -3,12 +3,11 @@
 use Prim.Native.Nat.{ℕ, zero, suc, _+_, _-_, _*_, _/_, _%_, _≤_, _<_}
 use mathlib.Core.Bool.{Bool, true, false, _&&_, and-eq-true-iff}
 use mathlib.Core.Path.{_≡_, refl, sym, ap, _∙_}
-use mathlib.Core.List.{List, [], _∷_, _++_, map}
-use native.Mathlib.Decide.{ℕ-discrete}
+use mathlib.Core.List.{List, [], _∷_, _++_}
 use native.Mathlib.Nat.{zero-add}
 use native.Mathlib.Omega.{arith}
-use borrow.Author.Tests.{eqb-true, leb-true, lt-ltb, ltb-true, not-false}
-use lib.Dec.{eqb, leb, ltb}
+use borrow.Author.Tests.{eqb-true, leb-true, not-false}
+use lib.Dec.{eqb, leb}
 use lib.ListN.{length, getD, take, drop, length-append, length-drop}
 use lib.Seq.{slice, take-length, take-nil, drop-nil, length-take-le}
 use Rattle.answers.specs.declared.Refusal.{Refusal}
@@ -20,7 +19,7 @@ use Rattle.answers.specs.Lists.{range, all}
 use Rattle.answers.proofs.ListLaws.{range-has, in-map}
 use Rattle.lifetimes.proofs.BoundsLaws.{all-below, below-larger, below-append}
 use Rattle.answers.specs.Refusals.{Check, unless, FirstDue, NoneDue, next}
-use Rattle.lifetimes.specs.Bounds.{above, bothBelow, allBelow}
+use Rattle.lifetimes.specs.Bounds.{above, allBelow}
 use Rattle.answers.proofs.RefusalLaws.{due-given, due-refused, refused-first, accepted-none}
 use Rattle.ast_lifetimes.specs.declared.implied.Implied.{Implied}
 use Rattle.ast_lifetimes.specs.declared.env.Counts.{Counts}

@@ -8,7 +8,7 @@ use native.Mathlib.Omega.{arith}
 use lib.ListN.{length}
 use Rattle.lifetimes.specs.declared.bounds.Bound.{Bound}
 use Rattle.lifetimes.specs.Sets.{empty, member, insert}
-use Rattle.lifetimes.specs.Walk.{neighbours, FirstFirst, unpushed, walk, traversal}
+use Rattle.lifetimes.specs.Walk.{neighbours, FirstFirst, unpushed, traversal}
 use Rattle.lifetimes.proofs.NeighbourLaws.{push-unpushed}
 use Rattle.lifetimes.proofs.WalkLaws.{Walks, ends, walks, walks-same}
 use Rattle.lifetimes.proofs.WalkLaws as walking

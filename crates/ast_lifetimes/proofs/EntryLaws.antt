@@ -1,23 +1,21 @@
 -- Building entry by entry: a run of entries gives its result unless one of its checks is due, so all entries give what
 -- `from_method_item` gives.
-use Prim.Native.Nat.{ℕ, zero, suc, _+_}
+use Prim.Native.Nat.{ℕ, suc, _+_}
 use mathlib.Core.Bool.{Bool, true, false, cond, _&&_}
-use mathlib.Core.Path.{_≡_, refl, sym, ap, _∙_}
+use mathlib.Core.Path.{_≡_, refl, sym, _∙_}
 use mathlib.Core.List.{List, [], _∷_, _++_, map, map-append, append-nil, append-assoc, flatMap}
-use native.Mathlib.Nat.{add-zero}
 use native.Mathlib.Omega.{arith}
 use lib.ListN.{length, length-append, length-map}
 use Rattle.lifetimes.specs.declared.bounds.Bound.{Bound}
 use Rattle.answers.specs.Refusals.{Check, Outcome, Gives, Refuses, unless, bind}
-use Rattle.ast_lifetimes.specs.declared.env.LifetimeEnv.{LifetimeEnv}
 use Rattle.ast_lifetimes.specs.Shapes.{namesInShape, implNames, methodNames, Pair, boundsInShape, implPairs}
 use Rattle.ast_lifetimes.specs.Shapes.{methodPairs}
 use Rattle.ast_lifetimes.specs.Types.{TypeName, Other, Named, Reference, Option, Result, typesInShape, typesOf}
 use Rattle.ast_lifetimes.specs.Env.{nameChecks, pairChecks, allPairChecks, boundOf, boundsFor, Behind, Ref}
 use Rattle.ast_lifetimes.specs.Env.{Nothing, behind, pathPairs, implied, allImplied, namedEnv, allNamesOf}
-use Rattle.ast_lifetimes.specs.Env.{explicitBounds, impliedPairs, methodBounds, placeChecks, fromMethodItem}
-use Rattle.ast_lifetimes.specs.Entries.{Entry, Name, Bounded, Path, paths, entries, State, state, fold}
-use Rattle.ast_lifetimes.specs.Entries.{declare, push, step, built}
+use Rattle.ast_lifetimes.specs.Env.{explicitBounds, methodBounds, placeChecks, fromMethodItem}
+use Rattle.ast_lifetimes.specs.Entries.{Entry, Name, Bounded, paths, entries, State, state, fold}
+use Rattle.ast_lifetimes.specs.Entries.{push, step, built}
 use Rattle.ast_lifetimes.proofs.BoundsLaws.{allPairChecks-append}
 
 -- some checks, and then what follows if none is due

@@ -1,15 +1,11 @@
 -- The shape of three records from that of each; and the environment's checks.
-use Prim.Native.Nat.{ℕ, _+_, _≤_, _<_}
-use mathlib.Core.Bool.{Bool, true, false, _&&_, not}
+use Prim.Native.Nat.{ℕ, _≤_, _<_}
+use mathlib.Core.Bool.{Bool, true, false, _&&_}
 use mathlib.Core.Path.{_≡_, refl, sym, _∙_}
-use mathlib.Core.List.{List, [], _∷_}
-use native.Mathlib.Numerals.{add-one}
-use native.Mathlib.Omega.{arith}
+use mathlib.Core.List.{List}
 use borrow.Author.Tests.{lt-ltb, le-ltb}
-use lib.ListN.{length, getD, drop, length-take, drop-of-length-le}
-use lib.Seq.{getD-take, drop-cons}
 use Rattle.answers.specs.declared.Refusal.{Refusal}
-use Rattle.answers.specs.declared.Refusal.the-variants.{Full, OutOfRange}
+use Rattle.answers.specs.declared.Refusal.the-variants.{Full}
 use Rattle.answers.specs.declared.Verdict.{Verdict}
 use Rattle.answers.specs.declared.Verdict.the-variants.{Accepted, Refused}
 use Rattle.answers.specs.Refusals.{unless}
@@ -19,7 +15,7 @@ use Rattle.ast_lifetimes.specs.declared.env.LifetimeEnv.{LifetimeEnv}
 use Rattle.records.specs.Reading.{shapeVerdict}
 use Rattle.ast_lifetimes.specs.Shapes.{namesInShape, boundsInShape}
 use Rattle.ast_lifetimes.specs.Types.{typesInShape}
-use Rattle.ast_lifetimes.specs.Env.{boundsOf, envChecks}
+use Rattle.ast_lifetimes.specs.Env.{envChecks}
 use Rattle.answers.proofs.VerdictLaws.{refused-accepted}
 
 -- ---- `shape_of`

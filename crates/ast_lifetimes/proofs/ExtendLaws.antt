@@ -1,15 +1,14 @@
 -- `extend_implicit_lifetime_bounds`: the loop of `split`, what an environment that was checked says of its sides, and
 -- the answers.
-use Prim.Native.Nat.{ℕ, suc, _+_, _≤_, _<_}
-use mathlib.Core.Bool.{Bool, true, false, not, and-eq-true-iff}
+use Prim.Native.Nat.{ℕ, _+_, _≤_, _<_}
+use mathlib.Core.Bool.{Bool, true, false, not}
 use mathlib.Core.Path.{_≡_, refl, sym, ap, _∙_}
-use mathlib.Core.List.{List, [], _∷_, _++_}
+use mathlib.Core.List.{List, _∷_, _++_}
 use native.Mathlib.Omega.{arith}
 use native.Mathlib.Numerals.{add-one}
-use borrow.Author.Tests.{ltb-true, ltb-false, not-false}
-use lib.Dec.{ltb}
+use borrow.Author.Tests.{ltb-false, not-false}
 use lib.ListN.{length, getD, take, set, length-set, length-take}
-use lib.Seq.{take-suc, length-take-le}
+use lib.Seq.{take-suc}
 use Rattle.answers.specs.declared.Refusal.{Refusal}
 use Rattle.answers.specs.declared.Refusal.the-variants.{Malformed}
 use Rattle.answers.specs.declared.Verdict.{Verdict}
@@ -18,7 +17,6 @@ use Rattle.lifetimes.specs.declared.bounds.Bounds.{Bounds}
 use Rattle.answers.specs.Lists as lists
 use Rattle.answers.specs.Refusals as refusals
 use Rattle.answers.specs.Refusals.{unless, FirstDue, here, later, NoneDue, next}
-use Rattle.answers.specs.Lent.{verdictOf}
 use Rattle.lifetimes.specs.Bounds.{above, allBelow}
 use Rattle.answers.proofs.RefusalLaws.{due-given, due-refused, refused-first, accepted-none, none-first, none-rest}
 use Rattle.answers.proofs.RefusalLaws.{first-more}

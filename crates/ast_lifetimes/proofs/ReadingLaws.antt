@@ -5,7 +5,7 @@ use mathlib.Core.Path.{_≡_, refl}
 use mathlib.Core.List.{List, [], _∷_, _++_, append-assoc, flatMap}
 use lib.Dec.{eqb}
 use borrow.Author.Tests.{eqb-true}
-use Rattle.records.specs.Reading.{Read, readWord, readLifetimes}
+use Rattle.records.specs.Reading.{Read}
 use Rattle.records.proofs.ReadingLaws.{Holds, read, fails, holds-read, holds-cond, holds-onward, LifetimesIn, WordIn}
 use Rattle.records.proofs.ReadingLaws.{lifetimes-read, word-read, items-encoded}
 use Rattle.ast_lifetimes.specs.Types.{TypeName, readType, typesInShape, typesOf}

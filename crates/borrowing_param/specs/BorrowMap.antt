@@ -1,6 +1,6 @@
 -- The edges in listing order (01: by used lifetime, parameter, def), and the answers by parameter: of a visitor and the
 -- types of the parameters.
-use Prim.Native.Nat.{ℕ, suc}
+use Prim.Native.Nat.{ℕ}
 use mathlib.Core.Path.{_≡_}
 use mathlib.Core.List.{List, [], _∷_, _++_, flatMap}
 use lib.ListN.{length}

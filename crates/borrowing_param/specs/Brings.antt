@@ -1,5 +1,5 @@
 -- What a parameter brings, over any test of which lifetimes draw an edge to a used lifetime.
-use Prim.Native.Nat.{ℕ, suc}
+use Prim.Native.Nat.{ℕ}
 use mathlib.Core.Bool.{Bool, true, false, cond}
 use mathlib.Core.List.{List, [], _∷_, map}
 use lib.Dec.{eqb}

@@ -1,9 +1,9 @@
 -- For private functions only: passing over all parameters, counting and storing their edges. No public contract cites
 -- this file.
-use Prim.Native.Nat.{ℕ, suc, _≤_}
+use Prim.Native.Nat.{ℕ, _≤_}
 use mathlib.Core.Bool.{Bool}
 use mathlib.Core.Path.{_≡_}
-use mathlib.Core.List.{List, [], _∷_, _++_, flatMap}
+use mathlib.Core.List.{List, [], _∷_, flatMap}
 use lib.ListN.{length}
 use lib.Seq.{sets}
 use Rattle.answers.specs.Refusals.{Check, Outcome, unless}

@@ -5,7 +5,6 @@ use mathlib.Core.Bool.{true, cond}
 use mathlib.Core.List.{List, map}
 use lib.ListN.{getD}
 use Rattle.answers.specs.declared.Verdict.the-variants as verdict
-use Rattle.lifetimes.specs.declared.bounds.Bound.{Bound}
 use Rattle.lifetimes.specs.declared.env.LifetimeEnv.{LifetimeEnv}
 use Rattle.answers.specs.Lists.{range}
 use Rattle.answers.specs.Refusals.{Outcome, Gives, Refuses}

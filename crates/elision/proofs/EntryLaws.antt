@@ -15,7 +15,7 @@ use Rattle.answers.specs.declared.Verdict.the-variants as verdict
 use Rattle.lifetimes.specs.declared.maybe_static.MaybeStatic.{MaybeStatic}
 use Rattle.answers.specs.Refusals.{Check, check, Outcome, Gives, Refuses, unless, FirstDue, NoneDue, here, later}
 use Rattle.answers.specs.Refusals.{next, end}
-use Rattle.answers.specs.Lent.{roomCheck, verdictOf, judged, Slice, held, left, room, Stays}
+use Rattle.answers.specs.Lent.{roomCheck, judged, Slice, held, left, room, Stays}
 use Rattle.lifetimes.specs.LoweredWords.{wordOf}
 use Rattle.lifetimes.specs.Env.{envOf}
 use Rattle.lifetimes.specs.Env as hirenv

@@ -1,21 +1,20 @@
 -- How many lifetimes the records give: a step has two words or more and gives at most 16 lifetimes, so a record gives
 -- at most eight for each of its words.
-use Prim.Native.Nat.{ℕ, zero, suc, _+_, _*_, _-_, _≤_}
-use mathlib.Core.Bool.{Bool, true, false, cond, _&&_, and-eq-true-iff}
+use Prim.Native.Nat.{ℕ, zero, suc, _+_, _*_, _≤_}
+use mathlib.Core.Bool.{Bool, true, false, cond, and-eq-true-iff}
 use mathlib.Core.Path.{_≡_, refl, ap, subst, _∙_}
 use mathlib.Core.List.{List, [], _∷_, _++_, map}
 use native.Mathlib.Omega.{arith}
 use borrow.Author.Tests.{leb-true}
 use lib.Dec.{eqb, leb}
-use lib.ListN.{length, replicate, length-append, length-map, length-replicate}
-use Rattle.lifetimes.specs.declared.maybe_static.MaybeStatic.{MaybeStatic}
+use lib.ListN.{length, length-append, length-map, length-replicate}
 use Rattle.answers.specs.Refusals.{Gives, NoneDue}
 use Rattle.answers.proofs.RefusalLaws.{due-given}
 use Rattle.records.specs.Reading.{Reading, Read, Fails, onward, readWord, readLifetimes, readAll, itemsOf, readOr}
 use Rattle.records.proofs.ReadingLaws.{Holds, read, fails, holds-cond, holds-onward, LifetimesIn, lifetimes-read}
 use Rattle.elision.specs.Steps.{Step, Lifetime, Generics, SelfType, Receiver, NoSelf, SelfRef, readGenerics}
 use Rattle.elision.specs.Steps.{readStep, stepsOf}
-use Rattle.elision.specs.Rfc.{throughout, Occurrence, occurs, values, Item, input, output, standingIn, padded}
+use Rattle.elision.specs.Rfc.{throughout, Occurrence, values, Item, input, output}
 use Rattle.elision.specs.Rfc.{isSelfType, hasSelfType, stepOccurrences, occurrencesAt, occurrences, ownFrom}
 use Rattle.elision.specs.Rfc.{loweredAt, inputs, outputs, selfOccurrences, loweredSelf, loweredSteps}
 use Rattle.elision.specs.Rfc.{loweredReturns, elisionChecks, methodOf, rfc141}

@@ -1,5 +1,5 @@
 -- A step by its words: what `lower_step` answers where they are no step, more than a step, and exactly one.
-use Prim.Native.Nat.{ℕ, _<_, _≤_}
+use Prim.Native.Nat.{ℕ}
 use mathlib.Core.Bool.{Bool}
 use mathlib.Core.Path.{_≡_, refl, sym, ap, _∙_}
 use mathlib.Core.List.{List, [], _∷_}
@@ -10,7 +10,7 @@ use Rattle.answers.specs.declared.Verdict.the-variants as verdict
 use Rattle.answers.specs.Refusals.{bind}
 use Rattle.records.specs.declared.End.{End}
 use Rattle.records.specs.declared.End.the-variants.{At, Missing}
-use Rattle.records.specs.Reading.{Reading, Read, Fails}
+use Rattle.records.specs.Reading.{Reading, Read}
 use Rattle.records.specs.Ends.{EndsAt, ends, missing}
 use Rattle.records.proofs.EndLaws.{ends-told}
 use Rattle.elision.specs.declared.lowerer.Lowerer.{Lowerer}

@@ -3,8 +3,8 @@
 --
 -- In order: occurrences of lifetimes in a method; the lifetimes that the inputs make; the source of elision; the value
 -- of each occurrence and the refusals due at it; steps; the whole method.
-use Prim.Native.Nat.{ℕ, suc, _+_, _-_}
-use mathlib.Core.Bool.{Bool, true, false, cond, _&&_, _||_, not}
+use Prim.Native.Nat.{ℕ, _+_, _-_}
+use mathlib.Core.Bool.{Bool, true, false, cond, _&&_, not}
 use mathlib.Core.List.{List, [], _∷_, _++_, map}
 use lib.Dec.{eqb, leb}
 use lib.ListN.{length, replicate}

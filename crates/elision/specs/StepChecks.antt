@@ -1,7 +1,7 @@
 -- The refusals of one step on any lowerer, in order, from the step's words and the lowerer that it finds: as if nothing
 -- before were refused. specs/Theorems.antt says that `oneStep`, `wordedStep` and `selfRef` of specs/Machine.antt refuse
 -- by the first of them that is due.
-use Prim.Native.Nat.{ℕ, suc, _+_}
+use Prim.Native.Nat.{ℕ, _+_}
 use mathlib.Core.Bool.{Bool, true, false, cond, _&&_, not}
 use mathlib.Core.List.{List, [], _∷_}
 use lib.Dec.{eqb, leb}

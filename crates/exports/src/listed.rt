@@ -1,7 +1,7 @@
 // A sheet's listing, with its length in a word beside it.
 ghost use Prim.Native.Nat.{ℕ};
 ghost use mathlib.Core.Path.{_≡_};
-ghost use Rattle.answers.specs.Lent.{held, room, Fills};
+ghost use Rattle.answers.specs.Lent.{held, room};
 ghost use Rattle.answers.specs.Refusals.{Refuses};
 ghost use Rattle.exports.specs.Calls.{listingTo, ListingAnswers};
 use answers::Listed;

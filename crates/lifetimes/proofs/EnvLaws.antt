@@ -3,7 +3,7 @@
 use Prim.Native.Nat.{_+_, _≤_, _<_}
 use mathlib.Core.Bool.{Bool, true, false, not, _&&_}
 use mathlib.Core.Path.{_≡_, refl, sym, ap, _∙_}
-use mathlib.Core.List.{List, [], _∷_, List·Memᴰ}
+use mathlib.Core.List.{List·Memᴰ}
 use native.Mathlib.Decide.{decLt}
 use native.Mathlib.Omega.{arith}
 use borrow.Author.Tests.{ltb-true, ltb-false, lt-ltb, le-ltb, not-true, not-false}
@@ -12,7 +12,7 @@ use Rattle.answers.specs.declared.Refusal.{Refusal}
 use Rattle.answers.specs.declared.Refusal.the-variants.{Full, OutOfRange}
 use Rattle.answers.specs.declared.Verdict.{Verdict}
 use Rattle.answers.specs.declared.Verdict.the-variants.{Accepted, Refused}
-use Rattle.answers.specs.Refusals.{Check, Gives, unless, FirstDue, here, later, NoneDue, end, next}
+use Rattle.answers.specs.Refusals.{Gives, unless, FirstDue, here, later, NoneDue, end, next}
 use Rattle.answers.specs.Lent.{judged}
 use Rattle.answers.proofs.RefusalLaws.{due-given, due-refused, given-due, refused-first, accepted-none, none-first, none-rest}
 use Rattle.lifetimes.specs.declared.bounds.Bound.{Bound}

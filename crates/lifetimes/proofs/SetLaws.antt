@@ -2,23 +2,22 @@
 -- order, how many, the set of a list.
 use Prim.Native.Nat.{ℕ, zero, suc, _+_, _-_, _/_, _%_, _^_, _≤_, _<_}
 use mathlib.Core.Bool.{Bool, true, false, cond, _||_, true≢false, false≢true}
-use mathlib.Core.Logic.{_⊎_, inl, inr, ⊎-elim, _↔_, ∥∥₁-elim, ∥∥₁-map}
+use mathlib.Core.Logic.{_⊎_, inl, inr, ⊎-elim, _↔_}
 use mathlib.Core.Path.{_≡_, refl, sym, ap, _∙_}
 use mathlib.Core.List.{List, [], _∷_, _++_, List·Memᴰ, List·Memᴰ·head, List·Memᴰ·tail, List·Memᴰ·not-nil}
-use mathlib.Core.List.{List·Memᴰ·cases-cons, List·Nodup, Pairwise, Pairwise·nil, Pairwise·cons, Pairwise·imp}
+use mathlib.Core.List.{List·Memᴰ·cases-cons, List·Nodup, Pairwise, Pairwise·imp}
 use native.Mathlib.Nat.{zero-div, div-one, div-self, div-eq-of-lt, div-div-eq-div-mul, mul-mod-left, pow-suc, pow-succ'}
 use native.Mathlib.Nat.{lt-of-lt-of-le}
 use native.Mathlib.Decide.{decLt, ℕ-discrete}
-use native.Mathlib.Bridge.{le-prop}
 use native.Mathlib.Numerals.{add-one}
 use native.Mathlib.Omega.{arith}
 use lib.Dec.{eqb}
-use lib.ListN.{length, getD}
+use lib.ListN.{length}
 use lib.Pow.{pow-pos, pow-lt, pow-mono, pow-add, shl-shr, shr-lt}
 use lib.Bits.{bitOr, or-shr, or-mod, or-lt, or-zero-r}
 use lib.Count.{ones, ones-step, ones-le}
 use Rattle.answers.specs.Lists.{range, filter}
-use Rattle.answers.proofs.ListLaws.{length-range, range-has, range-pairwise, filter-has, filter-append, filter-few, filter-agree}
+use Rattle.answers.proofs.ListLaws.{length-range, range-has, range-pairwise, filter-has, filter-few, filter-agree}
 use Rattle.answers.proofs.ListLaws.{filter-pairwise}
 use Rattle.lifetimes.specs.Sets.{member, insert, union, members, count, insertAll, setOf}
 

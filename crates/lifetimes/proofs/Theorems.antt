@@ -8,7 +8,7 @@ use lib.Signed.{_≤ℤ_, ≤ℤ-refl}
 use Rattle.answers.specs.Lists.{all, filter, count}
 use Rattle.answers.specs.Refusals.{unless}
 use Rattle.lifetimes.specs.Sets.{member, insert}
-use Rattle.lifetimes.specs.Bounds.{allBelow, boundsFrom}
+use Rattle.lifetimes.specs.Bounds.{boundsFrom}
 use Rattle.lifetimes.specs.Env.{envOf}
 use Rattle.lifetimes.specs.Walk.{LastFirst, neighbours, unpushed, walkFor, walk, traversal, FirstFirst}
 use Rattle.lifetimes.specs.Reach.{reachList, reachSet, depthFirst, listFrom}

@@ -29,7 +29,6 @@ use Rattle.borrowing_param.specs.New as new
 use Rattle.borrowing_param.specs.BorrowMap as map-of
 use Rattle.borrowing_param.specs.SheetMethod as sheets
 use Rattle.borrowing_param.specs.Examples as visits
-use Rattle.listing.specs.Listing as listings
 use Rattle.listing.specs.Listing.{response, listingOf, listingChecks}
 use Rattle.listing.specs.Examples.{Example, reachExample, astExample, elisionExample, visitsExample}
 use Rattle.listing.specs.Examples.{programExamples, Right, Reached, Declared, Elided, Visited}

@@ -1,6 +1,6 @@
 -- For private functions only: lists and edges that stand in slices, and the lines that they are printed as.
 use Prim.Native.Nat.{ℕ, zero, suc, _≤_}
-use mathlib.Core.List.{List, [], _∷_, _++_}
+use mathlib.Core.List.{List, [], _∷_}
 use lib.Seq.{slice}
 use Rattle.text.specs.Decimal.{line}
 use Rattle.answers.specs.Lists.{numbered}

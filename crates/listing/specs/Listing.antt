@@ -1,6 +1,6 @@
 -- The listing of a sheet (01, "The listing"): bytes, from the sheet's records. Each part is of the definitions that the
 -- contracts of the crates below cite.
-use Prim.Native.Nat.{ℕ, suc, _*_}
+use Prim.Native.Nat.{ℕ, _*_}
 use mathlib.Core.Bool.{true}
 use mathlib.Core.List.{List, [], _∷_, _++_, flatMap}
 use lib.Dec.{ltb}

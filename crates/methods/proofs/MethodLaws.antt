@@ -1,9 +1,9 @@
 -- The refusal of a method, one stage after another: each stage answers the verdict of its own checks.
 use Prim.Native.Nat.{ℕ, _≤_, _<_}
-use mathlib.Core.Bool.{Bool, true, false, cond}
+use mathlib.Core.Bool.{true, false}
 use mathlib.Core.Path.{_≡_, refl, sym, ap, subst, _∙_}
 use mathlib.Core.List.{List, [], _∷_, _++_}
-use lib.ListN.{length, take, drop}
+use lib.ListN.{length}
 use borrow.Author.Tests.{lt-ltb, le-ltb, not-false}
 use Rattle.answers.specs.declared.Refusal.{Refusal}
 use Rattle.answers.specs.declared.Refusal.the-variants.{Malformed, Full, Mismatch, OutOfRange}
@@ -12,8 +12,7 @@ use Rattle.answers.specs.declared.Verdict.the-variants.{Accepted, Refused}
 use Rattle.answers.specs.declared.Listed.{Listed}
 use Rattle.answers.specs.declared.Listed.the-variants as listed
 use Rattle.lifetimes.specs.declared.env.LifetimeEnv.{LifetimeEnv}
-use Rattle.answers.specs.Refusals.{Check, check, Refuses, unless, NoneDue}
-use Rattle.answers.specs.Lent.{verdictOf}
+use Rattle.answers.specs.Refusals.{Check, check, unless, NoneDue}
 use Rattle.lifetimes.specs.Env.{limitChecks, rangeChecks, envChecks}
 use Rattle.lifetimes.specs.Sets.{setOf}
 use Rattle.answers.proofs.RefusalLaws.{due-given, accepted-none, none-first}

@@ -1,11 +1,11 @@
 -- The lifetimes of the output, put into a set one after another.
 use Prim.Native.Nat.{ℕ, suc, _+_, _-_, _≤_, _<_}
-use mathlib.Core.Bool.{Bool, true, false, cond, _||_}
-use mathlib.Core.Path.{_≡_, refl, sym, ap, subst, _∙_}
+use mathlib.Core.Bool.{cond}
+use mathlib.Core.Path.{_≡_, refl, sym, subst, _∙_}
 use mathlib.Core.List.{List, [], _∷_, _++_, map, flatMap, filterMap, filterMap-append}
 use native.Mathlib.Numerals.{add-one}
 use native.Mathlib.Omega.{arith}
-use lib.Dec.{leb, ltb}
+use lib.Dec.{ltb}
 use lib.ListN.{length, getD, take, drop, length-take, length-drop, drop-of-length-le}
 use lib.Seq.{drop-cons, getD-take, getD-drop}
 use borrow.Author.Tests.{le-leb, lt-leb, lt-ltb}
@@ -26,8 +26,8 @@ use Rattle.types.specs.Rows.{readKnown, readTypes}
 use Rattle.types.proofs.FoundLaws.{Found, path-inside}
 use Rattle.methods.specs.declared.output.Collected.{Collected}
 use Rattle.methods.specs.declared.output.Collected.the-variants.{Set, Past}
-use Rattle.methods.specs.Method.{isPast, anyPast}
-use Rattle.methods.specs.Used.{number, numbersOf}
+use Rattle.methods.specs.Method.{isPast}
+use Rattle.methods.specs.Used.{number}
 use Rattle.methods.specs.Inner.{CollectIs, within, past, PathThere, TypesCollect}
 use Rattle.records.proofs.ReadingLaws.{fails-read}
 use Rattle.methods.proofs.PassLaws.{known-read, same-found, Next, types-next, types-none}

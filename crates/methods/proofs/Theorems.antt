@@ -9,7 +9,6 @@ use Rattle.lifetimes.specs.Env as env
 use Rattle.records.specs.Reading as reading
 use Rattle.types.specs.LoweredTypes as types
 use Rattle.types.specs.Rows as rows
-use Rattle.methods.specs.Method as method
 use Rattle.methods.specs.Used as used
 use Rattle.methods.specs.Fields as fields
 use Rattle.methods.specs.Theorems.{UsedLifetimesAre, ForceIsRetired, FieldPairsAre, ExamplesHold}

@@ -1,5 +1,5 @@
 -- Copying the first words of a record to a slice that has room for them, or none of them.
-use Prim.Native.Nat.{ℕ, zero, suc, _≤_, _<_, min}
+use Prim.Native.Nat.{ℕ, _≤_, _<_, min}
 use mathlib.Core.Bool.{Bool, true, false}
 use mathlib.Core.Path.{_≡_, refl, sym, ap, _∙_}
 use mathlib.Core.List.{List, [], _∷_}
@@ -7,12 +7,12 @@ use native.Mathlib.Omega.{arith}
 use borrow.Author.Tests.{leb-true, leb-false, ltb-true, ltb-false}
 use lib.Dec.{leb}
 use lib.ListN.{length, take}
-use lib.Seq.{sets, take-all, take-take, length-take-le}
+use lib.Seq.{sets, take-all, length-take-le}
 use Rattle.answers.specs.declared.Refusal.{Refusal}
 use Rattle.answers.specs.declared.Refusal.the-variants.{NoRoom}
 use Rattle.answers.specs.declared.Listed.{Listed}
 use Rattle.answers.specs.declared.Listed.the-variants as listed
-use Rattle.answers.specs.Refusals.{Check, Outcome, Gives, Refuses, unless, FirstDue, here, later, end}
+use Rattle.answers.specs.Refusals.{Check, Outcome, Gives, Refuses, unless, FirstDue, here, end}
 use Rattle.answers.specs.Lent.{counted, written, roomCheck}
 use Rattle.answers.proofs.RefusalLaws.{due-given, refused-due, given-due, none-first}
 use Rattle.answers.proofs.LentLaws.{answers-refusal, answers-list, no-room, has-room}

@@ -1,6 +1,6 @@
 -- Sheets: ten lines and ten records, the bytes that are a sheet, and when reading gives it or refuses it.
 use Prim.Native.Nat.{ℕ, _+_, _*_, _≤_, _<_}
-use mathlib.Core.Bool.{Bool, true, false, cond, _&&_, and-eq-true-iff}
+use mathlib.Core.Bool.{Bool, true, false, cond}
 use mathlib.Core.Logic.{⊎-elim}
 use mathlib.Core.Path.{_≡_, refl, sym, ap, _∙_}
 use mathlib.Core.List.{List, [], _∷_, _++_, flatMap, flatten, List·Memᴰ, List·Memᴰ·head, List·Memᴰ·tail}

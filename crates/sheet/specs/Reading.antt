@@ -10,7 +10,7 @@ use Rattle.answers.specs.declared.Refusal.the-variants.{Malformed, Unreadable}
 use Rattle.answers.specs.Refusals.{Check, check, Outcome, unless}
 use Rattle.text.specs.Decimal.{newline, space}
 use Rattle.text.specs.Number.{isDigit}
-use Rattle.records.specs.Reading.{mostWords, fewWords}
+use Rattle.records.specs.Reading.{fewWords}
 use Rattle.sheet.specs.Text.{records, heading, Records, lists, mostWord, mostBytes}
 use Rattle.answers.specs.Lists.{all}
 

@@ -1,14 +1,12 @@
 -- The main theorems of this crate, stated. Each has its proof, a term of exactly this type and of the same name in
 -- small letters, in proofs/Theorems.antt.
 use Prim.Native.Nat.{ℕ, suc, _+_, _/_, _%_, _^_, _≤_, _<_}
-use mathlib.Core.Bool.{false}
 use mathlib.Core.Path.{_≡_}
-use mathlib.Core.Logic.{_↔_}
 use mathlib.Core.List.{List, [], _∷_, _++_}
 use mathlib.Core.Option.{none, some}
 use lib.ListN.{length}
 use Rattle.text.specs.Decimal.{digits}
-use Rattle.text.specs.Number.{isDigit, digitsIn, behindDigits, numberIn}
+use Rattle.text.specs.Number.{digitsIn, behindDigits, numberIn}
 
 -- The digits of a number, without fuel; a number below 10 has one at most, below 100 two, ..
 pub record DecimalOf (n : ℕ) : Type 0 where
