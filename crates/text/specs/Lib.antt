@@ -3,5 +3,3 @@ pub mod Decimal
 pub mod Number
 pub mod Printing
 pub mod Theorems
--- For private functions only
-pub mod Inner

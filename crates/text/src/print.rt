@@ -1,9 +1,8 @@
 // Printing: texts, numbers and lines of words into a slice of bytes.
 //
 // Each printer stores its text from a place on, as far as the slice goes, and answers the place behind the text, at
-// most `usize::MAX`. A slice ends there at the latest, so where a text fits no place has to be held to that, and where
-// it does not, a byte more or less costs nothing.
-ghost use Prim.Native.Nat.{_+_, _-_, _≤_, _^_, min};
+// most `usize::MAX`. A slice ends there at the latest, so a place behind a byte that was stored is never held to that.
+ghost use Prim.Native.Nat.{_+_, _-_, _^_, min};
 ghost use mathlib.Core.Path.{_≡_};
 ghost use mathlib.Core.List.{[], _∷_};
 ghost use lib.ListN.{length, replicate};
@@ -11,10 +10,6 @@ ghost use lib.Seq.{sets};
 ghost use Rattle.answers.specs.Lent.{held, left};
 ghost use Rattle.text.specs.Decimal.{space, digits, padded, following, line};
 ghost use Rattle.text.specs.Printing.{behind, Prints};
-ghost use Rattle.text.specs.Inner.{places};
-
-// How many digits a number has at most.
-const MAX_DIGITS: usize = 20;
 
 // The place so many bytes behind a place.
 fn place_behind(at: usize, count: usize) -> usize
@@ -24,6 +19,16 @@ fn place_behind(at: usize, count: usize) -> usize
         return usize::MAX;
     }
     at + count
+}
+
+// A number less another, 0 at least.
+fn less(number: usize, other: usize) -> usize
+    ensures { λ r. ⌜ r ≡ number - other ⌝ }
+{
+    if number <= other {
+        return 0;
+    }
+    number - other
 }
 
 // How many of `n` bytes there is room for from a place on, in a slice of so many.
@@ -77,60 +82,15 @@ fn put_blanks(out: &mut [u8], at: usize, count: usize) -> usize
     place_behind(at, count)
 }
 
-// The last `count` digits of a number, leading noughts kept, where there is room for them; from the last one to the
-// first.
-fn put_places(out: &mut [u8], at: usize, number: usize, count: usize)
-    requires { ⌜ at + count ≤ length (now out) ⌝ }
-    ensures { λ _. ⌜ left out ≡ sets (held out) at (places count number) ⌝ }
-{
-    let mut left = number;
-    let mut i = count;
-    while 0 < i {
-        i -= 1;
-        out[at + i] = 48 + (left % 10) as u8;
-        left /= 10;
-    }
-}
-
-// How many digits a number of three or more of them has.
-fn count_digits(number: usize) -> usize
-    requires { ⌜ 100 ≤ number ⌝ }
-    ensures { λ r. ⌜ digits number ≡ places r number ⌝ }
-{
-    let tenth = number / 10;
-    let mut power: usize = 100;
-    let mut count: usize = 2;
-    while power <= tenth {
-        power *= 10;
-        count += 1;
-    }
-    count + 1
-}
-
-// A number of three or more digits: at once where there is room for all of them.
-fn put_long(out: &mut [u8], at: usize, number: usize) -> usize
-    requires { ⌜ 100 ≤ number ⌝ }
+// A number digit by digit.
+fn put_digits(out: &mut [u8], at: usize, number: usize) -> usize
     ensures { λ r. ⌜ Prints (digits number) at (held out) r (left out) ⌝ }
 {
-    let count = count_digits(number);
-    if room(out.len(), at, count) < count {
-        return put_cut(out, at, number, count);
+    if number < 10 {
+        return put(out, at, 48 + number as u8);
     }
-    put_places(out, at, number, count);
-    at + count
-}
-
-// The last `count` digits of a number, as many of them as there is room for.
-fn put_cut(out: &mut [u8], at: usize, number: usize, count: usize) -> usize
-    requires { ⌜ count ≤ 20 ⌝ }
-    ensures { λ r. ⌜ Prints (places count number) at (held out) r (left out) ⌝ }
-{
-    if out.len() <= at {
-        return place_behind(at, count);
-    }
-    let mut text = [0u8; MAX_DIGITS];
-    put_places(&mut text, 0, number, count);
-    put_text(out, at, &text[0..count])
+    let next = put_digits(out, at, number / 10);
+    put(out, next, 48 + (number % 10) as u8)
 }
 
 // A number in decimal, without leading noughts.
@@ -145,30 +105,7 @@ pub fn put_number(out: &mut [u8], at: usize, number: usize) -> usize
         let next = put(out, at, 48 + (number / 10) as u8);
         return put(out, next, 48 + (number % 10) as u8);
     }
-    put_long(out, at, number)
-}
-
-// How many digits a number has.
-fn digit_count(number: usize) -> usize
-    ensures { λ r. ⌜ r ≡ length (digits number) ⌝ }
-{
-    if number < 10 {
-        return 1;
-    }
-    if number < 100 {
-        return 2;
-    }
-    count_digits(number)
-}
-
-// How much of a width a number of digits leaves.
-fn left_of(width: usize, count: usize) -> usize
-    ensures { λ r. ⌜ r ≡ width - count ⌝ }
-{
-    if width <= count {
-        return 0;
-    }
-    width - count
+    put_digits(out, at, number)
 }
 
 // A number at the right of a column: blanks in front, up to the width. A number with more digits is printed whole.
@@ -176,9 +113,32 @@ pub fn put_padded(out: &mut [u8], at: usize, number: usize, width: usize) -> usi
     ensures answer { λ r. ⌜ r ≡ behind at (padded width number) ⌝ }
     ensures stored { λ _. ⌜ left out ≡ sets (held out) at (padded width number) ⌝ }
 {
-    let count = digit_count(number);
-    let next = put_blanks(out, at, left_of(width, count));
+    let mut none = [0u8; 0];
+    let count = put_number(&mut none, 0, number);
+    let next = put_blanks(out, at, less(width, count));
     put_number(out, next, number)
+}
+
+// A word behind a space; before `safe` there is room for it and for two digits.
+fn put_word(out: &mut [u8], at: usize, word: usize, safe: usize) -> usize
+    requires { ⌜ safe ≡ length (now out) - 2 ⌝ }
+    ensures { λ r. ⌜ Prints (space ∷ digits word) at (held out) r (left out) ⌝ }
+{
+    if safe <= at {
+        let next = put(out, at, b' ');
+        return put_digits(out, next, word);
+    }
+    out[at] = b' ';
+    if word < 10 {
+        out[at + 1] = 48 + word as u8;
+        return at + 2;
+    }
+    if word < 100 {
+        out[at + 1] = 48 + (word / 10) as u8;
+        out[at + 2] = 48 + (word % 10) as u8;
+        return at + 3;
+    }
+    put_digits(out, at + 1, word)
 }
 
 // The words that follow in a line, each behind a space, and the line's end.
@@ -186,11 +146,11 @@ pub fn put_following(out: &mut [u8], at: usize, words: &[usize]) -> usize
     ensures answer { λ r. ⌜ r ≡ behind at (following (held words)) ⌝ }
     ensures stored { λ _. ⌜ left out ≡ sets (held out) at (following (held words)) ⌝ }
 {
+    let safe = less(out.len(), 2);
     let mut to = at;
     let mut i = 0;
     while i < words.len() {
-        let next = put(out, to, b' ');
-        to = put_number(out, next, words[i]);
+        to = put_word(out, to, words[i], safe);
         i += 1;
     }
     put(out, to, b'\n')

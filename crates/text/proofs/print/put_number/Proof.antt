@@ -1,23 +1,22 @@
--- `put_number` meets its contract: one digit, two digits, or three and more.
+-- `put_number` meets its contract: one digit, two digits, or more.
 use borrow.Author.Needs.{needs}
-use Rattle.text.proofs.PrintLaws.{printed, single-prints, two-prints}
+use Rattle.text.proofs.PrintLaws.{printed, digit-prints, two-print}
 use Rattle.text.proofs.print.put_number.Statement.{statement}
 use Rattle.text.proofs.print.put_number.Tie as tie
 
 returns : tie.Need-returns
-returns c = printed (single-prints _ (c .before .before .before .before .if1 .taken) (c .before .before .put .ensures))
+returns c = printed (digit-prints _ (c .before .before .before .before .if1 .taken) (c .before .before .put .ensures))
 
 returns-2 : tie.Need-returns-2
 returns-2 c =
     let at-put2 = c .before .before .before .before .before .before in
     let at-if2 = at-put2 .before .before in
-    let at-if1 = at-if2 .before in
     printed
-    (two-prints _ (at-if1 .if1 .left) (at-if2 .if2 .taken) (search needs) (at-put2 .put2 .ensures)
+    (two-print _ (at-if2 .before .if1 .left) (at-if2 .if2 .taken) (search needs) (at-put2 .put2 .ensures)
     (c .before .before .put3 .ensures))
 
 returns-3 : tie.Need-returns-3
-returns-3 c = printed (c .before .before .put-long .ensures)
+returns-3 c = printed (c .before .before .put-digits .ensures)
 
 pub put-number-spec : {M : Type 1} → statement M
 put-number-spec =
