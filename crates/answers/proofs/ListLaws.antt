@@ -1,16 +1,15 @@
--- Laws of specs/Lists.antt: numbers in a row; some entry, all entries; the entries that pass a test, and how many do;
--- each entry with its number.
+-- Laws of specs/Lists.antt: numbers in a row; some entry, all entries; the entries that pass a test, and how many do.
 use Prim.Native.Nat.{ℕ, zero, suc, _+_, _≤_, _<_}
 use mathlib.Core.Bool.{Bool, true, false, cond, _&&_, _||_, true≢false, and-eq-true-iff}
 use mathlib.Core.Logic.{_↔_, ⊎-elim, ∥∥₁-elim, ∥∥₁-map}
 use mathlib.Core.Path.{_≡_, refl, sym, ap, _∙_}
-use mathlib.Core.List.{List, [], _∷_, _++_, map, append-assoc, List·Memᴰ, List·Memᴰ·head, List·Memᴰ·tail, List·Memᴰ·not-nil}
+use mathlib.Core.List.{List, [], _∷_, _++_, map, List·Memᴰ, List·Memᴰ·head, List·Memᴰ·tail, List·Memᴰ·not-nil}
 use mathlib.Core.List.{List·Memᴰ·cases-cons, Pairwise, Pairwise·nil, Pairwise·cons}
 use native.Mathlib.Decide.{ℕ-discrete}
 use native.Mathlib.Bridge.{le-prop}
 use native.Mathlib.Omega.{arith}
 use lib.ListN.{length, getD}
-use Rattle.answers.specs.Lists.{range, any, all, filter, count, numbered}
+use Rattle.answers.specs.Lists.{range, any, all, filter, count}
 
 -- ---- numbers in a row
 
@@ -222,13 +221,3 @@ unfolding filter
 filter-agree f g [] h = refl
 filter-agree f g (x ∷ l) h =
     rw (h x (List·Memᴰ·head refl), filter-agree f g l (λ y m. h y (List·Memᴰ·tail m)))
-
--- ---- each entry with its number
-
-pub numbered-append : {A B : Type 0} (each : ℕ → A → List B) (n : ℕ) (l m : List A)
-    → numbered each n (l ++ m) ≡ numbered each n l ++ numbered each (n + length l) m
-unfolding numbered
-numbered-append each n [] m = ap (λ (k : ℕ). numbered each k m) (omega arith)
-numbered-append each n (x ∷ l) m =
-    let e : suc n + length l ≡ n + suc (length l) = omega arith in
-    rw (numbered-append each (suc n) l m, e) (sym (append-assoc (each n x) _ _))

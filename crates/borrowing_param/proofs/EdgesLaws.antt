@@ -35,6 +35,7 @@ use Rattle.borrowing_param.specs.Edges.{edge}
 use Rattle.borrowing_param.specs.Brings.{drawn, anyDrawn, structEdges, optionOf, bringAs, bring}
 use Rattle.borrowing_param.specs.Visit.{drawsIn}
 use Rattle.borrowing_param.specs.Inner.{Inside, typeIn, firstFrom, countDrawn, oneIf, CountsFor}
+use Rattle.answers.proofs.ListLaws.{count-few}
 use Rattle.answers.specs.Lists.{any, count, numbered}
 
 -- ---- one lifetime
@@ -282,13 +283,7 @@ module _ (draws : ℕ → Bool) (t : LoweredType) where
       }
 
 drawn-few : (draws : ℕ → Bool) (ms : List MaybeStatic) → countDrawn draws ms ≤ length ms
-unfolding count
-drawn-few draws [] = omega arith
-drawn-few draws (m ∷ ms) = go (drawn draws m) (drawn-few draws ms)
-  where
-    go : (t : Bool) → countDrawn draws ms ≤ length ms → cond t (suc (countDrawn draws ms)) (countDrawn draws ms) ≤ suc (length ms)
-    go true h = omega arith
-    go false h = omega arith
+drawn-few draws ms = count-few (drawn draws) ms
 
 one-few : (t : Bool) (e : LifetimeEdge) → length (cond t (e ∷ []) []) ≤ 16
 one-few true e = omega arith

@@ -27,6 +27,7 @@ use Rattle.elision.specs.Machine.{Answer, answer, inTurn, fits, lowerSte
 use Rattle.elision.proofs.RfcLaws.{count-more, own-again, occurrences-last}
 use Rattle.elision.proofs.PutLoops.{one-fits}
 use Rattle.elision.proofs.TookLaws.{step-fits}
+use Rattle.answers.proofs.ListLaws.{count-append}
 use Rattle.answers.specs.Lists.{count}
 
 module _ (names : List ℕ) (self : Receiver) where
@@ -63,14 +64,7 @@ module _ (names : List ℕ) (self : Receiver) where
 anonymous-grows : (before behind : List Occurrence) (o : Occurrence) → isNew o ≡ true
     → anonymous before < anonymous (before ++ (o ∷ behind))
 unfolding count
-anonymous-grows [] behind o h = rw h (omega arith)
-anonymous-grows (p ∷ before) behind o h = go (isNew p) (anonymous-grows before behind o h)
-  where
-    go : (t : Bool) → anonymous before < anonymous (before ++ (o ∷ behind))
-        → cond t (suc (anonymous before)) (anonymous before) < cond t (suc (anonymous (before ++ (o ∷ behind))))
-        (anonymous (before ++ (o ∷ behind)))
-    go true k = omega arith
-    go false k = k
+anonymous-grows before behind o h = rw (count-append isNew before (o ∷ behind), h) (omega arith)
 
 pub another-is : (names : List ℕ) (before behind : List Occurrence) (o : Occurrence) → isNew o ≡ true
     → countOf names before < countOf names (before ++ (o ∷ behind))

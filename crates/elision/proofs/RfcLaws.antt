@@ -32,6 +32,7 @@ use Rattle.elision.specs.Rfc.{stepChecks, inputs, outputs, Method, metho
 use Rattle.elision.specs.Machine.{visit, Answer, answer, inTurn, visited, lowers, fromSource, lowerWord}
 use Rattle.elision.specs.Machine.{lowerWords, lowered, valuesIn, laid, wordsStep, lowerStep, unused, firstOr}
 use Rattle.elision.specs.Machine.{selfRef, lowerSelf, runSteps, runMethod}
+use Rattle.answers.proofs.ListLaws.{count-append}
 use Rattle.answers.specs.Lists.{any, count}
 
 -- ---- what each of a list brings, over joined lists
@@ -100,18 +101,7 @@ module _ {X Y S : Type 0} (step : X → S → Outcome (Answer S)) (item : X → 
 
 anonymous-last : (l : List Occurrence) (o : Occurrence) → anonymous (l ++ (o ∷ [])) ≡ anonymous l + cond (isNew o) 1 0
 unfolding count
-anonymous-last [] o = go (isNew o)
-  where
-    go : (t : Bool) → cond t 1 0 ≡ 0 + cond t 1 0
-    go true = refl
-    go false = refl
-anonymous-last (p ∷ l) o = go (isNew p) (anonymous-last l o)
-  where
-    go : (t : Bool) → anonymous (l ++ (o ∷ [])) ≡ anonymous l + cond (isNew o) 1 0
-        → cond t (suc (anonymous (l ++ (o ∷ [])))) (anonymous (l ++ (o ∷ [])))
-        ≡ cond t (suc (anonymous l)) (anonymous l) + cond (isNew o) 1 0
-    go true h = omega arith
-    go false h = h
+anonymous-last l o = count-append isNew l (o ∷ [])
 
 -- the machine's source, by the lifetimes of the input positions
 unfoldable pub fromPositions : List MaybeStatic → ElisionSource

@@ -9,17 +9,11 @@ use native.Mathlib.Nat.{div-add-mod', mod-lt}
 use native.Mathlib.Omega.{arith}
 use borrow.Author.Tests.{ltb-true, ltb-false, lt-ltb, le-leb, eq-eqb, ne-eqb, eqb-true}
 use lib.Dec.{ltb, eqb}
-use lib.ListN.{length}
 use Rattle.text.specs.Number.{isDigit}
 use Rattle.text.specs.Decimal.{newline, space, digits, following, line}
-use Rattle.sheet.specs.Text.{mostWord}
 use Rattle.sheet.specs.Reading.{behind, Place, LineStart, WordStart, Behind, lineBefore, wordBefore}
 use Rattle.sheet.specs.Reading.{readLines}
-use Rattle.text.proofs.DigitLaws.{tenth-less, digits-single, digits-more, digits-length}
-
--- a word has at most five digits
-pub digits-of-word : {n : ℕ} → n ≤ mostWord → length (digits n) ≤ 5
-digits-of-word {n} h = digits-length 4 n (omega arith)
+use Rattle.text.proofs.DigitLaws.{tenth-less, digits-single, digits-more}
 
 -- a digit's byte
 pub digit-is : {d : ℕ} → d < 10 → isDigit (48 + d) ≡ true
