@@ -8,6 +8,7 @@ use Rattle.answers.specs.declared.Refusal.{Refusal}
 use Rattle.answers.specs.declared.Refusal.the-variants.{Full}
 use Rattle.answers.specs.declared.Verdict.{Verdict}
 use Rattle.answers.specs.declared.Verdict.the-variants.{Accepted, Refused}
+use Rattle.answers.specs.Lists.{all}
 use Rattle.answers.specs.Refusals.{unless}
 use Rattle.answers.specs.Lent.{judged}
 use Rattle.lifetimes.specs.Bounds.{boundsChecks}
@@ -52,6 +53,10 @@ module _ (e : LifetimeEnv) where
   pub check-names : 32 < e .named → Refused Full ≡ judged (envChecks e)
   unfolding unless
   check-names h = rw (lt-ltb 32 (e .named) h)
+
+  pub check-empty : e .named ≤ 32 → e .bounds .pushed ≡ 0 → Accepted ≡ judged (envChecks e)
+  unfolding unless all
+  check-empty h none = rw (le-ltb 32 (e .named) h, none)
 
   pub check-bounds : e .named ≤ 32 → {v : Verdict} → v ≡ judged (boundsChecks (e .named) (e .bounds)) → v ≡ judged (envChecks e)
   unfolding unless

@@ -1,9 +1,9 @@
 -- Laws of the environment's checks: what it says that none is due, and which is the first that is. Then the answers of
 -- `LifetimeEnv::check` and `push_bound`.
-use Prim.Native.Nat.{_+_, _≤_, _<_}
+use Prim.Native.Nat.{ℕ, _+_, _≤_, _<_}
 use mathlib.Core.Bool.{Bool, true, false, not, _&&_}
 use mathlib.Core.Path.{_≡_, refl, sym, ap, _∙_}
-use mathlib.Core.List.{List·Memᴰ}
+use mathlib.Core.List.{[], _∷_, List·Memᴰ}
 use native.Mathlib.Decide.{decLt}
 use native.Mathlib.Omega.{arith}
 use borrow.Author.Tests.{ltb-true, ltb-false, lt-ltb, le-ltb, not-true, not-false}
@@ -13,12 +13,13 @@ use Rattle.answers.specs.declared.Refusal.the-variants.{Full, OutOfRange}
 use Rattle.answers.specs.declared.Verdict.{Verdict}
 use Rattle.answers.specs.declared.Verdict.the-variants.{Accepted, Refused}
 use Rattle.answers.specs.Refusals.{Gives, unless, FirstDue, here, later, NoneDue, end, next}
+use Rattle.answers.specs.Lists.{all}
 use Rattle.answers.specs.Lent.{judged}
 use Rattle.answers.proofs.RefusalLaws.{due-given, due-refused, given-due, refused-first, accepted-none, none-first, none-rest}
 use Rattle.lifetimes.specs.declared.bounds.Bound.{Bound}
 use Rattle.lifetimes.specs.declared.env.LifetimeEnv.{LifetimeEnv}
 use Rattle.lifetimes.specs.Bounds.{bothBelow, allBelow, boundsChecks}
-use Rattle.lifetimes.specs.Env.{boundsOf, envChecks, withBound, pushBound, made}
+use Rattle.lifetimes.specs.Env.{boundsOf, tooFew, envChecks, withBound, pushBound, made}
 use Rattle.lifetimes.specs.Walk.{near, far}
 use Rattle.lifetimes.proofs.BoundsLaws.{both-below, all-below, bounds-pushed}
 
@@ -85,7 +86,26 @@ accepted-valid e h = (given-due e e (envChecks e) h) .0
 
 -- ---- `check`
 
+-- where the limits are kept and the bounds are inside, what is left to look at is the number of the declared
+ranges : (e : LifetimeEnv) → e .count ≤ 64 → e .bounds .pushed ≤ 256 → allBelow (e .declared) (boundsOf e) ≡ true
+    → judged (tooFew (e .declared) (e .count) ∷ []) ≡ judged (envChecks e)
+unfolding unless
+ranges e lifetimes few inside = rw (le-ltb 64 (e .count) lifetimes, le-ltb 256 (e .bounds .pushed) few, inside)
+
+pub declared-refused : (declared count : ℕ) → count < declared → Refused OutOfRange ≡ judged (tooFew declared count ∷ [])
+unfolding unless
+declared-refused declared count h = rw (lt-ltb count declared h)
+
+pub declared-accepted : (declared count : ℕ) → declared ≤ count → Accepted ≡ judged (tooFew declared count ∷ [])
+unfolding unless
+declared-accepted declared count h = rw (le-ltb count declared h)
+
 module _ (e : LifetimeEnv) where
+  pub check-empty : e .count ≤ 64 → e .bounds .pushed ≡ 0 → {w : Verdict} → w ≡ judged (tooFew (e .declared) (e .count) ∷ [])
+      → w ≡ judged (envChecks e)
+  unfolding all
+  check-empty lifetimes none p = p ∙ ranges e lifetimes (omega arith) (rw none)
+
   pub check-lifetimes : 64 < e .count → Refused Full ≡ judged (envChecks e)
   check-lifetimes h = rw (due-refused (tt {0}) (lifetimes-due e h))
 
@@ -104,12 +124,8 @@ module _ (e : LifetimeEnv) where
     few : v ≡ Accepted → e .bounds .pushed ≤ 256
     few k = ltb-false 256 (e .bounds .pushed) (none-first (none k))
 
-    pub check-declared : v ≡ Accepted → e .count < e .declared → Refused OutOfRange ≡ judged (envChecks e)
-    check-declared k h = rw (due-refused (tt {0}) (declared-due e lifetimes (few k) h))
-
-    pub check-accepted : v ≡ Accepted → e .declared ≤ e .count → Accepted ≡ judged (envChecks e)
-    check-accepted k h =
-        rw (due-given (tt {0}) (none-due e lifetimes (few k) h (not-false _ (none-first (none-rest (none k))))))
+    pub check-rest : v ≡ Accepted → {w : Verdict} → w ≡ judged (tooFew (e .declared) (e .count) ∷ []) → w ≡ judged (envChecks e)
+    check-rest k p = p ∙ ranges e lifetimes (few k) (not-false _ (none-first (none-rest (none k))))
 
 -- ---- `push_bound`
 

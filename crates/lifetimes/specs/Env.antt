@@ -24,8 +24,11 @@ boundsOf e = listOf (e .bounds)
 abbrev pub limitChecks : LifetimeEnv → List Check
 limitChecks e = check (ltb mostLifetimes (e .count)) Full ∷ tooMany (e .bounds) ∷ []
 
+abbrev pub tooFew : ℕ → ℕ → Check
+tooFew declared count = check (ltb count declared) OutOfRange
+
 abbrev pub rangeChecks : LifetimeEnv → List Check
-rangeChecks e = check (ltb (e .count) (e .declared)) OutOfRange ∷ onePast (e .declared) (e .bounds) ∷ []
+rangeChecks e = tooFew (e .declared) (e .count) ∷ onePast (e .declared) (e .bounds) ∷ []
 
 abbrev pub envChecks : LifetimeEnv → List Check
 envChecks e = limitChecks e ++ rangeChecks e

@@ -1,13 +1,13 @@
 // The environment of a method: its lifetimes and the bounds between them.
 ghost use mathlib.Core.Path.{_≡_};
 ghost use mathlib.Core.Bool.{true};
-ghost use mathlib.Core.List.{[]};
+ghost use mathlib.Core.List.{[], _∷_};
 ghost use Prim.Native.Nat.{_%_, _*_, _≤_};
 ghost use lib.ListN.{length};
 ghost use Rattle.answers.specs.Lent.{judged, held};
 ghost use Rattle.lifetimes.specs.Limits.{mostBounds};
 ghost use Rattle.lifetimes.specs.Bounds.{above, allBelow, boundsFrom};
-ghost use Rattle.lifetimes.specs.Env.{envChecks, isDeclared, pairsOf, envOf, newEnv, pushBound, made};
+ghost use Rattle.lifetimes.specs.Env.{tooFew, envChecks, isDeclared, pairsOf, envOf, newEnv, pushBound, made};
 use super::bounds::Bounds;
 use super::bounds::bound_of;
 use super::bounds::numbers_below;
@@ -123,6 +123,7 @@ impl LifetimeEnv {
 
     // Whether this can be an environment: refused by 4 (65th lifetime, 257th bound) or 8 (more declared than there are,
     // a bound past the declared). A caller can build any value, so whoever is handed an environment asks this first.
+    // The bounds are handed on only where there are some.
     pub fn check(self) -> Verdict
         ensures answer { λ r. ⌜ r ≡ judged (envChecks self) ⌝ }
     {
@@ -131,15 +132,25 @@ impl LifetimeEnv {
         if LifetimeEnv::MAX_LIFETIMES < count {
             return Verdict::Refused(Refusal::Full);
         }
+        if self.bounds.pushed == 0 {
+            return check_declared(declared, count);
+        }
         let verdict = self.bounds.check(declared);
         let Verdict::Accepted = verdict else {
             return verdict;
         };
-        if count < declared {
-            return Verdict::Refused(Refusal::OutOfRange);
-        }
-        Verdict::Accepted
+        check_declared(declared, count)
     }
+}
+
+// Whether no more lifetimes are declared than there are. Refused by 8.
+fn check_declared(declared: usize, count: usize) -> Verdict
+    ensures { λ r. ⌜ r ≡ judged (tooFew declared count ∷ []) ⌝ }
+{
+    if count < declared {
+        return Verdict::Refused(Refusal::OutOfRange);
+    }
+    Verdict::Accepted
 }
 
 // A refusal, beside an environment without lifetimes.
