@@ -16,7 +16,7 @@ use Rattle.ast_lifetimes.specs.declared.env.Counts.{Counts}
 use Rattle.ast_lifetimes.specs.Inner.{sidesOf, Built}
 use Rattle.ast_lifetimes.specs.Shapes.{implNames, methodNames, Pair, implPairs, methodPairs}
 use Rattle.ast_lifetimes.specs.Env.{nameChecks, allPairChecks, namesOf, boundsOf, namedEnv, envChecks, allNamesOf}
-use Rattle.ast_lifetimes.specs.Env.{impliedPairs, placeChecks, methodBounds}
+use Rattle.ast_lifetimes.specs.Env.{impliedPairs, itemPlaceChecks, methodBounds}
 use Rattle.lifetimes.proofs.BoundsLaws.{below-larger, below-append, bounds-made}
 use Rattle.ast_lifetimes.proofs.BuildLaws.{pairs-below}
 
@@ -38,7 +38,7 @@ pairs-few names pushed (p ∷ ps) n h =
     let m = pairs-few names (suc pushed) ps (none-rest (none-rest (none-rest n))) (omega (arith, k)) in
     omega (arith, m)
 
-module _ (names bounds types : List ℕ) (n : NoneDue (placeChecks names bounds types)) where
+module _ (names bounds types : List ℕ) (n : NoneDue (itemPlaceChecks names bounds types)) where
   abbrev impls : ℕ
   impls = length (implPairs bounds)
 
@@ -105,4 +105,4 @@ pub built-small : {names bounds types declared longs shorts : List ℕ} {r : Cou
 built-small {names} {bounds} {types} b e =
     rw (b .bounded e)
     (accepted-small names bounds types
-    (accepted-none (tt {0}) (placeChecks names bounds types) (sym (b .verdict) ∙ e)))
+    (accepted-none (tt {0}) (itemPlaceChecks names bounds types) (sym (b .verdict) ∙ e)))

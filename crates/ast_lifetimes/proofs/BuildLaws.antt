@@ -27,11 +27,11 @@ use Rattle.ast_lifetimes.specs.declared.env.LifetimeEnv.{LifetimeEnv}
 use Rattle.records.specs.Reading.{shapeVerdict, fewWords}
 use Rattle.ast_lifetimes.specs.Shapes.{isName, namesInShape, implNames, methodNames, Pair, pairsOf}
 use Rattle.ast_lifetimes.specs.Shapes.{boundsInShape, implPairs, methodPairs}
-use Rattle.ast_lifetimes.specs.Types.{TypeName, typesInShape, typesOf}
+use Rattle.ast_lifetimes.specs.Types.{TypeName, typesInShape, typeNamesOf}
 use Rattle.ast_lifetimes.specs.Env.{isDeclared, nameChecks, allPairChecks, boundsFor, allImplied, namedEnv, allNamesOf}
-use Rattle.ast_lifetimes.specs.Env.{explicitBounds, impliedPairs, placeChecks, methodBounds, fromMethodItem, made}
+use Rattle.ast_lifetimes.specs.Env.{explicitBounds, impliedPairs, itemPlaceChecks, methodBounds, fromMethodItem, made}
 use Rattle.answers.specs.Lent.{judged}
-use Rattle.ast_lifetimes.specs.Inner.{sidesOf, Declares, Pushes, encodeAll, Below, Extends, Built}
+use Rattle.ast_lifetimes.specs.Inner.{sidesOf, Declares, Pushes, encodeAll, SidesBelow, Extends, Built}
 use Rattle.answers.proofs.VerdictLaws.{refused-accepted, judged-after, judged-stays}
 use Rattle.ast_lifetimes.proofs.ReadingLaws.{types-encoded}
 
@@ -130,7 +130,7 @@ bounds-say (f ∷ ws) e =
 pub record Shaped (names bounds types : List ℕ) : Type 0 where
   pub in-names : NamesSay names
   pub in-bounds : BoundsSay bounds
-  pub in-types : encodeAll (typesOf types) ≡ types
+  pub in-types : encodeAll (typeNamesOf types) ≡ types
 
 pub shaped : (names bounds types : List ℕ) → (namesInShape names ≡ true) × (boundsInShape bounds ≡ true)
     × (typesInShape types ≡ true) → Shaped names bounds types
@@ -215,7 +215,7 @@ module _ (names bounds types : List ℕ) where
   pub record ImplNamed (declared : List ℕ) : Type 0 where
     pub shaped : Shaped names bounds types
     pub named : Stand (implNames names) (getD names 0 0) declared
-    pub left : judged (placeChecks names bounds types) ≡ judged left₁
+    pub left : judged (itemPlaceChecks names bounds types) ≡ judged left₁
 
   -- and its pairs are pushed
   pub record ImplBound (declared longs shorts : List ℕ) : Type 0 where
@@ -223,7 +223,7 @@ module _ (names bounds types : List ℕ) where
     pub named : Stand (implNames names) (getD names 0 0) declared
     pub sides : Sides (boundsFor (implNames names) (implPairs bounds)) (getD bounds 0 0) longs shorts
     pub under : allBelow (length (implNames names)) (boundsFor (implNames names) (implPairs bounds)) ≡ true
-    pub left : judged (placeChecks names bounds types) ≡ judged left₂
+    pub left : judged (itemPlaceChecks names bounds types) ≡ judged left₂
 
   -- and all names are declared
   pub record AllNamed (declared longs shorts : List ℕ) : Type 0 where
@@ -231,7 +231,7 @@ module _ (names bounds types : List ℕ) where
     pub named : Stand (allNamesOf names) (length names - 1) declared
     pub sides : Sides (boundsFor (implNames names) (implPairs bounds)) (getD bounds 0 0) longs shorts
     pub under : allBelow (length (implNames names)) (boundsFor (implNames names) (implPairs bounds)) ≡ true
-    pub left : judged (placeChecks names bounds types) ≡ judged left₃
+    pub left : judged (itemPlaceChecks names bounds types) ≡ judged left₃
 
   -- and all pairs are pushed
   pub record AllBound (declared longs shorts : List ℕ) : Type 0 where
@@ -239,7 +239,7 @@ module _ (names bounds types : List ℕ) where
     pub named : Stand (allNamesOf names) (length names - 1) declared
     pub sides : Sides (explicitBounds names bounds) ((length bounds - 1) / 2) longs shorts
     pub under : allBelow (length names - 1) (explicitBounds names bounds) ≡ true
-    pub left : judged (placeChecks names bounds types) ≡ judged left₄
+    pub left : judged (itemPlaceChecks names bounds types) ≡ judged left₄
 
 abbrev stopped : Verdict → Counts
 stopped v = record { verdict = v; named = 0; pushed = 0 }
@@ -247,7 +247,7 @@ stopped v = record { verdict = v; named = 0; pushed = 0 }
 module _ {names bounds types : List ℕ} where
   built-refused : {declared longs shorts : List ℕ} {v : Verdict} {r : Refusal}
       → (length declared ≡ 32) × (length longs ≡ 256) × (length shorts ≡ 256)
-      → v ≡ judged (placeChecks names bounds types) → v ≡ Refused r
+      → v ≡ judged (itemPlaceChecks names bounds types) → v ≡ Refused r
       → Built names bounds types declared longs shorts (stopped v)
   built-refused sizes is e = record {
     verdict = is;
@@ -354,7 +354,7 @@ module _ {names bounds types : List ℕ} where
 
   -- what the types imply
   module _ {declared longs shorts : List ℕ} (i : AllBound names bounds types declared longs shorts) where
-    pub bound-below : Below (length names - 1) ((length bounds - 1) / 2) longs shorts
+    pub bound-below : SidesBelow (length names - 1) ((length bounds - 1) / 2) longs shorts
     bound-below k h =
         let u : allBelow (length names - 1) (sidesOf ((length bounds - 1) / 2) longs shorts) ≡ true = rw (i .sides .bounds) (i .under) in
         sides-below (length names - 1) ((length bounds - 1) / 2) longs shorts u k (omega arith)
@@ -366,7 +366,7 @@ module _ {names bounds types : List ℕ} where
         shorts longs₁ shorts₁ reach₁ ((length bounds - 1) / 2) r) where
       extended : Extends (allNamesOf names) (impliedPairs names bounds types) longs shorts longs₁ shorts₁ reach₁
           ((length bounds - 1) / 2) r
-      extended = rw (i .named .names, i .sides .bounds) at (x (typesOf types) (i .shaped .in-types))
+      extended = rw (i .named .names, i .sides .bounds) at (x (typeNamesOf types) (i .shaped .in-types))
 
       pub all-built : Built names bounds types declared longs₁ shorts₁
           (record { verdict = r .verdict; named = length names - 1; pushed = r .pushed })
@@ -420,8 +420,8 @@ module _ (names bounds types : List ℕ) where
         ≡ made (namedEnv [] []) (fromMethodItem names bounds types)
     unfolding fromMethodItem unless
     place-refused {r} e =
-        let due : FirstDue r (placeChecks names bounds types) =
-        refused-first (tt {0}) r (placeChecks names bounds types) (sym (b .verdict) ∙ e) in
+        let due : FirstDue r (itemPlaceChecks names bounds types) =
+        refused-first (tt {0}) r (itemPlaceChecks names bounds types) (sym (b .verdict) ∙ e) in
         rw (shape-holds is ok, due-refused (namedEnv (allNamesOf names) (methodBounds names bounds types)) due, e)
 
     pub method-given : counts .verdict ≡ Accepted → {env : LifetimeEnv}
@@ -429,8 +429,8 @@ module _ (names bounds types : List ℕ) where
         → record { verdict = Accepted; env = env } ≡ made (namedEnv [] []) (fromMethodItem names bounds types)
     unfolding fromMethodItem unless
     method-given e {env} q =
-        let none : NoneDue (placeChecks names bounds types) =
-        accepted-none (tt {0}) (placeChecks names bounds types) (sym (b .verdict) ∙ e) in
+        let none : NoneDue (itemPlaceChecks names bounds types) =
+        accepted-none (tt {0}) (itemPlaceChecks names bounds types) (sym (b .verdict) ∙ e) in
         rw (
           shape-holds is ok,
           due-given (namedEnv (allNamesOf names) (methodBounds names bounds types)) none,

@@ -12,11 +12,11 @@ use Rattle.lifetimes.specs.Walk.{neighbours, FirstFirst, unpushed, traversal}
 use Rattle.lifetimes.proofs.NeighbourLaws.{push-unpushed}
 use Rattle.lifetimes.proofs.WalkLaws.{Walks, ends, walks, walks-same}
 use Rattle.lifetimes.proofs.WalkLaws as walking
-use Rattle.ast_lifetimes.specs.DepthFirst.{Lists, none, passes, lists}
+use Rattle.ast_lifetimes.specs.DepthFirst.{ListsDepthFirst, none, passes, lists}
 
 module _ (d : Bool) (bs : List Bound) where
   -- with anything pending behind it
-  listed-walks : {s t : ℕ} {l m p n : List ℕ} → Lists d bs s l m t → Walks FirstFirst d bs p t n
+  listed-walks : {s t : ℕ} {l m p n : List ℕ} → ListsDepthFirst d bs s l m t → Walks FirstFirst d bs p t n
       → Walks FirstFirst d bs (l ++ p) s (m ++ n)
   listed-walks none w = w
   listed-walks (passes h f) w = walking.passes h (listed-walks f w)
@@ -27,7 +27,7 @@ module _ (d : Bool) (bs : List Bound) where
   fewer : (s x : ℕ) → member s x ≡ false → length (neighbours d bs x) + unpushed d bs (insert s x) ≡ unpushed d bs s
   fewer s x h = omega (arith, rw (append-nil (neighbours d bs x)) at (push-unpushed FirstFirst d bs [] s x h))
 
-  listed-fewer : {s t : ℕ} {l m : List ℕ} → Lists d bs s l m t → unpushed d bs t ≤ unpushed d bs s
+  listed-fewer : {s t : ℕ} {l m : List ℕ} → ListsDepthFirst d bs s l m t → unpushed d bs t ≤ unpushed d bs s
   listed-fewer none = omega arith
   listed-fewer (passes h f) = listed-fewer f
   listed-fewer (lists {seen} {x} h f g) = omega (arith, listed-fewer f, listed-fewer g, fewer seen x h)
@@ -36,7 +36,7 @@ module _ (d : Bool) (bs : List Bound) where
   pub record Found (s : ℕ) (l : List ℕ) : Type 0 where
     pub list : List ℕ
     pub seen : ℕ
-    pub finds : Lists d bs s l list seen
+    pub finds : ListsDepthFirst d bs s l list seen
 
   find : (fuel s : ℕ) (l : List ℕ) → length l + unpushed d bs s ≤ fuel → Found s l
   find zero s [] h = record { list = []; seen = s; finds = none }
@@ -54,12 +54,12 @@ module _ (d : Bool) (bs : List Bound) where
       go false e f g h = let a = g e in let b = h e a in
           record { list = x ∷ (a .list ++ b .list); seen = b .seen; finds = lists e (a .finds) (b .finds) }
 
-  pub found-only : {k s : ℕ} {l : List ℕ} → Lists d bs empty (k ∷ []) l s → l ≡ traversal FirstFirst d bs k
+  pub found-only : {k s : ℕ} {l : List ℕ} → ListsDepthFirst d bs empty (k ∷ []) l s → l ≡ traversal FirstFirst d bs k
   unfolding traversal
   found-only {k} {s} {l} f =
       sym (append-nil l) ∙ walks-same FirstFirst d bs (listed-walks f ends) (walks FirstFirst d bs (k ∷ []) empty)
 
-  pub found : (k : ℕ) → (seen : ℕ) × Lists d bs empty (k ∷ []) (traversal FirstFirst d bs k) seen
+  pub found : (k : ℕ) → (seen : ℕ) × ListsDepthFirst d bs empty (k ∷ []) (traversal FirstFirst d bs k) seen
   found k =
       let f = find (1 + unpushed d bs empty) empty (k ∷ []) (omega arith) in
       (f .seen, rw (found-only (f .finds)) at (f .finds))

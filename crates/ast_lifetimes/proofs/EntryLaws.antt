@@ -10,12 +10,12 @@ use Rattle.lifetimes.specs.declared.bounds.Bound.{Bound}
 use Rattle.answers.specs.Refusals.{Check, Outcome, Gives, Refuses, unless, bind}
 use Rattle.ast_lifetimes.specs.Shapes.{namesInShape, implNames, methodNames, Pair, boundsInShape, implPairs}
 use Rattle.ast_lifetimes.specs.Shapes.{methodPairs}
-use Rattle.ast_lifetimes.specs.Types.{TypeName, Other, Named, Reference, Option, Result, typesInShape, typesOf}
+use Rattle.ast_lifetimes.specs.Types.{TypeName, Other, Named, Reference, Option, Result, typesInShape, typeNamesOf}
 use Rattle.ast_lifetimes.specs.Env.{nameChecks, pairChecks, allPairChecks, boundOf, boundsFor, Behind, Ref}
-use Rattle.ast_lifetimes.specs.Env.{Nothing, behind, pathPairs, implied, allImplied, namedEnv, allNamesOf}
-use Rattle.ast_lifetimes.specs.Env.{explicitBounds, methodBounds, placeChecks, fromMethodItem}
-use Rattle.ast_lifetimes.specs.Entries.{Entry, Name, Bounded, paths, entries, State, state, fold}
-use Rattle.ast_lifetimes.specs.Entries.{push, step, built}
+use Rattle.ast_lifetimes.specs.Env.{Nothing, behindRef, pathPairs, implied, allImplied, namedEnv, allNamesOf}
+use Rattle.ast_lifetimes.specs.Env.{explicitBounds, methodBounds, itemPlaceChecks, fromMethodItem}
+use Rattle.ast_lifetimes.specs.Entries.{Entry, Name, Bounded, paths, entries, SoFar, soFar, fold}
+use Rattle.ast_lifetimes.specs.Entries.{pushPair, step, built}
 use Rattle.ast_lifetimes.proofs.BoundsLaws.{allPairChecks-append}
 
 -- some checks, and then what follows if none is due
@@ -41,39 +41,39 @@ fold-append {A = A} f a (x ∷ l) m = go (f a x) (λ b. fold-append f b l m)
     go (Refuses r) h = refl
 
 -- one run after another
-fold-both : (s t u : State) (checks more : List Check) (l m : List Entry) → fold step s l ≡ unless checks t
+fold-both : (s t u : SoFar) (checks more : List Check) (l m : List Entry) → fold step s l ≡ unless checks t
     → fold step t m ≡ unless more u → fold step s (l ++ m) ≡ unless (checks ++ more) u
 fold-both s t u checks more l m h k = rw (fold-append step s l m, h) (after-unless checks more t u (λ b. fold step b m) k)
 
 -- a run of names
 fold-names : (names : List ℕ) (bs : List Bound) (l : List ℕ)
-    → fold step (state names bs) (map Name l) ≡ unless (nameChecks names l) (state (names ++ l) bs)
+    → fold step (soFar names bs) (map Name l) ≡ unless (nameChecks names l) (soFar (names ++ l) bs)
 unfolding fold nameChecks unless
 fold-names names bs [] = rw (append-nil names)
 fold-names names bs (x ∷ l) =
-    after-unless (nameChecks names (x ∷ [])) (nameChecks (names ++ (x ∷ [])) l) (state (names ++ (x ∷ [])) bs)
-    (state (names ++ (x ∷ l)) bs) (λ next. fold step next (map Name l))
+    after-unless (nameChecks names (x ∷ [])) (nameChecks (names ++ (x ∷ [])) l) (soFar (names ++ (x ∷ [])) bs)
+    (soFar (names ++ (x ∷ l)) bs) (λ next. fold step next (map Name l))
     (rw (append-assoc names (x ∷ []) l) at (fold-names (names ++ (x ∷ [])) bs l))
 
 -- a run of pairs
 fold-pairs : (names : List ℕ) (bs : List Bound) (l : List Pair)
-    → fold push (state names bs) l ≡ unless (allPairChecks names (length bs) l) (state names (bs ++ boundsFor names l))
+    → fold pushPair (soFar names bs) l ≡ unless (allPairChecks names (length bs) l) (soFar names (bs ++ boundsFor names l))
 unfolding fold allPairChecks unless
 fold-pairs names bs [] = rw (append-nil bs)
 fold-pairs names bs (p ∷ l) =
     let more : length (bs ++ (boundOf names p ∷ [])) ≡ suc (length bs) = rw (length-append bs (boundOf names p ∷ [])) (omega arith) in
     after-unless (pairChecks names (length bs) p) (allPairChecks names (suc (length bs)) l)
-    (state names (bs ++ (boundOf names p ∷ []))) (state names (bs ++ boundsFor names (p ∷ l)))
-    (λ next. fold push next l)
+    (soFar names (bs ++ (boundOf names p ∷ []))) (soFar names (bs ++ boundsFor names (p ∷ l)))
+    (λ next. fold pushPair next l)
     (rw (more, append-assoc bs (boundOf names p ∷ []) (boundsFor names l)) at (fold-pairs names (bs ++ (boundOf names p ∷ [])) l))
 
-fold-bounded : (s : State) (l : List Pair) → fold step s (map Bounded l) ≡ fold push s l
+fold-bounded : (s : SoFar) (l : List Pair) → fold step s (map Bounded l) ≡ fold pushPair s l
 unfolding fold
 fold-bounded s [] = refl
-fold-bounded s (p ∷ l) = go (push s p) (λ t. fold-bounded t l)
+fold-bounded s (p ∷ l) = go (pushPair s p) (λ t. fold-bounded t l)
   where
-    go : (o : Outcome State) → ((t : State) → fold step t (map Bounded l) ≡ fold push t l)
-        → bind o (λ next. fold step next (map Bounded l)) ≡ bind o (λ next. fold push next l)
+    go : (o : Outcome SoFar) → ((t : SoFar) → fold step t (map Bounded l) ≡ fold pushPair t l)
+        → bind o (λ next. fold step next (map Bounded l)) ≡ bind o (λ next. fold pushPair next l)
     go (Gives t) h = h t
     go (Refuses r) h = refl
 
@@ -83,31 +83,31 @@ after-gives (Refuses r) = refl
 
 -- two runs of pairs, the second on the bounds that the first left
 pairs-both : (names : List ℕ) (bs : List Bound) (l m : List Entry) (ps qs : List Pair)
-    → fold step (state names bs) l ≡ unless (allPairChecks names (length bs) ps) (state names (bs ++ boundsFor names ps))
-    → fold step (state names (bs ++ boundsFor names ps)) m
+    → fold step (soFar names bs) l ≡ unless (allPairChecks names (length bs) ps) (soFar names (bs ++ boundsFor names ps))
+    → fold step (soFar names (bs ++ boundsFor names ps)) m
     ≡ unless (allPairChecks names (length (bs ++ boundsFor names ps)) qs)
-    (state names ((bs ++ boundsFor names ps) ++ boundsFor names qs))
-    → fold step (state names bs) (l ++ m) ≡ unless (allPairChecks names (length bs) (ps ++ qs))
-    (state names (bs ++ boundsFor names (ps ++ qs)))
+    (soFar names ((bs ++ boundsFor names ps) ++ boundsFor names qs))
+    → fold step (soFar names bs) (l ++ m) ≡ unless (allPairChecks names (length bs) (ps ++ qs))
+    (soFar names (bs ++ boundsFor names (ps ++ qs)))
 pairs-both names bs l m ps qs h k =
     let count : length (bs ++ boundsFor names ps) ≡ length bs + length ps = rw (length-append, length-map) in
     let all : bs ++ boundsFor names (ps ++ qs) ≡ (bs ++ boundsFor names ps) ++ boundsFor names qs =
     rw (map-append (boundOf names) ps qs, append-assoc) in
     rw (allPairChecks-append names (length bs) ps qs, all, ← count)
-    (fold-both (state names bs) (state names (bs ++ boundsFor names ps))
-    (state names ((bs ++ boundsFor names ps) ++ boundsFor names qs)) (allPairChecks names (length bs) ps)
+    (fold-both (soFar names bs) (soFar names (bs ++ boundsFor names ps))
+    (soFar names ((bs ++ boundsFor names ps) ++ boundsFor names qs)) (allPairChecks names (length bs) ps)
     (allPairChecks names (length (bs ++ boundsFor names ps)) qs) l m h k)
 
 -- the paths of a type, and of types
 fold-paths : (names : List ℕ) (b : Behind) (bs : List Bound) (t : TypeName)
-    → fold step (state names bs) (paths b t) ≡ unless (allPairChecks names (length bs) (implied names b bs t))
-    (state names (bs ++ boundsFor names (implied names b bs t)))
+    → fold step (soFar names bs) (paths b t) ≡ unless (allPairChecks names (length bs) (implied names b bs t))
+    (soFar names (bs ++ boundsFor names (implied names b bs t)))
 unfolding paths implied fold allPairChecks unless
 fold-paths names b bs Other = rw (append-nil bs)
 fold-paths names Nothing bs (Named ls) = rw (append-nil bs)
-fold-paths names (Ref r) bs (Named ls) = after-gives (fold push (state names bs) (pathPairs names bs r ls))
+fold-paths names (Ref r) bs (Named ls) = after-gives (fold pushPair (soFar names bs) (pathPairs names bs r ls))
     ∙ fold-pairs names bs (pathPairs names bs r ls)
-fold-paths names b bs (Reference word t) = fold-paths names (behind word) bs t
+fold-paths names b bs (Reference word t) = fold-paths names (behindRef word) bs t
 fold-paths names b bs (Option t) = fold-paths names Nothing bs t
 fold-paths names b bs (Result t u) =
     pairs-both names bs (paths Nothing t) (paths Nothing u) (implied names Nothing bs t)
@@ -115,8 +115,8 @@ fold-paths names b bs (Result t u) =
     (fold-paths names Nothing bs t) (fold-paths names Nothing (bs ++ boundsFor names (implied names Nothing bs t)) u)
 
 fold-types : (names : List ℕ) (bs : List Bound) (ts : List TypeName)
-    → fold step (state names bs) (flatMap (paths Nothing) ts) ≡ unless (allPairChecks names (length bs) (allImplied names bs ts))
-    (state names (bs ++ boundsFor names (allImplied names bs ts)))
+    → fold step (soFar names bs) (flatMap (paths Nothing) ts) ≡ unless (allPairChecks names (length bs) (allImplied names bs ts))
+    (soFar names (bs ++ boundsFor names (allImplied names bs ts)))
 unfolding flatMap allImplied fold allPairChecks unless
 fold-types names bs [] = rw (append-nil bs)
 fold-types names bs (t ∷ ts) =
@@ -126,25 +126,25 @@ fold-types names bs (t ∷ ts) =
 
 -- all entries
 pub fold-entries : (names bounds types : List ℕ)
-    → fold step (state [] []) (entries names bounds types) ≡ unless (placeChecks names bounds types)
-    (state (allNamesOf names) (methodBounds names bounds types))
+    → fold step (soFar [] []) (entries names bounds types) ≡ unless (itemPlaceChecks names bounds types)
+    (soFar (allNamesOf names) (methodBounds names bounds types))
 fold-entries names bounds types =
     let i = implNames names in
     let n = allNamesOf names in
     let b = boundsFor i (implPairs bounds) in
     let c = explicitBounds names bounds in
-    let last = state n (methodBounds names bounds types) in
+    let last = soFar n (methodBounds names bounds types) in
     let ib : length b ≡ length (implPairs bounds) = rw length-map in
     let ic : length c ≡ length (implPairs bounds) + length (methodPairs bounds) = rw (length-append, length-map, length-map) in
-    fold-both (state [] []) (state i []) last (nameChecks [] i) _ (map Name i) _ (fold-names [] [] i)
-    (fold-both (state i []) (state i b) last (allPairChecks i 0 (implPairs bounds)) _ (map Bounded (implPairs bounds))
-    _ (fold-bounded (state i []) (implPairs bounds) ∙ fold-pairs i [] (implPairs bounds))
-    (fold-both (state i b) (state n b) last (nameChecks i (methodNames names)) _ (map Name (methodNames names))
+    fold-both (soFar [] []) (soFar i []) last (nameChecks [] i) _ (map Name i) _ (fold-names [] [] i)
+    (fold-both (soFar i []) (soFar i b) last (allPairChecks i 0 (implPairs bounds)) _ (map Bounded (implPairs bounds))
+    _ (fold-bounded (soFar i []) (implPairs bounds) ∙ fold-pairs i [] (implPairs bounds))
+    (fold-both (soFar i b) (soFar n b) last (nameChecks i (methodNames names)) _ (map Name (methodNames names))
     _ (fold-names i b (methodNames names))
-    (fold-both (state n b) (state n c) last (allPairChecks n (length (implPairs bounds)) (methodPairs bounds))
+    (fold-both (soFar n b) (soFar n c) last (allPairChecks n (length (implPairs bounds)) (methodPairs bounds))
     _ (map Bounded (methodPairs bounds)) _
-    (fold-bounded (state n b) (methodPairs bounds) ∙ (rw ib at (fold-pairs n b (methodPairs bounds))))
-    (rw ic at (fold-types n c (typesOf types))))))
+    (fold-bounded (soFar n b) (methodPairs bounds) ∙ (rw ib at (fold-pairs n b (methodPairs bounds))))
+    (rw ic at (fold-types n c (typeNamesOf types))))))
 
 -- so `from_method_item` gives what is built entry by entry
 pub built-in-order : (names bounds types : List ℕ) → namesInShape names && (boundsInShape bounds && typesInShape types)
@@ -152,9 +152,9 @@ pub built-in-order : (names bounds types : List ℕ) → namesInShape names && (
 unfolding fromMethodItem unless
 built-in-order names bounds types shape =
     let all = namedEnv (allNamesOf names) (methodBounds names bounds types) in
-    let more : unless (placeChecks names bounds types ++ []) all ≡ built names bounds types =
+    let more : unless (itemPlaceChecks names bounds types ++ []) all ≡ built names bounds types =
     sym (rw (← fold-entries names bounds types)
-    at (after-unless (placeChecks names bounds types) []
-    (state (allNamesOf names) (methodBounds names bounds types)) all (λ s. Gives (namedEnv (s .names) (s .bounds)))
+    at (after-unless (itemPlaceChecks names bounds types) []
+    (soFar (allNamesOf names) (methodBounds names bounds types)) all (λ s. Gives (namedEnv (s .names) (s .bounds)))
     refl)) in
-    rw shape (rw (append-nil (placeChecks names bounds types)) at more)
+    rw shape (rw (append-nil (itemPlaceChecks names bounds types)) at more)

@@ -23,11 +23,11 @@ use Rattle.answers.proofs.RefusalLaws.{first-more}
 use Rattle.ast_lifetimes.specs.declared.env.LifetimeEnv.{LifetimeEnv}
 use Rattle.ast_lifetimes.specs.declared.implied.Implied.{Implied}
 use Rattle.records.specs.Reading.{shapeVerdict}
-use Rattle.ast_lifetimes.specs.Types.{typesInShape, typesOf}
+use Rattle.ast_lifetimes.specs.Types.{typesInShape, typeNamesOf}
 use Rattle.ast_lifetimes.specs.Env.{allPairChecks, allImplied, boundsFor, namesOf, boundsOf, namedEnv, envChecks}
 use Rattle.ast_lifetimes.specs.Env.{impliedOn, extendedWith, extendChecks, extendImplied, made}
 use Rattle.answers.specs.Lent.{judged}
-use Rattle.ast_lifetimes.specs.Inner.{sidesOf, Below, Splits, Extends}
+use Rattle.ast_lifetimes.specs.Inner.{sidesOf, SidesBelow, Splits, Extends}
 use Rattle.answers.proofs.VerdictLaws.{refused-accepted, unless-after}
 use Rattle.ast_lifetimes.proofs.BoundsLaws.{sides-more}
 use Rattle.lifetimes.proofs.BoundsLaws.{below-larger, below-append}
@@ -79,7 +79,7 @@ module _ (e : LifetimeEnv) (valid : NoneDue (envChecks e)) where
   valid-below : allBelow (e .named) (boundsOf e) ≡ true
   valid-below = not-false _ (none-first (none-rest (none-rest valid)))
 
-  pub split-below : {longs shorts : List ℕ} → Splits (e .bounds) longs shorts → Below (e .named) (e .bounds .pushed) longs shorts
+  pub split-below : {longs shorts : List ℕ} → Splits (e .bounds) longs shorts → SidesBelow (e .named) (e .bounds .pushed) longs shorts
   split-below {longs} {shorts} splits i h =
       let u : allBelow (e .named) (sidesOf (e .bounds .pushed) longs shorts) ≡ true = rw (splits .sides) valid-below in
       sides-below (e .named) (e .bounds .pushed) longs shorts u i (omega arith)
@@ -91,7 +91,7 @@ valid e p q = accepted-none (tt {0}) (envChecks e) (sym p ∙ q)
 -- the answers of `extended`
 module _ (e : LifetimeEnv) (types : List ℕ) {longs shorts longs₁ shorts₁ reach₁ : List ℕ}
     (splits : Splits (e .bounds) longs shorts) {r : Implied}
-    (given : Extends (namesOf e) (allImplied (namesOf e) (sidesOf (e .bounds .pushed) longs shorts) (typesOf types)) longs
+    (given : Extends (namesOf e) (allImplied (namesOf e) (sidesOf (e .bounds .pushed) longs shorts) (typeNamesOf types)) longs
     shorts longs₁ shorts₁ reach₁ (e .bounds .pushed) r) where
   -- what was pushed is what the types imply on the environment's bounds
   ext : Extends (namesOf e) (impliedOn e types) longs shorts longs₁ shorts₁ reach₁ (e .bounds .pushed) r

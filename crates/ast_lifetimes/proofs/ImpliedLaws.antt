@@ -15,8 +15,8 @@ use Rattle.lifetimes.specs.declared.bounds.Bound.{Bound}
 use Rattle.ast_lifetimes.specs.declared.implied.Implied.{Implied}
 use Rattle.ast_lifetimes.specs.Shapes.{Pair}
 use Rattle.ast_lifetimes.specs.Types.{TypeName, Other, Named, Reference, Option, Result}
-use Rattle.ast_lifetimes.specs.Env.{boundOf, boundsFor, Behind, Nothing, behind, pathPairs, implied, allImplied}
-use Rattle.ast_lifetimes.specs.Inner.{encode, encodeAll, sidesOf, Reaches, Extends}
+use Rattle.ast_lifetimes.specs.Env.{boundOf, boundsFor, Behind, Nothing, behindRef, pathPairs, implied, allImplied}
+use Rattle.ast_lifetimes.specs.Inner.{encode, encodeAll, sidesOf, OutliveSets, Extends}
 use Rattle.ast_lifetimes.proofs.ImpliedLoops.{Run, run-start, run-same, run-end, run-refused, run-more}
 
 -- the pairs of the types that are left, the first of them behind b
@@ -77,7 +77,7 @@ pub record AtPath (names : List ℕ) (b : Behind) (bs : List Bound) (words : Lis
 
 pub record AtReference (names : List ℕ) (bs : List Bound) (words : List ℕ) (at : ℕ) (left : List Pair) : Type 0 where
   pub inside : at + 1 < length words
-  pub onward : Onward names (behind (getD words (at + 1) 0)) bs words (at + 2) left
+  pub onward : Onward names (behindRef (getD words (at + 1) 0)) bs words (at + 2) left
 
 data Turn (names : List ℕ) (b : Behind) (bs : List Bound) (words : List ℕ) (at : ℕ) (left : List Pair) : Type 0 where
   plain : (getD words at 0 ≡ 1 → ⊥) → (getD words at 0 ≡ 2 → ⊥) → Onward names Nothing bs words (at + 1) left
@@ -193,12 +193,12 @@ pub record Implying (names : List ℕ) (ts : List TypeName) (words longs₀ shor
   pub pending : List TypeName
   pub stand : drop at words ≡ encodeAll pending
   pub run : Run names (allImplied names (sidesOf pushed longs₀ shorts₀) ts)
-      (pendingPairs names (behind word) (sidesOf count longs shorts) pending) longs₀ shorts₀ pushed longs shorts reach
+      (pendingPairs names (behindRef word) (sidesOf count longs shorts) pending) longs₀ shorts₀ pushed longs shorts reach
       count
 
 pub implying-start : (names : List ℕ) (ts : List TypeName) (words longs shorts reach : List ℕ) (pushed : ℕ)
     → encodeAll ts ≡ words → pushed ≤ 256 → length longs ≡ 256 → length shorts ≡ 256 → length reach ≡ 32
-    → Reaches (sidesOf pushed longs shorts) (length names) reach
+    → OutliveSets (sidesOf pushed longs shorts) (length names) reach
     → Implying names ts words longs shorts pushed longs shorts reach pushed 0 0
 implying-start names ts words longs shorts reach pushed e few a b c r = record {
   pending = ts;
@@ -221,19 +221,19 @@ module _ {names : List ℕ} {ts : List TypeName} {words longs₀ shorts₀ : Lis
         → (at + 1 < length words) × Implying names ts words longs₀ shorts₀ pushed longs shorts reach count
         (getD words (at + 1) 0) (at + 2)
     implying-reference two =
-        let t = turn-reference names (behind word) (sidesOf count longs shorts) words at (inv .pending) (inv .stand) h two in
+        let t = turn-reference names (behindRef word) (sidesOf count longs shorts) words at (inv .pending) (inv .stand) h two in
         (t .inside, record { pending = t .onward .pending; stand = t .onward .stand; run = run-same (inv .run) (t .onward .is) })
 
     pub implying-plain : (getD words at 0 ≡ 1 → ⊥) → (getD words at 0 ≡ 2 → ⊥)
         → Implying names ts words longs₀ shorts₀ pushed longs shorts reach count 0 (at + 1)
     implying-plain one two =
-        let t = turn-plain names (behind word) (sidesOf count longs shorts) words at (inv .pending) (inv .stand) h one two in
+        let t = turn-plain names (behindRef word) (sidesOf count longs shorts) words at (inv .pending) (inv .stand) h one two in
         record { pending = t .pending; stand = t .stand; run = run-same (inv .run) (t .is) }
 
     module _ (one : getD words at 0 ≡ 1) where
-      turned : AtPath names (behind word) (sidesOf count longs shorts) words
-          at (pendingPairs names (behind word) (sidesOf count longs shorts) (inv .pending))
-      turned = turn-path names (behind word) (sidesOf count longs shorts) words at (inv .pending) (inv .stand) h one
+      turned : AtPath names (behindRef word) (sidesOf count longs shorts) words
+          at (pendingPairs names (behindRef word) (sidesOf count longs shorts) (inv .pending))
+      turned = turn-path names (behindRef word) (sidesOf count longs shorts) words at (inv .pending) (inv .stand) h one
 
       pub implying-inside : at + 1 < length words
       implying-inside = turned .inside
@@ -246,12 +246,12 @@ module _ {names : List ℕ} {ts : List TypeName} {words longs₀ shorts₀ : Lis
           → Implying names ts words longs₀ shorts₀ pushed longs shorts reach count 0 (at + 2 + getD words (at + 1) 0)
       unfolding implied
       implying-free small =
-          let none : behind word ≡ Nothing = rw (lt-leb 2 word small) in
+          let none : behindRef word ≡ Nothing = rw (lt-leb 2 word small) in
           record {
             pending = turned .pending;
             stand = turned .stand;
             run = run-same (inv .run)
-                (turned .is ∙ path-free names (behind word) none (sidesOf count longs shorts) (turned .lifetimes)
+                (turned .is ∙ path-free names (behindRef word) none (sidesOf count longs shorts) (turned .lifetimes)
                 (turned .pending));
           }
 
@@ -266,7 +266,7 @@ module _ {names : List ℕ} {ts : List TypeName} {words longs₀ shorts₀ : Lis
             (pathPairs names (sidesOf count longs shorts) word (slice (at + 2) (at + 2 + getD words (at + 1) 0) words)))
             (turned .pending)
 
-        splits : pendingPairs names (behind word) (sidesOf count longs shorts) (inv .pending)
+        splits : pendingPairs names (behindRef word) (sidesOf count longs shorts) (inv .pending)
             ≡ pathPairs names (sidesOf count longs shorts) word (slice (at + 2) (at + 2 + getD words (at + 1) 0) words)
             ++ rest
         unfolding implied rest

@@ -17,7 +17,7 @@ use Rattle.ast_lifetimes.specs.declared.implied.Implied.{Implied}
 use Rattle.ast_lifetimes.specs.Shapes.{Pair}
 use Rattle.ast_lifetimes.specs.Env.{place, allPairChecks, boundOf, boundsFor}
 use Rattle.answers.specs.Lent.{judged}
-use Rattle.ast_lifetimes.specs.Inner.{sidesOf, Pushes, Reaches, Joins, Extends}
+use Rattle.ast_lifetimes.specs.Inner.{sidesOf, Pushes, OutliveSets, Joins, Extends}
 use Rattle.answers.proofs.VerdictLaws.{refused-accepted, judged-after, judged-stays}
 use Rattle.ast_lifetimes.proofs.BoundsLaws.{allPairChecks-append}
 
@@ -31,11 +31,11 @@ pub record Run (names : List ℕ) (all left : List Pair) (longs₀ shorts₀ : L
   pub counted : count + length left ≡ pushed + length all
   pub judges : judged (allPairChecks names count left) ≡ judged (allPairChecks names pushed all)
   pub stand : sidesOf count longs shorts ++ boundsFor names left ≡ sidesOf pushed longs₀ shorts₀ ++ boundsFor names all
-  pub reaches : Reaches (sidesOf count longs shorts) (length names) reach
+  pub reaches : OutliveSets (sidesOf count longs shorts) (length names) reach
 
 pub run-start : (names : List ℕ) (all : List Pair) (longs shorts reach : List ℕ) (pushed : ℕ) → pushed ≤ 256
     → length longs ≡ 256 → length shorts ≡ 256 → length reach ≡ 32
-    → Reaches (sidesOf pushed longs shorts) (length names) reach → Run names all all longs shorts pushed longs shorts reach pushed
+    → OutliveSets (sidesOf pushed longs shorts) (length names) reach → Run names all all longs shorts pushed longs shorts reach pushed
 run-start names all longs shorts reach pushed few a b c r =
     record {
       few = few;
@@ -52,7 +52,7 @@ run-start names all longs shorts reach pushed few a b c r =
 pub extends-one : {names : List ℕ} {p : Pair} {longs shorts longs₁ shorts₁ reach reach₁ : List ℕ} {count : ℕ}
     {v : Verdict} → Pushes names (p ∷ []) longs shorts longs₁ shorts₁ count v → v ≡ Accepted
     → Joins (length names) (place names (p .longer)) (place names (p .shorter)) reach reach₁
-    → Reaches (sidesOf count longs shorts) (length names) reach
+    → OutliveSets (sidesOf count longs shorts) (length names) reach
     → Extends names (p ∷ []) longs shorts longs₁ shorts₁ reach₁ count (record { verdict = v; pushed = count + 1 })
 extends-one {names} {p} {longs} {shorts} {count = count} pushes e joins r = record {
   pushes = pushes;
@@ -105,7 +105,7 @@ module _ {names : List ℕ} {all left : List Pair} {longs₀ shorts₀ : List �
         };
         size = run .size-reach;
         pushed = λ _. sym n;
-        reach = λ _. subst (λ (l : List Bound). Reaches l (length names) reach) b (run .reaches);
+        reach = λ _. subst (λ (l : List Bound). OutliveSets l (length names) reach) b (run .reaches);
       }
 
   -- the next part

@@ -19,13 +19,13 @@ use Rattle.lifetimes.specs.Outlives.{Outlives, itself}
 use Rattle.answers.proofs.ListLaws.{range-snoc}
 use Rattle.lifetimes.proofs.SetLaws.{member-empty, member-insert-same, member-insert-true, member-union}
 use Rattle.lifetimes.proofs.OutlivesLaws.{least, outlives-added}
-use Rattle.ast_lifetimes.specs.Inner.{sidesOf, Reaches, Joins}
+use Rattle.ast_lifetimes.specs.Inner.{sidesOf, OutliveSets, Joins}
 
 -- with no bound each outlives itself only
 alone : {x y : ℕ} → Outlives [] x y → x ≡ y
 alone = least [] (λ x y. x ≡ y) (λ x. refl) (λ x y z p q. p ∙ q) (λ b k. absurd (List·Memᴰ·not-nil k))
 
-pub reaches-none : (named : ℕ) (reach : List ℕ) → ((x : ℕ) → x < named → getD reach x 0 ≡ insert empty x) → Reaches [] named reach
+pub reaches-none : (named : ℕ) (reach : List ℕ) → ((x : ℕ) → x < named → getD reach x 0 ≡ insert empty x) → OutliveSets [] named reach
 reaches-none named reach h a i b = (there, back)
   where
     there : member (getD reach a 0) b ≡ true → Outlives [] b a
@@ -49,7 +49,7 @@ either s t b = rw (member-union s t b) (split (member s b) (member t b))
 
 pub reaches-joined : (named long short : ℕ) (before after : List ℕ) → long < named
     → ((x : ℕ) → x < named → getD after x 0 ≡ joinedAt before long short x)
-    → (bs : List Bound) → Reaches bs named before → Reaches (bs ++ (above long short ∷ [])) named after
+    → (bs : List Bound) → OutliveSets bs named before → OutliveSets (bs ++ (above long short ∷ [])) named after
 unfolding joinedAt
 reaches-joined named long short before after inside h bs r a i b = rw (h a i) (go (member (getD before a 0) short) refl)
   where
@@ -139,11 +139,11 @@ pub sides-next : (n : ℕ) (longs shorts : List ℕ)
 sides-next n longs shorts = rw (add-one n, range-snoc 0 n, map-append, zero-add n)
 
 -- the loop of `close`: the sets of the first bounds
-pub closing-start : (named : ℕ) (longs shorts reach : List ℕ) → Reaches [] named reach → Reaches (sidesOf 0 longs shorts) named reach
+pub closing-start : (named : ℕ) (longs shorts reach : List ℕ) → OutliveSets [] named reach → OutliveSets (sidesOf 0 longs shorts) named reach
 unfolding range
 closing-start named longs shorts reach r = r
 
 pub closing-more : (i : ℕ) (longs shorts : List ℕ) {named : ℕ} {reach reach₁ : List ℕ}
-    → Joins named (getD longs i 0) (getD shorts i 0) reach reach₁ → Reaches (sidesOf i longs shorts) named reach
-    → Reaches (sidesOf (i + 1) longs shorts) named reach₁
+    → Joins named (getD longs i 0) (getD shorts i 0) reach reach₁ → OutliveSets (sidesOf i longs shorts) named reach
+    → OutliveSets (sidesOf (i + 1) longs shorts) named reach₁
 closing-more i longs shorts joins r = rw (sides-next i longs shorts) (joins .joins (sidesOf i longs shorts) r)

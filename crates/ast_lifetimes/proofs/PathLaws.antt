@@ -20,7 +20,7 @@ use Rattle.lifetimes.proofs.SetLaws.{member-empty}
 use Rattle.lifetimes.proofs.ReachLaws.{listed-toward}
 use Rattle.ast_lifetimes.specs.Shapes.{isName, pair}
 use Rattle.ast_lifetimes.specs.Env.{place, isDeclared, reachOf, among, pathPairs}
-use Rattle.ast_lifetimes.specs.Inner.{Reaches, outlivedBy, isImplied}
+use Rattle.ast_lifetimes.specs.Inner.{OutliveSets, outlivedBy, isImplied}
 
 -- a number that is equal to some entry of a list is in it
 in-list : (x : ℕ) (l : List ℕ) → (any (eqb x) l ≡ true) ↔ List·Memᴰ x l
@@ -35,7 +35,7 @@ same-test true q h = sym (h .0 refl)
 same-test false true h = h .1 refl
 same-test false false h = refl
 
-module _ (names : List ℕ) (bs : List Bound) (reach : List ℕ) (reaches : Reaches bs (length names) reach) (r : ℕ) where
+module _ (names : List ℕ) (bs : List Bound) (reach : List ℕ) (reaches : OutliveSets bs (length names) reach) (r : ℕ) where
   -- the set that is taken has the members of `longer_than` the reference
   taken-has : (x : ℕ) → member (outlivedBy names reach r) x ≡ any (eqb x) (reachOf true names bs r)
   taken-has x = go (isDeclared names r) refl

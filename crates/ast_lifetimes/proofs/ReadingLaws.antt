@@ -5,10 +5,9 @@ use mathlib.Core.Path.{_≡_, refl}
 use mathlib.Core.List.{List, [], _∷_, _++_, append-assoc, flatMap}
 use lib.Dec.{eqb}
 use borrow.Author.Tests.{eqb-true}
-use Rattle.records.specs.Reading.{Read}
-use Rattle.records.proofs.ReadingLaws.{Holds, read, fails, holds-read, holds-cond, holds-onward, LifetimesIn, WordIn}
+use Rattle.records.proofs.ReadingLaws.{Holds, read, fails, holds-cond, holds-onward, LifetimesIn, WordIn}
 use Rattle.records.proofs.ReadingLaws.{lifetimes-read, word-read, items-encoded}
-use Rattle.ast_lifetimes.specs.Types.{TypeName, readType, typesInShape, typesOf}
+use Rattle.ast_lifetimes.specs.Types.{TypeName, readType, typesInShape, typeNamesOf}
 use Rattle.ast_lifetimes.specs.Inner.{encode, encodeAll}
 
 -- what was read, and then the words behind it, are the words that were there
@@ -35,11 +34,7 @@ type-read (suc n) (code ∷ words) =
     (λ u behind q. read (rw (eqb-true code 4 e, append-assoc, q, p)))))
     fails))))
 
--- The words of a type that was read
-pub read-encoded : (n : ℕ) (words : List ℕ) {t : TypeName} {rest : List ℕ} → readType n words ≡ Read t rest → encode t ++ rest ≡ words
-read-encoded n words {t} {rest} e = holds-read (TypeIn words) t rest (rw e at (type-read n words))
-
 -- The words of the types of a record in shape are all its words
-pub types-encoded : (words : List ℕ) → typesInShape words ≡ true → encodeAll (typesOf words) ≡ words
+pub types-encoded : (words : List ℕ) → typesInShape words ≡ true → encodeAll (typeNamesOf words) ≡ words
 unfolding flatMap
 types-encoded words e = items-encoded (λ number. readType 8) encode (λ number. type-read 8) encodeAll refl (λ t ts. refl) words e

@@ -28,7 +28,7 @@ use Rattle.answers.proofs.VerdictLaws.{unless-after}
 
 -- an environment whose names are all its lifetimes, with the same bounds
 abbrev pub hirOf : LifetimeEnv → hir.LifetimeEnv
-hirOf e = record { declared = e .named; count = e .named; bounds = e .bounds }
+hirOf e = lifetimes.envWith (e .named) (e .named) (e .bounds)
 
 module _ (e : LifetimeEnv) (none : NoneDue (envChecks e)) where
   pub few-names : e .named ≤ 32
@@ -68,8 +68,9 @@ module _ (d : Bool) (e : LifetimeEnv) (word : ℕ) (slice : List ℕ) where
         let checked = none-more (hir-none e none) (next (lt-leb (e .named) at h) end) in
         rw (known h, unless-after l (roomCheck (length slice) l ∷ []) none) (unless-after l (roomCheck (length slice) l ∷ []) checked)
 
-    pub than-traversal : at < e .named → {l : Lifetime} → l ≡ lifetime at → {r : Listed} {after : List ℕ}
-        → (r ≡ counted (listDepthFirst d (hirOf e) (l .0) (length slice)))
-        × (after ≡ written (listDepthFirst d (hirOf e) (l .0) (length slice)) slice)
+    pub than-traversal : at < e .named → {made : hir.LifetimeEnv} → made ≡ hirOf e → {l : Lifetime} → l ≡ lifetime at
+        → {r : Listed} {after : List ℕ}
+        → (r ≡ counted (listDepthFirst d made (l .0) (length slice)))
+        × (after ≡ written (listDepthFirst d made (l .0) (length slice)) slice)
         → (r ≡ counted (listThan d e word (length slice))) × (after ≡ written (listThan d e word (length slice)) slice)
-    than-traversal h i a = rw (i, same h) at a
+    than-traversal h j i a = rw (j, i, same h) at a

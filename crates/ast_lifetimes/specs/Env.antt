@@ -17,7 +17,8 @@ use Rattle.ast_lifetimes.specs.declared.env.LifetimeEnv.{LifetimeEnv}
 use Rattle.ast_lifetimes.specs.declared.env.Made.{Made}
 use Rattle.ast_lifetimes.specs.Shapes.{isName, namesInShape, implNames, methodNames, Pair, pair, boundsInShape}
 use Rattle.ast_lifetimes.specs.Shapes.{implPairs, methodPairs}
-use Rattle.ast_lifetimes.specs.Types.{TypeName, Other, Named, Reference, Option, Result, typesInShape, typesOf}
+use Rattle.ast_lifetimes.specs.Types.{TypeName, Other, Named, Reference, Option, Result}
+use Rattle.ast_lifetimes.specs.Types.{typesInShape, typeNamesOf}
 
 -- 01: "all names, at most 32"
 abbrev pub mostNames : ℕ
@@ -75,8 +76,8 @@ pub data Behind : Type 0 where
   Nothing : Behind
 
 -- "Inner references replace R; anonymous and static ones clear it"
-abbrev pub behind : ℕ → Behind
-behind word = cond (isName word) (Ref word) Nothing
+abbrev pub behindRef : ℕ → Behind
+behindRef word = cond (isName word) (Ref word) Nothing
 
 -- a path's named lifetimes that are not among `longer_than` R, each longer than R
 abbrev pub among : List ℕ → List Bound → ℕ → ℕ → Bool
@@ -91,7 +92,7 @@ unfoldable pub implied : List ℕ → Behind → List Bound → TypeName → Lis
 implied names b bs Other = []
 implied names Nothing bs (Named lifetimes) = []
 implied names (Ref r) bs (Named lifetimes) = pathPairs names bs r lifetimes
-implied names b bs (Reference word t) = implied names (behind word) bs t
+implied names b bs (Reference word t) = implied names (behindRef word) bs t
 implied names b bs (Option t) = implied names Nothing bs t
 implied names b bs (Result t u) =
     implied names Nothing bs t
@@ -133,11 +134,11 @@ explicitBounds names bounds =
     boundsFor (implNames names) (implPairs bounds) ++ boundsFor (allNamesOf names) (methodPairs bounds)
 
 abbrev pub impliedPairs : List ℕ → List ℕ → List ℕ → List Pair
-impliedPairs names bounds types = allImplied (allNamesOf names) (explicitBounds names bounds) (typesOf types)
+impliedPairs names bounds types = allImplied (allNamesOf names) (explicitBounds names bounds) (typeNamesOf types)
 
 -- by place
-abbrev pub placeChecks : List ℕ → List ℕ → List ℕ → List Check
-placeChecks names bounds types =
+abbrev pub itemPlaceChecks : List ℕ → List ℕ → List ℕ → List Check
+itemPlaceChecks names bounds types =
     nameChecks [] (implNames names)
     ++ (allPairChecks (implNames names) 0 (implPairs bounds)
     ++ (nameChecks (implNames names) (methodNames names)
@@ -148,7 +149,7 @@ placeChecks names bounds types =
 abbrev pub itemChecks : List ℕ → List ℕ → List ℕ → List Check
 itemChecks names bounds types =
     check (not (namesInShape names && (boundsInShape bounds && typesInShape types))) Malformed
-    ∷ placeChecks names bounds types
+    ∷ itemPlaceChecks names bounds types
 
 -- the bounds: the explicit ones, then the implied ones
 abbrev pub methodBounds : List ℕ → List ℕ → List ℕ → List Bound
@@ -164,7 +165,7 @@ fromMethodItem names bounds types =
 -- then what the types imply (3, 4)
 
 abbrev pub impliedOn : LifetimeEnv → List ℕ → List Pair
-impliedOn e types = allImplied (namesOf e) (boundsOf e) (typesOf types)
+impliedOn e types = allImplied (namesOf e) (boundsOf e) (typeNamesOf types)
 
 abbrev pub extendedWith : LifetimeEnv → List ℕ → LifetimeEnv
 extendedWith e types = namedEnv (namesOf e) (boundsOf e ++ boundsFor (namesOf e) (impliedOn e types))

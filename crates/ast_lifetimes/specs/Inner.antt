@@ -20,7 +20,7 @@ use Rattle.ast_lifetimes.specs.declared.implied.Implied.{Implied}
 use Rattle.ast_lifetimes.specs.Shapes.{isName, Pair}
 use Rattle.ast_lifetimes.specs.Types as types
 use Rattle.ast_lifetimes.specs.Env.{place, isDeclared, nameChecks, allPairChecks, boundsFor, allNamesOf}
-use Rattle.ast_lifetimes.specs.Env.{placeChecks, methodBounds}
+use Rattle.ast_lifetimes.specs.Env.{itemPlaceChecks, methodBounds}
 use Rattle.lifetimes.specs.Limits.{mostBounds}
 use Rattle.ast_lifetimes.specs.Env.{mostNames}
 
@@ -58,17 +58,17 @@ abbrev pub encodeAll : List types.TypeName → List ℕ
 encodeAll ts = flatMap encode ts
 
 -- the sides of the first bounds are numbers of names
-abbrev pub Below : ℕ → ℕ → List ℕ → List ℕ → Type 0
-Below named pushed longs shorts = (i : ℕ) → i < pushed → (getD longs i 0 < named) × (getD shorts i 0 < named)
+abbrev pub SidesBelow : ℕ → ℕ → List ℕ → List ℕ → Type 0
+SidesBelow named pushed longs shorts = (i : ℕ) → i < pushed → (getD longs i 0 < named) × (getD shorts i 0 < named)
 
 -- for each name the set of those that outlive it
-abbrev pub Reaches : List Bound → ℕ → List ℕ → Type 0
-Reaches bs named reach = (a : ℕ) → a < named → (b : ℕ) → (member (getD reach a 0) b ≡ true) ↔ Outlives bs b a
+abbrev pub OutliveSets : List Bound → ℕ → List ℕ → Type 0
+OutliveSets bs named reach = (a : ℕ) → a < named → (b : ℕ) → (member (getD reach a 0) b ≡ true) ↔ Outlives bs b a
 
 -- the sets with one bound more
 pub record Joins (named long short : ℕ) (before after : List ℕ) : Type 0 where
   pub size : length after ≡ mostNames
-  pub joins : (bs : List Bound) → Reaches bs named before → Reaches (bs ++ (above long short ∷ [])) named after
+  pub joins : (bs : List Bound) → OutliveSets bs named before → OutliveSets (bs ++ (above long short ∷ [])) named after
 
 -- the set of those that outlive a name, by the sets of all; none for one that is not declared
 abbrev pub outlivedBy : List ℕ → List ℕ → ℕ → ℕ
@@ -84,12 +84,13 @@ pub record Extends (names : List ℕ) (new : List Pair) (longs shorts longs₁ s
   pub pushes : Pushes names new longs shorts longs₁ shorts₁ before (r .verdict)
   pub size : length reach₁ ≡ mostNames
   pub pushed : r .verdict ≡ Accepted → r .pushed ≡ before + length new
-  pub reach : r .verdict ≡ Accepted → Reaches (sidesOf before longs shorts ++ boundsFor names new) (length names) reach₁
+  pub reach : r .verdict ≡ Accepted
+      → OutliveSets (sidesOf before longs shorts ++ boundsFor names new) (length names) reach₁
 
 -- what `build` gives of records in shape: the verdict of all their checks but the shape's; accepted, the method's names
 -- and bounds
 pub record Built (names bounds types declared longs shorts : List ℕ) (r : Counts) : Type 0 where
-  pub verdict : r .verdict ≡ judged (placeChecks names bounds types)
+  pub verdict : r .verdict ≡ judged (itemPlaceChecks names bounds types)
   pub sizes : (length declared ≡ mostNames) × (length longs ≡ mostBounds) × (length shorts ≡ mostBounds)
   pub few : r .verdict ≡ Accepted → (r .named ≤ mostNames) × (r .pushed ≤ mostBounds)
   pub named : r .verdict ≡ Accepted → take (r .named) declared ≡ allNamesOf names

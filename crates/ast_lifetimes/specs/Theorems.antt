@@ -16,7 +16,7 @@ use Rattle.ast_lifetimes.specs.Types.{typesInShape}
 use Rattle.ast_lifetimes.specs.Env.{place, isDeclared, boundsFor, reachOf, namesOf, boundsOf, allNamesOf}
 use Rattle.ast_lifetimes.specs.Env.{explicitBounds, impliedPairs, fromMethodItem, envChecks}
 use Rattle.ast_lifetimes.specs.Entries.{built}
-use Rattle.ast_lifetimes.specs.DepthFirst.{Lists}
+use Rattle.ast_lifetimes.specs.DepthFirst.{ListsDepthFirst}
 use Rattle.ast_lifetimes.specs.Examples.{starred, Right}
 
 -- A method's environment is built entry by entry in 01's order, to the first refusal; its names are all names in order,
@@ -40,7 +40,7 @@ AcceptedIsValid = (names bounds types : List ℕ) (e : LifetimeEnv) → fromMeth
 
 -- `longer_than` and `shorter_than`: nothing for an unknown name; of a declared one exactly what outlives it (what it
 -- outlives), each once: the members of the HIR's list. One statement over the direction.
-pub record ListsTheReach (longer : Bool) (names : List ℕ) (bs : List Bound) (word : ℕ) : Type 0 where
+pub record ListsNamedReach (longer : Bool) (names : List ℕ) (bs : List Bound) (word : ℕ) : Type 0 where
   pub unknown : isDeclared names word ≡ false → reachOf longer names bs word ≡ []
   pub members : isDeclared names word ≡ true → (b : ℕ) → List·Memᴰ b (reachOf longer names bs word)
       ↔ Toward longer bs (place names word) b
@@ -49,12 +49,13 @@ pub record ListsTheReach (longer : Bool) (names : List ℕ) (bs : List Bound) (w
   pub once : List·Nodup (reachOf longer names bs word)
 
 abbrev pub AstReachIsOutlives : Type 0
-AstReachIsOutlives = (longer : Bool) (names : List ℕ) (bs : List Bound) (word : ℕ) → ListsTheReach longer names bs word
+AstReachIsOutlives = (longer : Bool) (names : List ℕ) (bs : List Bound) (word : ℕ)
+    → ListsNamedReach longer names bs word
 
 -- Both list depth first in list order: what plain recursion lists, and nothing else is so listed
 pub record DepthFirst (longer : Bool) (names : List ℕ) (bs : List Bound) (word : ℕ) : Type 0 where
-  pub listed : (seen : ℕ) × Lists longer bs empty (place names word ∷ []) (reachOf longer names bs word) seen
-  pub only : (l : List ℕ) (seen : ℕ) → Lists longer bs empty (place names word ∷ []) l seen
+  pub listed : (seen : ℕ) × ListsDepthFirst longer bs empty (place names word ∷ []) (reachOf longer names bs word) seen
+  pub only : (l : List ℕ) (seen : ℕ) → ListsDepthFirst longer bs empty (place names word ∷ []) l seen
       → l ≡ reachOf longer names bs word
 
 abbrev pub ListedDepthFirst : Type 0

@@ -36,5 +36,5 @@ readType (suc nesting) (code ∷ words) =
 abbrev pub typesInShape : List ℕ → Bool
 typesInShape words = inShape (λ number. readType mostNesting) words
 
-abbrev pub typesOf : List ℕ → List TypeName
-typesOf words = itemsOf (λ number. readType mostNesting) words
+abbrev pub typeNamesOf : List ℕ → List TypeName
+typeNamesOf words = itemsOf (λ number. readType mostNesting) words

@@ -167,12 +167,7 @@ fn list_than(env: LifetimeEnv, name: usize, longer: bool, out: &mut [usize]) -> 
     if named <= at {
         return Listed::Count(0);
     }
-    let bounds = env.bounds;
-    let hir = lifetimes::LifetimeEnv {
-        declared: named,
-        count: named,
-        bounds,
-    };
+    let hir = lifetimes::LifetimeEnv::from_bounds(named, named, env.bounds);
     hir.depth_first_lifetimes(Lifetime::new(at), longer, out)
 }
 

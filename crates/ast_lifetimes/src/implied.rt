@@ -9,7 +9,8 @@ ghost use lib.Seq.{slice};
 ghost use mathlib.Core.List.{List, []};
 ghost use Rattle.ast_lifetimes.specs.Types.{TypeName};
 ghost use Rattle.ast_lifetimes.specs.Env.{pathPairs, allImplied, mostNames};
-ghost use Rattle.ast_lifetimes.specs.Inner.{encodeAll, sidesOf, Joins, Below, Reaches, outlivedBy, isImplied};
+ghost use Rattle.ast_lifetimes.specs.Inner.{encodeAll, sidesOf, Joins, SidesBelow, OutliveSets};
+ghost use Rattle.ast_lifetimes.specs.Inner.{outlivedBy, isImplied};
 ghost use Rattle.ast_lifetimes.specs.Inner.{Extends};
 ghost use Rattle.answers.specs.Lent.{held, left};
 ghost use Rattle.lifetimes.specs.Limits.{mostBounds};
@@ -51,10 +52,10 @@ pub(crate) fn close(
     named: usize,
     reach: &mut [u64; LifetimeEnv::MAX_NAMES],
 )
-    requires { ⌜ (named ≤ mostNames) × (pushed ≤ mostBounds) × Below named pushed (now longs) (now shorts) ⌝ }
+    requires { ⌜ (named ≤ mostNames) × (pushed ≤ mostBounds) × SidesBelow named pushed (now longs) (now shorts) ⌝ }
     requires { ⌜ (length (now longs) ≡ mostBounds) × (length (now shorts) ≡ mostBounds)
         × (length (now reach) ≡ mostNames) ⌝ }
-    ensures { λ _. ⌜ (length (left reach) ≡ mostNames) × Reaches (sidesOf pushed (held longs) (held shorts)) named
+    ensures { λ _. ⌜ (length (left reach) ≡ mostNames) × OutliveSets (sidesOf pushed (held longs) (held shorts)) named
         (left reach) ⌝ }
 {
     each_itself(named, reach);
@@ -70,7 +71,7 @@ pub(crate) fn close(
 // Without bounds each lifetime outlives itself only.
 fn each_itself(named: usize, reach: &mut [u64; LifetimeEnv::MAX_NAMES])
     requires { ⌜ (named ≤ mostNames) × (length (now reach) ≡ mostNames) ⌝ }
-    ensures { λ _. ⌜ (length (left reach) ≡ mostNames) × Reaches [] named (left reach) ⌝ }
+    ensures { λ _. ⌜ (length (left reach) ≡ mostNames) × OutliveSets [] named (left reach) ⌝ }
 {
     let mut x = 0;
     while x < named {
@@ -134,7 +135,7 @@ fn push_path(
     requires { ⌜ (named ≤ mostNames) × (length (now names) ≡ mostNames) ⌝ }
     requires { ⌜ (pushed ≤ mostBounds) × (length (now longs) ≡ mostBounds) × (length (now shorts) ≡ mostBounds) ⌝ }
     requires { ⌜ (length (now reach) ≡ mostNames)
-        × Reaches (sidesOf pushed (now longs) (now shorts)) named (now reach) ⌝ }
+        × OutliveSets (sidesOf pushed (now longs) (now shorts)) named (now reach) ⌝ }
     ensures { λ r. ⌜ Extends (take named (held names))
         (pathPairs (take named (held names)) (sidesOf pushed (held longs) (held shorts)) behind
         (slice from to (held words))) (held longs) (held shorts) (left longs) (left shorts) (left reach) pushed r ⌝ }
@@ -181,7 +182,7 @@ pub(crate) fn push_types(
     requires { ⌜ (named ≤ mostNames) × (length (now names) ≡ mostNames) ⌝ }
     requires { ⌜ (pushed ≤ mostBounds) × (length (now longs) ≡ mostBounds) × (length (now shorts) ≡ mostBounds) ⌝ }
     requires { ⌜ (length (now reach) ≡ mostNames)
-        × Reaches (sidesOf pushed (now longs) (now shorts)) named (now reach) ⌝ }
+        × OutliveSets (sidesOf pushed (now longs) (now shorts)) named (now reach) ⌝ }
     ensures { λ r.
         ⌜ ((ts : List TypeName) → encodeAll ts ≡ held types
         → Extends (take named (held names))

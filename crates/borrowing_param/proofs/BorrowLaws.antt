@@ -36,10 +36,10 @@ use Rattle.borrowing_param.specs.New.{createdBy, created}
 use Rattle.borrowing_param.specs.BorrowMap as map
 use Rattle.borrowing_param.specs.Consistent.{Consistent}
 use Rattle.borrowing_param.specs.SheetMethod.{envOfSheet, loweringChecks, sheetRefusals, methodAnswer}
-use Rattle.borrowing_param.specs.Borrows.{Borrows, borrowsBy, borrowsOf, sheetBorrows, roomChecks, borrowMethod}
+use Rattle.borrowing_param.specs.Borrows.{Borrows, borrowsBy, borrowsOf, sheetBorrows, borrowsRoomChecks, borrowMethod}
 use Rattle.borrowing_param.specs.Borrows.{borrowSheet, borrowsAnswer, usedWords, answerWords, edgesWords}
 use Rattle.borrowing_param.specs.Borrows.{BorrowsTo, mostListed}
-use Rattle.borrowing_param.specs.InnerSheet.{Judges, borrowBy, OfMethod}
+use Rattle.borrowing_param.specs.InnerSheet.{JudgesSheet, borrowBy, OfMethod}
 use Rattle.borrowing_param.proofs.JoinLaws.{words-read}
 use Rattle.borrowing_param.proofs.Condition3Laws.{params-none}
 use Rattle.borrowing_param.proofs.ConsistentLaws.{listing-consistent}
@@ -62,12 +62,12 @@ same-outcome e h u a w = record { counts = rw e h; used-filled = rw e u; answers
 -- ---- by a visitor
 
 module _ (v : BorrowingParamVisitor) (structs params : List ℕ) (used answers edges : Slice) (of : OfMethod structs params)
-    {count : ℕ} (counts : count ≡ sets.count (v .used)) where
+    {count : ℕ} (counts : count ≡ sets.cardinality (v .used)) where
   abbrev all : Borrows
   all = borrowsBy v structs params
 
   abbrev rooms : List Check
-  rooms = roomChecks all (room used) (room answers) (room edges)
+  rooms = borrowsRoomChecks all (room used) (room answers) (room edges)
 
   abbrev given : Outcome Borrows
   given = borrowBy v structs params (room used) (room answers) (room edges)
@@ -77,7 +77,7 @@ module _ (v : BorrowingParamVisitor) (structs params : List ℕ) (used answers e
   refuses f = due-refused all f
 
   how-many : count ≡ length (all .used)
-  unfolding sets.count
+  unfolding sets.cardinality
   how-many = counts
 
   pub by-used : {r : answer.Borrows} → room used < count → r ≡ borrowsAnswer (Refuses NoRoom) → Stays used
@@ -188,7 +188,7 @@ module _ (env : LifetimeEnv) (structs params output force : List ℕ) {c : Creat
     by-new : (u a e : ℕ) → outcome u a e ≡ by u a e
     unfolding borrowBy borrowMethod
     by-new u a e =
-        unless-after whole (roomChecks whole u a e) method-none
+        unless-after whole (borrowsRoomChecks whole u a e) method-none
         ∙ sym (ap (λ (x : Created). borrowBy (x .visitor) structs params u a e) is)
 
     pub method-borrowed : {r : answer.Borrows} {used answers edges : Slice}
@@ -217,7 +217,7 @@ module _ (bytes : List ℕ) (used answers edges : Slice) where
   abbrev borrowed : Outcome Borrows
   borrowed = borrowSheet bytes (room used) (room answers) (room edges)
 
-  module _ {m : SheetMethod} {scratch : List ℕ} (judges : Judges bytes m scratch) where
+  module _ {m : SheetMethod} {scratch : List ℕ} (judges : JudgesSheet bytes m scratch) where
     judged-verdict : m .verdict ≡ verdictOf (unless (sheetRefusals bytes) sheet)
     judged-verdict = ap (λ (x : SheetMethod). x .verdict) (judges .answers) ∙ go (unless (sheetRefusals bytes) sheet)
       where
@@ -257,7 +257,7 @@ module _ (bytes : List ℕ) (used answers edges : Slice) where
         is-below =
             let e : m .env ≡ envOfSheet sheet = ap (λ (x : SheetMethod). x .env) is-given in
             let whole = sheetBorrows sheet in
-            let rooms = roomChecks whole (room used) (room answers) (room edges) in
+            let rooms = borrowsRoomChecks whole (room used) (room answers) (room edges) in
             let same : below ≡ borrowMethod (envOfSheet sheet) (sheet .structs) (sheet .params) (sheet .output)
             (sheet .force) (room used) (room answers) (room edges) =
             rw (e, pa ∙ found 6 (omega arith), pb ∙ found 7 (omega arith), pc ∙ found 8 (omega arith), pd ∙ found 9 (omega arith)) in
@@ -275,7 +275,7 @@ module _ (bytes : List ℕ) (used answers edges : Slice) where
   consistent {r} q u a w fine =
       let whole = sheetBorrows sheet in
       let v = created (envOfSheet sheet) (sheet .structs) (sheet .params) (sheet .output) (sheet .force) .visitor in
-      let checks = sheetRefusals bytes ++ roomChecks whole (room used) (room answers) (room edges) in
+      let checks = sheetRefusals bytes ++ borrowsRoomChecks whole (room used) (room answers) (room edges) in
       let n = accepted-none whole checks
       (sym (verdict-of (unless checks whole)) ∙ sym (ap (λ (x : answer.Borrows). x .verdict) q) ∙ fine) in
       let e : borrowed ≡ Gives whole = due-given whole n in
@@ -298,7 +298,7 @@ module _ (bytes : List ℕ) (used answers edges : Slice) where
       go : (o : Outcome Borrows) → borrowed ≡ o → (borrowsAnswer o .used ≤ mostUsed) × (borrowsAnswer o .edges ≤ mostListed)
       go (Gives b) e =
           let whole = sheetBorrows sheet in
-          let n = given-due whole b (sheetRefusals bytes ++ roomChecks whole (room used) (room answers) (room edges)) e in
+          let n = given-due whole b (sheetRefusals bytes ++ borrowsRoomChecks whole (room used) (room answers) (room edges)) e in
           let s = method-small (envOfSheet sheet) (sheet .structs) (sheet .params) (sheet .output) (sheet .force)
           (sheet-method bytes (none-split (sheetRefusals bytes) _ (n .0) .0)) in
           rw (← n .1) (s .few-used, s .few-edges)

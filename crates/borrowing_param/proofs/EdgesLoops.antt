@@ -22,7 +22,7 @@ use Rattle.borrowing_param.specs.declared.visitor.LifetimeEdge.{Lifetime
 use Rattle.borrowing_param.specs.Edges.{edge, width, edgeWords}
 use Rattle.borrowing_param.specs.Brings.{drawn, anyDrawn, oneEdge, structEdges, bring, note, notes}
 use Rattle.borrowing_param.specs.Visit.{drawsIn}
-use Rattle.borrowing_param.specs.Inner.{Inside, CountsFor, Below, allIn, CountsAll, structOf, StoresWords, Stores}
+use Rattle.borrowing_param.specs.Inner.{Inside, CountsFor, SetBelow, allIn, CountsAll, structOf, StoresWords, Stores}
 use Rattle.borrowing_param.proofs.JoinLaws.{join-cons, join-append, sets-behind, words-many}
 use Rattle.borrowing_param.proofs.EdgesLaws.{left, allPath, left-all, left-none, left-next, bring-few}
 
@@ -246,10 +246,10 @@ module _ (used : ℕ) where
   filter-past x (suc n) h = rw (none-past x h) (filter-past (suc x) n (omega (arith, pow-suc 2 x)))
 
   -- no lifetime past the limit is used
-  pub past-limit : {limit : ℕ} → Below used limit → (l : ℕ) → limit ≤ l → member used l ≡ false
+  pub past-limit : {limit : ℕ} → SetBelow used limit → (l : ℕ) → limit ≤ l → member used l ≡ false
   past-limit {limit} b l h = none-past l (omega (arith, b .1, pow-le-pow-right {n = 2} (omega arith) h))
 
-  pub used-end : {limit : ℕ} → Below used limit → (l : ℕ) → limit ≤ l → usedFrom used l ≡ []
+  pub used-end : {limit : ℕ} → SetBelow used limit → (l : ℕ) → limit ≤ l → usedFrom used l ≡ []
   used-end {limit} b l h = filter-past l (64 - l) (omega (arith, b .1, pow-le-pow-right {n = 2} (omega arith) h))
 
   module _ (l : ℕ) (h : l < 64) where
@@ -265,11 +265,11 @@ module _ (used : ℕ) where
     unfolding filter
     used-not q = rw (row, ← q)
 
-pub below-64 : {used limit l : ℕ} → Below used limit → l < limit → l < 64
+pub below-64 : {used limit l : ℕ} → SetBelow used limit → l < limit → l < 64
 below-64 b h = omega (arith, b .0)
 
 -- a number of 64 bits has no ones above its leading zeros
-pub below-leading : (used : ℕ) → used < 2 ^ 64 → Below used (64 - leadingZeros 64 used)
+pub below-leading : (used : ℕ) → used < 2 ^ 64 → SetBelow used (64 - leadingZeros 64 used)
 below-leading used h =
     let m = leading-length 64 used h in
     let e : 64 - leadingZeros 64 used ≡ m .0 = omega (arith, m .1) in
@@ -283,7 +283,7 @@ module _ (used : ℕ) (drawn : List ℕ) (t : LoweredType) (param : ℕ) where
   pub all-left : allIn used drawn t param ≡ leftAll used drawn t param 0
   all-left = rw (used-all used)
 
-  pub all-end : {limit : ℕ} → Below used limit → (l : ℕ) → limit ≤ l → leftAll used drawn t param l ≡ []
+  pub all-end : {limit : ℕ} → SetBelow used limit → (l : ℕ) → limit ≤ l → leftAll used drawn t param l ≡ []
   unfolding flatMap
   all-end b l h = rw (used-end used b l h)
 
@@ -311,7 +311,7 @@ counting-all used drawn t =
     }
 
 module _ {used : ℕ} {drawn : List ℕ} {t : LoweredType} {n l : ℕ} (inv : CountingAll used drawn t n l) where
-  pub counting-all-end : {limit : ℕ} → Below used limit → limit ≤ l → CountsAll used drawn t n
+  pub counting-all-end : {limit : ℕ} → SetBelow used limit → limit ≤ l → CountsAll used drawn t n
   counting-all-end b h =
       record { counts = λ param. sym (add-zero n) ∙ (rw (all-end used drawn t param b l h) at (inv .counts param)) }
 

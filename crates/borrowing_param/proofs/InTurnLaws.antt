@@ -29,7 +29,7 @@ use Rattle.borrowing_param.specs.VisitParam.{typeAt, visitParam}
 use Rattle.borrowing_param.specs.Visits.{unrefusedBy, Visits}
 use Rattle.borrowing_param.specs.New.{created}
 use Rattle.borrowing_param.specs.BorrowMap.{listedTo, listedEdges}
-use Rattle.borrowing_param.specs.Theorems.{answerAt, inTurn, visitOf, visited, RoomForAll, AsVisited}
+use Rattle.borrowing_param.specs.Theorems.{answerAt, allParams, visitOf, afterAllVisits, RoomForAll, AsVisited}
 use Rattle.borrowing_param.proofs.JoinLaws.{of-part, of-others}
 use Rattle.borrowing_param.proofs.VisitsLaws.{filled, kept, filled-many, take-member}
 use Rattle.borrowing_param.proofs.Condition3Laws.{all-visits, unrefused-new, once-used}
@@ -103,10 +103,10 @@ module _ (v : BorrowingParamVisitor) (all : List LoweredType) where
 
 module _ (structs params : List ℕ) (v : BorrowingParamVisitor) (words : List ℕ)
     (visits : Visits (visitParam structs params) v (λ used p. bringTo v (typeAt (typesIn structs params) p) p used)
-    (answerAt structs params v) words (inTurn structs params))
+    (answerAt structs params v) words (allParams structs params))
     (stays : (i : ℕ)
-    → unrefusedBy (visitParam structs params) (state v words) (take i (inTurn structs params))
-    ≡ kept (λ p. length (bringAll v (typeAt (typesIn structs params) p) p)) (length words) 0 (take i (inTurn structs params))) where
+    → unrefusedBy (visitParam structs params) (state v words) (take i (allParams structs params))
+    ≡ kept (λ p. length (bringAll v (typeAt (typesIn structs params) p) p)) (length words) 0 (take i (allParams structs params))) where
   abbrev types : List LoweredType
   types = typesIn structs params
 
@@ -116,37 +116,37 @@ module _ (structs params : List ℕ) (v : BorrowingParamVisitor) (words : List �
   itself : Same v types 0 types
   itself i h = ap (typeAt types) (zero-add i)
 
-  total : sums count (inTurn structs params) ≡ length (listedEdges v types)
+  total : sums count (allParams structs params) ≡ length (listedEdges v types)
   unfolding listedEdges
   total = turn-sums v types 0 types itself
 
-  number : (i : ℕ) → i < length types → getD (inTurn structs params) i 0 ≡ i
+  number : (i : ℕ) → i < length types → getD (allParams structs params) i 0 ≡ i
   number i h = getD-range 0 (length types) i 0 h ∙ zero-add i
 
-  size : length (inTurn structs params) ≡ length types
+  size : length (allParams structs params) ≡ length types
   size = length-range 0 (length types)
 
   -- what was brought before the visit with the number i
   stands : (i : ℕ)
       → length (flatMap (λ p. bringAll v (typeAt types p) p)
-      (unrefusedBy (visitParam structs params) (state v words) (take i (inTurn structs params))))
-      ≡ filled count (length words) 0 (take i (inTurn structs params))
+      (unrefusedBy (visitParam structs params) (state v words) (take i (allParams structs params))))
+      ≡ filled count (length words) 0 (take i (allParams structs params))
   stands i =
       rw (stays i)
-      (sym (filled-many (λ p. bringAll v (typeAt types p) p) (length words) 0 (take i (inTurn structs params)) ∙ zero-add _))
+      (sym (filled-many (λ p. bringAll v (typeAt types p) p) (length words) 0 (take i (allParams structs params)) ∙ zero-add _))
 
-  all-stay : unrefusedBy (visitParam structs params) (state v words) (inTurn structs params)
-      ≡ kept count (length words) 0 (inTurn structs params)
-  all-stay = rw (take-length (inTurn structs params)) at (stays (length (inTurn structs params)))
+  all-stay : unrefusedBy (visitParam structs params) (state v words) (allParams structs params)
+      ≡ kept count (length words) 0 (allParams structs params)
+  all-stay = rw (take-length (allParams structs params)) at (stays (length (allParams structs params)))
 
-  fits : RoomForAll structs params v words → width * (0 + sums count (inTurn structs params)) ≤ length words
+  fits : RoomForAll structs params v words → width * (0 + sums count (allParams structs params)) ≤ length words
   fits room = omega (arith, total)
 
   info : RoomForAll structs params v words → (p : ℕ) → p < length types
       → visitOf structs params v words p ≡ answerAt structs params v p
   info room p h =
-      let k : p < length (inTurn structs params) = omega (arith, size) in
-      visits .answered p k (rw (stands p) (filled-part count (length words) 0 (inTurn structs params) p (fits room) k))
+      let k : p < length (allParams structs params) = omega (arith, size) in
+      visits .answered p k (rw (stands p) (filled-part count (length words) 0 (allParams structs params) p (fits room) k))
       ∙ ap (answerAt structs params v) (number p h)
 
   pub in-turn : AsVisited structs params v words
@@ -177,12 +177,12 @@ module _ (structs params : List ℕ) (v : BorrowingParamVisitor) (words : List �
 
       by-used : RoomForAll structs params v words → (used : ℕ) → Dec (List·Memᴰ used (usedOf v))
           → edgesOf used
-          (edgesIn (visited structs params v words .visitor .stored) (visited structs params v words .words))
+          (edgesIn (afterAllVisits structs params v words .visitor .stored) (afterAllVisits structs params v words .words))
           ≡ edgesOf used (listedEdges v types)
       by-used room used (yes m) =
           visits .edges-of used m
           ∙ ap (flatMap (λ p. bringTo v (typeAt types p) p used))
-          (all-stay ∙ kept-all count (length words) 0 (inTurn structs params) (fits room))
+          (all-stay ∙ kept-all count (length words) 0 (allParams structs params) (fits room))
           ∙ turn-brings v types used 0 types itself
           ∙ sym (listed-to used m)
       by-used room used (no n) =
@@ -193,7 +193,7 @@ module _ (structs params : List ℕ) (v : BorrowingParamVisitor) (words : List �
           → (p : ℕ) × (p < length types) × (visitOf structs params v words p ≡ refuse NoRoom)
       gone (no n) none = absurd (none (omega arith))
       gone (yes h) none =
-          let past = first-past count (length words) 0 (inTurn structs params) (omega arith) (omega (arith, total)) in (
+          let past = first-past count (length words) 0 (allParams structs params) (omega arith) (omega (arith, total)) in (
             past .place,
             omega (arith, past .below, size),
             ap (λ (x : VisitOutcome). x .info)
@@ -209,7 +209,7 @@ as-visited env structs params output force none words =
     (λ i. unrefused-new env structs params output force none words (take i turn) (λ p m. within p (take-member i turn p m)))
   where
     turn : List ℕ
-    turn = inTurn structs params
+    turn = allParams structs params
 
-    within : (p : ℕ) → List·Memᴰ p (inTurn structs params) → p < length (typesIn structs params)
+    within : (p : ℕ) → List·Memᴰ p (allParams structs params) → p < length (typesIn structs params)
     within p m = omega (arith, (range-has 0 (length (typesIn structs params)) p) .0 m .1)

@@ -45,9 +45,9 @@ use Rattle.borrowing_param.specs.Brings.{bring, answerNumber}
 use Rattle.borrowing_param.specs.Visit.{usedOf, drawsIn, drawsOf, bringTo, bringAll, holding}
 use Rattle.borrowing_param.specs.BorrowMap.{listedTo, listedEdges, answersFrom, Mapping, mappingOf, borrowMap}
 use Rattle.borrowing_param.specs.BorrowMap.{mapAnswer, mapAnswers, mapEdges, MapsTo}
-use Rattle.borrowing_param.specs.Inner.{Inside, typeIn, numberBy, Below, CountsAll, StoresWords, Stores}
-use Rattle.borrowing_param.specs.InnerMap.{Lists, done, more, paramTypes, Params, visitorIn, bringFrom}
-use Rattle.borrowing_param.specs.InnerMap.{CountsParams, roomChecks, mapOf}
+use Rattle.borrowing_param.specs.Inner.{Inside, typeIn, numberBy, SetBelow, CountsAll, StoresWords, Stores}
+use Rattle.borrowing_param.specs.InnerMap.{ReadsTypes, done, more, paramTypes, Params, visitorIn, bringFrom}
+use Rattle.borrowing_param.specs.InnerMap.{CountsParams, mapRoomChecks, mapOf}
 use Rattle.borrowing_param.proofs.JoinLaws.{join-cons, words-many}
 use Rattle.borrowing_param.proofs.EdgesLaws.{bring-few}
 use Rattle.borrowing_param.proofs.EdgesLoops.{Storing, storing-start, storing-end, storing-fits, storing-part}
@@ -58,7 +58,7 @@ use Rattle.answers.specs.Lists.{numbered}
 -- ---- the types of a record in shape
 
 abbrev Reads : ℕ → ℕ → List ℕ → List LoweredType → Type 0
-Reads number steps words ts = Lists words ts × ((end : List ℕ) × (readAll (λ i. readLowered) number steps words ≡ Read ts end))
+Reads number steps words ts = ReadsTypes words ts × ((end : List ℕ) × (readAll (λ i. readLowered) number steps words ≡ Read ts end))
 
 all-lists : (rows number steps : ℕ) (words : List ℕ)
     → Holds (λ ts end. Reads number steps words ts) (readAll (λ i. readKnown rows) number steps words)
@@ -72,7 +72,7 @@ all-lists rows number (suc steps) (w ∷ words) =
     (λ t rest e. holds-onward (λ ts end. Reads (suc number) steps rest ts) All (all-lists rows (suc number) steps rest)
     (λ ts end h. read (more e (h .0), (h .1 .0, rw (e, h .1 .1)))))
 
-pub types-listed : (rows : ℕ) (params : List ℕ) → paramsInShape rows params ≡ true → Lists params (typesOf rows params)
+pub types-listed : (rows : ℕ) (params : List ℕ) → paramsInShape rows params ≡ true → ReadsTypes params (typesOf rows params)
     × (paramTypes params ≡ typesOf rows params)
 unfolding inShape itemsOf
 types-listed rows params shape =
@@ -111,16 +111,16 @@ none-fails : (words : List ℕ) → words ≡ [] → readLowered words ≡ Fails
 unfolding readLowered
 none-fails words e = rw e
 
-lists-none : {words : List ℕ} {left : List LoweredType} → Lists words left → words ≡ [] → left ≡ []
+lists-none : {words : List ℕ} {left : List LoweredType} → ReadsTypes words left → words ≡ [] → left ≡ []
 lists-none done e = refl
 lists-none (more {words} {rest} {t} r l) e = fails-read (sym (none-fails words e) ∙ r)
 
 record Split (t : LoweredType) (rest : List ℕ) (left : List LoweredType) : Type 0 where
   types : List LoweredType
   split : left ≡ t ∷ types
-  lists : Lists rest types
+  lists : ReadsTypes rest types
 
-lists-next : {words : List ℕ} {left : List LoweredType} → Lists words left → {u : LoweredType} {behind : List ℕ}
+lists-next : {words : List ℕ} {left : List LoweredType} → ReadsTypes words left → {u : LoweredType} {behind : List ℕ}
     → readLowered words ≡ Read u behind → Split u behind left
 unfolding readLowered
 lists-next done e = fails-read e
@@ -130,13 +130,13 @@ lists-next (more {words} {rest} {t} {ts} r l) {u} {behind} e =
     let after : rest ≡ behind = cc in
     record { types = ts; split = rw same; lists = rw (← after) l }
 
-lists-missing : {words : List ℕ} {left : List LoweredType} → Lists words left → (words ≡ [] → ⊥) → readLowered words ≡ Fails → ⊥
+lists-missing : {words : List ℕ} {left : List LoweredType} → ReadsTypes words left → (words ≡ [] → ⊥) → readLowered words ≡ Fails → ⊥
 lists-missing done some e = some refl
 lists-missing (more {words} {rest} {t} r l) some e = fails-read (sym e ∙ r)
 
 -- what is left from a place on
 pub record Passing (words : List ℕ) (types left : List LoweredType) (at number : ℕ) : Type 0 where
-  pub reads : Lists (drop at words) left
+  pub reads : ReadsTypes (drop at words) left
   pub many : number + length left ≡ length types
 
 -- one type on
@@ -150,7 +150,7 @@ pub record Passed (words : List ℕ) (types left : List LoweredType) (at number 
   pub past : at < p .next
   pub within : p .next ≤ length words
 
-pub passing-start : {words : List ℕ} {types : List LoweredType} → Lists words types → Passing words types types 0 0
+pub passing-start : {words : List ℕ} {types : List LoweredType} → ReadsTypes words types → Passing words types types 0 0
 passing-start l = record { reads = l; many = zero-add _ }
 
 module _ {words : List ℕ} {types left : List LoweredType} {at number : ℕ} (inv : Passing words types left at number) where
@@ -263,7 +263,7 @@ pub record StoringTo (draws : ℕ → Bool) (used : ℕ) (words : List ℕ) (typ
   pub passing : Passing words types left at param
   pub storing : Storing (bringFrom draws used 0 types) (bringFrom draws used param left) at₀ pairs₀ edges₀ stored pairs edges
 
-pub to-start : (draws : ℕ → Bool) (used : ℕ) {words : List ℕ} {types : List LoweredType} → Lists words types
+pub to-start : (draws : ℕ → Bool) (used : ℕ) {words : List ℕ} {types : List LoweredType} → ReadsTypes words types
     → (at : ℕ) (pairs edges : List ℕ) → length pairs ≡ 16
     → width * (at + length (bringFrom draws used 0 types)) ≤ length edges
     → StoringTo draws used words types at pairs edges at 0 0 pairs edges
@@ -316,7 +316,7 @@ module _ (used : ℕ) (drawn : List ℕ) (types : List LoweredType) where
   unfolding listedEdges
   listed-left = rw (used-all used)
 
-  pub listed-end : {limit : ℕ} → Below used limit → (i : ℕ) → limit ≤ i → leftListed used drawn types i ≡ []
+  pub listed-end : {limit : ℕ} → SetBelow used limit → (i : ℕ) → limit ≤ i → leftListed used drawn types i ≡ []
   unfolding flatMap
   listed-end b i h = rw (used-end used b i h)
 
@@ -348,7 +348,7 @@ pub record CountingParams (used : ℕ) (drawn words : List ℕ) (types : List Lo
       ≡ sets numbers₀ 0 (answersFrom (visitorIn used drawn) 0 types)
   pub size : length numbers ≡ 16
 
-pub params-start : (used : ℕ) (drawn : List ℕ) {words : List ℕ} {types : List LoweredType} → Lists words types
+pub params-start : (used : ℕ) (drawn : List ℕ) {words : List ℕ} {types : List LoweredType} → ReadsTypes words types
     → length types ≤ 16 → (numbers : List ℕ) → length numbers ≡ 16
     → CountingParams used drawn words types numbers 0 0 0 numbers
 unfolding listedEdges
@@ -428,7 +428,7 @@ module _ (v : BorrowingParamVisitor) (types : List LoweredType) {numbers₀ : Li
   pub no-room-answers : {answers edges : Slice} → room answers < n .params → {b : BorrowMap} → b ≡ mapAnswer (Refuses NoRoom)
       → Stays answers → Stays edges → MapsTo (mapOf v types (room answers) (room edges)) b answers edges
   no-room-answers {answers} {edges} h q a w =
-      let due : FirstDue NoRoom (roomChecks v types (room answers) (room edges)) =
+      let due : FirstDue NoRoom (mapRoomChecks v types (room answers) (room edges)) =
       here (lt-ltb (room answers) (length (answersFrom v 0 types)) (omega (arith, answers-size))) refl in
       maps-refused (due-refused (mappingOf v types) due) q a w
 
@@ -441,7 +441,7 @@ module _ (v : BorrowingParamVisitor) (types : List LoweredType) {numbers₀ : Li
   no-room-edges {answers} {edges} k h q a w =
       let past : room edges < length (flatMap edgeWords (listedEdges v types)) =
       omega (arith, edges-size, div-add-mod' (room edges) 5, mod-lt (room edges) {m = 5} (omega arith)) in
-      let due : FirstDue NoRoom (roomChecks v types (room answers) (room edges)) =
+      let due : FirstDue NoRoom (mapRoomChecks v types (room answers) (room edges)) =
       later (first-none (room answers) k) (here (lt-ltb (room edges) (length (flatMap edgeWords (listedEdges v types))) past) refl) in
       maps-refused (due-refused (mappingOf v types) due) q a w
 
@@ -456,7 +456,7 @@ module _ (v : BorrowingParamVisitor) (types : List LoweredType) {numbers₀ : Li
   mapped {answers} {edges} k fits size {stored} a few s =
       let past : length (flatMap edgeWords (listedEdges v types)) ≤ room edges =
       omega (arith, edges-size, div-add-mod' (room edges) 5) in
-      let none : NoneDue (roomChecks v types (room answers) (room edges)) =
+      let none : NoneDue (mapRoomChecks v types (room answers) (room edges)) =
       next (first-none (room answers) k) (next (le-ltb (room edges) (length (flatMap edgeWords (listedEdges v types))) past) end) in
       let given : mapOf v types (room answers) (room edges) ≡ Gives (mappingOf v types) = due-given (mappingOf v types) none in
       let named : numbers ≡ answersFrom v 0 types ++ drop (length (answersFrom v 0 types)) numbers₀ =
@@ -500,7 +500,7 @@ module _ (v : BorrowingParamVisitor) (structs params : List ℕ) {verdict : Verd
       let due = refused-first (tt {0}) r (structsAndParamsChecks structs params) (sym judged ∙ e) in
       maps-refused
       (due-refused (mappingOf v (typesIn structs params))
-      (first-more (roomChecks v (typesIn structs params) (room answers) (room edges)) due)) q
+      (first-more (mapRoomChecks v (typesIn structs params) (room answers) (room edges)) due)) q
 
   pub map-listed : {b : BorrowMap} {answers edges : Slice} → verdict ≡ Accepted
       → b ≡ mapAnswer (mapOf v (paramTypes params) (room answers) (room edges))
@@ -513,4 +513,4 @@ module _ (v : BorrowingParamVisitor) (structs params : List ℕ) {verdict : Verd
       maps-same {o = mapOf v (paramTypes params) (room answers) (room edges)}
       (rw (types-are structs params none)
       (after-none (mappingOf v (typesIn structs params))
-      (roomChecks v (typesIn structs params) (room answers) (room edges)) none))
+      (mapRoomChecks v (typesIn structs params) (room answers) (room edges)) none))

@@ -27,7 +27,7 @@ use Rattle.ast_lifetimes.proofs.AcceptedLaws.{accepted-names, accepted-names-of
 use Rattle.elision.specs.declared.method.Lowering.{Lowering}
 use Rattle.elision.specs.Steps.{receiverOf, stepsOf}
 use Rattle.elision.specs.Rfc as rfc
-use Rattle.elision.specs.Lowering.{inShapeAll, recordsOf, measureChecks, measureRecords, answered}
+use Rattle.elision.specs.Lowering.{inShapeAll, loweredRecords, measureChecks, measureRecords, answered}
 use Rattle.elision.proofs.Theorems.{rfc141-says}
 use Rattle.types.specs.Rows.{methodInShape, shapeChecks}
 use Rattle.methods.specs.Method.{placeChecks, outputLifetimes, anyPast, methodChecks, methodVerdict}
@@ -35,7 +35,7 @@ use Rattle.sheet.specs.Text.{Records}
 use Rattle.sheet.specs.Shape.{sheetInShape, recordsChecks}
 use Rattle.sheet.proofs.ShapeCases.{sheet-parts}
 use Rattle.borrowing_param.specs.SheetMethod.{loweredOf, astEnvOf, envOfSheet, loweringChecks}
-use Rattle.borrowing_param.specs.InnerSheet.{methodOf}
+use Rattle.borrowing_param.specs.InnerSheet.{loweredEnv}
 
 -- checks in the middle of which none is due
 first-without : {r : Refusal} (checks : List Check) {middle : List Check} (more : List Check) → NoneDue middle
@@ -49,7 +49,7 @@ module _ (r : Records) where
   names = ast.allNamesOf (r .names)
 
   abbrev astPlaces : List Check
-  astPlaces = ast.placeChecks (r .names) (r .bounds) (r .types)
+  astPlaces = ast.itemPlaceChecks (r .names) (r .bounds) (r .types)
 
   abbrev elisionChecks : List Check
   elisionChecks = rfc.elisionChecks names (receiverOf (r .self)) (stepsOf (r .steps)) (stepsOf (r .returns))
@@ -101,8 +101,8 @@ module _ (r : Records) where
 
     -- refused somewhere
     refuses : {k : Refusal} {m : Made} → FirstDue k (loweringChecks r) → m ≡ made (envOf 0 0 []) (Refuses k)
-        → m ≡ made (envOf 0 0 []) (methodOf r)
-    unfolding methodOf
+        → m ≡ made (envOf 0 0 []) (loweredEnv r)
+    unfolding loweredEnv
     refuses f h = rw (due-refused (envOfSheet r) f) h
 
     -- names, bounds and types
@@ -116,7 +116,7 @@ module _ (r : Records) where
           first-more _ (first-behind (next s end) d)
 
       pub names-refused : {k : Refusal} {m : Made} → a .verdict ≡ verdict.Refused k
-          → m ≡ made (envOf 0 0 []) (Refuses k) → m ≡ made (envOf 0 0 []) (methodOf r)
+          → m ≡ made (envOf 0 0 []) (Refuses k) → m ≡ made (envOf 0 0 []) (loweredEnv r)
       names-refused v h = refuses (names-first v) h
 
       module _ (fine : a .verdict ≡ verdict.Accepted) where
@@ -155,7 +155,7 @@ module _ (r : Records) where
           unfolding loweringChecks measureRecords
           steps-first {k} v =
               let e = astEnvOf r in
-              let d = refused-first (recordsOf e (r .self) (r .steps) (r .returns)) k
+              let d = refused-first (loweredRecords e (r .self) (r .steps) (r .returns)) k
               (measureChecks e (r .self) (r .steps) (r .returns)) (sym verdict-is ∙ v) in
               let f = first-behind (accepted-valid (r .names) (r .bounds) (r .types) placed)
               (first-behind (next in-shape-not end) d) in
@@ -163,14 +163,14 @@ module _ (r : Records) where
               first-after placed (first-more _ g)
 
           pub steps-refused : {k : Refusal} {m : Made} → l .verdict ≡ verdict.Refused k
-              → m ≡ made (envOf 0 0 []) (Refuses k) → m ≡ made (envOf 0 0 []) (methodOf r)
+              → m ≡ made (envOf 0 0 []) (Refuses k) → m ≡ made (envOf 0 0 []) (loweredEnv r)
           steps-refused v h = refuses (steps-first v) h
 
           module _ (given : l .verdict ≡ verdict.Accepted) where
             pub measure-none : NoneDue (measureChecks (astEnvOf r) (r .self) (r .steps) (r .returns))
             unfolding measureRecords
             measure-none =
-                accepted-none (recordsOf (astEnvOf r) (r .self) (r .steps) (r .returns))
+                accepted-none (loweredRecords (astEnvOf r) (r .self) (r .steps) (r .returns))
                 (measureChecks (astEnvOf r) (r .self) (r .steps) (r .returns)) (sym verdict-is ∙ given)
 
             pub elided : NoneDue elisionChecks
@@ -183,7 +183,7 @@ module _ (r : Records) where
             env-is =
                 ap (λ (x : Lowering). x .env) measured
                 ∙ ap (λ (o : Outcome rfc.Method). answered (astEnvOf r) o .env)
-                (due-given (recordsOf (astEnvOf r) (r .self) (r .steps) (r .returns)) measure-none)
+                (due-given (loweredRecords (astEnvOf r) (r .self) (r .steps) (r .returns)) measure-none)
                 ∙ rw names-are
 
             -- structs, params, output and force
@@ -209,7 +209,7 @@ module _ (r : Records) where
 
             module _ {v : Verdict} (judges : v ≡ methodVerdict (l .env) (r .structs) (r .params) (r .output) (r .force)) where
               pub method-refused : {k : Refusal} {m : Made} → v ≡ verdict.Refused k
-                  → m ≡ made (envOf 0 0 []) (Refuses k) → m ≡ made (envOf 0 0 []) (methodOf r)
+                  → m ≡ made (envOf 0 0 []) (Refuses k) → m ≡ made (envOf 0 0 []) (loweredEnv r)
               method-refused {k} w h =
                   refuses
                   (method-first
@@ -217,8 +217,8 @@ module _ (r : Records) where
                   (sym judges ∙ w))) h
 
               pub method-given : v ≡ verdict.Accepted
-                  → record { verdict = verdict.Accepted; env = l .env } ≡ made (envOf 0 0 []) (methodOf r)
-              unfolding methodOf
+                  → record { verdict = verdict.Accepted; env = l .env } ≡ made (envOf 0 0 []) (loweredEnv r)
+              unfolding loweredEnv
               method-given w =
                   let due =
                   method-none

@@ -35,7 +35,7 @@ use Rattle.methods.specs.Used.{usedSet, usedAnswer}
 use Rattle.methods.proofs.Theorems.{used-lifetimes-are}
 use Rattle.borrowing_param.specs.declared.visitor.BorrowingParamVisitor.{BorrowingParamVisitor}
 use Rattle.borrowing_param.specs.New.{drawsTo, visitorFrom, noVisitor, created}
-use Rattle.borrowing_param.specs.Inner.{Below}
+use Rattle.borrowing_param.specs.Inner.{SetBelow}
 use Rattle.borrowing_param.proofs.EdgesLoops.{past-limit}
 
 -- ---- a list made place by place
@@ -66,7 +66,7 @@ keeping-start used sets = record { size = refl; done = λ j h. absurd (omega ari
 
 module _ {used : ℕ} {sets draws : List ℕ} {i : ℕ} (inv : Keeping used sets draws i) where
   -- past the last of the used lifetimes nothing draws
-  pub keeping-end : {limit : ℕ} → Below used limit → limit ≤ i → record { used = used; draws = draws; stored = 0 } ≡ visitorFrom used sets
+  pub keeping-end : {limit : ℕ} → SetBelow used limit → limit ≤ i → record { used = used; draws = draws; stored = 0 } ≡ visitorFrom used sets
   unfolding visitorFrom
   keeping-end {limit} below h =
       let same : draws ≡ map (drawsTo used sets) (range 0 64) =

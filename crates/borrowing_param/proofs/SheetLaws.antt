@@ -37,7 +37,7 @@ use Rattle.sheet.proofs.LaidLaws.{laid-words, laid-records, roomy-fits}
 use Rattle.borrowing_param.specs.declared.method.SheetMethod.{SheetMethod}
 use Rattle.borrowing_param.specs.SheetMethod.{envOfSheet, loweringChecks, sheetRefusals, lowerSheet, methodAnswer}
 use Rattle.borrowing_param.specs.SheetMethod.{methodWords}
-use Rattle.borrowing_param.specs.InnerSheet.{records, methodOf, Judges}
+use Rattle.borrowing_param.specs.InnerSheet.{tenRecords, loweredEnv, JudgesSheet}
 
 -- the first due is in the one list or in the other
 first-either : {k : Refusal} (checks more : List Check) → FirstDue k (checks ++ more)
@@ -56,7 +56,7 @@ pub ten-found : {words ends : List ℕ} → Laid words ends → {a b c d e f g h
     → d ≡ recordWords words ends 3 → e ≡ recordWords words ends 4
     → f ≡ recordWords words ends 5 → g ≡ recordWords words ends 6 → h ≡ recordWords words ends 7
     → i ≡ recordWords words ends 8 → j ≡ recordWords words ends 9
-    → records a b c d e f g h i j ≡ recordsAt words ends
+    → tenRecords a b c d e f g h i j ≡ recordsAt words ends
 ten-found l pa pb pc pd pe pf pg ph pi pj =
     rw (
       pa ∙ laid-words l 0 (omega arith),
@@ -110,7 +110,7 @@ module _ (bytes : List ℕ) where
             (none-of f (le-ltb (length scratch) (length (wordsOf sheet)) (roomy-fits bytes roomy (read-parts n .0))))
 
     pub judge-text : {k : Refusal} {m : SheetMethod} → t .verdict ≡ verdict.Refused k → m ≡ methodAnswer (Refuses k)
-        → Judges bytes m scratch₁
+        → JudgesSheet bytes m scratch₁
     judge-text v h = record {
       answers = rw (due-refused sheet (text-first v)) h;
       leaves = λ a. refused-accepted (sym (ap (λ (x : SheetMethod). x .verdict) h) ∙ a);
@@ -145,16 +145,16 @@ module _ (bytes : List ℕ) where
       judge-shape =
           (read-laid, subst (λ (r : Records). NoneDue (shape.recordsChecks r)) (sym found) (read-parts read-none .1))
 
-      module _ {a : Made} (judged : a ≡ made (envOf 0 0 []) (methodOf (recordsAt scratch₁ (t .ends)))) where
-        at-sheet : a ≡ made (envOf 0 0 []) (methodOf sheet)
-        at-sheet = judged ∙ ap (λ (x : Records). made (envOf 0 0 []) (methodOf x)) found
+      module _ {a : Made} (judged : a ≡ made (envOf 0 0 []) (loweredEnv (recordsAt scratch₁ (t .ends)))) where
+        at-sheet : a ≡ made (envOf 0 0 []) (loweredEnv sheet)
+        at-sheet = judged ∙ ap (λ (x : Records). made (envOf 0 0 []) (loweredEnv x)) found
 
-        verdict-of : a .verdict ≡ verdictOf (methodOf sheet)
+        verdict-of : a .verdict ≡ verdictOf (loweredEnv sheet)
         verdict-of = ap (λ (x : Made). x .verdict) at-sheet
 
         pub judge-refused : {k : Refusal} {m : SheetMethod} → a .verdict ≡ verdict.Refused k
-            → m ≡ methodAnswer (Refuses k) → Judges bytes m scratch₁
-        unfolding methodOf sheetRefusals
+            → m ≡ methodAnswer (Refuses k) → JudgesSheet bytes m scratch₁
+        unfolding loweredEnv sheetRefusals
         judge-refused {k} {m} v h =
             let f = refused-first (envOfSheet sheet) k (loweringChecks sheet) (sym verdict-of ∙ v) in
             let g : FirstDue k (sheetRefusals bytes) = first-after read-none f in
@@ -164,8 +164,8 @@ module _ (bytes : List ℕ) where
             }
 
         pub judge-given : a .verdict ≡ verdict.Accepted
-            → Judges bytes (record { verdict = verdict.Accepted; ends = t .ends; env = a .env }) scratch₁
-        unfolding methodOf sheetRefusals read-laid
+            → JudgesSheet bytes (record { verdict = verdict.Accepted; ends = t .ends; env = a .env }) scratch₁
+        unfolding loweredEnv sheetRefusals read-laid
         judge-given v =
             let n = accepted-none (envOfSheet sheet) (loweringChecks sheet) (sym verdict-of ∙ v) in
             let e : a .env ≡ envOfSheet sheet =
@@ -177,7 +177,7 @@ module _ (bytes : List ℕ) where
             }
 
   -- `lower_within`: what was judged, and the words
-  module _ {m : SheetMethod} {scratch : List ℕ} (judges : Judges bytes m scratch) (words : List ℕ) where
+  module _ {m : SheetMethod} {scratch : List ℕ} (judges : JudgesSheet bytes m scratch) (words : List ℕ) where
     abbrev given : Outcome Records
     given = lowerSheet bytes (length words)
 

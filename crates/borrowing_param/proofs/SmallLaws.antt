@@ -6,7 +6,7 @@ use native.Mathlib.Omega.{arith}
 use lib.ListN.{length}
 use Rattle.lifetimes.specs.declared.env.LifetimeEnv.{LifetimeEnv}
 use Rattle.answers.specs.Refusals.{NoneDue}
-use Rattle.lifetimes.specs.Sets.{count}
+use Rattle.lifetimes.specs.Sets.{cardinality}
 use Rattle.methods.specs.Method.{typesIn, methodChecks}
 use Rattle.methods.specs.Used.{mostUsed}
 use Rattle.methods.proofs.Theorems.{used-lifetimes-are}
@@ -26,7 +26,7 @@ module _ (env : LifetimeEnv) (structs params output force : List ℕ)
   v = created env structs params output force .visitor
 
   used-few : length (usedOf v) ≤ mostUsed
-  unfolding count
+  unfolding cardinality
   used-few =
       used-lifetimes-are env structs params output force (v .used)
       (created-new env structs params output force none .used) .few

@@ -64,7 +64,7 @@ unfolding new.created new.visitorFrom lists.numbered lists.any lists.all lists.c
     bounds.boundsFrom reach.reachSet reach.reachList reach.allSets walk.traversal walk.walk
     walk.walkFor walk.unpushed walk.neighbours sets.member sets.insert sets.insertAll sets.members
     sheets.lowerSheet sheets.sheetRefusals sheets.loweringChecks shape.sheetChecks read.textChecks read.sheetOf read.sheetIn
-    read.linesBehind read.ten read.readLines read.behind text.text decimal.line decimal.following
+    read.linesBehind read.ten read.readLines read.stripPrefix text.text decimal.line decimal.following
     decimal.digits decimal.digitsFor
     shape.sheetInShape shapes.namesInShape shapes.boundsInShape shapes.pairsOf ast-types.readType
     steps.readStep ast.nameChecks ast.allPairChecks ast.implied ast.allImplied ast.namedEnv ast.place

@@ -19,7 +19,7 @@ use Rattle.answers.specs.declared.Verdict.{Verdict}
 use Rattle.answers.specs.declared.Verdict.the-variants.{Accepted, Refused}
 use Rattle.lifetimes.specs.declared.env.Made.{Made}
 use Rattle.answers.specs.Lent.{resultOr}
-use Rattle.lifetimes.specs.Env.{envOf, pairsOf, newEnv, made}
+use Rattle.lifetimes.specs.Env.{envOf, boundsOfPairs, newEnv, made}
 use Rattle.answers.specs.Refusals as refusals
 use Rattle.answers.specs.Refusals.{check, unless, FirstDue, here, later, NoneDue, next}
 use Rattle.answers.proofs.RefusalLaws.{due-given, due-refused, refused-first, accepted-none, none-first}
@@ -348,7 +348,7 @@ either-way a (c ∷ cs) = go (c .due) (either-way a cs)
     go false h = h
 
 pub no-lifetimes : {m : Made} → m ≡ made (envOf 0 0 []) (newEnv 0 0 []) → m .env ≡ envOf 0 0 []
-unfolding newEnv pairsOf
+unfolding newEnv boundsOfPairs
 no-lifetimes {m} e = ap (λ (x : Made). x .env) e ∙ either-way (envOf 0 0 []) _
 
 -- room for what is counted is room for what is brought

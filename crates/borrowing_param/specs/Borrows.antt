@@ -46,8 +46,8 @@ abbrev pub mostListed : ℕ
 mostListed = mostUsed * (mostParams * mostDefs)
 
 -- a slice too short (9)
-abbrev pub roomChecks : Borrows → ℕ → ℕ → ℕ → List Check
-roomChecks b used answers edges =
+abbrev pub borrowsRoomChecks : Borrows → ℕ → ℕ → ℕ → List Check
+borrowsRoomChecks b used answers edges =
     roomCheck used (b .used) ∷ roomCheck answers (b .answers) ∷ roomCheck edges (flatMap edgeWords (b .edges)) ∷ []
 
 -- `borrow_method`: refused as the method is (1, 13, 4, 7, 8), then by 9
@@ -55,13 +55,13 @@ unfoldable pub borrowMethod : LifetimeEnv → List ℕ → List ℕ → List ℕ
 borrowMethod env structs params output force used answers edges =
     unless
     (methodChecks env structs params output force
-    ++ roomChecks (borrowsOf env structs params output force) used answers edges)
+    ++ borrowsRoomChecks (borrowsOf env structs params output force) used answers edges)
     (borrowsOf env structs params output force)
 
 -- `borrow_sheet`: refused as the sheet is (10, 1, 13, then 2 to 7 by place, 8), then by 9
 unfoldable pub borrowSheet : List ℕ → ℕ → ℕ → ℕ → Outcome Borrows
 borrowSheet bytes used answers edges =
-    unless (sheetRefusals bytes ++ roomChecks (sheetBorrows (sheetOf bytes)) used answers edges)
+    unless (sheetRefusals bytes ++ borrowsRoomChecks (sheetBorrows (sheetOf bytes)) used answers edges)
     (sheetBorrows (sheetOf bytes))
 
 -- what the calls answer: how many of each there are, beside a refusal none

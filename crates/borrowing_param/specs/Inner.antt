@@ -57,8 +57,8 @@ pub record CountsFor (draws : ℕ → Bool) (t : LoweredType) (n : ℕ) : Type 0
   pub counts : (used param : ℕ) → n ≡ length (bring draws used param t)
 
 -- all lifetimes of a set are below a number that is itself within the limit
-abbrev pub Below : ℕ → ℕ → Type 0
-Below set limit = (limit ≤ mostLifetimes) × (set < 2 ^ limit)
+abbrev pub SetBelow : ℕ → ℕ → Type 0
+SetBelow set limit = (limit ≤ mostLifetimes) × (set < 2 ^ limit)
 
 -- what it brings to all, by the set of the used ones and the sets that draw
 abbrev pub allIn : ℕ → List ℕ → LoweredType → ℕ → List LifetimeEdge

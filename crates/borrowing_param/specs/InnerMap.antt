@@ -20,10 +20,10 @@ use Rattle.borrowing_param.specs.BorrowMap.{listedEdges, answersFrom, Ma
 use Rattle.answers.specs.Lists.{numbered}
 
 -- types one after another, to the end of some words
-pub data Lists : List ℕ → List LoweredType → Type 0 where
-  done : Lists [] []
+pub data ReadsTypes : List ℕ → List LoweredType → Type 0 where
+  done : ReadsTypes [] []
   more : {words rest : List ℕ} {t : LoweredType} {ts : List LoweredType} → readLowered words ≡ Read t rest
-      → Lists rest ts → Lists words (t ∷ ts)
+      → ReadsTypes rest ts → ReadsTypes words (t ∷ ts)
 
 -- the types of a record, their rows not looked up
 abbrev pub paramTypes : List ℕ → List LoweredType
@@ -31,7 +31,7 @@ paramTypes words = itemsOf (λ number. readLowered) words
 
 -- the parameters of a method
 pub record Params (words : List ℕ) : Type 0 where
-  pub lists : Lists words (paramTypes words)
+  pub lists : ReadsTypes words (paramTypes words)
   pub few : length (paramTypes words) ≤ mostParams
 
 -- a visitor by its sets
@@ -50,11 +50,11 @@ pub record CountsParams (used : ℕ) (drawn : List ℕ) (types : List LoweredTyp
   pub noted : numbers₁ ≡ sets numbers 0 (answersFrom (visitorIn used drawn) 0 types)
 
 -- the two checks for room
-abbrev pub roomChecks : BorrowingParamVisitor → List LoweredType → ℕ → ℕ → List Check
-roomChecks v types answers edges =
+abbrev pub mapRoomChecks : BorrowingParamVisitor → List LoweredType → ℕ → ℕ → List Check
+mapRoomChecks v types answers edges =
     roomCheck answers (answersFrom v 0 types)
     ∷ roomCheck edges (flatMap edgeWords (listedEdges v types))
     ∷ []
 
 abbrev pub mapOf : BorrowingParamVisitor → List LoweredType → ℕ → ℕ → Outcome Mapping
-mapOf v types answers edges = unless (roomChecks v types answers edges) (mappingOf v types)
+mapOf v types answers edges = unless (mapRoomChecks v types answers edges) (mappingOf v types)

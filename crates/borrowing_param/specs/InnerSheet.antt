@@ -11,11 +11,12 @@ use Rattle.sheet.specs.Text.{Records, wordsOf}
 use Rattle.sheet.specs.Reading.{sheetOf}
 use Rattle.borrowing_param.specs.declared.method.SheetMethod.{SheetMethod}
 use Rattle.borrowing_param.specs.declared.visitor.BorrowingParamVisitor.{BorrowingParamVisitor}
-use Rattle.borrowing_param.specs.Borrows.{Borrows, borrowsBy, roomChecks}
+use Rattle.borrowing_param.specs.Borrows.{Borrows, borrowsBy, borrowsRoomChecks}
 use Rattle.borrowing_param.specs.SheetMethod.{envOfSheet, loweringChecks, sheetRefusals, methodAnswer}
 
-abbrev pub records : List ℕ → List ℕ → List ℕ → List ℕ → List ℕ → List ℕ → List ℕ → List ℕ → List ℕ → List ℕ → Records
-records names bounds types self steps returns structs params output force =
+abbrev pub tenRecords : List ℕ → List ℕ → List ℕ → List ℕ → List ℕ → List ℕ → List ℕ → List ℕ → List ℕ → List ℕ
+    → Records
+tenRecords names bounds types self steps returns structs params output force =
     record {
       names = names;
       bounds = bounds;
@@ -34,18 +35,18 @@ abbrev pub smallBytes : ℕ
 smallBytes = 1024
 
 -- the environment of ten records that were read
-unfoldable pub methodOf : Records → Outcome LifetimeEnv
-methodOf r = unless (loweringChecks r) (envOfSheet r)
+unfoldable pub loweredEnv : Records → Outcome LifetimeEnv
+loweredEnv r = unless (loweringChecks r) (envOfSheet r)
 
 -- the answer is the method's or its refusal; with it the words of the records stand in front of the scratch
-pub record Judges (bytes : List ℕ) (m : SheetMethod) (scratch : List ℕ) : Type 0 where
+pub record JudgesSheet (bytes : List ℕ) (m : SheetMethod) (scratch : List ℕ) : Type 0 where
   pub answers : m ≡ methodAnswer (unless (sheetRefusals bytes) (sheetOf bytes))
   pub leaves : m .verdict ≡ verdict.Accepted → (rest : List ℕ) × (scratch ≡ wordsOf (sheetOf bytes) ++ rest)
 
 -- all parameters by a visitor of a method: 9 where a slice is too short
 unfoldable pub borrowBy : BorrowingParamVisitor → List ℕ → List ℕ → ℕ → ℕ → ℕ → Outcome Borrows
 borrowBy v structs params used answers edges =
-    unless (roomChecks (borrowsBy v structs params) used answers edges) (borrowsBy v structs params)
+    unless (borrowsRoomChecks (borrowsBy v structs params) used answers edges) (borrowsBy v structs params)
 
 -- two records of some method
 abbrev pub OfMethod : List ℕ → List ℕ → Type 0

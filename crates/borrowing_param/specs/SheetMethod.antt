@@ -14,7 +14,7 @@ use Rattle.elision.specs.Steps.{receiverOf, stepsOf}
 use Rattle.elision.specs.Rfc as rfc
 use Rattle.elision.specs.Lowering.{finished}
 use Rattle.methods.specs.Method.{placeChecks, outputLifetimes, anyPast}
-use Rattle.sheet.specs.Text.{records, Records, lists, wordsOf}
+use Rattle.sheet.specs.Text.{recordCount, Records, lists, wordsOf}
 use Rattle.sheet.specs.Reading.{sheetOf}
 use Rattle.answers.specs.Lists.{endsFrom}
 use Rattle.sheet.specs.Answer.{withRoom}
@@ -37,7 +37,7 @@ envOfSheet r = finished (astEnvOf r) (loweredOf r .count)
 -- structs, params and output (4, 7); then a lifetime of the output that there is not (8)
 unfoldable pub loweringChecks : Records → List Check
 loweringChecks r =
-    ast.placeChecks (r .names) (r .bounds) (r .types)
+    ast.itemPlaceChecks (r .names) (r .bounds) (r .types)
     ++ (rfc.elisionChecks (ast.allNamesOf (r .names)) (receiverOf (r .self)) (stepsOf (r .steps)) (stepsOf (r .returns))
     ++ (placeChecks (r .structs) (r .params) (r .output)
     ++ (check (anyPast (loweredOf r .count) (outputLifetimes (r .structs) (r .output))) OutOfRange ∷ [])))
@@ -53,7 +53,7 @@ lowerSheet bytes room = unless (withRoom (sheetRefusals bytes) room (sheetOf byt
 -- what the call answers, and what it writes
 abbrev pub methodAnswer : Outcome Records → SheetMethod
 methodAnswer (Gives r) = record { verdict = verdict.Accepted; ends = endsFrom 0 (lists r); env = envOfSheet r }
-methodAnswer (Refuses k) = record { verdict = verdict.Refused k; ends = replicate records 0; env = envOf 0 0 [] }
+methodAnswer (Refuses k) = record { verdict = verdict.Refused k; ends = replicate recordCount 0; env = envOf 0 0 [] }
 
 abbrev pub methodWords : Outcome Records → Outcome (List ℕ)
 methodWords o = over wordsOf o

@@ -89,15 +89,17 @@ MethodsAreSmall = (env : LifetimeEnv) (structs params output force : List ℕ)
 -- The listing and the visits. For every method on which no refusal is due, with its new visitor v: a visit to each
 -- parameter, one after another, gives what `borrow_map` lists
 
-abbrev pub inTurn : List ℕ → List ℕ → List ℕ
-inTurn structs params = range 0 (length (typesIn structs params))
+abbrev pub allParams : List ℕ → List ℕ → List ℕ
+allParams structs params = range 0 (length (typesIn structs params))
 
 -- what the visit of a parameter answers, and what all of them leave
 abbrev pub visitOf : List ℕ → List ℕ → BorrowingParamVisitor → List ℕ → ℕ → ParamBorrowInfo
-visitOf structs params v words p = visitAt (visitParam structs params) (state v words) (inTurn structs params) p .info
+visitOf structs params v words p =
+    visitAt (visitParam structs params) (state v words) (allParams structs params) p .info
 
-abbrev pub visited : List ℕ → List ℕ → BorrowingParamVisitor → List ℕ → State
-visited structs params v words = afterVisits (visitParam structs params) (state v words) (inTurn structs params)
+abbrev pub afterAllVisits : List ℕ → List ℕ → BorrowingParamVisitor → List ℕ → State
+afterAllVisits structs params v words =
+    afterVisits (visitParam structs params) (state v words) (allParams structs params)
 
 abbrev pub RoomForAll : List ℕ → List ℕ → BorrowingParamVisitor → List ℕ → Type 0
 RoomForAll structs params v words = width * length (listedEdges v (typesIn structs params)) ≤ length words
@@ -109,7 +111,8 @@ pub record AsVisited (structs params : List ℕ) (v : BorrowingParamVisitor) (wo
       × (visitOf structs params v words p .number ≡ getD (answersFrom v 0 (typesIn structs params)) p 0)
   -- and each lifetime has the edges that it has in the listing, in the same order
   pub edges : RoomForAll structs params v words → (used : ℕ)
-      → edgesOf used (edgesIn (visited structs params v words .visitor .stored) (visited structs params v words .words))
+      → edgesOf used (edgesIn (afterAllVisits structs params v words .visitor .stored)
+      (afterAllVisits structs params v words .words))
       ≡ edgesOf used (listedEdges v (typesIn structs params))
   -- without, a visit is refused by 9
   pub refused : (RoomForAll structs params v words → ⊥) → (p : ℕ) × (p < length (typesIn structs params))

@@ -8,14 +8,14 @@ use Rattle.answers.specs.declared.Refusal.the-variants.{Malformed}
 use Rattle.answers.specs.Refusals.{Check, check, Outcome, Gives, Refuses, unless}
 use Rattle.types.specs.declared.types.Kind.the-variants.{Plain}
 use Rattle.types.specs.declared.types.Own.the-variants.{Absent}
-use Rattle.types.specs.LoweredTypes.{LoweredType, lowered}
+use Rattle.types.specs.LoweredTypes.{LoweredType, loweredType}
 use Rattle.methods.specs.Method.{typesIn, structsAndParamsChecks}
 use Rattle.borrowing_param.specs.Brings.{refuse}
 use Rattle.borrowing_param.specs.Visit.{State, VisitOutcome, outcome, visit}
 
 -- the parameter's type
 abbrev pub typeAt : List LoweredType → ℕ → LoweredType
-typeAt types param = getD types param (lowered false Plain [] Absent)
+typeAt types param = getD types param (loweredType false Plain [] Absent)
 
 -- a parameter that is not there (1); else as any method with these two records is refused: 1, then 4 and 7 by place
 abbrev pub visitChecks : List ℕ → List ℕ → ℕ → List Check

@@ -13,7 +13,7 @@ ghost use Rattle.borrowing_param.specs.Edges.{width, mostDefs, edgeWords
 ghost use Rattle.types.specs.LoweredTypes.{lifetimesOf};
 ghost use Rattle.borrowing_param.specs.Brings.{drawn, anyDrawn, oneEdge, optionOf, bring};
 ghost use Rattle.borrowing_param.specs.Visit.{drawsIn};
-ghost use Rattle.borrowing_param.specs.Inner.{Below, Inside, typeIn, firstFrom, FirstDrawn, countDrawn, oneIf};
+ghost use Rattle.borrowing_param.specs.Inner.{SetBelow, Inside, typeIn, firstFrom, FirstDrawn, countDrawn, oneIf};
 ghost use Rattle.borrowing_param.specs.Inner.{CountsFor, CountsAll, structOf, allIn, Stores, StoresWords};
 use super::visitor::BorrowingParamVisitor;
 use super::visitor::LifetimeEdge;
@@ -187,7 +187,7 @@ fn count_one(set: u64, words: &[usize], parts: Parts) -> usize
 
 // A number that all lifetimes of a set are below.
 pub(crate) fn past_last(set: u64) -> usize
-    ensures { λ r. ⌜ Below set r ⌝ }
+    ensures { λ r. ⌜ SetBelow set r ⌝ }
 {
     set::CAPACITY - u64::leading_zeros(set) as usize
 }

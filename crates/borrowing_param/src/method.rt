@@ -12,7 +12,7 @@ ghost use Rattle.lifetimes.specs.Env.{envOf, made};
 ghost use Rattle.sheet.specs.Shape.{recordsChecks};
 ghost use Rattle.sheet.specs.Inner.{Laid, recordsAt, Roomy};
 ghost use Rattle.borrowing_param.specs.SheetMethod.{lowerSheet, methodAnswer, methodWords};
-ghost use Rattle.borrowing_param.specs.InnerSheet.{records, smallBytes, methodOf, Judges};
+ghost use Rattle.borrowing_param.specs.InnerSheet.{tenRecords, smallBytes, loweredEnv, JudgesSheet};
 use answers::Listed;
 use answers::Refusal;
 use answers::Verdict;
@@ -85,7 +85,7 @@ fn lower_within(sheet: &[u8], scratch: &mut [usize], words: &mut [usize]) -> She
 // A sheet's method, its words left in scratch.
 pub(crate) fn judge_sheet(sheet: &[u8], scratch: &mut [usize]) -> SheetMethod
     requires { ⌜ Roomy (now sheet) (length (now scratch)) ⌝ }
-    ensures { λ r. ⌜ Judges (held sheet) r (left scratch) ⌝ }
+    ensures { λ r. ⌜ JudgesSheet (held sheet) r (left scratch) ⌝ }
 {
     let text = read_sheet(sheet, scratch);
     let verdict = text.verdict;
@@ -110,7 +110,7 @@ pub(crate) fn judge_sheet(sheet: &[u8], scratch: &mut [usize]) -> SheetMethod
 // them.
 fn lower_laid(words: &[usize], ends: [usize; Text::RECORDS]) -> Made
     requires { ⌜ Laid (now words) ends × NoneDue (recordsChecks (recordsAt (now words) ends)) ⌝ }
-    ensures { λ r. ⌜ r ≡ made (envOf 0 0 []) (methodOf (recordsAt (held words) ends)) ⌝ }
+    ensures { λ r. ⌜ r ≡ made (envOf 0 0 []) (loweredEnv (recordsAt (held words) ends)) ⌝ }
 {
     lower_records(
         record_words(words, ends, Text::NAMES),
@@ -140,12 +140,12 @@ fn lower_records(
     force: &[usize],
 ) -> Made
     requires { ⌜ NoneDue (recordsChecks
-        (records (now names) (now bounds) (now types) (now receiver) (now steps) (now returns) (now structs)
+        (tenRecords (now names) (now bounds) (now types) (now receiver) (now steps) (now returns) (now structs)
         (now params) (now output) (now force))) ⌝ }
     ensures { λ r. ⌜ r
         ≡ made (envOf 0 0 [])
-        (methodOf
-        (records (held names) (held bounds) (held types) (held receiver) (held steps) (held returns) (held structs)
+        (loweredEnv
+        (tenRecords (held names) (held bounds) (held types) (held receiver) (held steps) (held returns) (held structs)
         (held params) (held output) (held force))) ⌝ }
 {
     let ast = ast_lifetimes::LifetimeEnv::from_method_item(names, bounds, types);

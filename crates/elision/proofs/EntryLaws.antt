@@ -19,6 +19,7 @@ use Rattle.answers.specs.Lent.{roomCheck, judged, Slice, held, left, room, Stay
 use Rattle.lifetimes.specs.LoweredWords.{wordOf}
 use Rattle.lifetimes.specs.Env.{envOf}
 use Rattle.lifetimes.specs.Env as hirenv
+use Rattle.lifetimes.specs.declared.env.LifetimeEnv as environment
 use Rattle.lifetimes.specs.declared.env.Made as hir
 use Rattle.answers.proofs.RefusalLaws.{refused-first, accepted-none, due-given, due-refused, refused-due, given-due}
 use Rattle.answers.proofs.RefusalLaws.{none-first, none-rest, none-split, first-more, first-after, none-more}
@@ -31,7 +32,7 @@ use Rattle.elision.specs.declared.method.Totals.{Totals}
 use Rattle.elision.specs.Steps.{selfInShape, stepsInShape, stepsOf, receiverOf}
 use Rattle.elision.specs.Rfc.{Method, elisionChecks, rfc141}
 use Rattle.elision.specs.Machine.{runMethod}
-use Rattle.elision.specs.Lowering.{words, recordsOf, inShapeAll, measureChecks, roomChecks, lowerChecks}
+use Rattle.elision.specs.Lowering.{words, loweredRecords, inShapeAll, measureChecks, loweringRoomChecks, lowerChecks}
 use Rattle.elision.specs.Lowering.{measureRecords, finished, finishEnv, lowerRecords, answered, LowersTo}
 use Rattle.elision.specs.Inner.{shown, totals, RunsAll}
 use Rattle.elision.proofs.RfcLaws.{method-said}
@@ -82,7 +83,7 @@ module _ (e : ast.LifetimeEnv) (self steps returns : List ℕ) where
   measure-due : {r : Refusal} {x : Lowering} → x ≡ refusedBy r → FirstDue r (measureChecks e self steps returns)
       → x ≡ answered e (measureRecords e self steps returns)
   unfolding measureRecords
-  measure-due h f = rw (due-refused (recordsOf e self steps returns) f) h
+  measure-due h f = rw (due-refused (loweredRecords e self steps returns) f) h
 
   pub measure-shape : {v : Verdict} {r : Refusal} {x : Lowering} → v ≡ shapeVerdict (inShapeAll self steps returns)
       → v ≡ verdict.Refused r → x ≡ refusedBy r
@@ -117,7 +118,7 @@ pub record Valid (e : ast.LifetimeEnv) (self steps returns : List ℕ) : Type 0 
 
 module _ {e : ast.LifetimeEnv} {self steps returns : List ℕ} (h : Valid e self steps returns) where
   abbrev records : Method
-  records = recordsOf e self steps returns
+  records = loweredRecords e self steps returns
 
   abbrev checks : List Check
   checks = elisionChecks (namesOf e) (receiverOf self) (stepsOf steps) (stepsOf returns)
@@ -152,17 +153,18 @@ module _ {e : ast.LifetimeEnv} {self steps returns : List ℕ} (h : Valid e self
     told : t ≡ totals (Gives records)
     told = given-run .1 .1 ∙ ap (λ (m : Method). totals (Gives m)) (sym (passed .1))
 
-    pub measure-all : record {
+    pub measure-all : {made : environment.LifetimeEnv} → made ≡ finished e (t .count) → record {
       verdict = verdict.Accepted;
       selves = t .selves;
       steps = t .steps;
       returns = t .returns;
-      env = finished e (t .count);
+      env = made;
     } ≡ answered e (measureRecords e self steps returns)
     unfolding measureRecords
-    measure-all =
+    measure-all is =
         let due : NoneDue (measureChecks e self steps returns) = next (shape-not (h .shaped)) (none-more (h .none) (passed .0)) in
         rw (
+          is,
           due-given records due,
           told,
           length-map (records .self) wordOf,
@@ -181,7 +183,7 @@ module _ (e : ast.LifetimeEnv) (self steps returns : List ℕ) (own given taken 
       → Stays own → Stays given → Stays taken → LowersTo e whole x own given taken
   unfolding lowerRecords
   refused-answers h due a b c =
-      let q = due-refused (recordsOf e self steps returns) due in
+      let q = due-refused (loweredRecords e self steps returns) due in
       record { answer = rw q h; own-filled = rw q a; given-filled = rw q b; taken-filled = rw q c }
 
   pub lower-refused : {m : Lowering} {r : Refusal} → m ≡ answered e (measureRecords e self steps returns)
@@ -190,12 +192,12 @@ module _ (e : ast.LifetimeEnv) (self steps returns : List ℕ) (own given taken 
   lower-refused {m} {r} counted v =
       let p = answer-refused e (measureRecords e self steps returns) counted v in
       refused-answers (p .1)
-      (first-more _ (refused-due (recordsOf e self steps returns) r (measureChecks e self steps returns) (p .0)))
+      (first-more _ (refused-due (loweredRecords e self steps returns) r (measureChecks e self steps returns) (p .0)))
 
 -- what `measure` leaves where it accepts
 pub record Measured (e : ast.LifetimeEnv) (self steps returns : List ℕ) (m : Lowering) : Type 0 where
   pub none : NoneDue (measureChecks e self steps returns)
-  pub is : m ≡ answered e (Gives (recordsOf e self steps returns))
+  pub is : m ≡ answered e (Gives (loweredRecords e self steps returns))
 
 pub measures : (e : ast.LifetimeEnv) (self steps returns : List ℕ) {m : Lowering}
     → m ≡ answered e (measureRecords e self steps returns) → m .verdict ≡ verdict.Accepted
@@ -203,7 +205,7 @@ pub measures : (e : ast.LifetimeEnv) (self steps returns : List ℕ) {m : Loweri
 unfolding measureRecords
 measures e self steps returns counted fine =
     let g = answer-given e (measureRecords e self steps returns) counted fine in
-    let d = given-due (recordsOf e self steps returns) (g .0) (measureChecks e self steps returns) (g .1 .0) in
+    let d = given-due (loweredRecords e self steps returns) (g .0) (measureChecks e self steps returns) (g .1 .0) in
     record { none = d .0; is = g .1 .1 ∙ ap (λ (x : Method). answered e (Gives x)) (sym (d .1)) }
 
 -- whether words have room, by how many they are
@@ -215,7 +217,7 @@ lacks {room} ws size h = lt-ltb room (length ws) (omega (arith, size))
 
 module _ {e : ast.LifetimeEnv} {self steps returns : List ℕ} {m : Lowering} (h : Measured e self steps returns m) where
   abbrev method : Method
-  method = recordsOf e self steps returns
+  method = loweredRecords e self steps returns
 
   selves : length (words (method .self)) ≡ m .selves
   selves = sym (ap (λ (x : Lowering). x .selves) (h .is))
@@ -237,7 +239,7 @@ module _ {e : ast.LifetimeEnv} {self steps returns : List ℕ} {m : Lowering} (h
   lower-named = ltb-false 32 (e .named) (none-first (parted .0))
 
   module _ {own given taken : Slice} {x : Lowering} where
-    no-room : x ≡ refusedBy NoRoom → FirstDue NoRoom (roomChecks method (room own) (room given) (room taken))
+    no-room : x ≡ refusedBy NoRoom → FirstDue NoRoom (loweringRoomChecks method (room own) (room given) (room taken))
         → Stays own → Stays given → Stays taken
         → LowersTo e (whole e self steps returns own given taken) x own given taken
     no-room n f = refused-answers e self steps returns own given taken n (first-after (h .none) f)
@@ -278,7 +280,7 @@ module _ {e : ast.LifetimeEnv} {self steps returns : List ℕ} {m : Lowering} (h
     all : whole e self steps returns own given taken ≡ Gives method
     unfolding lowerRecords
     all =
-        let rooms : NoneDue (roomChecks method (room own) (room given) (room taken)) =
+        let rooms : NoneDue (loweringRoomChecks method (room own) (room given) (room taken)) =
         next (fits (words (method .self)) selves room₁)
         (next (fits (words (method .steps)) stepped room₂)
         (next (fits (words (method .returns)) returned room₃) end)) in
@@ -317,10 +319,13 @@ module _ (e : ast.LifetimeEnv) (count : ℕ) where
       first-more _ (refused-first (tt {0}) r (envChecks e) (sym a ∙ b)) in
       rw (due-refused (finished e count) f) h
 
-  module _ {v : Verdict} (valid : v ≡ judged (envChecks e)) (fine : v ≡ verdict.Accepted) {w : Verdict}
-      (checked : w ≡ judged (hirenv.envChecks (finished e count))) where
+  module _ {v : Verdict} (valid : v ≡ judged (envChecks e)) (fine : v ≡ verdict.Accepted)
+      {made : environment.LifetimeEnv} (is : made ≡ finished e count) {w : Verdict} (checked : w ≡ judged (hirenv.envChecks made)) where
     checks-none : NoneDue (envChecks e)
     checks-none = accepted-none (tt {0}) (envChecks e) (sym valid ∙ fine)
+
+    judges : w ≡ judged (hirenv.envChecks (finished e count))
+    judges = checked ∙ ap (λ (x : environment.LifetimeEnv). judged (hirenv.envChecks x)) is
 
     pub finish-refused : {r : Refusal} {x : hir.Made} → w ≡ verdict.Refused r
         → x ≡ record { verdict = verdict.Refused r; env = envOf 0 0 [] }
@@ -329,14 +334,14 @@ module _ (e : ast.LifetimeEnv) (count : ℕ) where
     finish-refused {r} b h =
         let f : FirstDue r (envChecks e ++ hirenv.envChecks (finished e count)) =
         first-after checks-none
-        (refused-first (tt {0}) r (hirenv.envChecks (finished e count)) (sym checked ∙ b)) in
+        (refused-first (tt {0}) r (hirenv.envChecks (finished e count)) (sym judges ∙ b)) in
         rw (due-refused (finished e count) f) h
 
-    pub finish-given : w ≡ verdict.Accepted → record { verdict = verdict.Accepted; env = finished e count }
+    pub finish-given : w ≡ verdict.Accepted → record { verdict = verdict.Accepted; env = made }
         ≡ hirenv.made (envOf 0 0 []) (finishEnv e count)
     unfolding finishEnv
     finish-given b =
         let f : NoneDue (envChecks e ++ hirenv.envChecks (finished e count)) =
         none-more checks-none
-        (accepted-none (tt {0}) (hirenv.envChecks (finished e count)) (sym checked ∙ b)) in
-        rw (due-given (finished e count) f)
+        (accepted-none (tt {0}) (hirenv.envChecks (finished e count)) (sym judges ∙ b)) in
+        rw (is, due-given (finished e count) f)

@@ -14,9 +14,9 @@ use Rattle.records.specs.Reading.{Read, readLifetimes}
 use Rattle.records.proofs.ReadingLaws.{Holds, read, fails, holds-cond, holds-onward, LifetimesIn, WordIn}
 use Rattle.records.proofs.ReadingLaws.{lifetimes-read, word-read, items-encoded}
 use Rattle.elision.specs.declared.lowerer.Lowerer.{Lowerer}
-use Rattle.elision.specs.Steps.{Step, Lifetime, Generics, SelfType, readGenerics, readStep, wordsOf, allWords}
+use Rattle.elision.specs.Steps.{Step, Lifetime, Generics, SelfType, readGenerics, readStep, wordsOfStep, allWords}
 use Rattle.elision.specs.Steps.{stepsInShape, stepsOf}
-use Rattle.elision.specs.Machine.{Answer, answer, inTurn, fits, oneStep, wordedStep, runSteps}
+use Rattle.elision.specs.Machine.{Advanced, advanced, inTurn, fits, oneStep, wordedStep, runSteps}
 use Rattle.elision.proofs.ReadingLaws.{AllFit, steps-fit, steps-one-by-one}
 
 -- ---- a step's words are what stood there
@@ -25,11 +25,11 @@ generics-read : (words : List ℕ) → Holds (WordIn words) (readGenerics words)
 generics-read [] = fails
 generics-read (g ∷ words) = holds-cond (WordIn (g ∷ words)) (leb g 16) (λ e. read refl) fails
 
-step-read : (words : List ℕ) → Holds (λ step rest. wordsOf step ++ rest ≡ words) (readStep words)
+step-read : (words : List ℕ) → Holds (λ step rest. wordsOfStep step ++ rest ≡ words) (readStep words)
 unfolding readStep
 step-read [] = fails
 step-read (kind ∷ words) =
-    let P : Step → List ℕ → Type 0 = λ step rest. wordsOf step ++ rest ≡ kind ∷ words in
+    let P : Step → List ℕ → Type 0 = λ step rest. wordsOfStep step ++ rest ≡ kind ∷ words in
     holds-cond P (eqb kind 0) (λ e. holds-onward (WordIn words) P (word-read words) (λ l rest p. read (rw (eqb-true kind 0 e, p))))
     (holds-cond P (eqb kind 1)
     (λ e. holds-onward (WordIn words) P (generics-read words)
@@ -41,7 +41,7 @@ step-read (kind ∷ words) =
 
 pub steps-whole : (words : List ℕ) → stepsInShape words ≡ true → allWords (stepsOf words) ≡ words
 unfolding flatMap
-steps-whole words e = items-encoded (λ number. readStep) wordsOf (λ number. step-read) allWords refl (λ a items. refl) words e
+steps-whole words e = items-encoded (λ number. readStep) wordsOfStep (λ number. step-read) allWords refl (λ a items. refl) words e
 
 -- ---- a step is read back from its words
 
@@ -54,7 +54,7 @@ lifetimes-back ls few =
       drop-of-length-le ls {i = length ls} (omega arith),
     )
 
-step-back : (step : Step) → fits step ≡ true → readStep (wordsOf step) ≡ Read step []
+step-back : (step : Step) → fits step ≡ true → readStep (wordsOfStep step) ≡ Read step []
 unfolding readStep
 step-back (Lifetime l) e = refl
 step-back (Generics g ls) e = let p = (and-eq-true-iff (leb g 16) (leb (length ls) 16)) .0 e in rw (p .0, lifetimes-back ls (p .1))
@@ -63,22 +63,22 @@ step-back (SelfType ls) e = rw (lifetimes-back ls e)
 -- ---- the steps in turn
 
 in-turn : (names : List ℕ) (out : Bool) (l : List Step) → AllFit l → (s : Lowerer)
-    → inTurn (wordedStep names out) (map wordsOf l) s ≡ inTurn (oneStep names out) l s
+    → inTurn (wordedStep names out) (map wordsOfStep l) s ≡ inTurn (oneStep names out) l s
 unfolding inTurn wordedStep
 in-turn names out [] p s = refl
 in-turn names out (x ∷ l) p s = rw (step-back x (p .0)) (go (oneStep names out x s) (in-turn names out l (p .1)))
   where
-    go : (o : Outcome (Answer Lowerer))
-        → ((s : Lowerer) → inTurn (wordedStep names out) (map wordsOf l) s ≡ inTurn (oneStep names out) l s)
+    go : (o : Outcome (Advanced Lowerer))
+        → ((s : Lowerer) → inTurn (wordedStep names out) (map wordsOfStep l) s ≡ inTurn (oneStep names out) l s)
         → bind o
-        (λ first. bind (inTurn (wordedStep names out) (map wordsOf l) (first .left))
-        (λ rest. Gives (answer (first .given ++ rest .given) (rest .left))))
+        (λ first. bind (inTurn (wordedStep names out) (map wordsOfStep l) (first .left))
+        (λ rest. Gives (advanced (first .given ++ rest .given) (rest .left))))
         ≡ bind o
         (λ first. bind (inTurn (oneStep names out) l (first .left))
-        (λ rest. Gives (answer (first .given ++ rest .given) (rest .left))))
+        (λ rest. Gives (advanced (first .given ++ rest .given) (rest .left))))
     go (Gives a) more = rw (more (a .left))
     go (Refuses r) more = refl
 
 pub steps-together : (names : List ℕ) (out : Bool) (words : List ℕ) (s : Lowerer)
-    → inTurn (wordedStep names out) (map wordsOf (stepsOf words)) s ≡ runSteps names out (stepsOf words) s
+    → inTurn (wordedStep names out) (map wordsOfStep (stepsOf words)) s ≡ runSteps names out (stepsOf words) s
 steps-together names out words s = in-turn names out (stepsOf words) (steps-fit words) s ∙ sym (steps-one-by-one names out words s)

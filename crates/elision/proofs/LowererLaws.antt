@@ -22,8 +22,8 @@ use Rattle.elision.specs.declared.lowerer.Stepped.{Stepped}
 use Rattle.elision.specs.declared.lowerer.Worded.{Worded}
 use Rattle.elision.specs.declared.lowerer.Run.{Run}
 use Rattle.elision.specs.Steps.{Generics, SelfType}
-use Rattle.elision.specs.Rfc.{padded, standingIn}
-use Rattle.elision.specs.Machine.{Answer, answer, lowerWord, lowerWords, valuesIn, laid, lowerStep, oneStep}
+use Rattle.elision.specs.Rfc.{appended, standingIn}
+use Rattle.elision.specs.Machine.{Advanced, advanced, lowerWord, lowerWords, valuesIn, laid, lowerStep, oneStep}
 use Rattle.elision.specs.Machine.{unused, selfRef, stepped}
 use Rattle.elision.specs.Inner.{worded, ran}
 use Rattle.elision.proofs.LowererLoops.{single-word, accepted-word, refused-word}
@@ -72,15 +72,15 @@ module _ (names : List ℕ) (word : ℕ) {fresh : Lowerer} (e : fresh ≡ unused
 -- ---- steps over some words
 
 module _ (self : Lowerer) {r : Run} where
-  refused-run : {k : Refusal} (o : Outcome (Answer Seen)) → r ≡ ran (self .seen) o → r .verdict ≡ verdict.Refused k → o ≡ Refuses k
+  refused-run : {k : Refusal} (o : Outcome (Advanced Seen)) → r ≡ ran (self .seen) o → r .verdict ≡ verdict.Refused k → o ≡ Refuses k
   refused-run (Gives a) e v = refused-accepted (sym v ∙ ap (λ (x : Run). x .verdict) e)
   refused-run (Refuses j) e v = let h : verdict.Refused j ≡ verdict.Refused _ = sym (ap (λ (x : Run). x .verdict) e) ∙ v in cc
 
-  given-run : (keep : Answer Seen → Lowerer) (next : Lowerer) (o : Outcome (Answer Seen)) → r ≡ ran (self .seen) o
+  given-run : (keep : Advanced Seen → Lowerer) (next : Lowerer) (o : Outcome (Advanced Seen)) → r ≡ ran (self .seen) o
       → r .verdict ≡ verdict.Accepted
-      → ((a : Answer Seen) → r .seen ≡ a .left → r .lifetimes ≡ laid (a .given) → next ≡ keep a)
+      → ((a : Advanced Seen) → r .seen ≡ a .left → r .lifetimes ≡ laid (a .given) → next ≡ keep a)
       → record { verdict = verdict.Accepted; lowerer = next; lifetimes = r .lifetimes }
-      ≡ stepped self (bind o (λ a. Gives (answer (a .given) (keep a))))
+      ≡ stepped self (bind o (λ a. Gives (advanced (a .given) (keep a))))
   given-run keep next (Gives a) e v f = rw (f a (ap (λ (x : Run). x .seen) e) (ap (λ (x : Run). x .lifetimes) e), e)
   given-run keep next (Refuses k) e v f = refused-accepted (sym (ap (λ (x : Run). x .verdict) e) ∙ v)
 
@@ -95,9 +95,9 @@ module _ (self : Lowerer) (names : List ℕ) (out : Bool) (g : ℕ) (words : Lis
   generics-long h k = rw (le-leb g 16 h, lt-leb (length words) 16 k)
 
   module _ (h : g ≤ 16) (k : length words ≤ 16) {st : Standing} (s : st ≡ standingIn out) {r : Run}
-      (said : r ≡ ran (self .seen) (lowerWords names st (padded g words) (self .seen))) where
-    told : r ≡ ran (self .seen) (lowerWords names (standingIn out) (padded g words) (self .seen))
-    told = subst (λ (x : Standing). r ≡ ran (self .seen) (lowerWords names x (padded g words) (self .seen))) s said
+      (said : r ≡ ran (self .seen) (lowerWords names st (appended g words) (self .seen))) where
+    told : r ≡ ran (self .seen) (lowerWords names (standingIn out) (appended g words) (self .seen))
+    told = subst (λ (x : Standing). r ≡ ran (self .seen) (lowerWords names x (appended g words) (self .seen))) s said
 
     pub generics-refused : {j : Refusal} → r .verdict ≡ verdict.Refused j
         → refusedStep self j ≡ stepped self (oneStep names out (Generics g words) self)
@@ -106,7 +106,7 @@ module _ (self : Lowerer) (names : List ℕ) (out : Bool) (g : ℕ) (words : Lis
         rw (
           le-leb g 16 h,
           le-leb (length words) 16 k,
-          refused-run self (lowerWords names (standingIn out) (padded g words) (self .seen)) told v,
+          refused-run self (lowerWords names (standingIn out) (appended g words) (self .seen)) told v,
         )
 
     pub generics-given : r .verdict ≡ verdict.Accepted
@@ -120,7 +120,7 @@ module _ (self : Lowerer) (names : List ℕ) (out : Bool) (g : ℕ) (words : Lis
         rw (le-leb g 16 h, le-leb (length words) 16 k)
         (given-run self (λ a. record { seen = a .left; kept = self .kept; own = self .own })
         (record { seen = r .seen; kept = self .kept; own = self .own })
-        (lowerWords names (standingIn out) (padded g words) (self .seen)) told v (λ a x y. rw x))
+        (lowerWords names (standingIn out) (appended g words) (self .seen)) told v (λ a x y. rw x))
 
 module _ (self : Lowerer) (names : List ℕ) (out : Bool) (words : List ℕ) where
   pub self-long : 16 < length words → refusedStep self Malformed ≡ stepped self (oneStep names out (SelfType words) self)
@@ -135,22 +135,22 @@ module _ (self : Lowerer) (names : List ℕ) (out : Bool) (words : List ℕ) whe
     self-kept k e = rw (le-leb (length words) 16 h, k, e)
 
     module _ (k : self .kept ≡ false) {r : Run}
-        (call : r ≡ ran (self .seen) (lowerWords names Aside (padded 0 words) (self .seen))) where
+        (call : r ≡ ran (self .seen) (lowerWords names Aside (appended 0 words) (self .seen))) where
       -- no anonymous ones are appended
       said : r ≡ ran (self .seen) (lowerWords names Aside words (self .seen))
       said = rw (zero-sub (length words), append-nil words) at call
 
       made : oneStep names out (SelfType words) self
           ≡ bind (lowerWords names Aside words (self .seen))
-          (λ a. Gives (answer (a .given) (record { seen = a .left; kept = true; own = laid (a .given) })))
+          (λ a. Gives (advanced (a .given) (record { seen = a .left; kept = true; own = laid (a .given) })))
       unfolding oneStep lowerStep
       made = rw (le-leb (length words) 16 h) (go (self .kept) k)
         where
-          first : Outcome (Answer Lowerer)
+          first : Outcome (Advanced Lowerer)
           first = bind (lowerWords names Aside words (self .seen))
-              (λ a. Gives (answer (a .given) (record { seen = a .left; kept = true; own = laid (a .given) })))
+              (λ a. Gives (advanced (a .given) (record { seen = a .left; kept = true; own = laid (a .given) })))
 
-          go : (t : Bool) → t ≡ false → cond t (Gives (answer (valuesIn (self .own)) self)) first ≡ first
+          go : (t : Bool) → t ≡ false → cond t (Gives (advanced (valuesIn (self .own)) self)) first ≡ first
           go true e = let z : _≡_ {A = ℕ} 0 1 = cc in absurd (omega arith)
           go false e = refl
 

@@ -26,8 +26,8 @@ use Rattle.elision.specs.declared.lowerer.Standing.the-variants.{Input, 
 use Rattle.elision.specs.declared.lowerer.Lowered.{Lowered}
 use Rattle.elision.specs.declared.lowerer.Seen.{Seen}
 use Rattle.elision.specs.declared.lowerer.Worded.{Worded}
-use Rattle.elision.specs.Rfc.{padded}
-use Rattle.elision.specs.Machine.{Answer, answer, inTurn, lowers, fromSource, lowerAnonymous, lowerWord}
+use Rattle.elision.specs.Rfc.{appended}
+use Rattle.elision.specs.Machine.{Advanced, advanced, inTurn, lowers, fromSource, lowerAnonymous, lowerWord}
 use Rattle.elision.specs.Machine.{lowerWords, lowered, laid, firstOr}
 use Rattle.elision.specs.Inner.{worded, ran, shown, Puts}
 use Rattle.answers.proofs.Copying.{sets-append}
@@ -36,11 +36,11 @@ use Rattle.elision.proofs.LaidLoops.{Filled, filled-none, filled-more, 
 
 -- ---- one word gives one lifetime
 
-abbrev Single : Outcome (Answer Seen) → Type 0
+abbrev Single : Outcome (Advanced Seen) → Type 0
 Single (Gives a) = a .given ≡ firstOr (a .given) ∷ []
 Single (Refuses r) = Unit {0}
 
-single-cond : (t : Bool) (a b : Outcome (Answer Seen)) → Single a → Single b → Single (cond t a b)
+single-cond : (t : Bool) (a b : Outcome (Advanced Seen)) → Single a → Single b → Single (cond t a b)
 single-cond true a b x y = x
 single-cond false a b x y = y
 
@@ -69,29 +69,29 @@ single-word names st word s =
     (single-cond (eqb word 0) static name refl (single-cond (isDeclared names word) named (Refuses Undeclared) refl tt))
 
 module _ {r : Worded} (s : Seen) where
-  pub accepted-word : (o : Outcome (Answer Seen)) → r ≡ worded s o → Single o → r .verdict ≡ verdict.Accepted
-      → o ≡ Gives (answer (r .lifetime ∷ []) (r .seen))
-  accepted-word (Gives a) e one v = rw e (ap (λ (l : List MaybeStatic). Gives (answer l (a .left))) one)
+  pub accepted-word : (o : Outcome (Advanced Seen)) → r ≡ worded s o → Single o → r .verdict ≡ verdict.Accepted
+      → o ≡ Gives (advanced (r .lifetime ∷ []) (r .seen))
+  accepted-word (Gives a) e one v = rw e (ap (λ (l : List MaybeStatic). Gives (advanced l (a .left))) one)
   accepted-word (Refuses k) e one v = refused-accepted (sym (ap (λ (w : Worded). w .verdict) e) ∙ v)
 
-  pub refused-word : {k : Refusal} (o : Outcome (Answer Seen)) → r ≡ worded s o → r .verdict ≡ verdict.Refused k → o ≡ Refuses k
+  pub refused-word : {k : Refusal} (o : Outcome (Advanced Seen)) → r ≡ worded s o → r .verdict ≡ verdict.Refused k → o ≡ Refuses k
   refused-word (Gives a) e v = refused-accepted (sym v ∙ ap (λ (w : Worded). w .verdict) e)
   refused-word (Refuses j) e v = let h : verdict.Refused j ≡ verdict.Refused _ = sym (ap (λ (w : Worded). w .verdict) e) ∙ v in cc
 
 -- ---- the words, with those that are appended
 
-pub padded-length : (g : ℕ) (words : List ℕ) → length (padded g words) ≡ length words + (g - length words)
-padded-length g words = length-append words (replicate (g - length words) 1) ∙ rw (length-replicate {A = ℕ} (g - length words) 1)
+pub appended-length : (g : ℕ) (words : List ℕ) → length (appended g words) ≡ length words + (g - length words)
+appended-length g words = length-append words (replicate (g - length words) 1) ∙ rw (length-replicate {A = ℕ} (g - length words) 1)
 
-padded-at : (words : List ℕ) (k i : ℕ) → i < length words + k → getD (words ++ replicate k 1) i 0 ≡ getD words i 1
-padded-at [] k i h = getD-replicate k i 1 0 (omega arith)
-padded-at (w ∷ words) k zero h = refl
-padded-at (w ∷ words) k (suc i) h = padded-at words k i (omega arith)
+appended-at : (words : List ℕ) (k i : ℕ) → i < length words + k → getD (words ++ replicate k 1) i 0 ≡ getD words i 1
+appended-at [] k i h = getD-replicate k i 1 0 (omega arith)
+appended-at (w ∷ words) k zero h = refl
+appended-at (w ∷ words) k (suc i) h = appended-at words k i (omega arith)
 
 -- ---- the loop
 
-abbrev behind : List MaybeStatic → Answer Seen → Outcome (Answer Seen)
-behind done a = Gives (answer (done ++ a .given) (a .left))
+abbrev behind : List MaybeStatic → Advanced Seen → Outcome (Advanced Seen)
+behind done a = Gives (advanced (done ++ a .given) (a .left))
 
 -- what is left to lower, and what is done
 pub record Going (names : List ℕ) (st : Standing) (g : ℕ) (words : List ℕ) (seen : Seen) (total : ℕ) (here : Seen)
@@ -101,9 +101,9 @@ pub record Going (names : List ℕ) (st : Standing) (g : ℕ) (words : List ℕ)
   pub within : i ≤ total
   pub done : List MaybeStatic
   pub many : length done ≡ i
-  pub left : lowerWords names st (padded g words) seen ≡ bind (lowerWords names st (drop i (padded g words)) here) (behind done)
+  pub left : lowerWords names st (appended g words) seen ≡ bind (lowerWords names st (drop i (appended g words)) here) (behind done)
 
-after-itself : (o : Outcome (Answer Seen)) → o ≡ bind o (behind [])
+after-itself : (o : Outcome (Advanced Seen)) → o ≡ bind o (behind [])
 after-itself (Gives a) = refl
 after-itself (Refuses r) = refl
 
@@ -116,29 +116,29 @@ going-start names st g words seen e h k = record {
   within = omega arith;
   done = [];
   many = refl;
-  left = after-itself (lowerWords names st (padded g words) seen);
+  left = after-itself (lowerWords names st (appended g words) seen);
 }
 
 module _ {names : List ℕ} {st : Standing} {g : ℕ} {words : List ℕ} {seen : Seen} {total : ℕ} {here : Seen} {i : ℕ}
     (inv : Going names st g words seen total here i) where
-  going-end : total ≤ i → lowerWords names st (padded g words) seen ≡ Gives (answer (inv .done) here)
+  going-end : total ≤ i → lowerWords names st (appended g words) seen ≡ Gives (advanced (inv .done) here)
   unfolding inTurn
   going-end h =
-      let past : length (padded g words) ≤ i = omega (arith, padded-length g words, inv .count) in
-      rw (inv .left, drop-of-length-le (padded g words) {i = i} past, append-nil (inv .done))
+      let past : length (appended g words) ≤ i = omega (arith, appended-length g words, inv .count) in
+      rw (inv .left, drop-of-length-le (appended g words) {i = i} past, append-nil (inv .done))
 
   module _ (h : i < total) {word : ℕ} (w : word ≡ getD words i 1) {r : Worded}
       (said : r ≡ worded here (lowerWord names st word here)) where
-    next : lowerWords names st (drop i (padded g words)) here
+    next : lowerWords names st (drop i (appended g words)) here
         ≡ bind (lowerWord names st word here)
-        (λ first. bind (lowerWords names st (drop (i + 1) (padded g words)) (first .left))
-        (λ rest. Gives (answer (first .given ++ rest .given) (rest .left))))
+        (λ first. bind (lowerWords names st (drop (i + 1) (appended g words)) (first .left))
+        (λ rest. Gives (advanced (first .given ++ rest .given) (rest .left))))
     unfolding inTurn
     next =
-        let inside : i < length (padded g words) = omega (arith, padded-length g words, inv .count) in
-        rw (drop-cons (padded g words) i 0 inside, padded-at words (g - length words) i (omega (arith, inv .count)), ← w, add-one i)
+        let inside : i < length (appended g words) = omega (arith, appended-length g words, inv .count) in
+        rw (drop-cons (appended g words) i 0 inside, appended-at words (g - length words) i (omega (arith, inv .count)), ← w, add-one i)
 
-    going-refused : {k : Refusal} → r .verdict ≡ verdict.Refused k → lowerWords names st (padded g words) seen ≡ Refuses k
+    going-refused : {k : Refusal} → r .verdict ≡ verdict.Refused k → lowerWords names st (appended g words) seen ≡ Refuses k
     going-refused v = rw (inv .left, next, refused-word here (lowerWord names st word here) said v)
 
     unfoldable going-more : r .verdict ≡ verdict.Accepted → Going names st g words seen total (r .seen) (i + 1)
@@ -149,11 +149,11 @@ module _ {names : List ℕ} {st : Standing} {g : ℕ} {words : List ℕ} {seen :
       done = inv .done ++ (r .lifetime ∷ []);
       many = length-append (inv .done) (r .lifetime ∷ []) ∙ rw (inv .many);
       left = rw (inv .left, next, accepted-word here (lowerWord names st word here) said (single-word names st word here) v)
-          (join (lowerWords names st (drop (i + 1) (padded g words)) (r .seen)));
+          (join (lowerWords names st (drop (i + 1) (appended g words)) (r .seen)));
     }
       where
-        join : (o : Outcome (Answer Seen))
-            → bind (bind o (λ rest. Gives (answer ((r .lifetime ∷ []) ++ rest .given) (rest .left))))
+        join : (o : Outcome (Advanced Seen))
+            → bind (bind o (λ rest. Gives (advanced ((r .lifetime ∷ []) ++ rest .given) (rest .left))))
             (behind (inv .done)) ≡ bind o (behind (inv .done ++ (r .lifetime ∷ [])))
         join (Gives a) = rw append-assoc
         join (Refuses k) = refl
@@ -179,7 +179,7 @@ module _ {names : List ℕ} {st : Standing} {g : ℕ} {words : List ℕ} {seen :
 
   pub running-end : total ≤ i
       → record { verdict = verdict.Accepted; seen = here; lifetimes = record { n = total; list = list } }
-      ≡ ran seen (lowerWords names st (padded g words) seen)
+      ≡ ran seen (lowerWords names st (appended g words) seen)
   running-end h =
       let e : total ≡ i = omega (arith, inv .going .within) in
       rw (going-end (inv .going) h, ← filled-laid (inv .filled), e)
@@ -188,7 +188,7 @@ module _ {names : List ℕ} {st : Standing} {g : ℕ} {words : List ℕ} {seen :
       (said : r ≡ worded here (lowerWord names st word here)) where
     pub running-refused : {k : Refusal} → r .verdict ≡ verdict.Refused k
         → record { verdict = verdict.Refused k; seen = seen; lifetimes = laid [] }
-        ≡ ran seen (lowerWords names st (padded g words) seen)
+        ≡ ran seen (lowerWords names st (appended g words) seen)
     running-refused v = rw (going-refused (inv .going) h w said v)
 
     pub running-more : r .verdict ≡ verdict.Accepted
@@ -219,7 +219,7 @@ module _ {names : List ℕ} {st : Standing} {g : ℕ} {words : List ℕ} {seen :
     {here : Seen} {i : ℕ}
     (inv : Putting names st g words seen total at slice₀ slice here i) where
   pub putting-end : total ≤ i
-      → Puts seen (lowerWords names st (padded g words) seen) at slice₀ slice
+      → Puts seen (lowerWords names st (appended g words) seen) at slice₀ slice
       (record { verdict = verdict.Accepted; seen = here; at = at + total })
   putting-end h =
       let e : total ≡ length (inv .going .done) = omega (arith, inv .going .within, inv .going .many) in
@@ -230,13 +230,13 @@ module _ {names : List ℕ} {st : Standing} {g : ℕ} {words : List ℕ} {seen :
         stores = λ a k. let same : inv .going .done ≡ a .given = given (sym whole ∙ k) in rw (← same) (inv .stored);
       }
     where
-      given : {a : Answer Seen} → Gives (answer (inv .going .done) here) ≡ Gives a → inv .going .done ≡ a .given
-      given {a} k = let q : answer (inv .going .done) here ≡ a = cc in ap (λ (x : Answer Seen). x .given) q
+      given : {a : Advanced Seen} → Gives (advanced (inv .going .done) here) ≡ Gives a → inv .going .done ≡ a .given
+      given {a} k = let q : advanced (inv .going .done) here ≡ a = cc in ap (λ (x : Advanced Seen). x .given) q
 
   module _ (h : i < total) {word : ℕ} (w : word ≡ getD words i 1) {r : Worded}
       (said : r ≡ worded here (lowerWord names st word here)) where
     pub putting-refused : {k : Refusal} → r .verdict ≡ verdict.Refused k
-        → Puts seen (lowerWords names st (padded g words) seen) at slice₀ slice
+        → Puts seen (lowerWords names st (appended g words) seen) at slice₀ slice
         (record { verdict = verdict.Refused k; seen = seen; at = at })
     putting-refused {k} v =
         let whole = going-refused (inv .going) h w said v in

@@ -20,7 +20,7 @@ use Rattle.elision.specs.declared.put.Took.{Took}
 use Rattle.elision.specs.declared.method.Totals.{Totals}
 use Rattle.elision.specs.Steps.{Step, Receiver, receiverOf}
 use Rattle.elision.specs.Rfc.{Method}
-use Rattle.elision.specs.Machine.{Answer, answer, laid, lowerWord, unused, selfRef, lowerSelf, runSteps}
+use Rattle.elision.specs.Machine.{Advanced, advanced, laid, lowerWord, unused, selfRef, lowerSelf, runSteps}
 use Rattle.elision.specs.Machine.{runMethod}
 use Rattle.elision.specs.Inner.{shown, worded, Shows, Given, Lowers, totals, RunsAll}
 use Rattle.elision.proofs.LowererLoops.{single-word, accepted-word, refused-word}
@@ -47,7 +47,7 @@ module _ (names : List ℕ) where
     accepted =
         λ v.
         record {
-          it = answer [] (bare (fresh names));
+          it = advanced [] (bare (fresh names));
           is = refl;
           shows = bare-shown (fresh names) list full;
           count = refl;
@@ -94,7 +94,7 @@ module _ (names : List ℕ) where
         (single-word names Aside (getD self 0 0) (fresh names)) v in
         record {
           accepted = λ a. record {
-            it = answer (w .lifetime ∷ []) (bare after);
+            it = advanced (w .lifetime ∷ []) (bare after);
             is = go self h one;
             shows = bare-shown after list full;
             count = refl;
@@ -104,10 +104,10 @@ module _ (names : List ℕ) where
         }
       where
         go : (self : List ℕ) → (length self ≡ 0 → ⊥)
-            → lowerWord names Aside (getD self 0 0) (fresh names) ≡ Gives (answer (w .lifetime ∷ []) (w .seen))
+            → lowerWord names Aside (getD self 0 0) (fresh names) ≡ Gives (advanced (w .lifetime ∷ []) (w .seen))
             → lowerSelf names (receiverOf self)
             ≡ Gives
-            (answer (w .lifetime ∷ []) (bare (record { source = SelfParam (w .lifetime); count = w .seen .count })))
+            (advanced (w .lifetime ∷ []) (bare (record { source = SelfParam (w .lifetime); count = w .seen .count })))
         go [] h e = absurd (h refl)
         go (x ∷ self) h e = rw e
 
@@ -136,7 +136,7 @@ same : {a b c d a₁ b₁ c₁ d₁ : ℕ} → a ≡ a₁ → b ≡ b₁ → c �
     (record { verdict = verdict.Accepted; selves = a₁; steps = b₁; returns = c₁; count = d₁ })
 same p q r t = rw (p, q, r, t)
 
-given-all : (names : List ℕ) (self : Receiver) (steps returns : List Step) (a b c : Answer Lowerer)
+given-all : (names : List ℕ) (self : Receiver) (steps returns : List Step) (a b c : Advanced Lowerer)
     → lowerSelf names self ≡ Gives a → runSteps names false steps (a .left) ≡ Gives b
     → runSteps names true returns (b .left) ≡ Gives c
     → runMethod names self steps returns
@@ -145,7 +145,7 @@ unfolding runMethod
 given-all names self steps returns a b c p q r = rw (p, q, r)
 
 -- how many words a record gave
-counted : {o : Outcome (Answer Lowerer)} {list slice slice₁ : List ℕ} {r : Took} (g : Given o 0 list slice slice₁ r)
+counted : {o : Outcome (Advanced Lowerer)} {list slice slice₁ : List ℕ} {r : Took} (g : Given o 0 list slice slice₁ r)
     → r .n ≡ length (g .it .given)
 counted g = g .count ∙ zero-add (length (g .it .given))
 

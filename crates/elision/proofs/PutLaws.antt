@@ -26,8 +26,8 @@ use Rattle.elision.specs.declared.lowerer.Lowerer.{Lowerer}
 use Rattle.elision.specs.declared.put.Put.{Put}
 use Rattle.elision.specs.declared.put.Took.{Took}
 use Rattle.elision.specs.Steps.{Step, readStep}
-use Rattle.elision.specs.Rfc.{padded, standingIn}
-use Rattle.elision.specs.Machine.{Answer, answer, valuesIn, laid, lowerWords, wordsStep, selfStep, lowerStep}
+use Rattle.elision.specs.Rfc.{appended, standingIn}
+use Rattle.elision.specs.Machine.{Advanced, advanced, valuesIn, laid, lowerWords, wordsStep, selfStep, lowerStep}
 use Rattle.elision.specs.Inner.{StandsAt, shown, Puts, Shows, Given, Lowers, PutsOne, PutsStep}
 use Rattle.elision.specs.Inner as inner
 use Rattle.elision.proofs.RfcLaws.{laid-values}
@@ -37,15 +37,15 @@ use Rattle.records.proofs.ReadingLaws.{fails-read}
 
 -- ---- what `put_words` answers, by its verdict
 
-record GivenWords (o : Outcome (Answer Seen)) (at : ℕ) (before behind : List ℕ) (p : Put) : Type 0 where
-  it : Answer Seen
+record GivenWords (o : Outcome (Advanced Seen)) (at : ℕ) (before behind : List ℕ) (p : Put) : Type 0 where
+  it : Advanced Seen
   is : o ≡ Gives it
   saw : it .left ≡ p .seen
   count : p .at ≡ at + length (it .given)
   stored : behind ≡ sets before at (map shown (it .given))
 
 module _ {seen : Seen} {at : ℕ} {before behind : List ℕ} {p : Put} where
-  words-given : (o : Outcome (Answer Seen)) → Puts seen o at before behind p → p .verdict ≡ verdict.Accepted
+  words-given : (o : Outcome (Advanced Seen)) → Puts seen o at before behind p → p .verdict ≡ verdict.Accepted
       → GivenWords o at before behind p
   words-given (Gives a) h v = record {
     it = a;
@@ -56,7 +56,7 @@ module _ {seen : Seen} {at : ℕ} {before behind : List ℕ} {p : Put} where
   }
   words-given (Refuses k) h v = refused-accepted (sym (ap (λ (x : Put). x .verdict) (h .answers)) ∙ v)
 
-  words-refused : {k : Refusal} (o : Outcome (Answer Seen)) → Puts seen o at before behind p
+  words-refused : {k : Refusal} (o : Outcome (Advanced Seen)) → Puts seen o at before behind p
       → p .verdict ≡ verdict.Refused k → o ≡ Refuses k
   words-refused (Gives a) h v = refused-accepted (sym v ∙ ap (λ (x : Put). x .verdict) (h .answers))
   words-refused (Refuses j) h v = let e : verdict.Refused j ≡ verdict.Refused _ =
@@ -83,7 +83,7 @@ given-puts names {st} out words seen kept own n to {before} {behind} {p} e few p
         → Given (wordsStep names (standingIn out) words s) n list before behind
         (record { verdict = p .verdict; seen = p .seen; kept = kept; own = own; n = p .at; to = to })
     go s sh g = record {
-      it = answer (g .it .given) (record { seen = g .it .left; kept = s .kept; own = s .own });
+      it = advanced (g .it .given) (record { seen = g .it .left; kept = s .kept; own = s .own });
       is = rw (sh .saw, ← e, g .is);
       shows = record { saw = g .saw; keeps = sh .keeps; full = sh .full; many = sh .many; words = sh .words };
       count = g .count;
@@ -125,7 +125,7 @@ self-again names words seen own n to list k few stored = record {
   place = refl;
   lowers = λ s sh. record {
     accepted = λ v. record {
-      it = answer (valuesIn (s .own)) s;
+      it = advanced (valuesIn (s .own)) s;
       is = rw (sh .keeps, k);
       shows = sh;
       count = rw (sh .many k);
@@ -137,7 +137,7 @@ self-again names words seen own n to list k few stored = record {
 
 module _ (names words : List ℕ) (seen : Seen) {kept : Bool} (own n to : ℕ) (list : List ℕ) {list₁ : List ℕ} {p : Put}
     (k : kept ≡ false) (few : own ≤ 16)
-    (call : Puts seen (lowerWords names Aside (padded 0 words) seen) 0 list list₁ p) where
+    (call : Puts seen (lowerWords names Aside (appended 0 words) seen) 0 list list₁ p) where
   -- no anonymous ones are appended
   said : Puts seen (lowerWords names Aside words seen) 0 list list₁ p
   said = rw (zero-sub (length words), append-nil words) at call
@@ -182,7 +182,7 @@ module _ (names words : List ℕ) (seen : Seen) {kept : Bool} (own n to : ℕ) (
           let front : list₁ ≡ ws ++ drop (length ws) list = g .stored ∙ sets-front list ws (omega (arith, call .few, sh .full)) in
           let first : take (p .at) list₁ ≡ ws = ap (take (p .at)) front ∙ take-at ws (drop (length ws) list) (p .at) size in
           record {
-            it = answer (g .it .given) (record { seen = g .it .left; kept = true; own = laid (g .it .given) });
+            it = advanced (g .it .given) (record { seen = g .it .left; kept = true; own = laid (g .it .given) });
             is = rw (sh .keeps, k, sh .saw, g .is);
             shows = record {
               saw = g .saw;
@@ -204,7 +204,7 @@ same-step e = cc
 same-lifetime : (names : List ℕ) (out : Bool) {words : List ℕ} {at : ℕ} {reading : Reading Step} {word to : ℕ}
     → StandsAt words at reading (standing.Lifetime word to)
     → (step : Step) (rest : List ℕ) → reading ≡ Read step rest → (s : Lowerer)
-    → wordsStep names (standingIn out) (padded 0 (take (to - (to - 1)) (drop (to - 1) words))) s
+    → wordsStep names (standingIn out) (appended 0 (take (to - (to - 1)) (drop (to - 1) words))) s
     ≡ lowerStep names out step s
 unfolding lowerStep
 same-lifetime names out {to = to} (inner.lifetime w d b l) step rest e s =
@@ -214,7 +214,7 @@ same-lifetime names out {to = to} (inner.lifetime w d b l) step rest e s =
 same-generics : (names : List ℕ) (out : Bool) {words : List ℕ} {at : ℕ} {reading : Reading Step} {g from to : ℕ}
     → StandsAt words at reading (standing.Generics g from to)
     → (step : Step) (rest : List ℕ) → reading ≡ Read step rest → (s : Lowerer)
-    → wordsStep names (standingIn out) (padded g (take (to - from) (drop from words))) s
+    → wordsStep names (standingIn out) (appended g (take (to - from) (drop from words))) s
     ≡ lowerStep names out step s
 unfolding lowerStep
 same-generics names out (inner.generics l d b m x) step rest e s = rw (← same-step e, l)
@@ -244,7 +244,7 @@ module _ {words : List ℕ} {at : ℕ} {r : StepAt} (stands : StandsAt words at 
   module _ (names : List ℕ) (out : Bool) (seen : Seen) (kept : Bool) (own n : ℕ) (list : List ℕ)
       {list₁ before behind : List ℕ} {t : Took} where
     -- one step, where it is the one that stands there
-    puts : {to : ℕ} (step : Lowerer → Outcome (Answer Lowerer)) → EndsAt words at (readStep (drop at words)) (end.At to)
+    puts : {to : ℕ} (step : Lowerer → Outcome (Advanced Lowerer)) → EndsAt words at (readStep (drop at words)) (end.At to)
         → ((step₁ : Step) (rest : List ℕ) → readStep (drop at words) ≡ Read step₁ rest → (s : Lowerer)
         → step s ≡ lowerStep names out step₁ s)
         → PutsOne step seen kept own n to list list₁ before behind t
@@ -253,24 +253,24 @@ module _ {words : List ℕ} {at : ℕ} {r : StepAt} (stands : StandsAt words at 
       few = p .few;
       near = p .near;
       ends = λ v. subst (λ (x : ℕ). EndsAt words at (readStep (drop at words)) (end.At x)) (sym (p .place)) ended;
-      lowers = λ s sh step₁ rest e. subst (λ (o : Outcome (Answer Lowerer)). Lowers o n list₁ before behind t)
+      lowers = λ s sh step₁ rest e. subst (λ (o : Outcome (Advanced Lowerer)). Lowers o n list₁ before behind t)
           (same step₁ rest e s) (p .lowers s sh);
     }
 
     pub puts-lifetime : {word to : ℕ} → r ≡ standing.Lifetime word to
-        → PutsOne (wordsStep names (standingIn out) (padded 0 (take (to - (to - 1)) (drop (to - 1) words)))) seen kept
+        → PutsOne (wordsStep names (standingIn out) (appended 0 (take (to - (to - 1)) (drop (to - 1) words)))) seen kept
         own n to list list₁ before behind t
         → PutsStep names words out at seen kept own n list list₁ before behind t
     puts-lifetime {word} {to} e p =
-        puts (wordsStep names (standingIn out) (padded 0 (take (to - (to - 1)) (drop (to - 1) words))))
+        puts (wordsStep names (standingIn out) (appended 0 (take (to - (to - 1)) (drop (to - 1) words))))
         (ends-lifetime stands e) (same-lifetime names out (told stands e)) p
 
     pub puts-generics : {g from to : ℕ} → r ≡ standing.Generics g from to
-        → PutsOne (wordsStep names (standingIn out) (padded g (take (to - from) (drop from words)))) seen kept own n to
+        → PutsOne (wordsStep names (standingIn out) (appended g (take (to - from) (drop from words)))) seen kept own n to
         list list₁ before behind t
         → PutsStep names words out at seen kept own n list list₁ before behind t
     puts-generics {g} {from} {to} e p =
-        puts (wordsStep names (standingIn out) (padded g (take (to - from) (drop from words)))) (ends-generics stands e)
+        puts (wordsStep names (standingIn out) (appended g (take (to - from) (drop from words)))) (ends-generics stands e)
         (same-generics names out (told stands e)) p
 
     pub puts-self : {from to : ℕ} → r ≡ standing.SelfType from to

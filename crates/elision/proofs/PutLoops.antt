@@ -23,7 +23,7 @@ use Rattle.elision.specs.declared.lowerer.Lowerer.{Lowerer}
 use Rattle.elision.specs.declared.lowerer.Seen.{Seen}
 use Rattle.elision.specs.declared.put.Took.{Took}
 use Rattle.elision.specs.Steps.{Step, readStep, stepsInShape, stepsOf}
-use Rattle.elision.specs.Machine.{Answer, answer, inTurn, fits, lowerStep, oneStep, runSteps}
+use Rattle.elision.specs.Machine.{Advanced, advanced, inTurn, fits, lowerStep, oneStep, runSteps}
 use Rattle.elision.specs.Inner.{shown, Shows, Given, Lowers, PutsStep}
 
 abbrev item : ℕ → List ℕ → Reading Step
@@ -77,8 +77,8 @@ read-none number (suc fuel) rest tail e = cc
 
 -- ---- the loop
 
-abbrev behindDone : List MaybeStatic → Answer Lowerer → Outcome (Answer Lowerer)
-behindDone done a = Gives (answer (done ++ a .given) (a .left))
+abbrev behindDone : List MaybeStatic → Advanced Lowerer → Outcome (Advanced Lowerer)
+behindDone done a = Gives (advanced (done ++ a .given) (a .left))
 
 -- from the lowerer that the record starts with: what is left of the record, the lowerer that it is left to, shown as it
 -- is passed on, and what is done
@@ -106,7 +106,7 @@ pub record Recording (names : List ℕ) (out : Bool) (words : List ℕ) (before 
   pub size : length slice ≡ length slice₀
   pub reached : (s : Lowerer) → Shows s before was had list₀ → Reached names out words s slice₀ slice list seen kept own n at
 
-after-itself : (o : Outcome (Answer Lowerer)) → o ≡ bind o (behindDone [])
+after-itself : (o : Outcome (Advanced Lowerer)) → o ≡ bind o (behindDone [])
 after-itself (Gives a) = refl
 after-itself (Refuses r) = refl
 
@@ -166,7 +166,7 @@ module _ {names : List ℕ} {out : Bool} {words : List ℕ} {start : Lowerer} {s
       (rw (drop-of-length-le words {i = at} h) at (inv .reads)) in
       record {
         accepted = λ v. record {
-          it = answer (inv .done) (inv .here);
+          it = advanced (inv .done) (inv .here);
           is = rw (inv .left, none, append-nil (inv .done));
           shows = inv .shows;
           count = sym (inv .count) ∙ sym (zero-add (length (inv .done)));
@@ -182,10 +182,10 @@ module _ {names : List ℕ} {out : Bool} {words : List ℕ} {start : Lowerer} {s
     next : runSteps names out (stepsOf words) start
         ≡ bind (bind (lowerStep names out (turn .step) (inv .here))
         (λ first. bind (runSteps names out (turn .items) (first .left))
-        (λ rest. Gives (answer (first .given ++ rest .given) (rest .left)))))
+        (λ rest. Gives (advanced (first .given ++ rest .given) (rest .left)))))
         (behindDone (inv .done))
     unfolding inTurn
-    next = inv .left ∙ ap (λ (o : Outcome (Answer Lowerer)). bind o (behindDone (inv .done)))
+    next = inv .left ∙ ap (λ (o : Outcome (Advanced Lowerer)). bind o (behindDone (inv .done)))
         (ap (λ (l : List Step). runSteps names out l (inv .here)) (turn .all))
 
     module _ {list₁ slice₁ : List ℕ} {r : Took} (put : PutsStep names words out at seen kept own n list list₁ slice slice₁ r) where
@@ -199,8 +199,8 @@ module _ {names : List ℕ} {out : Bool} {words : List ℕ} {start : Lowerer} {s
           → Reached names out words start slice₀ slice₁ list₁ (r .seen) (r .kept) (r .own) (r .n) (r .to)
       reached-more v = go (one .accepted v)
         where
-          join : (a : Answer Lowerer) (o : Outcome (Answer Lowerer))
-              → bind (bind o (λ rest. Gives (answer (a .given ++ rest .given) (rest .left)))) (behindDone (inv .done))
+          join : (a : Advanced Lowerer) (o : Outcome (Advanced Lowerer))
+              → bind (bind o (λ rest. Gives (advanced (a .given ++ rest .given) (rest .left)))) (behindDone (inv .done))
               ≡ bind o (behindDone (inv .done ++ a .given))
           join a (Gives b) = rw append-assoc
           join a (Refuses k) = refl

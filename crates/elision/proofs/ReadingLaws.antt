@@ -23,7 +23,7 @@ use Rattle.elision.specs.Rfc.{throughout, Occurrence, occurs, makes, isN
 use Rattle.elision.specs.Rfc.{checks, selfOccurrences, occurrences, stepChecks, inputs, outputs, elisionChecks}
 use Rattle.elision.specs.Rfc.{sourceCheck, sourceAt, valueAt, checksAt, Item, isSelfType, hasSelfType}
 use Rattle.elision.specs.Rfc.{occurrencesAt, ownFrom, loweredAt}
-use Rattle.elision.specs.Machine.{Answer, answer, inTurn, fits, lowerStep, oneStep, runSteps}
+use Rattle.elision.specs.Machine.{Advanced, advanced, inTurn, fits, lowerStep, oneStep, runSteps}
 use Rattle.elision.proofs.RfcLaws.{count-more, own-again, occurrences-last}
 use Rattle.elision.proofs.PutLoops.{one-fits}
 use Rattle.elision.proofs.TookLaws.{step-fits}
@@ -100,13 +100,13 @@ unfolding inTurn
 steps-same names out [] p s = refl
 steps-same names out (x ∷ l) p s = rw (one-fits names out x s (p .0)) (go (lowerStep names out x s) (steps-same names out l (p .1)))
   where
-    go : (o : Outcome (Answer Lowerer)) → ((s : Lowerer) → runSteps names out l s ≡ inTurn (oneStep names out) l s)
+    go : (o : Outcome (Advanced Lowerer)) → ((s : Lowerer) → runSteps names out l s ≡ inTurn (oneStep names out) l s)
         → bind o
         (λ first. bind (runSteps names out l (first .left))
-        (λ rest. Gives (answer (first .given ++ rest .given) (rest .left))))
+        (λ rest. Gives (advanced (first .given ++ rest .given) (rest .left))))
         ≡ bind o
         (λ first. bind (inTurn (oneStep names out) l (first .left))
-        (λ rest. Gives (answer (first .given ++ rest .given) (rest .left))))
+        (λ rest. Gives (advanced (first .given ++ rest .given) (rest .left))))
     go (Gives a) more = rw (more (a .left))
     go (Refuses r) more = refl
 

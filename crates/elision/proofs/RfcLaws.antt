@@ -26,10 +26,10 @@ use Rattle.elision.specs.declared.lowerer.Lowerer.{Lowerer}
 use Rattle.elision.specs.Steps.{Step, Lifetime, Generics, SelfType, Receiver, NoSelf, SelfRef}
 use Rattle.elision.specs.Rfc.{throughout, Occurrence, occurs, makes, isNew, anonymous, countOf, madeAt}
 use Rattle.elision.specs.Rfc.{positionAt, positions, only, sourceAt, sourceOr, valueAt, values, sourceCheck}
-use Rattle.elision.specs.Rfc.{elidedCheck, checksAt, checks, Item, standingIn, padded, isSelfType, hasSelfType}
+use Rattle.elision.specs.Rfc.{elidedCheck, checksAt, checks, Item, standingIn, appended, isSelfType, hasSelfType}
 use Rattle.elision.specs.Rfc.{stepOccurrences, occurrencesAt, selfOccurrences, occurrences, ownFrom, loweredAt}
 use Rattle.elision.specs.Rfc.{stepChecks, inputs, outputs, Method, methodOf, rfc141}
-use Rattle.elision.specs.Machine.{visit, Answer, answer, inTurn, visited, lowers, fromSource, lowerWord}
+use Rattle.elision.specs.Machine.{visitLifetime, Advanced, advanced, inTurn, visited, lowers, fromSource, lowerWord}
 use Rattle.elision.specs.Machine.{lowerWords, lowered, valuesIn, laid, wordsStep, lowerStep, unused, firstOr}
 use Rattle.elision.specs.Machine.{selfRef, lowerSelf, runSteps, runMethod}
 use Rattle.answers.proofs.ListLaws.{count-append}
@@ -73,14 +73,14 @@ after-unless (c ∷ cs) ds a b f h = go (c .due) (after-unless cs ds a b f h)
     go false k = k
 
 -- steps one after another, where each gives what is said of it in view of those before it
-module _ {X Y S : Type 0} (step : X → S → Outcome (Answer S)) (item : X → Y) (state : List Y → S) (check-at : List Y → Y
+module _ {X Y S : Type 0} (step : X → S → Outcome (Advanced S)) (item : X → Y) (state : List Y → S) (check-at : List Y → Y
     → List Check) (value-at : List Y → Y → List MaybeStatic)
     (one : (before : List Y) (x : X)
     → step x (state before) ≡ unless (check-at before (item x))
-    (answer (value-at before (item x)) (state (before ++ (item x ∷ []))))) where
+    (advanced (value-at before (item x)) (state (before ++ (item x ∷ []))))) where
   pub in-turn : (before : List Y) (l : List X)
       → inTurn step l (state before) ≡ unless (throughout check-at before (map item l))
-      (answer (throughout value-at before (map item l)) (state (before ++ map item l)))
+      (advanced (throughout value-at before (map item l)) (state (before ++ map item l)))
   unfolding inTurn throughout unless
   in-turn before [] = rw append-nil
   in-turn before (x ∷ l) =
@@ -88,14 +88,14 @@ module _ {X Y S : Type 0} (step : X → S → Outcome (Answer S)) (item : X → 
       let rest = throughout check-at here (map item l) in
       let vs = throughout value-at here (map item l) in
       let e : state (here ++ map item l) ≡ state (before ++ (item x ∷ map item l)) = rw append-assoc in
-      let join : Answer S → Answer S = λ r. answer (value-at before (item x) ++ r .given) (r .left) in
+      let join : Advanced S → Advanced S = λ r. advanced (value-at before (item x) ++ r .given) (r .left) in
       let more : bind (inTurn step l (state here)) (λ r. Gives (join r))
-      ≡ unless rest (join (answer vs (state (here ++ map item l)))) =
-      rw (in-turn here l) (after-gives rest (answer vs (state (here ++ map item l))) join) in
+      ≡ unless rest (join (advanced vs (state (here ++ map item l)))) =
+      rw (in-turn here l) (after-gives rest (advanced vs (state (here ++ map item l))) join) in
       rw (one before x, ← e)
-      (after-unless (check-at before (item x)) rest (answer (value-at before (item x)) (state here))
-      (join (answer vs (state (here ++ map item l))))
-      (λ first. bind (inTurn step l (first .left)) (λ r. Gives (answer (first .given ++ r .given) (r .left)))) more)
+      (after-unless (check-at before (item x)) rest (advanced (value-at before (item x)) (state here))
+      (join (advanced vs (state (here ++ map item l))))
+      (λ first. bind (inTurn step l (first .left)) (λ r. Gives (advanced (first .given ++ r .given) (r .left)))) more)
 
 -- ---- one lifetime
 
@@ -117,7 +117,7 @@ sourceFrom names (SelfRef word) before = SelfParam (madeAt names [] word)
 abbrev pub seenOf : List ℕ → Receiver → List Occurrence → Seen
 seenOf names self before = record { source = sourceFrom names self before; count = countOf names before }
 
-position-more : (ps : List MaybeStatic) (l : MaybeStatic) → fromPositions (ps ++ (l ∷ [])) ≡ visit (fromPositions ps) l
+position-more : (ps : List MaybeStatic) (l : MaybeStatic) → fromPositions (ps ++ (l ∷ [])) ≡ visitLifetime (fromPositions ps) l
 unfolding fromPositions
 position-more [] l = refl
 position-more (p ∷ []) l = refl
@@ -126,7 +126,7 @@ position-more (p ∷ q ∷ ps) l = refl
 -- in the output, the machine's source is that of RFC 141
 elided-source : (ps : List MaybeStatic) (s : Seen)
     → fromSource (fromPositions ps) s ≡ unless (check false Undeclared ∷ sourceCheck true (only ps) ∷ [])
-    (answer (sourceOr (only ps) ∷ []) s)
+    (advanced (sourceOr (only ps) ∷ []) s)
 unfolding fromPositions unless
 elided-source [] s = refl
 elided-source (p ∷ []) s = refl
@@ -183,7 +183,7 @@ module _ (names : List ℕ) where
   AsSaid self st before word =
       lowerWord names st word (seenOf names self before)
       ≡ unless (checksAt names self before (occurs st word))
-      (answer (valueAt names self before (occurs st word) ∷ [])
+      (advanced (valueAt names self before (occurs st word) ∷ [])
       (seenOf names self (before ++ (occurs st word ∷ []))))
 
   -- one lifetime gives what RFC 141 says
@@ -227,7 +227,7 @@ module _ (names : List ℕ) where
   pub words-said : (self : Receiver) (st : Standing) (before : List Occurrence) (words : List ℕ)
       → lowerWords names st words (seenOf names self before)
       ≡ unless (checks names self before (map (occurs st) words))
-      (answer (values names self before (map (occurs st) words))
+      (advanced (values names self before (map (occurs st) words))
       (seenOf names self (before ++ map (occurs st) words)))
   words-said self st before words =
       in-turn (lowerWord names st) (occurs st) (seenOf names self) (checksAt names self)
@@ -316,26 +316,26 @@ module _ (names : List ℕ) (self : Receiver) where
   words-step : (st : Standing) (before : List Item) (words : List ℕ)
       → wordsStep names st words (stateOf before)
       ≡ unless (checks names self (occurrences self before) (map (occurs st) words))
-      (answer (values names self (occurrences self before) (map (occurs st) words))
+      (advanced (values names self (occurrences self before) (map (occurs st) words))
       (record {
         seen = seenOf names self (occurrences self before ++ map (occurs st) words);
         kept = hasSelfType before;
         own = laid (ownFrom names self [] before);
       }))
   words-step st before words =
-      let left : Answer Seen → Answer Lowerer =
-      λ a. answer (a .given)
+      let left : Advanced Seen → Advanced Lowerer =
+      λ a. advanced (a .given)
       (record { seen = a .left; kept = hasSelfType before; own = laid (ownFrom names self [] before) }) in
       rw (words-said names self st (occurrences self before) words)
       (after-gives (checks names self (occurrences self before) (map (occurs st) words))
-      (answer (values names self (occurrences self before) (map (occurs st) words))
+      (advanced (values names self (occurrences self before) (map (occurs st) words))
       (seenOf names self (occurrences self before ++ map (occurs st) words))) left)
 
   abbrev StepSaid : Bool → List Item → Step → Type 0
   StepSaid out before step =
       lowerStep names out step (stateOf before)
       ≡ unless (stepChecks names self before (itemOf out step))
-      (answer (loweredAt names self before (itemOf out step)) (stateOf (before ++ (itemOf out step ∷ []))))
+      (advanced (loweredAt names self before (itemOf out step)) (stateOf (before ++ (itemOf out step ∷ []))))
 
   self-again : (out : Bool) (before : List Item) (words : List ℕ) → hasSelfType before ≡ true → StepSaid out before (SelfType words)
   unfolding lowerStep unless throughout
@@ -354,8 +354,8 @@ module _ (names : List ℕ) (self : Receiver) where
   unfolding lowerStep ownFrom
   self-first out before words h =
       let i = itemOf out (SelfType words) in
-      let left : Answer Seen → Answer Lowerer =
-      λ a. answer (a .given) (record { seen = a .left; kept = true; own = laid (a .given) }) in
+      let left : Advanced Seen → Advanced Lowerer =
+      λ a. advanced (a .given) (record { seen = a .left; kept = true; own = laid (a .given) }) in
       rw (
         occurrences-last before i,
         has-self before i refl,
@@ -364,7 +364,7 @@ module _ (names : List ℕ) (self : Receiver) where
         words-said names self Aside (occurrences self before) words,
       )
       (after-gives (checks names self (occurrences self before) (map (occurs Aside) words))
-      (answer (values names self (occurrences self before) (map (occurs Aside) words))
+      (advanced (values names self (occurrences self before) (map (occurs Aside) words))
       (seenOf names self (occurrences self before ++ map (occurs Aside) words))) left)
 
   -- one step gives what RFC 141 says
@@ -377,7 +377,7 @@ module _ (names : List ℕ) (self : Receiver) where
   step-said out before (Generics g words) =
       let i = itemOf out (Generics g words) in
       rw (occurrences-last before i, has-other before i refl, own-other [] before i refl)
-      (words-step (standingIn out) before (padded g words))
+      (words-step (standingIn out) before (appended g words))
   step-said out before (SelfType words) = go (hasSelfType before) refl
     where
       go : (t : Bool) → hasSelfType before ≡ t → StepSaid out before (SelfType words)
@@ -388,7 +388,7 @@ module _ (names : List ℕ) (self : Receiver) where
   pub steps-said : (out : Bool) (before : List Item) (steps : List Step)
       → runSteps names out steps (stateOf before)
       ≡ unless (throughout (stepChecks names self) before (map (itemOf out) steps))
-      (answer (throughout (loweredAt names self) before (map (itemOf out) steps))
+      (advanced (throughout (loweredAt names self) before (map (itemOf out) steps))
       (stateOf (before ++ map (itemOf out) steps)))
   steps-said out before steps =
       in-turn (lowerStep names out) (itemOf out) stateOf (stepChecks names self) (loweredAt names self) (step-said out)
@@ -403,7 +403,7 @@ unused-seen names = rw add-zero
 self-ref-said : (names : List ℕ) (word : ℕ)
     → selfRef names word
     ≡ unless (checksAt names NoSelf [] (occurs Aside word))
-    (answer (madeAt names [] word ∷ [])
+    (advanced (madeAt names [] word ∷ [])
     (record {
       seen = record { source = SelfParam (madeAt names [] word); count = countOf names (occurs Aside word ∷ []) };
       kept = false;
@@ -411,8 +411,8 @@ self-ref-said : (names : List ℕ) (word : ℕ)
     }))
 unfolding selfRef
 self-ref-said names word =
-    let left : Answer Seen → Answer Lowerer =
-    λ a. answer (a .given)
+    let left : Advanced Seen → Advanced Lowerer =
+    λ a. advanced (a .given)
     (record {
       seen = record { source = SelfParam (firstOr (a .given)); count = a .left .count };
       kept = false;
@@ -420,11 +420,11 @@ self-ref-said names word =
     }) in
     rw (unused-seen names, word-said names NoSelf Aside [] word)
     (after-gives (checksAt names NoSelf [] (occurs Aside word))
-    (answer (madeAt names [] word ∷ []) (seenOf names NoSelf (occurs Aside word ∷ []))) left)
+    (advanced (madeAt names [] word ∷ []) (seenOf names NoSelf (occurs Aside word ∷ []))) left)
 
 pub self-said : (names : List ℕ) (self : Receiver)
     → lowerSelf names self ≡ unless (checks names self [] (selfOccurrences self))
-    (answer (values names self [] (selfOccurrences self)) (stateOf names self []))
+    (advanced (values names self [] (selfOccurrences self)) (stateOf names self []))
 unfolding unused unless throughout count any ownFrom fromPositions
 self-said names NoSelf = rw add-zero
 self-said names (SelfRef word) = rw (self-ref-said names word)
@@ -435,11 +435,11 @@ unfolding runMethod rfc141
 method-said names self steps returns =
     let second = throughout (stepChecks names self) [] (inputs steps) in
     let third = throughout (stepChecks names self) (inputs steps) (outputs returns) in
-    let a = answer (values names self [] (selfOccurrences self)) (stateOf names self []) in
-    let b = answer (throughout (loweredAt names self) [] (inputs steps)) (stateOf names self (inputs steps)) in
-    let c = answer (throughout (loweredAt names self) (inputs steps) (outputs returns))
+    let a = advanced (values names self [] (selfOccurrences self)) (stateOf names self []) in
+    let b = advanced (throughout (loweredAt names self) [] (inputs steps)) (stateOf names self (inputs steps)) in
+    let c = advanced (throughout (loweredAt names self) (inputs steps) (outputs returns))
     (stateOf names self (inputs steps ++ outputs returns)) in
-    let whole : Answer Lowerer → Answer Lowerer → Answer Lowerer → Method =
+    let whole : Advanced Lowerer → Advanced Lowerer → Advanced Lowerer → Method =
     λ x y z. record { self = x .given; steps = y .given; returns = z .given; count = z .left .seen .count } in
     let last : bind (runSteps names true returns (stateOf names self (inputs steps))) (λ z. Gives (whole a b z))
     ≡ unless third (methodOf names self steps returns) =

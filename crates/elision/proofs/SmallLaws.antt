@@ -22,8 +22,8 @@ use Rattle.elision.specs.declared.lowerer.Standing.the-variants.{Input, 
 use Rattle.elision.specs.declared.lowerer.Seen.{Seen}
 use Rattle.elision.specs.declared.lowerer.Lowerer.{Lowerer}
 use Rattle.elision.specs.Steps.{Step, Lifetime, Generics, SelfType, Receiver, NoSelf, SelfRef}
-use Rattle.elision.specs.Rfc.{Method, padded, standingIn}
-use Rattle.elision.specs.Machine.{visit, Answer, answer, inTurn, lowers, fromSource, lowerAnonymous, lowerWord}
+use Rattle.elision.specs.Rfc.{Method, appended, standingIn}
+use Rattle.elision.specs.Machine.{visitLifetime, Advanced, advanced, inTurn, lowers, fromSource, lowerAnonymous, lowerWord}
 use Rattle.elision.specs.Machine.{lowerWords, valuesIn, laid, lowerStep, unused, firstOr, selfRef, lowerSelf}
 use Rattle.elision.specs.Machine.{runSteps, runMethod}
 use Rattle.elision.specs.Lowering.{words}
@@ -58,20 +58,20 @@ Fine s = SmallSource (s .source)
 abbrev FineLowerer : Lowerer → Type 0
 FineLowerer s = SmallSource (s .seen .source) × AllSmall (valuesIn (s .own))
 
-abbrev Out : {S : Type 0} → (S → Type 0) → Outcome (Answer S) → Type 0
+abbrev Out : {S : Type 0} → (S → Type 0) → Outcome (Advanced S) → Type 0
 Out P (Gives a) = AllSmall (a .given) × P (a .left)
 Out P (Refuses r) = Unit {0}
 
-module _ {X S : Type 0} (step : X → S → Outcome (Answer S)) (P : S → Type 0) (fine : (x : X) (s : S) → P s → Out P (step x s)) where
-  rest-fine : (a : Answer S) → AllSmall (a .given) → (o : Outcome (Answer S)) → Out P o
-      → Out P (bind o (λ rest. Gives (answer (a .given ++ rest .given) (rest .left))))
+module _ {X S : Type 0} (step : X → S → Outcome (Advanced S)) (P : S → Type 0) (fine : (x : X) (s : S) → P s → Out P (step x s)) where
+  rest-fine : (a : Advanced S) → AllSmall (a .given) → (o : Outcome (Advanced S)) → Out P o
+      → Out P (bind o (λ rest. Gives (advanced (a .given ++ rest .given) (rest .left))))
   rest-fine a p (Gives b) q = (small-append (a .given) (b .given) p (q .0), q .1)
   rest-fine a p (Refuses r) q = tt
 
-  first-fine : (l : List X) → ((s : S) → P s → Out P (inTurn step l s)) → (o : Outcome (Answer S)) → Out P o
+  first-fine : (l : List X) → ((s : S) → P s → Out P (inTurn step l s)) → (o : Outcome (Advanced S)) → Out P o
       → Out P (bind o
       (λ first. bind (inTurn step l (first .left))
-      (λ rest. Gives (answer (first .given ++ rest .given) (rest .left)))))
+      (λ rest. Gives (advanced (first .given ++ rest .given) (rest .left)))))
   first-fine l more (Gives a) q = rest-fine a (q .0) (inTurn step l (a .left)) (more (a .left) (q .1))
   first-fine l more (Refuses r) q = tt
 
@@ -80,11 +80,11 @@ module _ {X S : Type 0} (step : X → S → Outcome (Answer S)) (P : S → Type 
   turn-fine [] s p = (tt, p)
   turn-fine (x ∷ l) s p = first-fine l (turn-fine l) (step x s) (fine x s p)
 
-out-cond : (t : Bool) (a b : Outcome (Answer Seen)) → (t ≡ true → Out Fine a) → (t ≡ false → Out Fine b) → Out Fine (cond t a b)
+out-cond : (t : Bool) (a b : Outcome (Advanced Seen)) → (t ≡ true → Out Fine a) → (t ≡ false → Out Fine b) → Out Fine (cond t a b)
 out-cond true a b p q = p refl
 out-cond false a b p q = q refl
 
-visit-small : (e : ElisionSource) (l : MaybeStatic) → SmallSource e → Small l → SmallSource (visit e l)
+visit-small : (e : ElisionSource) (l : MaybeStatic) → SmallSource e → Small l → SmallSource (visitLifetime e l)
 visit-small NoBorrows l p q = q
 visit-small (SelfParam k) l p q = p
 visit-small (OneParam k) l p q = tt
@@ -130,14 +130,14 @@ module _ (names : List ℕ) (few : length names ≤ 32) where
   words-fine : (st : Standing) (l : List ℕ) (s : Seen) → Fine s → Out Fine (lowerWords names st l s)
   words-fine st = turn-fine (lowerWord names st) Fine (word-fine st)
 
-  keep-fine : (kept : Bool) (s : Lowerer) → AllSmall (valuesIn (s .own)) → (o : Outcome (Answer Seen)) → Out Fine o
-      → Out FineLowerer (bind o (λ a. Gives (answer (a .given) (record { seen = a .left; kept = kept; own = s .own }))))
+  keep-fine : (kept : Bool) (s : Lowerer) → AllSmall (valuesIn (s .own)) → (o : Outcome (Advanced Seen)) → Out Fine o
+      → Out FineLowerer (bind o (λ a. Gives (advanced (a .given) (record { seen = a .left; kept = kept; own = s .own }))))
   keep-fine kept s p (Gives a) q = (q .0, (q .1, p))
   keep-fine kept s p (Refuses r) q = tt
 
-  make-fine : (o : Outcome (Answer Seen)) → Out Fine o
+  make-fine : (o : Outcome (Advanced Seen)) → Out Fine o
       → Out FineLowerer
-      (bind o (λ a. Gives (answer (a .given) (record { seen = a .left; kept = true; own = laid (a .given) }))))
+      (bind o (λ a. Gives (advanced (a .given) (record { seen = a .left; kept = true; own = laid (a .given) }))))
   make-fine (Gives a) q = (q .0, (q .1, rw (laid-values (a .given)) (q .0)))
   make-fine (Refuses r) q = tt
 
@@ -147,15 +147,15 @@ module _ (names : List ℕ) (few : length names ≤ 32) where
       keep-fine (s .kept) s (p .1) (lowerWords names (standingIn out) (word ∷ []) (s .seen))
       (words-fine (standingIn out) (word ∷ []) (s .seen) (p .0))
   step-fine out (Generics g l) s p =
-      keep-fine (s .kept) s (p .1) (lowerWords names (standingIn out) (padded g l) (s .seen))
-      (words-fine (standingIn out) (padded g l) (s .seen) (p .0))
+      keep-fine (s .kept) s (p .1) (lowerWords names (standingIn out) (appended g l) (s .seen))
+      (words-fine (standingIn out) (appended g l) (s .seen) (p .0))
   step-fine out (SelfType l) s p = go (s .kept)
     where
-      first : Outcome (Answer Lowerer)
+      first : Outcome (Advanced Lowerer)
       first = bind (lowerWords names Aside l (s .seen))
-          (λ a. Gives (answer (a .given) (record { seen = a .left; kept = true; own = laid (a .given) })))
+          (λ a. Gives (advanced (a .given) (record { seen = a .left; kept = true; own = laid (a .given) })))
 
-      go : (t : Bool) → Out FineLowerer (cond t (Gives (answer (valuesIn (s .own)) s)) first)
+      go : (t : Bool) → Out FineLowerer (cond t (Gives (advanced (valuesIn (s .own)) s)) first)
       go true = (p .1, p)
       go false = make-fine (lowerWords names Aside l (s .seen)) (words-fine Aside l (s .seen) (p .0))
 
@@ -169,11 +169,11 @@ module _ (names : List ℕ) (few : length names ≤ 32) where
   unfolding unused
   unused-fine = (tt, own-fine)
 
-  ref-fine : (o : Outcome (Answer Seen)) → Out Fine o
+  ref-fine : (o : Outcome (Advanced Seen)) → Out Fine o
       → Out FineLowerer
       (bind o
       (λ a. Gives
-      (answer (a .given)
+      (advanced (a .given)
       (record {
         seen = record { source = SelfParam (firstOr (a .given)); count = a .left .count };
         kept = false;
@@ -201,7 +201,7 @@ module _ (names : List ℕ) (few : length names ≤ 32) where
   unfolding runMethod
   method-small self steps returns = first (lowerSelf names self) (self-fine self)
     where
-      third : (a b : Answer Lowerer) → AllSmall (a .given) → AllSmall (b .given) → (o : Outcome (Answer Lowerer)) → Out FineLowerer o
+      third : (a b : Advanced Lowerer) → AllSmall (a .given) → AllSmall (b .given) → (o : Outcome (Advanced Lowerer)) → Out FineLowerer o
           → SmallMethod
           (bind o
           (λ c. Gives
@@ -209,7 +209,7 @@ module _ (names : List ℕ) (few : length names ≤ 32) where
       third a b p q (Gives c) r = (p, (q, r .0))
       third a b p q (Refuses k) r = tt
 
-      second : (a : Answer Lowerer) → AllSmall (a .given) → (o : Outcome (Answer Lowerer)) → Out FineLowerer o
+      second : (a : Advanced Lowerer) → AllSmall (a .given) → (o : Outcome (Advanced Lowerer)) → Out FineLowerer o
           → SmallMethod
           (bind o
           (λ b. bind (runSteps names true returns (b .left))
@@ -218,7 +218,7 @@ module _ (names : List ℕ) (few : length names ≤ 32) where
       second a p (Gives b) q = third a b p (q .0) (runSteps names true returns (b .left)) (steps-fine true returns (b .left) (q .1))
       second a p (Refuses k) q = tt
 
-      first : (o : Outcome (Answer Lowerer)) → Out FineLowerer o
+      first : (o : Outcome (Advanced Lowerer)) → Out FineLowerer o
           → SmallMethod
           (bind o
           (λ a. bind (runSteps names false steps (a .left))

@@ -26,11 +26,11 @@ use Rattle.elision.specs.declared.lowerer.Standing.the-variants.{Input, 
 use Rattle.elision.specs.declared.lowerer.Seen.{Seen}
 use Rattle.elision.specs.declared.lowerer.Lowerer.{Lowerer}
 use Rattle.elision.specs.Steps.{Step, Lifetime, Generics, SelfType, readStep}
-use Rattle.elision.specs.Rfc.{throughout, makes, lifetimeOf, padded, standingIn}
-use Rattle.elision.specs.Machine.{Answer, answer, visited, lowers, fromSource, lowerWord, lowerWords, valuesIn}
+use Rattle.elision.specs.Rfc.{throughout, makes, lifetimeOf, appended, standingIn}
+use Rattle.elision.specs.Machine.{Advanced, advanced, visited, lowers, fromSource, lowerWord, lowerWords, valuesIn}
 use Rattle.elision.specs.Machine.{laid, lowerStep, fits, oneStep, unused, firstOr, selfRef, wholeStep, wordedStep}
 use Rattle.elision.specs.StepChecks.{anonymousIn, sourceDue, anonymousCheck, wordChecks, lookedUp, standingOf}
-use Rattle.elision.specs.StepChecks.{stepChecks, readChecks, wordedChecks}
+use Rattle.elision.specs.StepChecks.{singleStepChecks, readStepChecks, wordedChecks}
 use Rattle.elision.proofs.RfcLaws.{after-gives, in-turn, unmade, cond-not}
 use Rattle.answers.specs.Lists.{count}
 
@@ -81,7 +81,7 @@ unasked Aside s made = refl
 unasked Output s made = source-unasked (s .source)
 
 from-source : (e : ElisionSource) (s : Seen)
-    → fromSource e s ≡ unless (check false Undeclared ∷ sourceDue e true ∷ []) (answer (ofSource e ∷ []) s)
+    → fromSource e s ≡ unless (check false Undeclared ∷ sourceDue e true ∷ []) (advanced (ofSource e ∷ []) s)
 unfolding unless
 from-source NoBorrows s = refl
 from-source (SelfParam l) s = refl
@@ -98,7 +98,7 @@ module _ (names : List ℕ) (st : Standing) where
 
   abbrev AsChecked : ℕ → Seen → Type 0
   AsChecked word s =
-      lowerWord names st word s ≡ unless (wordChecks names st s [] word) (answer (lowersTo s word ∷ []) (passed word s))
+      lowerWord names st word s ≡ unless (wordChecks names st s [] word) (advanced (lowersTo s word ∷ []) (passed word s))
 
   static-checked : (s : Seen) → AsChecked 0 s
   unfolding lowerWord unless
@@ -196,7 +196,7 @@ words-judged names st words s =
   where
     one : (before : List ℕ) (word : ℕ) → lowerWord names st word (seenBehind names st s before)
         ≡ unless (wordChecks names st s before word)
-        (answer (lowersTo names st (seenBehind names st s before) word ∷ [])
+        (advanced (lowersTo names st (seenBehind names st s before) word ∷ [])
         (seenBehind names st s (before ++ (word ∷ []))))
     one before word =
         rw (behind-last names st s before word, ← checks-behind names st s before word)
@@ -210,25 +210,25 @@ module _ (names : List ℕ) (out : Bool) where
       (throughout (wordChecks names (standingOf out step) (s .seen)) [] (lookedUp step s))
   unfolding lowerStep throughout unless
   lower-judged (Lifetime word) s =
-      judged-gives (λ a. answer (a .given) (record { seen = a .left; kept = s .kept; own = s .own }))
+      judged-gives (λ a. advanced (a .given) (record { seen = a .left; kept = s .kept; own = s .own }))
       (words-judged names (standingIn out) (word ∷ []) (s .seen))
   lower-judged (Generics g words) s =
-      judged-gives (λ a. answer (a .given) (record { seen = a .left; kept = s .kept; own = s .own }))
-      (words-judged names (standingIn out) (padded g words) (s .seen))
+      judged-gives (λ a. advanced (a .given) (record { seen = a .left; kept = s .kept; own = s .own }))
+      (words-judged names (standingIn out) (appended g words) (s .seen))
   lower-judged (SelfType words) s = go (s .kept)
     where
-      first : Outcome (Answer Lowerer)
+      first : Outcome (Advanced Lowerer)
       first = bind (lowerWords names Aside words (s .seen))
-          (λ a. Gives (answer (a .given) (record { seen = a .left; kept = true; own = laid (a .given) })))
+          (λ a. Gives (advanced (a .given) (record { seen = a .left; kept = true; own = laid (a .given) })))
 
       go : (t : Bool)
-          → Judged (cond t (Gives (answer (valuesIn (s .own)) s)) first)
+          → Judged (cond t (Gives (advanced (valuesIn (s .own)) s)) first)
           (throughout (wordChecks names Aside (s .seen)) [] (cond t [] words))
-      go true = record { result = answer (valuesIn (s .own)) s; is = refl }
-      go false = judged-gives (λ a. answer (a .given) (record { seen = a .left; kept = true; own = laid (a .given) }))
+      go true = record { result = advanced (valuesIn (s .own)) s; is = refl }
+      go false = judged-gives (λ a. advanced (a .given) (record { seen = a .left; kept = true; own = laid (a .given) }))
           (words-judged names Aside words (s .seen))
 
-  step-judged : (step : Step) (s : Lowerer) → Judged (oneStep names out step s) (stepChecks names out step s)
+  step-judged : (step : Step) (s : Lowerer) → Judged (oneStep names out step s) (singleStepChecks names out step s)
   unfolding oneStep
   step-judged step s = judged-test (fits step) Malformed (lower-judged step s)
 
@@ -236,16 +236,16 @@ module _ (names : List ℕ) (out : Bool) where
   unfolding wordedStep unless
   worded-judged words s = go (readStep words)
     where
-      go : (read : Reading Step) → Judged (bind (wholeStep read) (λ step. oneStep names out step s)) (readChecks names out read s)
+      go : (read : Reading Step) → Judged (bind (wholeStep read) (λ step. oneStep names out step s)) (readStepChecks names out read s)
       go (Read step []) = step-judged step s
-      go (Read step (word ∷ rest)) = record { result = answer [] s; is = refl }
-      go Fails = record { result = answer [] s; is = refl }
+      go (Read step (word ∷ rest)) = record { result = advanced [] s; is = refl }
+      go Fails = record { result = advanced [] s; is = refl }
 
 self-judged : (names : List ℕ) (word : ℕ) → Judged (selfRef names word) (wordChecks names Aside (unused names .seen) [] word)
 unfolding selfRef
 self-judged names word =
     judged-gives
-    (λ a. answer (a .given)
+    (λ a. advanced (a .given)
     (record {
       seen = record { source = SelfParam (firstOr (a .given)); count = a .left .count };
       kept = false;
@@ -256,7 +256,7 @@ self-judged names word =
 -- ---- both ways
 
 pub step-refused : (names : List ℕ) (out : Bool) (s : Lowerer) (step : Step) (r : Refusal)
-    → (oneStep names out step s ≡ Refuses r) ↔ FirstDue r (stepChecks names out step s)
+    → (oneStep names out step s ≡ Refuses r) ↔ FirstDue r (singleStepChecks names out step s)
 step-refused names out s step r = refused-both (step-judged names out step s) r
 
 pub worded-refused : (names : List ℕ) (out : Bool) (s : Lowerer) (words : List ℕ) (r : Refusal)

@@ -34,12 +34,12 @@ pub data Answer : Type 0 where
   Count : ℕ → Answer
   Steps : Stepped → Answer
 
-abbrev pub wordsOf : Outcome Method → Outcome Words
-wordsOf o = over (λ m. record { self = words (m .self); steps = words (m .steps); returns = words (m .returns) }) o
+abbrev pub inWords : Outcome Method → Outcome Words
+inWords o = over (λ m. record { self = words (m .self); steps = words (m .steps); returns = words (m .returns) }) o
 
 abbrev pub answer : Question → Answer
 answer (Lower names self steps returns) =
-    Lowered (wordsOf (lowerRecords (namedEnv names []) self steps returns 16 16 16))
+    Lowered (inWords (lowerRecords (namedEnv names []) self steps returns 16 16 16))
 answer (Positions names steps) = Count (length (positions names (occurrences NoSelf (inputs (stepsOf steps)))))
 answer (OneStep names out step) = Steps (stepped (unused names) (wordedStep names out step (unused names)))
 

@@ -31,7 +31,7 @@ use Rattle.elision.specs.declared.put.Put.{Put}
 use Rattle.elision.specs.declared.put.Took.{Took}
 use Rattle.elision.specs.declared.method.Totals.{Totals}
 use Rattle.elision.specs.Rfc.{Method}
-use Rattle.elision.specs.Machine.{Answer, firstOr, valuesIn, laid, lowerStep, oneStep, stepped}
+use Rattle.elision.specs.Machine.{Advanced, firstOr, valuesIn, laid, lowerStep, oneStep, stepped}
 
 -- where a step stands that is read at a place of some words
 pub data StandsAt (words : List ℕ) (at : ℕ) : Reading Step → StepAt → Type 0 where
@@ -45,11 +45,11 @@ pub data StandsAt (words : List ℕ) (at : ℕ) : Reading Step → StepAt → Ty
       → StandsAt words at (Read (SelfType ls) rest) (standing.SelfType from to)
   missing : StandsAt words at Fails standing.Missing
 
-abbrev pub worded : Seen → Outcome (Answer Seen) → Worded
+abbrev pub worded : Seen → Outcome (Advanced Seen) → Worded
 worded s (Gives a) = record { verdict = verdict.Accepted; lifetime = firstOr (a .given); seen = a .left }
 worded s (Refuses r) = record { verdict = verdict.Refused r; lifetime = Static; seen = s }
 
-abbrev pub ran : Seen → Outcome (Answer Seen) → Run
+abbrev pub ran : Seen → Outcome (Advanced Seen) → Run
 ran s (Gives a) = record { verdict = verdict.Accepted; seen = a .left; lifetimes = laid (a .given) }
 ran s (Refuses r) = record { verdict = verdict.Refused r; seen = s; lifetimes = laid [] }
 
@@ -71,16 +71,16 @@ abbrev pub takes : List ℕ → Bool → Lowerer → Reading Step → Stepped
 takes names out s (Read step rest) = stepped s (oneStep names out step s)
 takes names out s Fails = record { verdict = verdict.Refused Malformed; lowerer = s; lifetimes = laid [] }
 
-abbrev pub putOf : Seen → ℕ → Outcome (Answer Seen) → Put
+abbrev pub putOf : Seen → ℕ → Outcome (Advanced Seen) → Put
 putOf s at (Gives a) = record { verdict = verdict.Accepted; seen = a .left; at = at + length (a .given) }
 putOf s at (Refuses r) = record { verdict = verdict.Refused r; seen = s; at = at }
 
 -- some words lowered and stored from a place on: the answer; given, their words are in the slice, as far as it takes
 -- them
-pub record Puts (s : Seen) (o : Outcome (Answer Seen)) (at : ℕ) (before behind : List ℕ) (r : Put) : Type 0 where
+pub record Puts (s : Seen) (o : Outcome (Advanced Seen)) (at : ℕ) (before behind : List ℕ) (r : Put) : Type 0 where
   pub answers : r ≡ putOf s at o
   pub few : r .at ≤ at + mostList
-  pub stores : (a : Answer Seen) → o ≡ Gives a → behind ≡ sets before at (map shown (a .given))
+  pub stores : (a : Advanced Seen) → o ≡ Gives a → behind ≡ sets before at (map shown (a .given))
 
 -- A lowerer as the loops over a record pass it on: what is seen, whether the `Self` type was there, how many lifetimes
 -- it has then, and their words in front of a list of 16.
@@ -93,8 +93,8 @@ pub record Shows (s : Lowerer) (seen : Seen) (kept : Bool) (own : ℕ) (list : L
 
 -- what is given: the answer shows the next lowerer, and the words are in the slice from a place on, as far as it takes
 -- them
-pub record Given (o : Outcome (Answer Lowerer)) (n : ℕ) (list before behind : List ℕ) (r : Took) : Type 0 where
-  pub it : Answer Lowerer
+pub record Given (o : Outcome (Advanced Lowerer)) (n : ℕ) (list before behind : List ℕ) (r : Took) : Type 0 where
+  pub it : Advanced Lowerer
   pub is : o ≡ Gives it
   pub shows : Shows (it .left) (r .seen) (r .kept) (r .own) list
   pub count : r .n ≡ n + length (it .given)
@@ -102,12 +102,12 @@ pub record Given (o : Outcome (Answer Lowerer)) (n : ℕ) (list before behind : 
 
 -- Steps lowered and stored. Refused, nothing is said of list and slice: words may have been stored before the bad
 -- place.
-pub record Lowers (o : Outcome (Answer Lowerer)) (n : ℕ) (list before behind : List ℕ) (r : Took) : Type 0 where
+pub record Lowers (o : Outcome (Advanced Lowerer)) (n : ℕ) (list before behind : List ℕ) (r : Took) : Type 0 where
   pub accepted : r .verdict ≡ verdict.Accepted → Given o n list before behind r
   pub refused : (k : Refusal) → r .verdict ≡ verdict.Refused k → o ≡ Refuses k
 
 -- one step, whatever lowerer is shown
-pub record PutsOne (step : Lowerer → Outcome (Answer Lowerer)) (seen : Seen) (kept : Bool) (own n to : ℕ)
+pub record PutsOne (step : Lowerer → Outcome (Advanced Lowerer)) (seen : Seen) (kept : Bool) (own n to : ℕ)
     (list list₁ before behind : List ℕ) (r : Took) : Type 0 where
   pub few : r .own ≤ mostList
   pub near : r .n ≤ n + mostList

@@ -12,7 +12,7 @@ use Rattle.lifetimes.specs.declared.env.LifetimeEnv as hir
 use Rattle.answers.specs.Refusals.{Check, check, Outcome, Gives, Refuses, unless, over}
 use Rattle.answers.specs.Lent.{Slice, Fills, roomCheck}
 use Rattle.lifetimes.specs.LoweredWords.{wordOf}
-use Rattle.lifetimes.specs.Env.{envOf}
+use Rattle.lifetimes.specs.Env.{envWith, envOf}
 use Rattle.lifetimes.specs.Env as hirenv
 use Rattle.ast_lifetimes.specs.declared.env.LifetimeEnv as ast
 use Rattle.ast_lifetimes.specs.Env.{namesOf, envChecks}
@@ -25,8 +25,8 @@ abbrev pub words : List MaybeStatic → List ℕ
 words ls = map wordOf ls
 
 -- what RFC 141 says of the three records
-abbrev pub recordsOf : ast.LifetimeEnv → List ℕ → List ℕ → List ℕ → Method
-recordsOf e self steps returns = methodOf (namesOf e) (receiverOf self) (stepsOf steps) (stepsOf returns)
+abbrev pub loweredRecords : ast.LifetimeEnv → List ℕ → List ℕ → List ℕ → Method
+loweredRecords e self steps returns = methodOf (namesOf e) (receiverOf self) (stepsOf steps) (stepsOf returns)
 
 -- 1 over the three records
 abbrev pub inShapeAll : List ℕ → List ℕ → List ℕ → Bool
@@ -40,17 +40,17 @@ measureChecks e self steps returns =
     ++ elisionChecks (namesOf e) (receiverOf self) (stepsOf steps) (stepsOf returns))
 
 -- then a slice too short (9)
-abbrev pub roomChecks : Method → ℕ → ℕ → ℕ → List Check
-roomChecks m own given taken =
+abbrev pub loweringRoomChecks : Method → ℕ → ℕ → ℕ → List Check
+loweringRoomChecks m own given taken =
     roomCheck own (words (m .self)) ∷ roomCheck given (words (m .steps)) ∷ roomCheck taken (words (m .returns)) ∷ []
 
 abbrev pub lowerChecks : ast.LifetimeEnv → List ℕ → List ℕ → List ℕ → ℕ → ℕ → ℕ → List Check
 lowerChecks e self steps returns own given taken =
-    measureChecks e self steps returns ++ roomChecks (recordsOf e self steps returns) own given taken
+    measureChecks e self steps returns ++ loweringRoomChecks (loweredRecords e self steps returns) own given taken
 
 -- `finish`: all lifetimes, declared and new, and the bounds of the AST environment
 abbrev pub finished : ast.LifetimeEnv → ℕ → hir.LifetimeEnv
-finished e count = record { declared = e .named; count = count; bounds = e .bounds }
+finished e count = envWith (e .named) count (e .bounds)
 
 -- by hand: the AST environment's refusals, then those of the environment itself (a 65th lifetime 4, more names than
 -- lifetimes 8)
@@ -58,11 +58,11 @@ unfoldable pub finishEnv : ast.LifetimeEnv → ℕ → Outcome hir.LifetimeEnv
 finishEnv e count = unless (envChecks e ++ hirenv.envChecks (finished e count)) (finished e count)
 
 unfoldable pub measureRecords : ast.LifetimeEnv → List ℕ → List ℕ → List ℕ → Outcome Method
-measureRecords e self steps returns = unless (measureChecks e self steps returns) (recordsOf e self steps returns)
+measureRecords e self steps returns = unless (measureChecks e self steps returns) (loweredRecords e self steps returns)
 
 unfoldable pub lowerRecords : ast.LifetimeEnv → List ℕ → List ℕ → List ℕ → ℕ → ℕ → ℕ → Outcome Method
 lowerRecords e self steps returns own given taken =
-    unless (lowerChecks e self steps returns own given taken) (recordsOf e self steps returns)
+    unless (lowerChecks e self steps returns own given taken) (loweredRecords e self steps returns)
 
 -- What the calls answer, and what `lower` writes: given, the words of each record; refused, nothing, and an environment
 -- without lifetimes

@@ -148,8 +148,8 @@ standingIn false = Input
 standingIn true = Output
 
 -- "Kind 1 appends anonymous ones until g are given and never drops any"
-abbrev pub padded : ℕ → List ℕ → List ℕ
-padded g words = words ++ replicate (g - length words) 1
+abbrev pub appended : ℕ → List ℕ → List ℕ
+appended g words = words ++ replicate (g - length words) 1
 
 abbrev pub isSelfType : Step → Bool
 isSelfType (Lifetime word) = false
@@ -163,7 +163,7 @@ hasSelfType l = any (λ i. isSelfType (i .step)) l
 -- aren't looked up"
 abbrev pub stepOccurrences : Bool → Bool → Step → List Occurrence
 stepOccurrences again out (Lifetime word) = map (occurs (standingIn out)) (word ∷ [])
-stepOccurrences again out (Generics g words) = map (occurs (standingIn out)) (padded g words)
+stepOccurrences again out (Generics g words) = map (occurs (standingIn out)) (appended g words)
 stepOccurrences again out (SelfType words) = cond again [] (map (occurs Aside) words)
 
 abbrev pub occurrencesAt : List Item → Item → List Occurrence

@@ -19,7 +19,7 @@ use Rattle.elision.specs.declared.lowerer.Standing.the-variants.{Input, 
 use Rattle.elision.specs.declared.lowerer.Seen.{Seen}
 use Rattle.elision.specs.declared.lowerer.Lowerer.{Lowerer}
 use Rattle.elision.specs.Steps.{Step, Lifetime, Generics, SelfType, readStep}
-use Rattle.elision.specs.Rfc.{throughout, standingIn, padded}
+use Rattle.elision.specs.Rfc.{throughout, standingIn, appended}
 use Rattle.elision.specs.Machine.{fits}
 use Rattle.lifetimes.specs.Limits.{mostLifetimes}
 
@@ -51,7 +51,7 @@ wordChecks names st s before word =
 -- the words of a step that are looked up: of a `Self` type that was there before, none
 abbrev pub lookedUp : Step → Lowerer → List ℕ
 lookedUp (Lifetime word) s = word ∷ []
-lookedUp (Generics g words) s = padded g words
+lookedUp (Generics g words) s = appended g words
 lookedUp (SelfType words) s = cond (s .kept) [] words
 
 -- how they stand
@@ -61,16 +61,16 @@ standingOf out (Generics g words) = standingIn out
 standingOf out (SelfType words) = Aside
 
 -- the refusals of one step: 1 where it does not fit, then word by word
-abbrev pub stepChecks : List ℕ → Bool → Step → Lowerer → List Check
-stepChecks names out step s =
+abbrev pub singleStepChecks : List ℕ → Bool → Step → Lowerer → List Check
+singleStepChecks names out step s =
     check (not (fits step)) Malformed ∷ throughout (wordChecks names (standingOf out step) (s .seen)) []
     (lookedUp step s)
 
 -- of a step that is read from some words: 1 also where they are not exactly one step
-abbrev pub readChecks : List ℕ → Bool → Reading Step → Lowerer → List Check
-readChecks names out (Read step []) s = stepChecks names out step s
-readChecks names out (Read step (word ∷ words)) s = check true Malformed ∷ []
-readChecks names out Fails s = check true Malformed ∷ []
+abbrev pub readStepChecks : List ℕ → Bool → Reading Step → Lowerer → List Check
+readStepChecks names out (Read step []) s = singleStepChecks names out step s
+readStepChecks names out (Read step (word ∷ words)) s = check true Malformed ∷ []
+readStepChecks names out Fails s = check true Malformed ∷ []
 
 abbrev pub wordedChecks : List ℕ → Bool → List ℕ → Lowerer → List Check
-wordedChecks names out words s = readChecks names out (readStep words) s
+wordedChecks names out words s = readStepChecks names out (readStep words) s

@@ -31,13 +31,13 @@ readStep (kind ∷ words) =
     Fails))
 
 -- the words of a step as they stand in a record, and those of several
-abbrev pub wordsOf : Step → List ℕ
-wordsOf (Lifetime l) = 0 ∷ l ∷ []
-wordsOf (Generics g ls) = 1 ∷ g ∷ length ls ∷ ls
-wordsOf (SelfType ls) = 2 ∷ length ls ∷ ls
+abbrev pub wordsOfStep : Step → List ℕ
+wordsOfStep (Lifetime l) = 0 ∷ l ∷ []
+wordsOfStep (Generics g ls) = 1 ∷ g ∷ length ls ∷ ls
+wordsOfStep (SelfType ls) = 2 ∷ length ls ∷ ls
 
 abbrev pub allWords : List Step → List ℕ
-allWords steps = flatMap wordsOf steps
+allWords steps = flatMap wordsOfStep steps
 
 -- one step after another, to the end of the record
 abbrev pub stepsInShape : List ℕ → Bool

@@ -15,12 +15,12 @@ use Rattle.ast_lifetimes.specs.Env.{place}
 use Rattle.elision.specs.declared.lowerer.Standing.{Standing}
 use Rattle.elision.specs.declared.lowerer.Standing.the-variants.{Aside, Output}
 use Rattle.elision.specs.declared.lowerer.Lowerer.{Lowerer}
-use Rattle.elision.specs.Steps.{Step, Receiver, wordsOf, allWords, stepsInShape, stepsOf}
+use Rattle.elision.specs.Steps.{Step, Receiver, wordsOfStep, allWords, stepsInShape, stepsOf}
 use Rattle.elision.specs.Rfc.{Occurrence, occurs, makes, isNew, anonymous, countOf, sourceAt, valueAt, checksAt}
 use Rattle.elision.specs.Rfc.{Item, isSelfType, hasSelfType, occurrencesAt, occurrences, ownFrom, loweredAt}
 use Rattle.elision.specs.Rfc.{inputs, outputs, Method, elisionChecks, methodOf, rfc141}
 use Rattle.elision.specs.Machine.{inTurn, oneStep, unused, selfRef, stepped, wordedStep, runSteps, runMethod}
-use Rattle.elision.specs.StepChecks.{wordChecks, stepChecks, wordedChecks}
+use Rattle.elision.specs.StepChecks.{wordChecks, singleStepChecks, wordedChecks}
 use Rattle.elision.specs.Examples.{starred, further, Right}
 
 -- The lowerer's steps, one after another from the new lowerer over self, steps and returns, give exactly what RFC 141
@@ -74,7 +74,8 @@ StepsOneByOne = (names : List ℕ) (out : Bool) (words : List ℕ) (s : Lowerer)
 -- what the whole record gives; and a refused step leaves the lowerer as it was.
 pub record Lends (names : List ℕ) (out : Bool) (words : List ℕ) (s : Lowerer) : Type 0 where
   pub whole : stepsInShape words ≡ true → allWords (stepsOf words) ≡ words
-  pub together : inTurn (wordedStep names out) (map wordsOf (stepsOf words)) s ≡ runSteps names out (stepsOf words) s
+  pub together : inTurn (wordedStep names out) (map wordsOfStep (stepsOf words)) s
+      ≡ runSteps names out (stepsOf words) s
   pub kept : (r : Refusal) → wordedStep names out words s ≡ Refuses r
       → stepped s (wordedStep names out words s) .lowerer ≡ s
 
@@ -85,7 +86,7 @@ LentSteps = (names : List ℕ) (out : Bool) (words : List ℕ) (s : Lowerer) →
 pub record StepRefuses (names : List ℕ) (out : Bool) (s : Lowerer) : Type 0 where
   -- a step by its parts: `lower_lifetime`, `lower_generics`, `is_self`
   pub step : (step : Step) (r : Refusal) → (oneStep names out step s ≡ Refuses r)
-      ↔ FirstDue r (stepChecks names out step s)
+      ↔ FirstDue r (singleStepChecks names out step s)
   -- a step by its words: `lower_step`, `step`
   pub worded : (words : List ℕ) (r : Refusal) → (wordedStep names out words s ≡ Refuses r)
       ↔ FirstDue r (wordedChecks names out words s)

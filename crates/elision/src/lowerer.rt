@@ -5,7 +5,7 @@ ghost use Prim.Native.Nat.{_+_, _-_, _≤_};
 ghost use lib.ListN.{length, getD};
 ghost use Rattle.ast_lifetimes.specs.Env.{place};
 ghost use Rattle.elision.specs.Steps as steps;
-ghost use Rattle.elision.specs.Rfc.{padded, standingIn};
+ghost use Rattle.elision.specs.Rfc.{appended, standingIn};
 ghost use Rattle.elision.specs.Machine.{visited, newLifetime, lowerAnonymous, lowerWord, lowerWords, unused};
 ghost use Rattle.elision.specs.Machine.{selfRef, oneStep, laid, valuesIn, stepped};
 ghost use Rattle.elision.specs.Inner.{worded, ran, atMost16};
@@ -284,7 +284,7 @@ fn lower_words(
     seen: Seen,
 ) -> Run
     requires { ⌜ (length (now words) ≤ mostList) × (generics ≤ mostList) ⌝ }
-    ensures { λ r. ⌜ r ≡ ran seen (lowerWords (held names) standing (padded generics (held words)) seen) ⌝ }
+    ensures { λ r. ⌜ r ≡ ran seen (lowerWords (held names) standing (appended generics (held words)) seen) ⌝ }
 {
     let total = larger(words.len(), generics);
     let none = Lowered {

@@ -67,17 +67,12 @@ pub fn measure(
     if let Verdict::Refused(refusal) = verdict {
         return refused_lowering(refusal);
     }
-    let bounds = env.bounds;
     Lowering {
         verdict: Verdict::Accepted,
         selves: totals.selves,
         steps: totals.steps,
         returns: totals.returns,
-        env: lifetimes::LifetimeEnv {
-            declared: named,
-            count: totals.count,
-            bounds,
-        },
+        env: lifetimes::LifetimeEnv::from_bounds(named, totals.count, env.bounds),
     }
 }
 
@@ -137,14 +132,7 @@ pub fn finish(lowerer: Lowerer, env: ast_lifetimes::LifetimeEnv) -> lifetimes::M
         return refused_env(refusal);
     }
     let seen = lowerer.seen;
-    let count = seen.count;
-    let declared = env.named;
-    let bounds = env.bounds;
-    let hir = lifetimes::LifetimeEnv {
-        declared,
-        count,
-        bounds,
-    };
+    let hir = lifetimes::LifetimeEnv::from_bounds(env.named, seen.count, env.bounds);
     let verdict = hir.check();
     if let Verdict::Refused(refusal) = verdict {
         return refused_env(refusal);

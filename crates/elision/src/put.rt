@@ -9,7 +9,7 @@ ghost use Prim.Native.Nat.{ℕ, _≤_};
 ghost use lib.ListN.{length, take, set};
 ghost use lib.Seq.{sets};
 ghost use Rattle.elision.specs.Steps.{receiverOf, stepsInShape, stepsOf};
-ghost use Rattle.elision.specs.Rfc.{padded, standingIn};
+ghost use Rattle.elision.specs.Rfc.{appended, standingIn};
 ghost use Rattle.elision.specs.Machine.{lowerWords, lowerSelf, wordsStep, selfStep, runSteps};
 ghost use Rattle.elision.specs.Inner.{shown, Shows, Lowers, Puts, PutsOne, PutsStep};
 ghost use Rattle.answers.specs.Lent.{held, left};
@@ -259,7 +259,7 @@ fn put_given(
 ) -> Took
     requires { ⌜ (length (now words) ≤ mostList) × (generics ≤ mostList) × (own ≤ mostList) × (n ≤ 65536) ⌝ }
     ensures { λ r.
-        ⌜ ((list : List ℕ) → PutsOne (wordsStep (held names) (standingIn output) (padded generics (held words))) seen
+        ⌜ ((list : List ℕ) → PutsOne (wordsStep (held names) (standingIn output) (appended generics (held words))) seen
         kept own n to list list (held out) (left out) r) ⌝ }
 {
     let put = put_words(names, standing_in(output), words, generics, seen, n, out);
@@ -352,7 +352,7 @@ fn put_words(
     out: &mut [usize],
 ) -> Put
     requires { ⌜ (length (now words) ≤ mostList) × (generics ≤ mostList) × (at ≤ 65536) ⌝ }
-    ensures { λ r. ⌜ Puts seen (lowerWords (held names) standing (padded generics (held words)) seen) at (held out)
+    ensures { λ r. ⌜ Puts seen (lowerWords (held names) standing (appended generics (held words)) seen) at (held out)
         (left out) r ⌝ }
 {
     let total = larger(words.len(), generics);

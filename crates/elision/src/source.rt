@@ -1,6 +1,6 @@
 // The source of elision.
 ghost use mathlib.Core.Path.{_≡_};
-ghost use Rattle.elision.specs.Machine.{visit};
+ghost use Rattle.elision.specs.Machine.{visitLifetime};
 use lifetimes::MaybeStatic;
 
 // Where an elided lifetime of the output comes from, by the inputs so far.
@@ -18,7 +18,7 @@ pub enum ElisionSource {
 impl ElisionSource {
     // The source after one more input position.
     pub fn visit_lifetime(self, lifetime: MaybeStatic) -> Self
-        ensures answer { λ r. ⌜ r ≡ visit self lifetime ⌝ }
+        ensures answer { λ r. ⌜ r ≡ visitLifetime self lifetime ⌝ }
     {
         match self {
             ElisionSource::NoBorrows => ElisionSource::OneParam(lifetime),

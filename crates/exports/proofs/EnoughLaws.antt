@@ -17,7 +17,7 @@ use Rattle.borrowing_param.specs.New.{created}
 use Rattle.borrowing_param.specs.Consistent.{Consistent}
 use Rattle.borrowing_param.specs.Theorems.{Small}
 use Rattle.borrowing_param.specs.SheetMethod.{envOfSheet, sheetRefusals}
-use Rattle.borrowing_param.specs.Borrows.{Borrows, sheetBorrows, roomChecks, mostListed}
+use Rattle.borrowing_param.specs.Borrows.{Borrows, sheetBorrows, borrowsRoomChecks, mostListed}
 use Rattle.borrowing_param.proofs.JoinLaws.{words-many}
 use Rattle.borrowing_param.proofs.Condition3Laws.{params-none}
 use Rattle.borrowing_param.proofs.Theorems.{listing-in-order, methods-are-small, sheets-give-methods}
@@ -53,7 +53,7 @@ module _ (bytes : List ℕ) where
 
   pub room : (used answers edges counts : ℕ) → mostUsed ≤ used → mostParams ≤ answers → width * mostListed ≤ edges
       → 3 ≤ counts → NoneDue (sheetRefusals bytes)
-      → NoneDue (roomChecks all used answers edges ++ (roomCheck counts (countWords all) ∷ []))
+      → NoneDue (borrowsRoomChecks all used answers edges ++ (roomCheck counts (countWords all) ∷ []))
   room used answers edges counts a b c d n =
       let k = small n in
       let u : length (all .used) ≤ used = omega (arith, k .few-used, a) in

@@ -19,7 +19,7 @@ use Rattle.sheet.specs.Reading.{sheetOf}
 use Rattle.borrowing_param.specs.declared.borrows.Borrows as answer
 use Rattle.borrowing_param.specs.Edges.{edgeWords}
 use Rattle.borrowing_param.specs.SheetMethod.{sheetRefusals}
-use Rattle.borrowing_param.specs.Borrows.{Borrows, sheetBorrows, roomChecks, borrowSheet, borrowsAnswer, usedWords}
+use Rattle.borrowing_param.specs.Borrows.{Borrows, sheetBorrows, borrowsRoomChecks, borrowSheet, borrowsAnswer, usedWords}
 use Rattle.borrowing_param.specs.Borrows.{answerWords, edgesWords}
 use Rattle.listing.specs.Listing.{listingOf, listingChecks, listing}
 use Rattle.exports.specs.Calls.{lengthWord, listingTo, ListingAnswers, countWords, sheetTo, SheetAnswers}
@@ -193,12 +193,12 @@ module _ (bytes : List ℕ) where
   to-borrows used answers edges counts h =
       ap (λ (cs : List Check). unless cs all)
       (sym
-      (append-assoc (sheetRefusals bytes) (roomChecks all used answers edges)
+      (append-assoc (sheetRefusals bytes) (borrowsRoomChecks all used answers edges)
       (roomCheck counts (countWords all) ∷ [])))
-      ∙ idle all (sheetRefusals bytes ++ roomChecks all used answers edges) (roomCheck counts (countWords all)) (le-ltb counts 3 h)
+      ∙ idle all (sheetRefusals bytes ++ borrowsRoomChecks all used answers edges) (roomCheck counts (countWords all)) (le-ltb counts 3 h)
 
   no-words : (used answers edges counts : ℕ) → counts < 3
-      → unless (roomChecks all used answers edges ++ (roomCheck counts (countWords all) ∷ [])) all ≡ Refuses NoRoom
+      → unless (borrowsRoomChecks all used answers edges ++ (roomCheck counts (countWords all) ∷ [])) all ≡ Refuses NoRoom
   unfolding unless
   no-words used answers edges counts h =
       let last : cond (ltb counts 3) (Refuses NoRoom) (Gives all) ≡ Refuses NoRoom = rw (lt-ltb counts 3 h) in
@@ -206,7 +206,7 @@ module _ (bytes : List ℕ) where
       _ (short-or all (ltb answers (length (all .answers)))
       _ (short-or all (ltb edges (length (flatMap edgeWords (all .edges)))) _ last))
 
-  only-rooms : (k : Refusal) → unless (roomChecks all 0 0 0) all ≡ Refuses k → k ≡ NoRoom
+  only-rooms : (k : Refusal) → unless (borrowsRoomChecks all 0 0 0) all ≡ Refuses k → k ≡ NoRoom
   unfolding unless
   only-rooms =
       only-or all (ltb 0 (length (all .used)))
@@ -217,16 +217,16 @@ module _ (bytes : List ℕ) where
       → sheetTo bytes used answers edges counts ≡ Refuses NoRoom
   unfolding sheetTo borrowSheet
   borrowed-there b e used answers edges counts h =
-      in-place-given all (roomChecks all 0 0 0)
-      (roomChecks all used answers edges ++ (roomCheck counts (countWords all) ∷ []))
+      in-place-given all (borrowsRoomChecks all 0 0 0)
+      (borrowsRoomChecks all used answers edges ++ (roomCheck counts (countWords all) ∷ []))
       (no-words used answers edges counts h) only-rooms (sheetRefusals bytes) b e
 
   unborrowed-there : (k : Refusal) → borrowSheet bytes 0 0 0 ≡ Refuses k → (used answers edges counts : ℕ) → counts < 3
       → sheetTo bytes used answers edges counts ≡ Refuses k
   unfolding sheetTo borrowSheet
   unborrowed-there k e used answers edges counts h =
-      in-place-refused all (roomChecks all 0 0 0)
-      (roomChecks all used answers edges ++ (roomCheck counts (countWords all) ∷ []))
+      in-place-refused all (borrowsRoomChecks all 0 0 0)
+      (borrowsRoomChecks all used answers edges ++ (roomCheck counts (countWords all) ∷ []))
       (no-words used answers edges counts h) only-rooms (sheetRefusals bytes) k e
 
   pub unborrowed-given : (r : answer.Borrows) → r ≡ borrowsAnswer (borrowSheet bytes 0 0 0) → r .verdict ≡ verdict.Accepted

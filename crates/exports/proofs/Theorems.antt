@@ -11,7 +11,7 @@ use Rattle.answers.specs.Refusals.{next, end}
 use Rattle.answers.specs.Lent.{roomCheck}
 use Rattle.sheet.specs.Reading.{sheetOf}
 use Rattle.borrowing_param.specs.SheetMethod.{sheetRefusals}
-use Rattle.borrowing_param.specs.Borrows.{sheetBorrows, roomChecks}
+use Rattle.borrowing_param.specs.Borrows.{sheetBorrows, borrowsRoomChecks}
 use Rattle.listing.specs.Listing.{roomBytes, listingOf, listingChecks}
 use Rattle.listing.proofs.Theorems.{program-answers}
 use Rattle.exports.specs.Calls.{lengthWord, listingTo, countWords, sheetTo}
@@ -32,7 +32,7 @@ pub words-enough : WordsEnough
 unfolding sheetTo
 words-enough bytes used answers edges counts a b c d =
     further (sheetBorrows (sheetOf bytes)) (sheetRefusals bytes)
-    (roomChecks (sheetBorrows (sheetOf bytes)) used answers edges
+    (borrowsRoomChecks (sheetBorrows (sheetOf bytes)) used answers edges
     ++ (roomCheck counts (countWords (sheetBorrows (sheetOf bytes))) ∷ []))
     (room bytes used answers edges counts a b c d)
 

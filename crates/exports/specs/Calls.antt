@@ -9,7 +9,7 @@ use Rattle.answers.specs.Refusals.{Outcome, Gives, Refuses, unless, numberOf, o
 use Rattle.answers.specs.Lent.{Slice, Fills, roomCheck}
 use Rattle.sheet.specs.Reading.{sheetOf}
 use Rattle.borrowing_param.specs.SheetMethod.{sheetRefusals}
-use Rattle.borrowing_param.specs.Borrows.{Borrows, sheetBorrows, roomChecks, usedWords, answerWords, edgesWords}
+use Rattle.borrowing_param.specs.Borrows.{Borrows, sheetBorrows, borrowsRoomChecks, usedWords, answerWords, edgesWords}
 use Rattle.listing.specs.Listing.{listingOf, listingChecks}
 
 -- 0, or the papers' number of the refusal
@@ -50,7 +50,7 @@ unfoldable pub sheetTo : List ℕ → ℕ → ℕ → ℕ → ℕ → Outcome Bo
 sheetTo bytes used answers edges counts =
     unless
     (sheetRefusals bytes
-    ++ (roomChecks (sheetBorrows (sheetOf bytes)) used answers edges
+    ++ (borrowsRoomChecks (sheetBorrows (sheetOf bytes)) used answers edges
     ++ (roomCheck counts (countWords (sheetBorrows (sheetOf bytes))) ∷ [])))
     (sheetBorrows (sheetOf bytes))
 

@@ -21,7 +21,7 @@ use Rattle.lifetimes.specs.declared.env.LifetimeEnv.{LifetimeEnv}
 use Rattle.lifetimes.specs.declared.env.Made.{Made}
 use Rattle.answers.specs.Refusals.{FirstDue, here, later, NoneDue, next}
 use Rattle.lifetimes.specs.Bounds.{above, boundsFrom, bothBelow, allBelow}
-use Rattle.lifetimes.specs.Env.{boundsOf, envChecks, pairsOf, newChecks, envOf, newEnv, made}
+use Rattle.lifetimes.specs.Env.{boundsOf, envChecks, boundsOfPairs, newChecks, envOf, newEnv, made}
 use Rattle.lifetimes.proofs.BoundsLaws.{bounds-made}
 use Rattle.lifetimes.proofs.EnvLaws.{lifetimes-due, bounds-due, declared-due, side-due, none-due}
 use Rattle.answers.proofs.RefusalLaws.{due-given, due-refused}
@@ -30,20 +30,20 @@ use Rattle.answers.proofs.Copying.{drop-replicate}
 -- ---- reading the pairs, from the first to the last
 
 -- at most a bound for every two words, and one for each two if no word is left over
-pairs-few : (words : List ℕ) → length (pairsOf words) + length (pairsOf words) ≤ length words
-unfolding pairsOf
+pairs-few : (words : List ℕ) → length (boundsOfPairs words) + length (boundsOfPairs words) ≤ length words
+unfolding boundsOfPairs
 pairs-few [] = omega arith
 pairs-few (l ∷ []) = omega arith
 pairs-few (l ∷ s ∷ words) = let r = pairs-few words in omega arith
 
-pairs-many : (words : List ℕ) → length words ≤ length (pairsOf words) + length (pairsOf words) + 1
-unfolding pairsOf
+pairs-many : (words : List ℕ) → length words ≤ length (boundsOfPairs words) + length (boundsOfPairs words) + 1
+unfolding boundsOfPairs
 pairs-many [] = omega arith
 pairs-many (l ∷ []) = omega arith
 pairs-many (l ∷ s ∷ words) = let r = pairs-many words in omega arith
 
-pairs-end : (words : List ℕ) (i : ℕ) → length words ≤ i → pairsOf (drop i words) ≡ []
-unfolding pairsOf
+pairs-end : (words : List ℕ) (i : ℕ) → length words ≤ i → boundsOfPairs (drop i words) ≡ []
+unfolding boundsOfPairs
 pairs-end words i h = rw (drop-of-length-le words {i = i} h)
 
 -- a pair begins at i, or the words have ended
@@ -60,8 +60,8 @@ module _ {words : List ℕ} {i : ℕ} (at : AtPair words i) (h : i < length word
   pair-next : AtPair words (i + 2)
   pair-next = record { even = omega (arith, at .even) }
 
-  pair-read : pairsOf (drop i words) ≡ above (getD words i 0) (getD words (i + 1) 0) ∷ pairsOf (drop (i + 2) words)
-  unfolding pairsOf
+  pair-read : boundsOfPairs (drop i words) ≡ above (getD words i 0) (getD words (i + 1) 0) ∷ boundsOfPairs (drop (i + 2) words)
+  unfolding boundsOfPairs
   pair-read =
       let two : i + 2 ≡ suc (suc i) = omega arith in
       let k : suc i < length words = omega (arith, pair-second) in
@@ -71,19 +71,19 @@ module _ {words : List ℕ} {i : ℕ} (at : AtPair words i) (h : i < length word
 
 pub record Below (limit : ℕ) (words : List ℕ) (i : ℕ) : Type 0 where
   pub at : AtPair words i
-  pub left : allBelow limit (pairsOf words) ≡ allBelow limit (pairsOf (drop i words))
+  pub left : allBelow limit (boundsOfPairs words) ≡ allBelow limit (boundsOfPairs (drop i words))
 
 pub below-start : (limit : ℕ) (words : List ℕ) → length words % 2 ≡ 0 → Below limit words 0
 below-start limit words e = record { at = at-start words e; left = refl }
 
 module _ {limit : ℕ} {words : List ℕ} {i : ℕ} (inv : Below limit words i) where
-  pub below-end : length words ≤ i → true ≡ allBelow limit (pairsOf words)
+  pub below-end : length words ≤ i → true ≡ allBelow limit (boundsOfPairs words)
   unfolding all
   below-end h = rw (inv .left, pairs-end words i h)
 
   module _ (h : i < length words) where
     pub below-refused : bothBelow limit (above (getD words i 0) (getD words (i + 1) 0)) ≡ false
-        → false ≡ allBelow limit (pairsOf words)
+        → false ≡ allBelow limit (boundsOfPairs words)
     unfolding all
     below-refused f = rw (inv .left, pair-read (inv .at) h, f)
 
@@ -96,19 +96,19 @@ module _ {limit : ℕ} {words : List ℕ} {i : ℕ} (inv : Below limit words i) 
 -- what is left to store, stored from here, gives what all pairs give from the array's start
 pub record Filling (words : List ℕ) (bounds : List Bound) (pushed i : ℕ) : Type 0 where
   pub at : AtPair words i
-  pub places : pushed + length (pairsOf (drop i words)) ≡ length (pairsOf words)
-  pub stored : sets bounds pushed (pairsOf (drop i words)) ≡ sets (replicate 256 (above 0 0)) 0 (pairsOf words)
-  pub small : allBelow 256 (pairsOf (drop i words)) ≡ true
+  pub places : pushed + length (boundsOfPairs (drop i words)) ≡ length (boundsOfPairs words)
+  pub stored : sets bounds pushed (boundsOfPairs (drop i words)) ≡ sets (replicate 256 (above 0 0)) 0 (boundsOfPairs words)
+  pub small : allBelow 256 (boundsOfPairs (drop i words)) ≡ true
 
-pub filling-start : (words : List ℕ) → length words % 2 ≡ 0 → allBelow 256 (pairsOf words) ≡ true → {b : Bound}
+pub filling-start : (words : List ℕ) → length words % 2 ≡ 0 → allBelow 256 (boundsOfPairs words) ≡ true → {b : Bound}
     → b ≡ above 0 0 → Filling words (replicate 256 b) 0 0
 filling-start words e small {b} q =
-    record { at = at-start words e; places = zero-add (length (pairsOf words)); stored = rw q; small = small }
+    record { at = at-start words e; places = zero-add (length (boundsOfPairs words)); stored = rw q; small = small }
 
 module _ {words : List ℕ} {bounds : List Bound} {pushed i : ℕ} (inv : Filling words bounds pushed i) where
   module _ (h : i < length words) where
     sides-here : (bothBelow 256 (above (getD words i 0) (getD words (i + 1) 0)) ≡ true)
-        × (allBelow 256 (pairsOf (drop (i + 2) words)) ≡ true)
+        × (allBelow 256 (boundsOfPairs (drop (i + 2) words)) ≡ true)
     unfolding all
     sides-here = (and-eq-true-iff _ _) .0 (rw (pair-read (inv .at) h) at (inv .small))
 
@@ -132,23 +132,23 @@ module _ {words : List ℕ} {bounds : List Bound} {pushed i : ℕ} (inv : Fillin
     pub filling-room : i < length words → pushed < 256
     filling-room h = omega (arith, inv .places, ap length (pair-read (inv .at) h), pairs-few words)
 
-    all-stored : length words ≤ i → bounds ≡ pairsOf words ++ replicate (256 - length (pairsOf words)) (above 0 0)
+    all-stored : length words ≤ i → bounds ≡ boundsOfPairs words ++ replicate (256 - length (boundsOfPairs words)) (above 0 0)
     all-stored h =
         rw (pairs-end words i h) at (inv .stored)
-        ∙ sets-eq (pairsOf words) (replicate 256 (above 0 0)) 0 (omega (arith, pairs-few words))
-        ∙ rw (zero-add, drop-replicate (length (pairsOf words)) 256 (above 0 0))
+        ∙ sets-eq (boundsOfPairs words) (replicate 256 (above 0 0)) 0 (omega (arith, pairs-few words))
+        ∙ rw (zero-add, drop-replicate (length (boundsOfPairs words)) 256 (above 0 0))
 
-    pub filling-end : length words ≤ i → record { pushed = pushed; list = bounds } ≡ boundsFrom (pairsOf words)
+    pub filling-end : length words ≤ i → record { pushed = pushed; list = bounds } ≡ boundsFrom (boundsOfPairs words)
     unfolding boundsFrom
     filling-end h =
-        let all : pushed ≡ length (pairsOf words) = omega (arith, inv .places, ap length (pairs-end words i h)) in
+        let all : pushed ≡ length (boundsOfPairs words) = omega (arith, inv .places, ap length (pairs-end words i h)) in
         rw (all, all-stored h)
 
 -- ---- `LifetimeEnv::new`
 
 module _ (declared count : ℕ) (words : List ℕ) where
   abbrev asked : LifetimeEnv
-  asked = envOf declared count (pairsOf words)
+  asked = envOf declared count (boundsOfPairs words)
 
   refused-by : {r : Refusal} {m : Made} → FirstDue r (newChecks declared count words)
       → m ≡ record { verdict = Refused r; env = envOf 0 0 [] } → m ≡ made (envOf 0 0 []) (newEnv declared count words)
@@ -176,7 +176,7 @@ module _ (declared count : ℕ) (words : List ℕ) where
       new-bounds h e = new-refused (bounds-due asked lifetimes (omega (arith, pairs-many words))) e
 
       module _ (few : length words / 2 ≤ 256) where
-        few-pairs : length (pairsOf words) ≤ 256
+        few-pairs : length (boundsOfPairs words) ≤ 256
         few-pairs = omega (arith, pairs-few words)
 
         pub new-declared : {m : Made} → count < declared → m ≡ record { verdict = Refused OutOfRange; env = envOf 0 0 [] }
@@ -185,17 +185,17 @@ module _ (declared count : ℕ) (words : List ℕ) where
         new-declared h e = new-refused (declared-due asked lifetimes few-pairs h) e
 
         module _ (declares : declared ≤ count) where
-          sides : {t : Bool} → allBelow declared (pairsOf words) ≡ t → allBelow declared (boundsOf asked) ≡ t
+          sides : {t : Bool} → allBelow declared (boundsOfPairs words) ≡ t → allBelow declared (boundsOf asked) ≡ t
           unfolding envOf
-          sides h = rw (bounds-made (pairsOf words)) h
+          sides h = rw (bounds-made (boundsOfPairs words)) h
 
-          pub new-outside : {m : Made} → allBelow declared (pairsOf words) ≡ false
+          pub new-outside : {m : Made} → allBelow declared (boundsOfPairs words) ≡ false
               → m ≡ record { verdict = Refused OutOfRange; env = envOf 0 0 [] }
               → m ≡ made (envOf 0 0 []) (newEnv declared count words)
           unfolding envOf boundsFrom
           new-outside h e = new-refused (side-due asked lifetimes few-pairs declares (sides h)) e
 
-          pub new-given : {b : Bounds} → allBelow declared (pairsOf words) ≡ true → b ≡ boundsFrom (pairsOf words)
+          pub new-given : {b : Bounds} → allBelow declared (boundsOfPairs words) ≡ true → b ≡ boundsFrom (boundsOfPairs words)
               → record { verdict = Accepted; env = record { declared = declared; count = count; bounds = b } }
               ≡ made (envOf 0 0 []) (newEnv declared count words)
           unfolding newEnv envOf boundsFrom

@@ -14,7 +14,7 @@ use Rattle.lifetimes.specs.declared.linked.LinkedWord.{LinkedWord}
 use Rattle.lifetimes.specs.declared.linked.LinkedWord.the-variants.{Word, Absent}
 use Rattle.lifetimes.specs.declared.linked.LinkedPair.{LinkedPair}
 use Rattle.lifetimes.specs.declared.linked.LinkedPair.the-variants as pair
-use Rattle.answers.specs.Lists.{range}
+use Rattle.answers.specs.Lists.{range, numbered}
 use Rattle.lifetimes.specs.Numbers.{defLifetime}
 use Rattle.answers.specs.Refusals.{Gives, Refuses, unless}
 use Rattle.lifetimes.specs.Linked.{linkedWord, linkedPair, linkedAnswer, pairAnswer, pairsWithPlaces}
@@ -65,7 +65,7 @@ module _ (words : List ℕ) (count : ℕ) where
 
     -- the pairs at n places from j on, to the last
     pairs-from : (j n : ℕ) → j + n ≡ count → map (linkedPair words count) (range j n) ≡ pairsWithPlaces j (drop j words)
-    unfolding range pairsWithPlaces
+    unfolding range numbered
     pairs-from j zero h = rw (drop-of-length-le words {i = j} (omega arith))
     pairs-from j (suc n) h = rw (drop-cons words j 0 (omega arith), pair-there j (omega arith), pairs-from (suc j) n (omega arith))
 

@@ -1,12 +1,12 @@
--- Laws of outlives. In order: it is the least such relation; monotone in the bounds; turned round; with one bound
--- added. Toward: along a bound, transitive, and by what bounds hand on.
+-- Laws of outlives. In order: it is the least such relation; monotone in the bounds; with one bound added.
+-- Toward: along a bound, transitive, and by what bounds hand on.
 use Prim.Native.Nat.{ℕ}
 use mathlib.Core.Bool.{Bool, true, false}
-use mathlib.Core.Path.{_≡_, refl, ap, subst}
+use mathlib.Core.Path.{refl}
 use mathlib.Core.Logic.{_⊎_, inl, inr, ⊎-elim, _↔_}
-use mathlib.Core.List.{List, [], _∷_, _++_, map, List·Memᴰ, List·Memᴰ·head}
+use mathlib.Core.List.{List, [], _∷_, _++_, List·Memᴰ, List·Memᴰ·head}
 use mathlib.Core.List.{List·Memᴰ·append-cases, List·Memᴰ·eq-of-singleton}
-use Rattle.answers.proofs.ListLaws.{in-left, in-right, in-map}
+use Rattle.answers.proofs.ListLaws.{in-left, in-right}
 use Rattle.lifetimes.specs.declared.bounds.Bound.{Bound}
 use Rattle.lifetimes.specs.Walk.{near, far}
 use Rattle.lifetimes.specs.Outlives.{Outlives, itself, by-bound, through, Toward}
@@ -22,25 +22,6 @@ least bs R r t h (through {x} {y} {z} p q) = t x y z (least bs R r t h p) (least
 pub outlives-more : (bs cs : List Bound) → ((b : Bound) → List·Memᴰ b bs → List·Memᴰ b cs) → {x y : ℕ} → Outlives bs x y
     → Outlives cs x y
 outlives-more bs cs sub = least bs (Outlives cs) (λ x. itself) (λ x y z p q. through p q) (λ b k. by-bound (sub b k))
-
--- bounds turned round
-abbrev pub turned : Bound → Bound
-turned b = record { longer = b .shorter; shorter = b .longer }
-
-turned-there : (bs : List Bound) {x y : ℕ} → Outlives bs x y → Outlives (map turned bs) y x
-turned-there bs =
-    least bs (λ x y. Outlives (map turned bs) y x) (λ x. itself) (λ x y z p q. through q p)
-    (λ b k. by-bound (in-map turned bs b k))
-
-turned-twice : (bs : List Bound) → map turned (map turned bs) ≡ bs
-turned-twice [] = refl
-turned-twice (b ∷ bs) = ap (λ (l : List Bound). b ∷ l) (turned-twice bs)
-
-pub outlives-turned : (bs : List Bound) (x y : ℕ) → Outlives (map turned bs) x y ↔ Outlives bs y x
-outlives-turned bs x y = (
-  λ h. subst (λ (cs : List Bound). Outlives cs y x) (turned-twice bs) (turned-there (map turned bs) h),
-  turned-there bs,
-)
 
 -- one bound added: what outlived still does; else it goes once over the new bound
 module _ (bs : List Bound) (b : Bound) where

@@ -5,7 +5,7 @@ use mathlib.Core.Bool.{Bool, true, false, cond, _||_, true≢false, false≢true
 use mathlib.Core.Logic.{_⊎_, inl, inr, ⊎-elim, _↔_}
 use mathlib.Core.Path.{_≡_, refl, sym, ap, _∙_}
 use mathlib.Core.List.{List, [], _∷_, _++_, List·Memᴰ, List·Memᴰ·head, List·Memᴰ·tail, List·Memᴰ·not-nil}
-use mathlib.Core.List.{List·Memᴰ·cases-cons, List·Nodup, Pairwise, Pairwise·imp}
+use mathlib.Core.List.{List·Memᴰ·cases-cons, Pairwise}
 use native.Mathlib.Nat.{zero-div, div-one, div-self, div-eq-of-lt, div-div-eq-div-mul, mul-mod-left, pow-suc, pow-succ'}
 use native.Mathlib.Nat.{lt-of-lt-of-le}
 use native.Mathlib.Decide.{decLt, ℕ-discrete}
@@ -14,12 +14,12 @@ use native.Mathlib.Omega.{arith}
 use lib.Dec.{eqb}
 use lib.ListN.{length}
 use lib.Pow.{pow-pos, pow-lt, pow-mono, pow-add, shl-shr, shr-lt}
-use lib.Bits.{bitOr, or-shr, or-mod, or-lt, or-zero-r}
+use lib.Bits.{bitOr, or-shr, or-mod, or-zero-r}
 use lib.Count.{ones, ones-step, ones-le}
 use Rattle.answers.specs.Lists.{range, filter}
 use Rattle.answers.proofs.ListLaws.{length-range, range-has, range-pairwise, filter-has, filter-few, filter-agree}
 use Rattle.answers.proofs.ListLaws.{filter-pairwise}
-use Rattle.lifetimes.specs.Sets.{member, insert, union, members, count, insertAll, setOf}
+use Rattle.lifetimes.specs.Sets.{member, insert, union, members, cardinality, insertAll, setOf}
 
 -- ---- membership, and one member more
 
@@ -101,10 +101,6 @@ member-union s t x = rw (bit-or s t x) (digits (s / 2 ^ x % 2) (t / 2 ^ x % 2) (
     digits (suc zero) (suc (suc b)) h k = absurd (omega arith)
     digits (suc (suc a)) b h k = absurd (omega arith)
 
-pub union-lt : (w s t : ℕ) → s < 2 ^ w → t < 2 ^ w → union s t < 2 ^ w
-unfolding union
-union-lt w s t hs ht = or-lt w s t hs ht
-
 -- ---- the members in ascending order
 
 pub members-has : (s x : ℕ) → List·Memᴰ x (members s) ↔ ((x < 64) × (member s x ≡ true))
@@ -118,9 +114,6 @@ members-has s x =
 pub members-ascending : (s : ℕ) → Pairwise _<_ (members s)
 unfolding members
 members-ascending s = filter-pairwise (member s) (range-pairwise 0 64)
-
-pub members-once : (s : ℕ) → List·Nodup (members s)
-members-once s = Pairwise·imp (λ a b h e. omega arith) (members-ascending s)
 
 pub members-few : (s : ℕ) → length (members s) ≤ 64
 unfolding members
@@ -156,12 +149,12 @@ insert-within s x y (suc n) m h k = go (ℕ-discrete x y) (insert-within s x (su
         (both (member s y) (filter (member (insert s x)) (range (suc y) n))
         (filter (member s) (range (suc y) n)) (r (omega arith) (omega arith)))
 
-pub count-empty : count 0 ≡ 0
-unfolding count members filter range member
+pub count-empty : cardinality 0 ≡ 0
+unfolding cardinality members filter range member
 count-empty = refl
 
-pub count-insert : (s x : ℕ) → x < 64 → member s x ≡ false → count (insert s x) ≡ count s + 1
-unfolding count members
+pub count-insert : (s x : ℕ) → x < 64 → member s x ≡ false → cardinality (insert s x) ≡ cardinality s + 1
+unfolding cardinality members
 count-insert s x h m = insert-within s x 0 64 m (omega arith) (omega arith)
 
 -- a row's numbers one higher, with a test that looks one lower
@@ -189,8 +182,8 @@ ones-row (suc w) s h =
     digit (suc zero) l k = omega arith
     digit (suc (suc a)) l k = absurd (omega arith)
 
-pub count-ones : (s : ℕ) → s < 2 ^ 64 → ones s ≡ count s
-unfolding count members
+pub count-ones : (s : ℕ) → s < 2 ^ 64 → ones s ≡ cardinality s
+unfolding cardinality members
 count-ones s h = ones-row 64 s h
 
 -- ---- the set of a list
@@ -214,8 +207,8 @@ setOf-has l x =
     (λ h. ⊎-elim (λ k. absurd (false≢true (sym (member-empty x) ∙ k))) (λ m. m) (all .0 h), λ m. all .1 (inr m))
 
 -- one that is put in is at most one more, and the set of a list has at most as many as stand in the list
-insert-same : (s x : ℕ) → ((y : ℕ) → y < 64 → x ≡ y → member s y ≡ true) → count (insert s x) ≡ count s
-unfolding count members
+insert-same : (s x : ℕ) → ((y : ℕ) → y < 64 → x ≡ y → member s y ≡ true) → cardinality (insert s x) ≡ cardinality s
+unfolding cardinality members
 insert-same s x h =
     ap length (filter-agree (member (insert s x)) (member s) (range 0 64)
     (λ y m. go y (range-has 0 64 y .0 m .1) (ℕ-discrete x y)))
@@ -224,20 +217,20 @@ insert-same s x h =
     go y l (yes e) = member-insert-keeps s x y (h y l e) ∙ sym (h y l e)
     go y l (no a) = member-insert-other s x y a
 
-count-put : (s x : ℕ) → count (insert s x) ≤ count s + 1
+count-put : (s x : ℕ) → cardinality (insert s x) ≤ cardinality s + 1
 count-put s x = go (member s x) refl (decLt x 64)
   where
-    go : (b : Bool) → member s x ≡ b → Dec (x < 64) → count (insert s x) ≤ count s + 1
+    go : (b : Bool) → member s x ≡ b → Dec (x < 64) → cardinality (insert s x) ≤ cardinality s + 1
     go true e d = omega (arith, insert-same s x (λ y l q. rw q at e))
     go false e (yes l) = omega (arith, count-insert s x l e)
     go false e (no a) = omega (arith, insert-same s x (λ y l q. absurd (omega (arith, a))))
 
-insertAll-few : (s : ℕ) (l : List ℕ) → count (insertAll s l) ≤ count s + length l
+insertAll-few : (s : ℕ) (l : List ℕ) → cardinality (insertAll s l) ≤ cardinality s + length l
 unfolding insertAll
 insertAll-few s [] = omega arith
 insertAll-few s (x ∷ l) = omega (arith, insertAll-few (insert s x) l, count-put s x)
 
-pub setOf-few : (l : List ℕ) → count (setOf l) ≤ length l
+pub setOf-few : (l : List ℕ) → cardinality (setOf l) ≤ length l
 setOf-few l = omega (arith, insertAll-few 0 l, count-empty)
 
 pub insertAll-append : (s : ℕ) (l m : List ℕ) → insertAll s (l ++ m) ≡ insertAll (insertAll s l) m

@@ -15,19 +15,19 @@ use Rattle.answers.specs.declared.Listed.the-variants as listed
 use Rattle.answers.specs.Lists.{range, filter}
 use Rattle.answers.specs.Refusals.{Gives, Refuses, unless}
 use Rattle.answers.specs.Lent.{counted, written}
-use Rattle.lifetimes.specs.Sets.{member, members, count, listMembers}
+use Rattle.lifetimes.specs.Sets.{member, members, cardinality, listMembers}
 
 -- ---- the members for a slice: refused where they are too many, all of them otherwise
 
-no-room : (s room : ℕ) → room < count s → listMembers s room ≡ Refuses NoRoom
-unfolding listMembers unless count
+no-room : (s room : ℕ) → room < cardinality s → listMembers s room ≡ Refuses NoRoom
+unfolding listMembers unless cardinality
 no-room s room h = rw (lt-ltb room (length (members s)) h)
 
-enough-room : (s room : ℕ) → count s ≤ room → listMembers s room ≡ Gives (members s)
-unfolding listMembers unless count
+enough-room : (s room : ℕ) → cardinality s ≤ room → listMembers s room ≡ Gives (members s)
+unfolding listMembers unless cardinality
 enough-room s room h = rw (le-ltb room (length (members s)) h)
 
-pub too-short : (s : ℕ) (slice : List ℕ) {n : ℕ} → n ≡ count s → length slice < n
+pub too-short : (s : ℕ) (slice : List ℕ) {n : ℕ} → n ≡ cardinality s → length slice < n
     → (listed.Refused NoRoom ≡ counted (listMembers s (length slice))) × (slice ≡ written (listMembers s (length slice)) slice)
 too-short s slice e h =
     let r : listMembers s (length slice) ≡ Refuses NoRoom = no-room s (length slice) (omega arith) in (rw r, rw r)
@@ -54,15 +54,15 @@ module _ (s x : ℕ) (h : x < 64) where
 
 pub record Listing (s : ℕ) (entry out : List ℕ) (at x : ℕ) : Type 0 where
   pub within : x ≤ 64
-  pub places : at + length (left s x) ≡ count s
+  pub places : at + length (left s x) ≡ cardinality s
   pub words : sets out at (left s x) ≡ sets entry 0 (members s)
   pub size : length out ≡ length entry
-  pub room : count s ≤ length entry
+  pub room : cardinality s ≤ length entry
 
-pub listing-start : (s : ℕ) (entry : List ℕ) {n : ℕ} → n ≡ count s → n ≤ length entry → Listing s entry entry 0 0
-unfolding left count members
+pub listing-start : (s : ℕ) (entry : List ℕ) {n : ℕ} → n ≡ cardinality s → n ≤ length entry → Listing s entry entry 0 0
+unfolding left cardinality members
 listing-start s entry e h =
-    record { within = omega arith; places = zero-add (count s); words = refl; size = refl; room = omega arith }
+    record { within = omega arith; places = zero-add (cardinality s); words = refl; size = refl; room = omega arith }
 
 module _ {s : ℕ} {entry out : List ℕ} {at x : ℕ} (inv : Listing s entry out at x) where
   -- a member has its place in the slice
@@ -96,9 +96,9 @@ module _ {s : ℕ} {entry out : List ℕ} {at x : ℕ} (inv : Listing s entry ou
   unfolding left range filter
   done h = let e : x ≡ 64 = omega (arith, inv .within) in rw e at (inv .words)
 
-  pub listing-end : {n : ℕ} → n ≡ count s → 64 ≤ x
+  pub listing-end : {n : ℕ} → n ≡ cardinality s → 64 ≤ x
       → (listed.Count n ≡ counted (listMembers s (length entry))) × (out ≡ written (listMembers s (length entry)) entry)
-  unfolding count
+  unfolding cardinality
   listing-end {n} e h =
       let r : listMembers s (length entry) ≡ Gives (members s) = enough-room s (length entry) (inv .room) in
       let all : sets entry 0 (members s) ≡ written (Gives (members s)) entry =

@@ -10,10 +10,15 @@ use Rattle.answers.specs.Refusals.{Check, check, Outcome, unless}
 use Rattle.answers.specs.Lent.{verdictOf, resultOr}
 use Rattle.lifetimes.specs.declared.lifetime.Lifetime.{Lifetime}
 use Rattle.lifetimes.specs.declared.bounds.Bound.{Bound}
+use Rattle.lifetimes.specs.declared.bounds.Bounds.{Bounds}
 use Rattle.lifetimes.specs.declared.env.LifetimeEnv.{LifetimeEnv}
 use Rattle.lifetimes.specs.declared.env.Made.{Made}
 use Rattle.lifetimes.specs.Limits.{mostLifetimes}
 use Rattle.lifetimes.specs.Bounds.{above, listOf, boundsFrom, tooMany, onePast}
+
+-- declared lifetimes, count and bounds, whatever they are
+abbrev pub envWith : ℕ → ℕ → Bounds → LifetimeEnv
+envWith declared count bounds = record { declared = declared; count = count; bounds = bounds }
 
 -- the bounds, in push order
 abbrev pub boundsOf : LifetimeEnv → List Bound
@@ -24,6 +29,7 @@ boundsOf e = listOf (e .bounds)
 abbrev pub limitChecks : LifetimeEnv → List Check
 limitChecks e = check (ltb mostLifetimes (e .count)) Full ∷ tooMany (e .bounds) ∷ []
 
+-- more are declared than there are in all
 abbrev pub tooFew : ℕ → ℕ → Check
 tooFew declared count = check (ltb count declared) OutOfRange
 
@@ -39,30 +45,28 @@ isDeclared e l = ltb (l .0) (e .declared)
 
 -- an environment with these bounds
 unfoldable pub envOf : ℕ → ℕ → List Bound → LifetimeEnv
-envOf declared count bs = record { declared = declared; count = count; bounds = boundsFrom bs }
+envOf declared count bs = envWith declared count (boundsFrom bs)
 
 -- Made by hand, from pairs longer, shorter: half a pair (1), then as for every environment
 
-unfoldable pub pairsOf : List ℕ → List Bound
-pairsOf [] = []
-pairsOf (l ∷ []) = []
-pairsOf (l ∷ s ∷ words) = above l s ∷ pairsOf words
+unfoldable pub boundsOfPairs : List ℕ → List Bound
+boundsOfPairs [] = []
+boundsOfPairs (l ∷ []) = []
+boundsOfPairs (l ∷ s ∷ words) = above l s ∷ boundsOfPairs words
 
 abbrev pub newChecks : ℕ → ℕ → List ℕ → List Check
 newChecks declared count words =
-    check (eqb (length words % 2) 1) Malformed ∷ envChecks (envOf declared count (pairsOf words))
+    check (eqb (length words % 2) 1) Malformed ∷ envChecks (envOf declared count (boundsOfPairs words))
 
 unfoldable pub newEnv : ℕ → ℕ → List ℕ → Outcome LifetimeEnv
-newEnv declared count words = unless (newChecks declared count words) (envOf declared count (pairsOf words))
+newEnv declared count words = unless (newChecks declared count words) (envOf declared count (boundsOfPairs words))
 
 -- One bound more, at the end: refused as every environment is, with it
 
 abbrev pub withBound : LifetimeEnv → Bound → LifetimeEnv
-withBound e b = record {
-  declared = e .declared;
-  count = e .count;
-  bounds = record { pushed = e .bounds .pushed + 1; list = set (e .bounds .list) (e .bounds .pushed) b };
-}
+withBound e b =
+    envWith (e .declared) (e .count)
+    (record { pushed = e .bounds .pushed + 1; list = set (e .bounds .list) (e .bounds .pushed) b })
 
 unfoldable pub pushBound : LifetimeEnv → Bound → Outcome LifetimeEnv
 pushBound e b = unless (envChecks (withBound e b)) (withBound e b)

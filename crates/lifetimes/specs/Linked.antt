@@ -1,5 +1,5 @@
 -- The lifetimes of a definition, paired by place with the lowered words at its use.
-use Prim.Native.Nat.{ℕ, suc}
+use Prim.Native.Nat.{ℕ}
 use mathlib.Core.Bool.{cond, not}
 use mathlib.Core.List.{List, [], _∷_}
 use lib.Dec.{eqb, ltb}
@@ -11,6 +11,7 @@ use Rattle.lifetimes.specs.declared.linked.LinkedWord.the-variants.{Word
 use Rattle.lifetimes.specs.declared.linked.LinkedPair.{LinkedPair}
 use Rattle.lifetimes.specs.declared.linked.LinkedPair.the-variants as pair
 use Rattle.lifetimes.specs.Numbers.{defLifetime}
+use Rattle.answers.specs.Lists.{numbered}
 use Rattle.answers.specs.Refusals.{Check, check, Outcome, Gives, Refuses, unless}
 
 -- refused where the words are not as many as the definition's lifetimes (7)
@@ -42,6 +43,5 @@ pairAnswer (Gives p) = p
 pairAnswer (Refuses r) = pair.Refused r
 
 -- For the theorem: some words with their places, the first at j
-unfoldable pub pairsWithPlaces : ℕ → List ℕ → List (Outcome LinkedPair)
-pairsWithPlaces j [] = []
-pairsWithPlaces j (word ∷ words) = Gives (pair.Pair word (defLifetime j)) ∷ pairsWithPlaces (suc j) words
+abbrev pub pairsWithPlaces : ℕ → List ℕ → List (Outcome LinkedPair)
+pairsWithPlaces j words = numbered (λ k word. Gives (pair.Pair word (defLifetime k)) ∷ []) j words

@@ -28,8 +28,8 @@ union s t = bitOr s t
 unfoldable pub members : ℕ → List ℕ
 members s = filter (member s) (range 0 mostLifetimes)
 
-unfoldable pub count : ℕ → ℕ
-count s = length (members s)
+unfoldable pub cardinality : ℕ → ℕ
+cardinality s = length (members s)
 
 -- a set with all entries of a list put in
 unfoldable pub insertAll : ℕ → List ℕ → ℕ

@@ -7,7 +7,8 @@ ghost use lib.ListN.{length};
 ghost use Rattle.answers.specs.Lent.{judged, held};
 ghost use Rattle.lifetimes.specs.Limits.{mostBounds};
 ghost use Rattle.lifetimes.specs.Bounds.{above, allBelow, boundsFrom};
-ghost use Rattle.lifetimes.specs.Env.{tooFew, envChecks, isDeclared, pairsOf, envOf, newEnv, pushBound, made};
+ghost use Rattle.lifetimes.specs.Env.{envWith, tooFew, envChecks, isDeclared, boundsOfPairs, envOf};
+ghost use Rattle.lifetimes.specs.Env.{newEnv, pushBound, made};
 use super::bounds::Bounds;
 use super::bounds::bound_of;
 use super::bounds::numbers_below;
@@ -33,15 +34,23 @@ impl LifetimeEnv {
     // How many lifetimes an environment may have, declared and elided.
     pub const MAX_LIFETIMES: usize = 64;
 
+    // The environment of so many lifetimes, of which the first `declared` are declared, with these bounds. They are
+    // taken as they are: whoever is handed the environment checks it.
+    pub fn from_bounds(declared: usize, count: usize, bounds: Bounds) -> LifetimeEnv
+        ensures answer { λ r. ⌜ r ≡ envWith declared count bounds ⌝ }
+    {
+        LifetimeEnv {
+            declared,
+            count,
+            bounds,
+        }
+    }
+
     // The environment without lifetimes, which stands beside a refusal.
     pub fn none() -> LifetimeEnv
         ensures answer { λ r. ⌜ r ≡ envOf 0 0 [] ⌝ }
     {
-        LifetimeEnv {
-            declared: 0,
-            count: 0,
-            bounds: Bounds::none(),
-        }
+        LifetimeEnv::from_bounds(0, 0, Bounds::none())
     }
 
     // An environment made by hand, from a list of pairs longer, shorter. Refused by 1 (half a pair), 4 (65th lifetime,
@@ -67,11 +76,7 @@ impl LifetimeEnv {
         }
         Made {
             verdict: Verdict::Accepted,
-            env: LifetimeEnv {
-                declared,
-                count,
-                bounds: filled(pairs),
-            },
+            env: LifetimeEnv::from_bounds(declared, count, filled(pairs)),
         }
     }
 
@@ -106,11 +111,7 @@ impl LifetimeEnv {
         bounds.pushed = at + 1;
         Made {
             verdict: Verdict::Accepted,
-            env: LifetimeEnv {
-                declared,
-                count,
-                bounds,
-            },
+            env: LifetimeEnv::from_bounds(declared, count, bounds),
         }
     }
 
@@ -166,7 +167,7 @@ fn refused(refusal: Refusal) -> Made
 // Whether all sides of some pairs are numbered below a limit.
 fn pairs_below(pairs: &[usize], limit: usize) -> bool
     requires { ⌜ length (now pairs) % 2 ≡ 0 ⌝ }
-    ensures { λ r. ⌜ r ≡ allBelow limit (pairsOf (held pairs)) ⌝ }
+    ensures { λ r. ⌜ r ≡ allBelow limit (boundsOfPairs (held pairs)) ⌝ }
 {
     let mut i = 0;
     while i < pairs.len() {
@@ -181,8 +182,8 @@ fn pairs_below(pairs: &[usize], limit: usize) -> bool
 // The bounds that these pairs are.
 fn filled(pairs: &[usize]) -> Bounds
     requires { ⌜ (length (now pairs) % 2 ≡ 0) × (length (now pairs) ≤ 2 * mostBounds)
-        × (allBelow 256 (pairsOf (now pairs)) ≡ true) ⌝ }
-    ensures { λ r. ⌜ r ≡ boundsFrom (pairsOf (held pairs)) ⌝ }
+        × (allBelow 256 (boundsOfPairs (now pairs)) ≡ true) ⌝ }
+    ensures { λ r. ⌜ r ≡ boundsFrom (boundsOfPairs (held pairs)) ⌝ }
 {
     let mut list = [bound_of(0, 0); Bounds::MAX];
     let mut pushed = 0;

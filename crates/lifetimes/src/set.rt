@@ -49,7 +49,7 @@ pub fn union(first: u64, second: u64) -> u64
 
 // How many lifetimes are in a set.
 pub fn count(set: u64) -> usize
-    ensures answer { λ r. ⌜ r ≡ sets.count set ⌝ }
+    ensures answer { λ r. ⌜ r ≡ sets.cardinality set ⌝ }
 {
     u64::count_ones(set) as usize
 }

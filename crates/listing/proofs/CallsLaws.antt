@@ -37,7 +37,7 @@ use Rattle.listing.specs.Listing.{mostEdges, edgesCheck, listingOf, list
 use Rattle.listing.specs.Listing.{response, roomBytes}
 use Rattle.text.specs.Printing.{Prints}
 use Rattle.text.proofs.PrintLaws.{prints-length}
-use Rattle.listing.specs.InnerListing.{listedSheet, listedRecords, Stands, Lists, ListsWithin, Ample}
+use Rattle.listing.specs.InnerListing.{listedSheet, listedRecords, StandsInFront, ListsTo, ListsWithin, Ample}
 use Rattle.listing.specs.InnerListing.{loweredRoom, listsRoom, edgesRoom}
 use Rattle.listing.proofs.RoomLaws.{line-short, listing-short, lineBytes, two-digits}
 
@@ -51,7 +51,7 @@ module _ (bytes : List ℕ) where
       (read : t ≡ sheetAnswer bytes (length scratch)) {scratch₁ : List ℕ}
       (wrote : scratch₁ ≡ written (shape.sheetWords bytes (length scratch)) scratch) where
     pub text-refused : {k : Refusal} {out : List ℕ} → t .verdict ≡ verdict.Refused k
-        → Lists (listedSheet bytes) out (listed.Refused k) out
+        → ListsTo (listedSheet bytes) out (listed.Refused k) out
     unfolding listingChecks
     text-refused v = (
       due-refused (listingOf sheet) (first-more (edgesCheck sheet ∷ [])
@@ -72,7 +72,7 @@ module _ (bytes : List ℕ) where
       pub text-listed : (A : Type 0) (w : Within) (out out₁ : List ℕ)
           → ListsWithin (listedRecords (recordsAt scratch₁ (t .ends))) A out w out₁
           → ListsWithin (listedSheet bytes) A out w out₁
-      text-listed A (within.Done x) out out₁ h = subst (λ (o : Outcome (List ℕ)). Lists o out x out₁) records-same h
+      text-listed A (within.Done x) out out₁ h = subst (λ (o : Outcome (List ℕ)). ListsTo o out x out₁) records-same h
       text-listed A within.Short out out₁ h = h
 
   -- ---- in ample scratch, or in smaller scratch first
@@ -92,15 +92,15 @@ module _ (bytes : List ℕ) where
 
   -- what was found in some scratch is found
   pub tried-done : (A : Type 0) (w : Within) (x : Listed) (out out₁ : List ℕ)
-      → ListsWithin (listedSheet bytes) A out w out₁ → w ≡ within.Done x → Lists (listedSheet bytes) out x out₁
+      → ListsWithin (listedSheet bytes) A out w out₁ → w ≡ within.Done x → ListsTo (listedSheet bytes) out x out₁
   tried-done A w x out out₁ h e = subst (λ (y : Within). ListsWithin (listedSheet bytes) A out y out₁) e h
 
   pub tried-again : (A : Type 0) (w : Within) (r : Listed) (out out₁ out₂ : List ℕ)
-      → ListsWithin (listedSheet bytes) A out w out₁ → w ≡ within.Short → Lists (listedSheet bytes) out₁ r out₂
-      → Lists (listedSheet bytes) out r out₂
+      → ListsWithin (listedSheet bytes) A out w out₁ → w ≡ within.Short → ListsTo (listedSheet bytes) out₁ r out₂
+      → ListsTo (listedSheet bytes) out r out₂
   tried-again A w r out out₁ out₂ h e l =
       let same = subst (λ (y : Within). ListsWithin (listedSheet bytes) A out y out₁) e h .1 in
-      subst (λ (o : List ℕ). Lists (listedSheet bytes) o r out₂) same l
+      subst (λ (o : List ℕ). ListsTo (listedSheet bytes) o r out₂) same l
 
   -- ---- `listing`
 
@@ -135,23 +135,23 @@ module _ (bytes : List ℕ) where
     refused-so {k} e = listing-refused (first-more (roomCheck (length out) whole ∷ []) (refused-due whole k (listingChecks bytes) e))
 
     -- measured, and too long
-    pub too-long : {n : ℕ} (m : Listed) (none none₁ : List ℕ) → Lists (listedSheet bytes) none m none₁
+    pub too-long : {n : ℕ} (m : Listed) (none none₁ : List ℕ) → ListsTo (listedSheet bytes) none m none₁
         → m ≡ listed.Count n → length out < n → Answers (listed.Refused NoRoom) out
-    too-long {n} m none none₁ l counts h = go (subst (λ (x : Listed). Lists (listedSheet bytes) none x none₁) counts l)
+    too-long {n} m none none₁ l counts h = go (subst (λ (x : Listed). ListsTo (listedSheet bytes) none x none₁) counts l)
       where
-        go : Lists (listedSheet bytes) none (listed.Count n) none₁ → Answers (listed.Refused NoRoom) out
+        go : ListsTo (listedSheet bytes) none (listed.Count n) none₁ → Answers (listed.Refused NoRoom) out
         go (text, e, p) =
             let g = given-none e in
             let size : length whole ≡ length text = ap length (g .1) in
             listing-refused (first-after (g .0) (here (lt-ltb (length out) (length whole) (omega (arith, size, p .size, h))) refl))
 
-    pub measured-refused : {k : Refusal} (m : Listed) (none none₁ : List ℕ) → Lists (listedSheet bytes) none m none₁
+    pub measured-refused : {k : Refusal} (m : Listed) (none none₁ : List ℕ) → ListsTo (listedSheet bytes) none m none₁
         → m ≡ listed.Refused k → Answers m out
     measured-refused {k} m none none₁ l refuses =
-        rw refuses (refused-so (subst (λ (x : Listed). Lists (listedSheet bytes) none x none₁) refuses l .0))
+        rw refuses (refused-so (subst (λ (x : Listed). ListsTo (listedSheet bytes) none x none₁) refuses l .0))
 
     listing-written : {text : List ℕ} {n : ℕ} {out₁ : List ℕ} → listedSheet bytes ≡ Gives text
-        → Stands text out n out₁ → length whole ≤ length out → Answers (listed.Count n) out₁
+        → StandsInFront text out n out₁ → length whole ≤ length out → Answers (listed.Count n) out₁
     unfolding spec.listing
     listing-written {text} {n} {out₁} e p fits =
         let g = given-none e in
@@ -163,7 +163,7 @@ module _ (bytes : List ℕ) where
         rw (due-given whole none) (ap listed.Count size, stands)
 
     -- where the slice is long enough
-    pub listed-so : (r : Listed) (out₁ : List ℕ) → Lists (listedSheet bytes) out r out₁
+    pub listed-so : (r : Listed) (out₁ : List ℕ) → ListsTo (listedSheet bytes) out r out₁
         → (NoneDue (listingChecks bytes) → length whole ≤ length out) → Answers r out₁
     listed-so (listed.Count n) out₁ (text, e, p) enough = listing-written e p (enough (given-none e .0))
     listed-so (listed.Refused k) out₁ (e, same) enough = rw same (refused-so e)
@@ -171,11 +171,11 @@ module _ (bytes : List ℕ) where
     pub wide-enough : roomBytes ≤ length out → NoneDue (listingChecks bytes) → length whole ≤ length out
     wide-enough h n = omega (arith, h, fits-room n)
 
-    pub measured-enough : {n : ℕ} (m : Listed) (none none₁ : List ℕ) → Lists (listedSheet bytes) none m none₁
+    pub measured-enough : {n : ℕ} (m : Listed) (none none₁ : List ℕ) → ListsTo (listedSheet bytes) none m none₁
         → m ≡ listed.Count n → n ≤ length out → NoneDue (listingChecks bytes) → length whole ≤ length out
-    measured-enough {n} m none none₁ l counts h due = go (subst (λ (x : Listed). Lists (listedSheet bytes) none x none₁) counts l)
+    measured-enough {n} m none none₁ l counts h due = go (subst (λ (x : Listed). ListsTo (listedSheet bytes) none x none₁) counts l)
       where
-        go : Lists (listedSheet bytes) none (listed.Count n) none₁ → length whole ≤ length out
+        go : ListsTo (listedSheet bytes) none (listed.Count n) none₁ → length whole ≤ length out
         go (text, e, p) = omega (arith, h, p .size, ap length (given-none e .1))
 
     -- ---- `respond`
@@ -184,18 +184,18 @@ module _ (bytes : List ℕ) where
     Responds n out₁ = (n ≡ length (response bytes)) × (out₁ ≡ response bytes ++ drop (length (response bytes)) out)
 
     responds : (n : ℕ) (text : List ℕ) (out₁ : List ℕ) → response bytes ≡ text → length text ≤ length out
-        → Stands text out n out₁ → Responds n out₁
+        → StandsInFront text out n out₁ → Responds n out₁
     responds n text out₁ e fits p = (
       p .size ∙ ap length (sym e),
       p .stored ∙ sets-front out text fits ∙ ap (λ (t : List ℕ). t ++ drop (length t) out) (sym e),
     )
 
     pub respond-listed : {n : ℕ} (m : Listed) (out₁ : List ℕ) → length out ≡ roomBytes
-        → Lists (listedSheet bytes) out m out₁ → m ≡ listed.Count n → Responds n out₁
+        → ListsTo (listedSheet bytes) out m out₁ → m ≡ listed.Count n → Responds n out₁
     unfolding response
-    respond-listed {n} m out₁ h l counts = go (subst (λ (x : Listed). Lists (listedSheet bytes) out x out₁) counts l)
+    respond-listed {n} m out₁ h l counts = go (subst (λ (x : Listed). ListsTo (listedSheet bytes) out x out₁) counts l)
       where
-        go : Lists (listedSheet bytes) out (listed.Count n) out₁ → Responds n out₁
+        go : ListsTo (listedSheet bytes) out (listed.Count n) out₁ → Responds n out₁
         go (text, e, p) =
             let g = given-none e in
             responds n text out₁ (ap said e) (omega (arith, h, fits-room (g .0), ap length (g .1))) p
@@ -221,13 +221,13 @@ module _ (k : Refusal) {number : ℕ} (is : number ≡ numberOf k) where
   refusal-fits = rw is (omega (arith, refusal-short k))
 
   pub respond-refused : (bytes out : List ℕ) {n : ℕ} (m : Listed) (out₁ : List ℕ) {out₂ : List ℕ} → length out ≡ roomBytes
-      → Lists (listedSheet bytes) out m out₁ → m ≡ listed.Refused k
+      → ListsTo (listedSheet bytes) out m out₁ → m ≡ listed.Refused k
       → Prints (refusalHeading ++ line (number ∷ [])) 0 out₁ n out₂ → Responds bytes out n out₂
   unfolding response
   respond-refused bytes out {n} m out₁ {out₂} h l refuses p =
-      go (subst (λ (x : Listed). Lists (listedSheet bytes) out x out₁) refuses l)
+      go (subst (λ (x : Listed). ListsTo (listedSheet bytes) out x out₁) refuses l)
     where
-      go : Lists (listedSheet bytes) out (listed.Refused k) out₁ → Responds bytes out n out₂
+      go : ListsTo (listedSheet bytes) out (listed.Refused k) out₁ → Responds bytes out n out₂
       go (e, same) =
           responds bytes out n (refusalHeading ++ line (number ∷ [])) out₂ (ap said e ∙ rw is)
           (rw is (omega (arith, h, refusal-short k)))

@@ -56,7 +56,7 @@ visits-right (x ∷ xs) p = (ap Visited (p .0), visits-right xs (p .1))
 
 pub program-right : Right programExamples
 unfolding response unless listingOf listingChecks sheets.sheetRefusals sheets.loweringChecks shape.sheetChecks read.textChecks
-    read.sheetOf read.sheetIn read.linesBehind read.ten read.readLines read.behind flatten flatMap filterMap decimal.line
+    read.sheetOf read.sheetIn read.linesBehind read.ten read.readLines read.stripPrefix flatten flatMap filterMap decimal.line
     decimal.following decimal.digits decimal.digitsFor
     shape.sheetInShape rows.methodInShape shapes.namesInShape shapes.boundsInShape shapes.pairsOf
     ast-types.readType steps.readStep reading.readAll reading.inShape reading.itemsOf

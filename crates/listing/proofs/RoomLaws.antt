@@ -40,7 +40,7 @@ use Rattle.borrowing_param.specs.New.{created}
 use Rattle.borrowing_param.proofs.Condition3Laws.{params-none}
 use Rattle.borrowing_param.proofs.MethodLaws.{env-valid, accepted-method}
 use Rattle.borrowing_param.proofs.ConsistentLaws.{listing-consistent}
-use Rattle.listing.specs.Listing.{countLines, loweredLines, longerLine, longerLines, answersFrom, answerLines}
+use Rattle.listing.specs.Listing.{countLines, loweredLines, longerLine, longerLines, answerLinesFrom, answerLines}
 use Rattle.listing.specs.Listing.{countHeading, loweredHeading, longerHeading, answerHeading, edgeHeading}
 use Rattle.listing.specs.Listing.{edgeLine, edgeLines, listingOf, mostEdges, roomBytes}
 use Rattle.listing.specs.InnerListing.{loweredRoom}
@@ -155,7 +155,7 @@ abbrev answerBytes : ℕ
 answerBytes = length answerHeading + mostParams * lineBytes answerColumns
 
 answers-short : (param : ℕ) (l : List ℕ) → param + length l ≤ mostParams → Below 10 l
-    → length (answersFrom param l) ≤ lineBytes answerColumns * length l
+    → length (answerLinesFrom param l) ≤ lineBytes answerColumns * length l
 unfolding numbered
 answers-short param [] h b = omega arith
 answers-short param (a ∷ l) h b =
@@ -243,11 +243,11 @@ module _ (r : Records) (first : NoneDue (recordsChecks r)) (none : NoneDue (lowe
   elided = loweredOf r
 
   parts : (sheetInShape r ≡ true)
-      × NoneDue (ast.placeChecks (r .names) (r .bounds) (r .types))
+      × NoneDue (ast.itemPlaceChecks (r .names) (r .bounds) (r .types))
       × NoneDue (rfc.elisionChecks names (receiverOf (r .self)) (stepsOf (r .steps)) (stepsOf (r .returns)))
   unfolding loweringChecks
   parts =
-      let p = none-split (ast.placeChecks (r .names) (r .bounds) (r .types)) _ none in
+      let p = none-split (ast.itemPlaceChecks (r .names) (r .bounds) (r .types)) _ none in
       let q = none-split (rfc.elisionChecks names (receiverOf (r .self)) (stepsOf (r .steps)) (stepsOf (r .returns))) _ (p .1) in
       (not-false (sheetInShape r) (none-first first), p .0, q .0)
 

@@ -12,7 +12,7 @@ use Rattle.text.specs.Printing.{Prints}
 use Rattle.text.proofs.PrintLaws.{Leaves, leaves-all, leaves-rest, leaves-nothing, leaves-size}
 use Rattle.sheet.proofs.LaidLaws.{part-is}
 use Rattle.borrowing_param.specs.Edges.{width, edgeWords, edgeAt, edgesIn}
-use Rattle.listing.specs.Listing.{answersFrom, edgeLine}
+use Rattle.listing.specs.Listing.{answerLinesFrom, edgeLine}
 use Rattle.listing.specs.InnerSections.{listLines, cutFrom, Ascend}
 use Rattle.answers.specs.Lists.{numbered}
 
@@ -100,7 +100,7 @@ numbering-size inv = leaves-size (inv .left)
 
 pub record Answering (answers : List ℕ) (at : ℕ) (out : List ℕ) (next : ℕ) (out₁ : List ℕ) (i : ℕ) : Type 0 where
   pub here : i ≤ length answers
-  pub left : Leaves (answersFrom 0 answers) at out (answersFrom i (drop i answers)) next out₁
+  pub left : Leaves (answerLinesFrom 0 answers) at out (answerLinesFrom i (drop i answers)) next out₁
 
 pub answering-start : (answers : List ℕ) (at : ℕ) (out : List ℕ) → length out < 2 ^ 64 → at < 2 ^ 64
     → Answering answers at out at out 0
@@ -111,7 +111,7 @@ module _ {answers : List ℕ} {at : ℕ} {out : List ℕ} {next : ℕ} {out₁ :
   pub answering-size : length out₁ ≡ length out
   answering-size = leaves-size (inv .left)
 
-  pub answering-end : length answers ≤ i → Prints (answersFrom 0 answers) at out next out₁
+  pub answering-end : length answers ≤ i → Prints (answerLinesFrom 0 answers) at out next out₁
   unfolding numbered
   answering-end h =
       let none : drop i answers ≡ [] = drop-of-length-le answers {i = i} h in
@@ -128,16 +128,16 @@ module _ {answers : List ℕ} {at : ℕ} {out : List ℕ} {next : ℕ} {out₁ :
     one-is : one ≡ getD answers i 0 ∷ []
     one-is = let e : i + 1 - i ≡ 1 = omega arith in rw (e, answer-on)
 
-    on-answer : answersFrom i (drop i answers) ≡ digits i ++ (following one ++ answersFrom (suc i) (drop (suc i) answers))
+    on-answer : answerLinesFrom i (drop i answers) ≡ digits i ++ (following one ++ answerLinesFrom (suc i) (drop (suc i) answers))
     unfolding numbered line
     on-answer = rw (one-is, answer-on) (append-assoc (digits i) (following (getD answers i 0 ∷ [])) _)
 
-    left-param : Leaves (answersFrom 0 answers) at out
-        (digits i ++ (following one ++ answersFrom (suc i) (drop (suc i) answers))) next out₁
+    left-param : Leaves (answerLinesFrom 0 answers) at out
+        (digits i ++ (following one ++ answerLinesFrom (suc i) (drop (suc i) answers))) next out₁
     left-param = rw on-answer at (inv .left)
 
     module _ {start : ℕ} {out₂ : List ℕ} (first : Prints (digits i) next out₁ start out₂) where
-      left-answer : Leaves (answersFrom 0 answers) at out (following one ++ answersFrom (suc i) (drop (suc i) answers)) start out₂
+      left-answer : Leaves (answerLinesFrom 0 answers) at out (following one ++ answerLinesFrom (suc i) (drop (suc i) answers)) start out₂
       left-answer = leaves-rest _ left-param first
 
       pub answering-more : {next₁ : ℕ} {out₃ : List ℕ} → Prints (following one) start out₂ next₁ out₃

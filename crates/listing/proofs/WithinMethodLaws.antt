@@ -49,8 +49,8 @@ use Rattle.listing.specs.Listing.{edgeLines, mostEdges}
 use Rattle.text.specs.Printing.{Prints}
 use Rattle.text.proofs.PrintLaws.{prints-length}
 use Rattle.listing.specs.InnerSections.{listLines, cutFrom, Ascend}
-use Rattle.listing.specs.InnerListing.{Lists, ListsWithin, methodBorrows, methodListing, listedMethod, Listable}
-use Rattle.listing.specs.InnerListing.{sections, tooMany, listsRoom, edgesRoom}
+use Rattle.listing.specs.InnerListing.{ListsTo, ListsWithin, methodBorrows, methodListing, listedMethod, Listable}
+use Rattle.listing.specs.InnerListing.{sections, edgesOverflow, listsRoom, edgesRoom}
 use Rattle.listing.proofs.ListingLaws.{cut-lists, ends-ascend, numbered-map}
 use Rattle.listing.proofs.RoomLaws.{lines-short, lifetimes-few}
 
@@ -225,7 +225,7 @@ module _ {env : LifetimeEnv} {used : ℕ} {structs params own given taken : List
             go : FirstDue k (edgesAsk ∷ []) → length edges < width * length (borrows .edges)
             go (here d e) = omega (arith, ltb-true (length edges) (length (flatMap edgeWords (listedEdges visitor types))) d, words-are)
 
-        pub map-refused : {k : Refusal} (w : Within) (out : List ℕ) → m .verdict ≡ verdict.Refused k → w ≡ tooMany (length edges₁)
+        pub map-refused : {k : Refusal} (w : Within) (out : List ℕ) → m .verdict ≡ verdict.Refused k → w ≡ edgesOverflow (length edges₁)
             → ListsWithin listing ((listsRoom ≤ length lists) × (edgesRoom ≤ length edges)) out w out
         unfolding listedMethod borrowMap
         map-refused {k} w out v e = rw (e, same) (go (ltb (length edges) edgesRoom) refl)
@@ -303,10 +303,10 @@ module _ {env : LifetimeEnv} {used : ℕ} {structs params own given taken : List
           few-edges : length (borrows .edges) ≤ mostEdges
           few-edges = omega (arith, edges-fit, most)
 
-          module _ {many : ℕ} (counted : many ≡ sets.count used) where
+          module _ {many : ℕ} (counted : many ≡ sets.cardinality used) where
             sections-are : sections (counts many) own given taken lists₁ ends₁ answers₂ edges₁
                 ≡ methodListing env used structs params own given taken
-            unfolding sections methodListing sets.count visitorFrom
+            unfolding sections methodListing sets.cardinality visitorFrom
             sections-are =
                 five-same (loweredHeading ++ (line own ++ (line given ++ line taken)))
                 (ap (λ (ns : List ℕ). countHeading ++ line ns) (rw (counted, map-is)))

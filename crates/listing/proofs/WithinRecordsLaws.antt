@@ -26,7 +26,7 @@ use Rattle.ast_lifetimes.specs.Env as ast
 use Rattle.elision.specs.declared.method.Lowering.{Lowering}
 use Rattle.elision.specs.Steps.{receiverOf}
 use Rattle.elision.specs.Rfc as rfc
-use Rattle.elision.specs.Lowering.{words, recordsOf, measureChecks, roomChecks, measureRecords, lowerRecords, answered}
+use Rattle.elision.specs.Lowering.{words, loweredRecords, measureChecks, loweringRoomChecks, measureRecords, lowerRecords, answered}
 use Rattle.elision.specs.Lowering.{ownWords, stepWords, returnWords}
 use Rattle.elision.proofs.SizeLaws.{lowered-self, lowered-steps, lowered-returns}
 use Rattle.methods.specs.declared.used.UsedLifetimes.{UsedLifetimes}
@@ -48,7 +48,7 @@ use Rattle.listing.specs.declared.within.Within.{Within}
 use Rattle.listing.specs.declared.within.Within.the-variants as within
 use Rattle.listing.specs.Listing.{countLines, loweredHeading, longerLines, answerLines, edgeLines, mostEdges}
 use Rattle.listing.specs.Listing.{roomBytes, edgesCheck, listingOf}
-use Rattle.listing.specs.InnerListing.{Lists, ListsWithin, Ample, listedRecords, methodBorrows, methodListing}
+use Rattle.listing.specs.InnerListing.{ListsTo, ListsWithin, Ample, listedRecords, methodBorrows, methodListing}
 use Rattle.listing.specs.InnerListing.{listedMethod, Listable, perWord, loweredRoom, listsRoom, edgesRoom}
 use Rattle.listing.proofs.RoomLaws.{listing-short}
 
@@ -68,7 +68,7 @@ textBy env b own given taken =
     ++ edgeLines (b .edges))))
 
 refuses : (r : Records) {k : Refusal} {out : List ℕ} → FirstDue k (loweringChecks r)
-    → Lists (listedRecords r) out (listed.Refused k) out
+    → ListsTo (listedRecords r) out (listed.Refused k) out
 refuses r f = (due-refused (listingOf r) (first-more (edgesCheck r ∷ []) f), refl)
 
 module _ (r : Records) (first : NoneDue (recordsChecks r)) (given taken : ℕ) where
@@ -100,13 +100,13 @@ module _ (r : Records) (first : NoneDue (recordsChecks r)) (given taken : ℕ) w
   module _ (steps-room : length (r .steps) ≤ given / perWord) (returns-room : length (r .returns) ≤ taken / perWord)
       {a : ast-made.Made} (is : a ≡ ast.made (ast.namedEnv [] []) (ast.fromMethodItem (r .names) (r .bounds) (r .types))) where
     pub names-listed : {k : Refusal} {out : List ℕ} → a .verdict ≡ verdict.Refused k
-        → Lists (listedRecords r) out (listed.Refused k) out
+        → ListsTo (listedRecords r) out (listed.Refused k) out
     names-listed v = refuses r (names-first r first is v)
 
     -- with so much room `lower` refuses as `measure` does
-    room-none : (e : ast-env.LifetimeEnv) → NoneDue (roomChecks (recordsOf e (r .self) (r .steps) (r .returns)) 1 given taken)
+    room-none : (e : ast-env.LifetimeEnv) → NoneDue (loweringRoomChecks (loweredRecords e (r .self) (r .steps) (r .returns)) 1 given taken)
     room-none e =
-        let m = recordsOf e (r .self) (r .steps) (r .returns) in
+        let m = loweredRecords e (r .self) (r .steps) (r .returns) in
         let names = ast.namesOf e in
         let self = receiverOf (r .self) in
         next (le-ltb 1 (length (words (m .self))) (omega (arith, lowered-self names self, length-map (m .self) wordOf)))
@@ -133,7 +133,7 @@ module _ (r : Records) (first : NoneDue (recordsChecks r)) (given taken : ℕ) w
     lower-measures : lowered ≡ measureRecords (a .env) (r .self) (r .steps) (r .returns)
     unfolding lowerRecords measureRecords
     lower-measures =
-        unless-before (recordsOf (a .env) (r .self) (r .steps) (r .returns))
+        unless-before (loweredRecords (a .env) (r .self) (r .steps) (r .returns))
         (measureChecks (a .env) (r .self) (r .steps) (r .returns)) (room-none (a .env))
 
     module _ (fine : a .verdict ≡ verdict.Accepted) {l : Lowering} (lowers : l ≡ answered (a .env) lowered) where
@@ -141,7 +141,7 @@ module _ (r : Records) (first : NoneDue (recordsChecks r)) (given taken : ℕ) w
       measures = lowers ∙ ap (answered (a .env)) lower-measures
 
       pub steps-listed : {k : Refusal} {out : List ℕ} → l .verdict ≡ verdict.Refused k
-          → Lists (listedRecords r) out (listed.Refused k) out
+          → ListsTo (listedRecords r) out (listed.Refused k) out
       steps-listed v = refuses r (steps-first r first is fine measures v)
 
 -- What the stages have left when the records are lowered: what `from_method_item` answered, and what `lower` answered
@@ -179,7 +179,7 @@ module _ {r : Records} {own given taken : List ℕ} {a : ast-made.Made} {l : Low
       lower-measures r (h .first) (length given) (length taken) (h .steps-room) (h .returns-room) (h .names)
       ∙ ap (λ (e : ast-env.LifetimeEnv). measureRecords e (r .self) (r .steps) (r .returns))
       (ast-is r (h .first) (h .names) (h .fine))
-      ∙ due-given (recordsOf (astEnvOf r) (r .self) (r .steps) (r .returns))
+      ∙ due-given (loweredRecords (astEnvOf r) (r .self) (r .steps) (r .returns))
       (measure-none r (h .first) (h .names) (h .fine) measured (h .elides))
       ∙ rw (names-are r (h .first) (h .names) (h .fine))
 
@@ -208,7 +208,7 @@ module _ {r : Records} {own given taken : List ℕ} {a : ast-made.Made} {l : Low
 
   -- the used lifetimes
   module _ {u : UsedLifetimes} (uses : u ≡ usedAnswer (usedSet (l .env) (r .structs) (r .params) (r .output) (r .force))) where
-    pub used-listed : {k : Refusal} {out : List ℕ} → u ≡ answer.Refused k → Lists (listedRecords r) out (listed.Refused k) out
+    pub used-listed : {k : Refusal} {out : List ℕ} → u ≡ answer.Refused k → ListsTo (listedRecords r) out (listed.Refused k) out
     used-listed e =
         refuses r
         (method-first r (h .first) (h .names) (h .fine) measured (h .elides)
@@ -279,5 +279,5 @@ module _ {r : Records} {own given taken : List ℕ} {a : ast-made.Made} {l : Low
               → ListsWithin (listedMethod (l .env) used (r .structs) (r .params) selves inputs outputs)
               ((listsRoom ≤ lists) × (edgesRoom ≤ edges)) out w out₁
               → ListsWithin (listedRecords r) (Ample (length given) (length taken) lists edges) out w out₁
-          go (within.Done x) h = subst (λ (o : Outcome (List ℕ)). Lists o out x out₁) same h
+          go (within.Done x) h = subst (λ (o : Outcome (List ℕ)). ListsTo o out x out₁) same h
           go within.Short h = (λ a. h .0 (a .2, a .3), h .1)

@@ -39,15 +39,15 @@ abbrev pub listedRecords : Records → Outcome (List ℕ)
 listedRecords r = unless (loweringChecks r ++ (edgesCheck r ∷ [])) (listingOf r)
 
 -- a text from the front of a slice: how long it is, and that it is stored as far as the slice goes
-pub record Stands (text out : List ℕ) (n : ℕ) (out₁ : List ℕ) : Type 0 where
+pub record StandsInFront (text out : List ℕ) (n : ℕ) (out₁ : List ℕ) : Type 0 where
   pub size : n ≡ length text
   pub stored : out₁ ≡ sets out 0 text
 
 -- what a function answers and leaves that lists into a slice: the text's length, and the text stored from the front as
 -- far as the slice goes; or a refusal, and the slice as it was
-abbrev pub Lists : Outcome (List ℕ) → List ℕ → Listed → List ℕ → Type 0
-Lists o out (listed.Count n) out₁ = (text : List ℕ) × (o ≡ Gives text) × Stands text out n out₁
-Lists o out (listed.Refused k) out₁ = (o ≡ Refuses k) × (out₁ ≡ out)
+abbrev pub ListsTo : Outcome (List ℕ) → List ℕ → Listed → List ℕ → Type 0
+ListsTo o out (listed.Count n) out₁ = (text : List ℕ) × (o ≡ Gives text) × StandsInFront text out n out₁
+ListsTo o out (listed.Refused k) out₁ = (o ≡ Refuses k) × (out₁ ≡ out)
 
 -- Scratch of these sizes is enough for any sheet. A step has two words or more and gives at most 16 lifetimes, so that
 -- a word of steps or returns gives at most eight
@@ -69,7 +69,7 @@ Ample given taken lists edges =
 
 -- the same in scratch that may be too short; only where it is not ample
 abbrev pub ListsWithin : Outcome (List ℕ) → Type 0 → List ℕ → Within → List ℕ → Type 0
-ListsWithin o ample out (within.Done answer) out₁ = Lists o out answer out₁
+ListsWithin o ample out (within.Done answer) out₁ = ListsTo o out answer out₁
 ListsWithin o ample out within.Short out₁ = (ample → ⊥) × (out₁ ≡ out)
 
 -- an accepted method: its environment, used lifetimes, structs and params, and the lowered words of its records
@@ -107,5 +107,5 @@ sections counts own given taken lists ends answers edges =
     ++ edgeLines (edgesIn (getD counts 3 0) edges))))
 
 -- the edges do not fit so many words
-abbrev pub tooMany : ℕ → Within
-tooMany room = cond (ltb room edgesRoom) within.Short (within.Done (listed.Refused NoRoom))
+abbrev pub edgesOverflow : ℕ → Within
+edgesOverflow room = cond (ltb room edgesRoom) within.Short (within.Done (listed.Refused NoRoom))

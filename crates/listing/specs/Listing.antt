@@ -52,11 +52,11 @@ longerLines env = longerHeading ++ flatMap (longerLine env) (range 0 (env .count
 abbrev pub answerHeading : List ℕ
 answerHeading = 112 ∷ 97 ∷ 114 ∷ 97 ∷ 109 ∷ space ∷ 97 ∷ 110 ∷ 115 ∷ 119 ∷ 101 ∷ 114 ∷ newline ∷ []
 
-abbrev pub answersFrom : ℕ → List ℕ → List ℕ
-answersFrom param answers = numbered (λ p a. line (p ∷ a ∷ [])) param answers
+abbrev pub answerLinesFrom : ℕ → List ℕ → List ℕ
+answerLinesFrom param answers = numbered (λ p a. line (p ∷ a ∷ [])) param answers
 
 abbrev pub answerLines : List ℕ → List ℕ
-answerLines answers = answerHeading ++ answersFrom 0 answers
+answerLines answers = answerHeading ++ answerLinesFrom 0 answers
 
 -- "used param kind def option": a line for each edge
 abbrev pub edgeHeading : List ℕ

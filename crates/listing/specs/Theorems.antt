@@ -19,7 +19,7 @@ use Rattle.borrowing_param.specs.Visit.{State}
 use Rattle.borrowing_param.specs.New.{created}
 use Rattle.borrowing_param.specs.SheetMethod.{envOfSheet, sheetRefusals}
 use Rattle.borrowing_param.specs.Borrows.{sheetBorrows}
-use Rattle.borrowing_param.specs.Theorems.{visitOf, visited}
+use Rattle.borrowing_param.specs.Theorems.{visitOf, afterAllVisits}
 use Rattle.listing.specs.Listing.{mostEdges, roomBytes, listingOf, listingChecks, listing, refusalText}
 use Rattle.listing.specs.Listing.{response}
 use Rattle.listing.specs.Examples.{starred, Right}
@@ -51,8 +51,8 @@ paramsOf bytes = length (typesIn (sheetOf bytes .structs) (sheetOf bytes .params
 abbrev pub visitTo : List ℕ → List ℕ → ℕ → ParamBorrowInfo
 visitTo bytes edges p = visitOf (sheetOf bytes .structs) (sheetOf bytes .params) (visitorOf bytes) edges p
 
-abbrev pub left : List ℕ → List ℕ → State
-left bytes edges = visited (sheetOf bytes .structs) (sheetOf bytes .params) (visitorOf bytes) edges
+abbrev pub leftByVisits : List ℕ → List ℕ → State
+leftByVisits bytes edges = afterAllVisits (sheetOf bytes .structs) (sheetOf bytes .params) (visitorOf bytes) edges
 
 pub record AsListed (bytes edges : List ℕ) : Type 0 where
   -- a visit is refused by 9 exactly where the program answers 9
@@ -64,7 +64,7 @@ pub record AsListed (bytes edges : List ℕ) : Type 0 where
       → (visitTo bytes edges p .verdict ≡ Accepted)
       × (visitTo bytes edges p .number ≡ getD (sheetBorrows (sheetOf bytes) .answers) p 0)
   pub brings : NoneDue (listingChecks bytes) → (used : ℕ)
-      → edgesOf used (edgesIn (left bytes edges .visitor .stored) (left bytes edges .words))
+      → edgesOf used (edgesIn (leftByVisits bytes edges .visitor .stored) (leftByVisits bytes edges .words))
       ≡ edgesOf used (sheetBorrows (sheetOf bytes) .edges)
 
 abbrev pub VisitsAsListed : Type 0

@@ -8,7 +8,7 @@ ghost use lib.ListN.{length};
 ghost use Rattle.answers.specs.Refusals.{Gives};
 ghost use Rattle.answers.specs.Lent.{counted, held, room, left, Fills};
 ghost use Rattle.listing.specs.Listing as spec;
-ghost use Rattle.listing.specs.InnerListing.{listedSheet, Lists, ListsWithin};
+ghost use Rattle.listing.specs.InnerListing.{listedSheet, ListsTo, ListsWithin};
 use super::sections::put_refusal;
 use super::within::EDGES_ROOM;
 use super::within::LISTS_ROOM;
@@ -70,7 +70,7 @@ pub fn respond(sheet: &[u8], out: &mut [u8; ROOM]) -> usize
 
 // List a sheet, as far as the slice goes.
 fn list_sheet(sheet: &[u8], out: &mut [u8]) -> Listed
-    ensures { λ r. ⌜ Lists (listedSheet (held sheet)) (held out) r (left out) ⌝ }
+    ensures { λ r. ⌜ ListsTo (listedSheet (held sheet)) (held out) r (left out) ⌝ }
 {
     list_sized(sheet, out, Text::SMALL)
 }
@@ -78,7 +78,7 @@ fn list_sheet(sheet: &[u8], out: &mut [u8]) -> Listed
 // The same in scratch for sheets of so many bytes, and where that is too short, in the next larger. That it calls
 // itself keeps the arrays of the larger sizes out of the frame of the smaller ones.
 fn list_sized(sheet: &[u8], out: &mut [u8], bytes: usize) -> Listed
-    ensures { λ r. ⌜ Lists (listedSheet (held sheet)) (held out) r (left out) ⌝ }
+    ensures { λ r. ⌜ ListsTo (listedSheet (held sheet)) (held out) r (left out) ⌝ }
 {
     if bytes <= Text::SMALL {
         let tried = list_256(sheet, out);
@@ -176,7 +176,7 @@ fn list_4096(sheet: &[u8], out: &mut [u8]) -> Within
 
 // In scratch for any sheet.
 fn list_any(sheet: &[u8], out: &mut [u8]) -> Listed
-    ensures { λ r. ⌜ Lists (listedSheet (held sheet)) (held out) r (left out) ⌝ }
+    ensures { λ r. ⌜ ListsTo (listedSheet (held sheet)) (held out) r (left out) ⌝ }
 {
     let mut words = [0usize; Text::MAX_WORDS];
     let mut given = [0usize; LOWERED_ROOM];

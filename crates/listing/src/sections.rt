@@ -6,7 +6,8 @@ ghost use Rattle.answers.specs.Lent.{held, left};
 ghost use Rattle.text.specs.Decimal.{line};
 ghost use Rattle.text.specs.Printing.{Prints};
 ghost use Rattle.borrowing_param.specs.Edges.{width, edgesIn};
-ghost use Rattle.listing.specs.Listing.{countHeading, loweredHeading, longerHeading, answersFrom, answerLines};
+ghost use Rattle.listing.specs.Listing.{countHeading, loweredHeading, longerHeading};
+ghost use Rattle.listing.specs.Listing.{answerLinesFrom, answerLines};
 ghost use Rattle.listing.specs.Listing.{edgeLine, edgeLines, refusalHeading};
 ghost use Rattle.listing.specs.InnerSections.{listLines, cutFrom, Ascend};
 use borrowing_param::BorrowingParamVisitor;
@@ -96,7 +97,7 @@ pub(crate) fn put_answers(out: &mut [u8], at: usize, answers: &[usize]) -> usize
 }
 
 fn put_each_answer(out: &mut [u8], at: usize, answers: &[usize]) -> usize
-    ensures { λ r. ⌜ Prints (answersFrom 0 (held answers)) at (held out) r (left out) ⌝ }
+    ensures { λ r. ⌜ Prints (answerLinesFrom 0 (held answers)) at (held out) r (left out) ⌝ }
 {
     let count = answers.len();
     let mut next = at;

@@ -6,9 +6,9 @@ ghost use Rattle.answers.specs.Refusals.{NoneDue};
 ghost use Rattle.answers.specs.Lent.{held, room, left};
 ghost use Rattle.sheet.specs.Shape.{recordsChecks};
 ghost use Rattle.sheet.specs.Inner.{Laid, recordsAt, Roomy};
-ghost use Rattle.borrowing_param.specs.InnerSheet.{records};
+ghost use Rattle.borrowing_param.specs.InnerSheet.{tenRecords};
 ghost use Rattle.listing.specs.InnerListing.{listedSheet, listedRecords, Ample, ListsWithin, listedMethod};
-ghost use Rattle.listing.specs.InnerListing.{Listable, tooMany, listsRoom, edgesRoom};
+ghost use Rattle.listing.specs.InnerListing.{Listable, edgesOverflow, listsRoom, edgesRoom};
 use super::whole::put_listing;
 use answers::Listed;
 use answers::Refusal;
@@ -123,11 +123,11 @@ fn list_records(
     out: &mut [u8],
 ) -> Within
     requires { ⌜ NoneDue (recordsChecks
-        (records (now names) (now bounds) (now types) (now receiver) (now steps) (now returns) (now structs)
+        (tenRecords (now names) (now bounds) (now types) (now receiver) (now steps) (now returns) (now structs)
         (now params) (now output) (now force))) × (length (now edges) ≤ edgesRoom) ⌝ }
     ensures { λ r. ⌜ ListsWithin
         (listedRecords
-        (records (held names) (held bounds) (held types) (held receiver) (held steps) (held returns) (held structs)
+        (tenRecords (held names) (held bounds) (held types) (held receiver) (held steps) (held returns) (held structs)
         (held params) (held output) (held force))) (Ample (room given) (room taken) (room lists) (room edges))
         (held out) r (left out) ⌝ }
 {
@@ -220,7 +220,7 @@ fn list_method(
 
 // More edges than so many words take: the scratch is too short, or they are more than a listing has.
 fn too_many(room: usize) -> Within
-    ensures { λ r. ⌜ r ≡ tooMany room ⌝ }
+    ensures { λ r. ⌜ r ≡ edgesOverflow room ⌝ }
 {
     if room < EDGES_ROOM {
         return Within::Short;

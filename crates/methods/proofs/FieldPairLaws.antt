@@ -21,7 +21,7 @@ use Rattle.types.specs.Rows.{rowsOf}
 use Rattle.methods.specs.declared.fields.FieldPair.{FieldPair}
 use Rattle.methods.specs.Method.{rowAt}
 use Rattle.methods.specs.Fields.{fieldAt, fieldPair, filledBy, pairsFrom, fieldChecks, fieldPairs}
-use Rattle.methods.specs.Theorems.{ByDef, FieldFilled, FieldPairsAre}
+use Rattle.methods.specs.Theorems.{PairsByDef, FieldFilled, FieldPairsAre}
 use Rattle.answers.specs.Lists.{numbered}
 
 module _ (declared : ℕ) where
@@ -73,7 +73,7 @@ module _ (declared : ℕ) where
 
   -- they ascend
 
-  pairs-ascend : (at : ℕ) (path : List ℕ) → Pairwise ByDef (pairsFrom declared at path)
+  pairs-ascend : (at : ℕ) (path : List ℕ) → Pairwise PairsByDef (pairsFrom declared at path)
   unfolding numbered
   pairs-ascend at [] = Pairwise·nil
   pairs-ascend at (word ∷ path) = go (defFromWord word) (pairs-ascend (suc at) path)
@@ -81,7 +81,7 @@ module _ (declared : ℕ) where
       more : List FieldPair
       more = pairsFrom declared (suc at) path
 
-      two : (b : Bool) (k : ℕ) → Pairwise ByDef more → Pairwise ByDef (cond b (fieldPair at k ∷ []) [] ++ more)
+      two : (b : Bool) (k : ℕ) → Pairwise PairsByDef more → Pairwise PairsByDef (cond b (fieldPair at k ∷ []) [] ++ more)
       two true k r =
           Pairwise·cons {a = fieldPair at k}
           (λ p m. ∥∥₁-elim m le-prop (λ d.
@@ -90,7 +90,7 @@ module _ (declared : ℕ) where
           r
       two false k r = r
 
-      go : (m : MaybeStaticDef) → Pairwise ByDef more → Pairwise ByDef (filledBy declared at m ++ more)
+      go : (m : MaybeStaticDef) → Pairwise PairsByDef more → Pairwise PairsByDef (filledBy declared at m ++ more)
       go Static r = r
       go (NonStatic l) r = two (ltb (l .0) declared) (l .0) r
 

@@ -32,7 +32,7 @@ use Rattle.methods.specs.Method.{typeChecks, rowChecks, paramChecks, pla
 use Rattle.methods.specs.Method.{structsAndParamsChecks, outputLifetimes, anyPast, methodChecks}
 use Rattle.methods.specs.Used.{outputNumbers}
 use Rattle.methods.specs.Inner.{FitIs, TypesFit, ParamsFit, Indexes, CollectIs, within, past, TypesCollect}
-use Rattle.methods.specs.Inner.{InShape, Judges}
+use Rattle.methods.specs.Inner.{InShape, JudgesMethod}
 use Rattle.methods.proofs.PassLaws.{items-start, items-types}
 use Rattle.methods.proofs.FitsLaws.{fit-goes, fit-stops}
 
@@ -140,21 +140,21 @@ only v = record { verdict = v; used = 0 }
 
 refused-judges : {env : LifetimeEnv} {structs params output force : List ℕ} {v : Verdict} {r : Refusal}
     → v ≡ judged (methodChecks env structs params output force) → v ≡ Refused r
-    → Judges env structs params output force (only v)
+    → JudgesMethod env structs params output force (only v)
 refused-judges e k = record { verdict = e; used = λ a. refused-accepted (sym k ∙ a) }
 
 module _ {env : LifetimeEnv} {structs params output force : List ℕ} {sh : Shape}
     (q : sh ≡ methodShape structs params output force) where
-  pub judge-torn : {r : Refusal} → sh .verdict ≡ Refused r → Judges env structs params output force (only (sh .verdict))
+  pub judge-torn : {r : Refusal} → sh .verdict ≡ Refused r → JudgesMethod env structs params output force (only (sh .verdict))
   judge-torn k = refused-judges (k ∙ sym (torn structs params output force q env k)) k
 
   module _ (a : sh .verdict ≡ Accepted) where
-    pub judge-lifetimes : 64 < env .count → Judges env structs params output force (only (Refused Full))
+    pub judge-lifetimes : 64 < env .count → JudgesMethod env structs params output force (only (Refused Full))
     unfolding unless
     judge-lifetimes h =
         refused-judges (sym (past-shape structs params output force q a env ∙ rw (lt-ltb 64 (env .count) h))) refl
 
-    pub judge-bounds : env .count ≤ 64 → 256 < env .bounds .pushed → Judges env structs params output force (only (Refused Full))
+    pub judge-bounds : env .count ≤ 64 → 256 < env .bounds .pushed → JudgesMethod env structs params output force (only (Refused Full))
     unfolding unless
     judge-bounds lifetimes h =
         refused-judges
@@ -178,7 +178,7 @@ module _ {env : LifetimeEnv} {structs params output force : List ℕ} {sh : Shap
       past-shape structs params output force (j .shape) (j .accepted) env
       ∙ rw (le-ltb 64 (env .count) (j .lifetimes), le-ltb 256 (env .bounds .pushed) (j .bounds))
 
-  pub judge-place : {r : Refusal} → v ≡ Refused r → Judges env structs params output force (only v)
+  pub judge-place : {r : Refusal} → v ≡ Refused r → JudgesMethod env structs params output force (only v)
   judge-place k =
       refused-judges
       (k ∙ sym (past-limits ∙ judged-stays (placeChecks structs params output) (behindPlaces env structs output)
@@ -195,7 +195,7 @@ module _ {env : LifetimeEnv} {structs params output force : List ℕ} {sh : Shap
     unfolding unless
     env-judged = y ∙ rw (le-ltb 64 (env .count) (j .lifetimes), le-ltb 256 (env .bounds .pushed) (j .bounds))
 
-    pub judge-env : {r : Refusal} → w ≡ Refused r → Judges env structs params output force (only w)
+    pub judge-env : {r : Refusal} → w ≡ Refused r → JudgesMethod env structs params output force (only w)
     judge-env k =
         refused-judges
         (k ∙ sym (past-places ∙ judged-stays (rangeChecks env) (outside env structs output) (sym env-judged ∙ k)))
@@ -211,7 +211,7 @@ module _ {env : LifetimeEnv} {structs params output force : List ℕ} {sh : Shap
           let o = types-read (length (rowsOf structs)) output (i .output-shape) (i .output-count) in
           z (length (rowsOf structs)) (typesIn structs output) (o .0) (o .1)
 
-      pub judge-outside : t ≡ Past → Judges env structs params output force (only (Refused OutOfRange))
+      pub judge-outside : t ≡ Past → JudgesMethod env structs params output force (only (Refused OutOfRange))
       unfolding unless
       judge-outside k =
           refused-judges
@@ -223,7 +223,7 @@ module _ {env : LifetimeEnv} {structs params output force : List ℕ} {sh : Shap
           go (past h) = h
 
       pub judge-all : {used : ℕ} → t ≡ Set used
-          → Judges env structs params output force (record { verdict = Accepted; used = used })
+          → JudgesMethod env structs params output force (record { verdict = Accepted; used = used })
       unfolding unless
       judge-all {used} k =
           let g = go (subst (CollectIs (env .count) 0 (outputLifetimes structs output)) k collected) in

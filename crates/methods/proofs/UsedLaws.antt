@@ -12,10 +12,10 @@ use Rattle.methods.specs.declared.method.Judged.{Judged}
 use Rattle.methods.specs.declared.used.UsedLifetimes.the-variants as answer
 use Rattle.methods.specs.Method.{methodChecks}
 use Rattle.methods.specs.Used.{outputNumbers, usedSet, usedAnswer}
-use Rattle.methods.specs.Inner.{Judges}
+use Rattle.methods.specs.Inner.{JudgesMethod}
 
 module _ {env : LifetimeEnv} {structs params output force : List ℕ} {r : Judged}
-    (j : Judges env structs params output force r) where
+    (j : JudgesMethod env structs params output force r) where
   pub used-refused : {s : Refusal} → r .verdict ≡ Refused s → answer.Refused s ≡ usedAnswer (usedSet env structs params output force)
   unfolding usedSet
   used-refused {s} e =

@@ -15,7 +15,7 @@ use Rattle.answers.specs.Refusals.{Check, check, Outcome, Gives, Refuses, unles
 use Rattle.types.specs.declared.types.Kind.{Kind}
 use Rattle.types.specs.declared.types.Kind.the-variants.{Plain, Opaque, Struct, Slice}
 use Rattle.types.specs.declared.types.Own.the-variants as own
-use Rattle.types.specs.LoweredTypes.{LoweredType, lowered}
+use Rattle.types.specs.LoweredTypes.{LoweredType, loweredType}
 use Rattle.types.specs.Rows.{Row, rowsOf, structsInShape}
 use Rattle.methods.specs.declared.fields.FieldPair.{FieldPair}
 use Rattle.methods.specs.declared.fields.FieldLifetimes.{FieldLifetimes}
@@ -25,7 +25,7 @@ use Rattle.records.specs.Reading.{mostList}
 
 -- the field with a number; where there is none, a type that is no struct
 abbrev pub fieldIn : List LoweredType → ℕ → LoweredType
-fieldIn fields field = getD fields field (lowered false Plain [] own.Absent)
+fieldIn fields field = getD fields field (loweredType false Plain [] own.Absent)
 
 abbrev pub fieldAt : List Row → ℕ → ℕ → LoweredType
 fieldAt rows row field = fieldIn (rowAt rows row .fields) field

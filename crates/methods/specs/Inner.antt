@@ -109,7 +109,7 @@ pub record InShape (structs params output : List ℕ) (rows inputs outputs : ℕ
   pub output-count : outputs ≡ length (typesIn structs output)
 
 -- a method that was judged: the verdict; accepted, the lifetimes of its output
-pub record Judges (env : LifetimeEnv) (structs params output force : List ℕ) (r : Judged) : Type 0 where
+pub record JudgesMethod (env : LifetimeEnv) (structs params output force : List ℕ) (r : Judged) : Type 0 where
   pub verdict : r .verdict ≡ judged (methodChecks env structs params output force)
   pub used : r .verdict ≡ Accepted → r .used ≡ setOf (outputNumbers structs output)
 

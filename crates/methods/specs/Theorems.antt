@@ -13,7 +13,7 @@ use Rattle.lifetimes.specs.declared.env.LifetimeEnv.{LifetimeEnv}
 use Rattle.lifetimes.specs.Numbers.{lifetime, defLifetime}
 use Rattle.lifetimes.specs.LoweredWords.{defFromWord}
 use Rattle.answers.specs.Refusals.{Gives, Refuses}
-use Rattle.lifetimes.specs.Sets.{member, count}
+use Rattle.lifetimes.specs.Sets.{member, cardinality}
 use Rattle.types.specs.Rows.{rowsOf, forced, methodInShape}
 use Rattle.methods.specs.declared.fields.FieldPair.{FieldPair}
 use Rattle.methods.specs.Method.{rowAt, outputLifetimes}
@@ -26,7 +26,7 @@ use Rattle.methods.specs.Fields.{fieldAt, fieldPair, fieldPairs}
 pub record Uses (structs output : List ℕ) (set : ℕ) : Type 0 where
   pub members-are : (k : ℕ) → (member set k ≡ true)
       ↔ List·Memᴰ (NonStatic (lifetime k)) (outputLifetimes structs output)
-  pub few : count set ≤ mostUsed
+  pub few : cardinality set ≤ mostUsed
 
 abbrev pub UsedLifetimesAre : Type 0
 UsedLifetimesAre = (env : LifetimeEnv) (structs params output force : List ℕ) (set : ℕ)
@@ -41,14 +41,14 @@ ForceIsRetired = (env : LifetimeEnv) (structs params output force : List ℕ) �
     → usedSet env structs params output force ≡ Refuses Malformed)
 
 -- in ascending order of the field's lifetime, each once
-abbrev pub ByDef : FieldPair → FieldPair → Type 0
-ByDef p q = p .def .0 < q .def .0
+abbrev pub PairsByDef : FieldPair → FieldPair → Type 0
+PairsByDef p q = p .def .0 < q .def .0
 
 -- the pairs of a field with these path words in a row with so many lifetimes
 pub record FieldFilled (declared : ℕ) (path : List ℕ) (pairs : List FieldPair) : Type 0 where
   pub members : (j k : ℕ) → List·Memᴰ (fieldPair j k) pairs
       ↔ ((j < length path) × (defFromWord (getD path j 0) ≡ definition.NonStatic (defLifetime k)) × (k < declared))
-  pub ascending : Pairwise ByDef pairs
+  pub ascending : Pairwise PairsByDef pairs
 
 -- `compute_for_struct_field` (01: "for one struct-typed field, under code 4 or not, ascending, each lifetime of the
 -- field's definition with the outer row's lifetime that fills it; static and numbers past the row's d are left out")

@@ -1,7 +1,7 @@
 // The refusal of a method, and the lifetimes of its output.
 ghost use mathlib.Core.Path.{_≡_};
 ghost use Rattle.methods.specs.Method.{placeChecks, methodVerdict, structsAndParamsVerdict};
-ghost use Rattle.methods.specs.Inner.{InShape, Judges};
+ghost use Rattle.methods.specs.Inner.{InShape, JudgesMethod};
 ghost use Rattle.answers.specs.Lent.{held};
 ghost use Rattle.answers.specs.Lent.{judged};
 use super::fits::Fit;
@@ -71,7 +71,7 @@ pub(crate) fn judge(
     output: &[usize],
     force: &[usize],
 ) -> Judged
-    ensures { λ r. ⌜ Judges env (held structs) (held params) (held output) (held force) r ⌝ }
+    ensures { λ r. ⌜ JudgesMethod env (held structs) (held params) (held output) (held force) r ⌝ }
 {
     let shape = method_shape(structs, params, output, force);
     let first = shape.verdict;

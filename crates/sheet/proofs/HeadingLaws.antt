@@ -10,22 +10,22 @@ use borrow.Author.Tests.{eq-eqb, ne-eqb, eqb-true, eqb-false}
 use lib.Dec.{eqb}
 use lib.ListN.{length, getD, drop, drop-of-length-le}
 use lib.Seq.{drop-cons}
-use Rattle.sheet.specs.Reading.{behind}
+use Rattle.sheet.specs.Reading.{stripPrefix}
 
 -- too few bytes
-pub behind-short : (prefix bytes : List ℕ) → length bytes < length prefix → behind prefix bytes ≡ none
-unfolding behind
+pub behind-short : (prefix bytes : List ℕ) → length bytes < length prefix → stripPrefix prefix bytes ≡ none
+unfolding stripPrefix
 behind-short [] bytes h = absurd (omega arith)
 behind-short (p ∷ prefix) [] h = refl
 behind-short (p ∷ prefix) (b ∷ bytes) h = go (eqb p b) (behind-short prefix bytes (omega arith))
   where
-    go : (t : Bool) → behind prefix bytes ≡ none → cond t (behind prefix bytes) none ≡ none
+    go : (t : Bool) → stripPrefix prefix bytes ≡ none → cond t (stripPrefix prefix bytes) none ≡ none
     go true e = e
     go false e = refl
 
 -- what is left to compare
 pub record Matching (prefix bytes : List ℕ) (i : ℕ) : Type 0 where
-  pub rest : behind prefix bytes ≡ behind (drop i prefix) (drop i bytes)
+  pub rest : stripPrefix prefix bytes ≡ stripPrefix (drop i prefix) (drop i bytes)
   pub here : i ≤ length prefix
   pub long : length prefix ≤ length bytes
 
@@ -33,13 +33,13 @@ pub matching-start : (prefix bytes : List ℕ) → length prefix ≤ length byte
 matching-start prefix bytes h = record { rest = refl; here = omega arith; long = h }
 
 module _ {prefix bytes : List ℕ} {i : ℕ} (inv : Matching prefix bytes i) where
-  pub matching-end : length prefix ≤ i → behind prefix bytes ≡ some (drop i bytes)
-  unfolding behind
+  pub matching-end : length prefix ≤ i → stripPrefix prefix bytes ≡ some (drop i bytes)
+  unfolding stripPrefix
   matching-end h = inv .rest ∙ rw (drop-of-length-le prefix {i = i} h)
 
   module _ (h : i < length prefix) where
-    pub matching-not : (getD bytes i 0 ≡ getD prefix i 0 → ⊥) → behind prefix bytes ≡ none
-    unfolding behind
+    pub matching-not : (getD bytes i 0 ≡ getD prefix i 0 → ⊥) → stripPrefix prefix bytes ≡ none
+    unfolding stripPrefix
     matching-not n =
         inv .rest
         ∙ rw (
@@ -49,7 +49,7 @@ module _ {prefix bytes : List ℕ} {i : ℕ} (inv : Matching prefix bytes i) whe
         )
 
     pub matching-more : getD bytes i 0 ≡ getD prefix i 0 → Matching prefix bytes (i + 1)
-    unfolding behind
+    unfolding stripPrefix
     matching-more e = record {
       rest = inv .rest
           ∙ rw (
@@ -65,7 +65,7 @@ module _ {prefix bytes : List ℕ} {i : ℕ} (inv : Matching prefix bytes i) whe
 -- and what a comparison of all bytes knows: so far they are the same, and then what is left decides; or one differed
 abbrev pub Comparing : Bool → List ℕ → List ℕ → ℕ → Type 0
 Comparing true prefix bytes i = Matching prefix bytes i
-Comparing false prefix bytes i = (behind prefix bytes ≡ none) × (i ≤ length prefix) × (length prefix ≤ length bytes)
+Comparing false prefix bytes i = (stripPrefix prefix bytes ≡ none) × (i ≤ length prefix) × (length prefix ≤ length bytes)
 
 module _ (prefix bytes : List ℕ) (i : ℕ) where
   pub comparing-here : (same : Bool) → Comparing same prefix bytes i → (i ≤ length prefix) × (length prefix ≤ length bytes)
@@ -82,6 +82,6 @@ module _ (prefix bytes : List ℕ) (i : ℕ) where
       go false q = rw (e, q) (matching-not inv h (eqb-false (getD bytes i 0) (getD prefix i 0) q), omega arith, inv .long)
 
   pub comparing-end : (same : Bool) → Comparing same prefix bytes i → length prefix ≤ i
-      → behind prefix bytes ≡ cond same (some (drop i bytes)) none
+      → stripPrefix prefix bytes ≡ cond same (some (drop i bytes)) none
   comparing-end true inv h = matching-end inv h
   comparing-end false inv h = inv .0

@@ -5,7 +5,7 @@ use mathlib.Core.Path.{_≡_, refl, sym, ap, _∙_}
 use mathlib.Core.List.{List, [], _∷_, flatten}
 use native.Mathlib.Nat.{sub-zero}
 use native.Mathlib.Omega.{arith}
-use borrow.Author.Tests.{not-false, lt-ltb, le-ltb, le-leb, lt-leb}
+use borrow.Author.Tests.{lt-ltb, le-ltb, le-leb, lt-leb}
 use lib.Dec.{leb}
 use lib.ListN.{length, getD, take, drop, length-append}
 use lib.Seq.{sets, slice, take-append-seam}
@@ -18,7 +18,7 @@ use Rattle.answers.specs.Lent as lent
 use Rattle.answers.specs.Lent.{written, isAccepted}
 use Rattle.answers.proofs.Copying.{sets-front}
 use Rattle.answers.specs.Refusals.{Refuses, unless, NoneDue}
-use Rattle.answers.proofs.RefusalLaws.{due-given, none-first, none-rest}
+use Rattle.answers.proofs.RefusalLaws.{due-given}
 use Rattle.answers.specs.declared.Verdict.{Verdict}
 use Rattle.records.specs.Reading.{shapeVerdict}
 use Rattle.records.specs.Copied.{copied}
@@ -31,12 +31,11 @@ use Rattle.types.specs.Rows.{methodInShape, methodShape, checksVerdict}
 use Rattle.types.proofs.ShapeLaws.{shape-verdict}
 use Rattle.sheet.specs.Text.{Records, lists, wordsOf}
 use Rattle.sheet.specs.declared.reading.Text.{Text}
-use Rattle.sheet.specs.Reading.{sheetOf, textChecks, allShort, readText}
+use Rattle.sheet.specs.Reading.{sheetOf, textChecks, readText}
 use Rattle.answers.specs.Lists.{endsFrom}
-use Rattle.sheet.specs.Answer.{answerOf, startOf, recordWords, measured}
+use Rattle.sheet.specs.Answer.{textAnswer, startOf, recordWords, measured}
 use Rattle.sheet.specs.Shape.{sheetInShape, sheetAnswer, sheetWords}
 use Rattle.sheet.specs.Inner.{recordAt, recordsAt, Laid, recordsVerdict, Counted, Roomy}
-use Rattle.sheet.proofs.SheetLaws.{few-all, total-words}
 use Rattle.sheet.proofs.ReadingLaws.{last-end, list-between, none-due, counted, sheet-short, sheet-wrote}
 use Rattle.sheet.proofs.Theorems.{room-for-any-sheet, words-take-two-bytes}
 
@@ -136,13 +135,6 @@ module _ {bytes ends : List ℕ} (c : Counted bytes ends) where
   pub counted-end : getD ends 9 0 ≡ length (wordsOf (sheetOf bytes))
   counted-end = rw (c .placed) (last-end 0 (sheetOf bytes .names) _ ∙ omega arith)
 
-  -- 10,240 words are enough
-  pub counted-most : getD ends 9 0 ≤ 10240
-  unfolding textChecks
-  counted-most =
-      let f : allShort (lists (sheetOf bytes)) ≡ true = not-false _ (none-first (none-rest (c .due))) in
-      omega (arith, counted-end, total-words (lists (sheetOf bytes)) (few-all (lists (sheetOf bytes)) f))
-
   module _ (words : List ℕ) {words′ : List ℕ} (h : getD ends 9 0 ≤ length words)
       (w : words′ ≡ sets words 0 (wordsOf (sheetOf bytes))) where
     pub counted-laid : Laid words′ ends
@@ -200,7 +192,7 @@ module _ (bytes scratch : List ℕ) (roomy : Roomy bytes (length scratch)) {j : 
       (words : List ℕ) {words′ : List ℕ}
       (left : words′ ≡ written (copied scratch₁ (getD (j .ends) 9 0) (length words)) words) {r : Listed}
       (told : r ≡ lent.counted (copied scratch₁ (getD (j .ends) 9 0) (length words))) where
-    pub scanned-short : {k : Refusal} → r ≡ Refused k → (answerOf (Refuses NoRoom) ≡ sheetAnswer bytes (length words))
+    pub scanned-short : {k : Refusal} → r ≡ Refused k → (textAnswer (Refuses NoRoom) ≡ sheetAnswer bytes (length words))
         × (words′ ≡ written (sheetWords bytes (length words)) words)
     scanned-short c =
         let none = copied-none scratch₁ (getD (j .ends) 9 0) words inside left told c in

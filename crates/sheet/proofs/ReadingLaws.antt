@@ -26,10 +26,10 @@ use Rattle.sheet.specs.declared.lines.Judged.{Judged}
 use Rattle.sheet.specs.declared.lines.Judged.the-variants as judged
 use Rattle.text.specs.Decimal.{line}
 use Rattle.sheet.specs.Text.{heading, Records, lists, wordsOf, text, mostWord, mostBytes}
-use Rattle.sheet.specs.Reading.{behind, LineStart, recordsOf, ten, linesBehind, sheetIn, sheetOf, isNone}
+use Rattle.sheet.specs.Reading.{stripPrefix, LineStart, recordsOf, ten, linesBehind, sheetIn, sheetOf, isNone}
 use Rattle.sheet.specs.Reading.{allShort, textChecks}
 use Rattle.answers.specs.Lists.{endsFrom}
-use Rattle.sheet.specs.Answer.{answerOf, measured, withRoom, readWords, readEnds, readAnswer}
+use Rattle.sheet.specs.Answer.{textAnswer, measured, withRoom, readWords, readEnds, readAnswer}
 use Rattle.sheet.specs.Shape.{recordsChecks, sheetChecks, sheetWords, sheetEnds, sheetAnswer}
 use Rattle.sheet.specs.Inner.{readFrom, TenAt, LinesRead, recordsVerdict, Counted}
 use Rattle.sheet.specs.Theorems.{CallGives}
@@ -43,11 +43,11 @@ module _ (bytes : List ℕ) where
   too-many h = rw (lt-leb (length bytes) mostBytes h)
 
   module _ (h : length bytes ≤ mostBytes) where
-    pub no-heading : behind heading bytes ≡ none → sheetIn bytes ≡ none
+    pub no-heading : stripPrefix heading bytes ≡ none → sheetIn bytes ≡ none
     unfolding sheetIn linesBehind ten
     no-heading e = rw (le-leb (length bytes) mostBytes h, e)
 
-    module _ (e : behind heading bytes ≡ some (drop 66 bytes)) where
+    module _ (e : stripPrefix heading bytes ≡ some (drop 66 bytes)) where
       pub not-ten : ten (readFrom LineStart bytes 66) ≡ none → sheetIn bytes ≡ none
       unfolding sheetIn linesBehind
       not-ten n = rw (le-leb (length bytes) mostBytes h, e) n
@@ -59,34 +59,34 @@ module _ (bytes : List ℕ) where
 
 -- what `measure` answers
 module _ (bytes : List ℕ) where
-  pub measured-none : sheetIn bytes ≡ none → answerOf (Refuses Unreadable) ≡ measured bytes
+  pub measured-none : sheetIn bytes ≡ none → textAnswer (Refuses Unreadable) ≡ measured bytes
   unfolding measured textChecks unless
   measured-none e = rw e
 
   module _ (ls : List (List ℕ)) (e : sheetIn bytes ≡ some (recordsOf ls)) (t : length ls ≡ 10) where
-    pub measured-long : allShort ls ≡ false → answerOf (Refuses Malformed) ≡ measured bytes
+    pub measured-long : allShort ls ≡ false → textAnswer (Refuses Malformed) ≡ measured bytes
     unfolding measured textChecks sheetOf unless
     measured-long f = rw (e, lists-of-ten ls t, f)
 
-    pub measured-good : allShort ls ≡ true → answerOf (Gives (endsFrom 0 ls)) ≡ measured bytes
+    pub measured-good : allShort ls ≡ true → textAnswer (Gives (endsFrom 0 ls)) ≡ measured bytes
     unfolding measured textChecks sheetOf unless
     measured-good f = rw (e, lists-of-ten ls t, f)
 
 -- the heading, by what `headed` answers
-module _ (bytes : List ℕ) (t : Bool) (e : behind heading bytes ≡ cond t (some (drop 66 bytes)) none) where
-  pub heading-not : t ≡ false → behind heading bytes ≡ none
+module _ (bytes : List ℕ) (t : Bool) (e : stripPrefix heading bytes ≡ cond t (some (drop 66 bytes)) none) where
+  pub heading-not : t ≡ false → stripPrefix heading bytes ≡ none
   heading-not f = rw f at e
 
-  pub heading-is : t ≡ true → behind heading bytes ≡ some (drop 66 bytes)
+  pub heading-is : t ≡ true → stripPrefix heading bytes ≡ some (drop 66 bytes)
   heading-is f = rw f at e
 
 -- what `scan` answers, by what `lines` answers
 module _ (bytes words words′ ends : List ℕ) {r : Judged} (l : LinesRead bytes 66 words words′ ends r)
-    (h : length bytes ≤ mostBytes) (e : behind heading bytes ≡ some (drop 66 bytes)) where
-  pub measured-unreadable : r ≡ judged.Unreadable → answerOf (Refuses Unreadable) ≡ measured bytes
+    (h : length bytes ≤ mostBytes) (e : stripPrefix heading bytes ≡ some (drop 66 bytes)) where
+  pub measured-unreadable : r ≡ judged.Unreadable → textAnswer (Refuses Unreadable) ≡ measured bytes
   measured-unreadable q = measured-none bytes (not-ten bytes h e (subst (LinesRead bytes 66 words words′ ends) q l))
 
-  pub measured-malformed : r ≡ judged.TooLong → answerOf (Refuses Malformed) ≡ measured bytes
+  pub measured-malformed : r ≡ judged.TooLong → textAnswer (Refuses Malformed) ≡ measured bytes
   measured-malformed q =
       let t : TenAt bytes 66 words words′ ends false = subst (LinesRead bytes 66 words words′ ends) q l in
       measured-long bytes (t .lines) (are-ten bytes h e (t .lines) (t .reads) (t .count)) (t .count) (t .size)
@@ -127,12 +127,12 @@ module _ (bytes words words′ ends : List ℕ) (none : NoneDue (textChecks byte
   wrote judged.Good l = wrote-ten l
 
 -- a text that `scan` refuses is not an accepted one
-pub scan-refused : {A : Type 0} (bytes : List ℕ) {k : Refusal} → answerOf (Refuses k) ≡ measured bytes
+pub scan-refused : {A : Type 0} (bytes : List ℕ) {k : Refusal} → textAnswer (Refuses k) ≡ measured bytes
     → NoneDue (textChecks bytes) → A
 unfolding measured
 scan-refused bytes e n =
     let z : _≡_ {A = ℕ} 0 1 =
-    let q = ap (λ (x : Text). x .verdict) (e ∙ ap answerOf (due-given (endsFrom 0 (lists (sheetOf bytes))) n)) in cc in
+    let q = ap (λ (x : Text). x .verdict) (e ∙ ap textAnswer (due-given (endsFrom 0 (lists (sheetOf bytes))) n)) in cc in
     absurd (omega arith)
 
 -- what `write_all` leaves: all words where they fit, else none
@@ -160,13 +160,13 @@ module _ (bytes : List ℕ) (j : Text) (m : j ≡ measured bytes) (e : j .verdic
   pub ends-end : getD (j .ends) 9 0 ≡ length (wordsOf (sheetOf bytes))
   ends-end = rw ends-at (last-end 0 (sheetOf bytes .names) _ ∙ omega arith)
 
-  measured-given : j ≡ answerOf (Gives (endsFrom 0 (lists (sheetOf bytes))))
+  measured-given : j ≡ textAnswer (Gives (endsFrom 0 (lists (sheetOf bytes))))
   unfolding measured
   measured-given = m ∙ rw (due-given (endsFrom 0 (lists (sheetOf bytes))) none-due)
 
 -- a refused text, by what they answer
 measured-refused : (bytes : List ℕ) (j : Text) → j ≡ measured bytes → {k : Refusal} → j .verdict ≡ verdict.Refused k
-    → FirstDue k (textChecks bytes) × (j ≡ answerOf (Refuses k))
+    → FirstDue k (textChecks bytes) × (j ≡ textAnswer (Refuses k))
 unfolding measured
 measured-refused bytes j m {k} e =
     let f : FirstDue k (textChecks bytes) =
@@ -178,22 +178,22 @@ measured-refused bytes j m {k} e =
 module _ (checks : List Check) (s : Records) (words : List ℕ) where
   abbrev Answers : Text → List ℕ → Type 0
   Answers a words′ =
-      (a ≡ answerOf (unless (withRoom checks (length words) s) (endsFrom 0 (lists s))))
+      (a ≡ textAnswer (unless (withRoom checks (length words) s) (endsFrom 0 (lists s))))
       × (words′ ≡ written (unless (withRoom checks (length words) s) (wordsOf s)) words)
 
-  call-refuses : {k : Refusal} → FirstDue k (withRoom checks (length words) s) → Answers (answerOf (Refuses k)) words
+  call-refuses : {k : Refusal} → FirstDue k (withRoom checks (length words) s) → Answers (textAnswer (Refuses k)) words
   call-refuses f = (rw (due-refused (endsFrom 0 (lists s)) f), rw (due-refused (wordsOf s) f))
 
   -- by what `write_all` says and leaves
   module _ (n : NoneDue checks) {count : ℕ} (c : count ≡ length (wordsOf s)) {fits : Bool} (l : fits ≡ leb count (length words))
       {words′ : List ℕ} (w : words′ ≡ cond fits (sets words 0 (wordsOf s)) words) where
-    call-short : fits ≡ false → Answers (answerOf (Refuses NoRoom)) words′
+    call-short : fits ≡ false → Answers (textAnswer (Refuses NoRoom)) words′
     call-short f =
         let h : length words < count = leb-false count (length words) (sym l ∙ f) in
         let kept : words′ ≡ words = rw f at w in
         let a = call-refuses (first-after n (no-room (length words) (wordsOf s) (omega (arith, c)))) in (a .0, kept ∙ a .1)
 
-    call-writes : fits ≡ true → Answers (answerOf (Gives (endsFrom 0 (lists s)))) words′
+    call-writes : fits ≡ true → Answers (textAnswer (Gives (endsFrom 0 (lists s)))) words′
     call-writes t =
         let some : count ≤ length words = leb-true count (length words) (sym l ∙ t) in
         let h : length (wordsOf s) ≤ length words = omega (arith, c) in
@@ -214,7 +214,7 @@ module _ (bytes words : List ℕ) (j : Text) (m : j ≡ measured bytes) where
 
   module _ (e : j .verdict ≡ verdict.Accepted) {fits : Bool} (l : fits ≡ leb (getD (j .ends) 9 0) (length words))
       {words′ : List ℕ} (w : words′ ≡ cond fits (sets words 0 (wordsOf (sheetOf bytes))) words) where
-    pub read-short : fits ≡ false → Reads (answerOf (Refuses NoRoom)) words′
+    pub read-short : fits ≡ false → Reads (textAnswer (Refuses NoRoom)) words′
     unfolding readAnswer readEnds readWords
     read-short = call-short (textChecks bytes) (sheetOf bytes) words (none-due bytes j m e) (ends-end bytes j m e) l w
 
@@ -231,7 +231,7 @@ module _ (bytes words : List ℕ) (j : Text) (m : j ≡ measured bytes) where
 
   module _ (e : j .verdict ≡ verdict.Accepted) where
     module _ {v : Verdict} (s : v ≡ recordsVerdict (sheetOf bytes)) where
-      pub sheet-unshaped : {k : Refusal} → v ≡ verdict.Refused k → ReadsSheet (answerOf (Refuses k)) words
+      pub sheet-unshaped : {k : Refusal} → v ≡ verdict.Refused k → ReadsSheet (textAnswer (Refuses k)) words
       unfolding sheetAnswer sheetEnds sheetWords sheetChecks
       sheet-unshaped {k} f =
           let d : FirstDue k (sheetChecks bytes) =
@@ -246,7 +246,7 @@ module _ (bytes words : List ℕ) (j : Text) (m : j ≡ measured bytes) where
 
         module _ {fits : Bool} (l : fits ≡ leb (getD (j .ends) 9 0) (length words)) {words′ : List ℕ}
             (w : words′ ≡ cond fits (sets words 0 (wordsOf (sheetOf bytes))) words) where
-          pub sheet-short : fits ≡ false → ReadsSheet (answerOf (Refuses NoRoom)) words′
+          pub sheet-short : fits ≡ false → ReadsSheet (textAnswer (Refuses NoRoom)) words′
           unfolding sheetAnswer sheetEnds sheetWords
           sheet-short = call-short (sheetChecks bytes) (sheetOf bytes) words sheet-none (ends-end bytes j m e) l w
 

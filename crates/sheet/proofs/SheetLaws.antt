@@ -16,7 +16,7 @@ use Rattle.answers.specs.Refusals.{Gives, Refuses, unless}
 use Rattle.text.specs.Decimal.{line, following}
 use Rattle.sheet.specs.Text.{heading, Records, lists, wordsOf, text, mostWord, mostBytes}
 use Rattle.records.specs.Reading.{mostWords, fewWords}
-use Rattle.sheet.specs.Reading.{behind, LineStart, readLines, recordsOf, ten, linesBehind, sheetIn, sheetOf}
+use Rattle.sheet.specs.Reading.{stripPrefix, LineStart, readLines, recordsOf, ten, linesBehind, sheetIn, sheetOf}
 use Rattle.sheet.specs.Reading.{allShort, textChecks, readText}
 use Rattle.sheet.specs.Theorems.{IsSheet}
 use Rattle.text.proofs.DigitLaws.{digits-some}
@@ -59,7 +59,7 @@ pub in-sheet : (bytes : List ℕ) (r : Records) → sheetIn bytes ≡ some r →
 unfolding sheetIn linesBehind ten text
 in-sheet bytes r e = size (leb (length bytes) mostBytes) refl e
   where
-    counted : (ls : List (List ℕ)) (rest : List ℕ) → behind heading bytes ≡ some rest
+    counted : (ls : List (List ℕ)) (rest : List ℕ) → stripPrefix heading bytes ≡ some rest
         → readLines mostWord LineStart rest ≡ some ls → length bytes ≤ mostBytes
         → (t : Bool) → eqb (length ls) 10 ≡ t → cond t (some (recordsOf ls)) none ≡ some r → IsSheet bytes r
     counted ls rest b l z true q e =
@@ -70,19 +70,19 @@ in-sheet bytes r e = size (leb (length bytes) mostBytes) refl e
         record { spelt = behind-splits heading bytes rest b ∙ rw (s .spells, g); words = λ w m. s .within w (rw g at m); size = z }
     counted ls rest b l z false q e = let z : _≡_ {A = ℕ} 0 1 = cc in absurd (omega arith)
 
-    lined : (rest : List ℕ) (o : Option (List (List ℕ))) → behind heading bytes ≡ some rest
+    lined : (rest : List ℕ) (o : Option (List (List ℕ))) → stripPrefix heading bytes ≡ some rest
         → readLines mostWord LineStart rest ≡ o → length bytes ≤ mostBytes → ten o ≡ some r → IsSheet bytes r
     lined rest none b l z e = let z : _≡_ {A = ℕ} 0 1 = cc in absurd (omega arith)
     lined rest (some ls) b l z e = counted ls rest b l z (eqb (length ls) 10) refl e
 
-    headed : (o : Option (List ℕ)) → behind heading bytes ≡ o → length bytes ≤ mostBytes → ten (linesBehind o) ≡ some r
+    headed : (o : Option (List ℕ)) → stripPrefix heading bytes ≡ o → length bytes ≤ mostBytes → ten (linesBehind o) ≡ some r
         → IsSheet bytes r
     headed none b z e = let z : _≡_ {A = ℕ} 0 1 = cc in absurd (omega arith)
     headed (some rest) b z e = lined rest (readLines mostWord LineStart rest) b refl z e
 
     size : (t : Bool) → leb (length bytes) mostBytes ≡ t
-        → cond t (ten (linesBehind (behind heading bytes))) none ≡ some r → IsSheet bytes r
-    size true q e = headed (behind heading bytes) refl (leb-true (length bytes) mostBytes q) e
+        → cond t (ten (linesBehind (stripPrefix heading bytes))) none ≡ some r → IsSheet bytes r
+    size true q e = headed (stripPrefix heading bytes) refl (leb-true (length bytes) mostBytes q) e
     size false q e = let z : _≡_ {A = ℕ} 0 1 = cc in absurd (omega arith)
 
 -- records with few words, and a record with too many
@@ -139,8 +139,8 @@ text-lists r s e =
     let f : flatMap line (lists r) ≡ flatMap line (lists s) =
     let a = behind-append heading (flatMap line (lists r)) in
     let b = behind-append heading (flatMap line (lists s)) in
-    let c : behind heading (heading ++ flatMap line (lists r)) ≡ behind heading (heading ++ flatMap line (lists s)) =
-    ap (behind heading) e in
+    let c : stripPrefix heading (heading ++ flatMap line (lists r)) ≡ stripPrefix heading (heading ++ flatMap line (lists s)) =
+    ap (stripPrefix heading) e in
     cc in
     let a = read-lines limit (lists r) (λ w m. omega (arith, within-total (wordsOf r) w m)) in
     let b = read-lines limit (lists s) (λ w m. omega (arith, within-total (wordsOf s) w m)) in

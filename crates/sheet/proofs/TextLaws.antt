@@ -11,7 +11,7 @@ use borrow.Author.Tests.{ltb-true, ltb-false, lt-ltb, le-leb, eq-eqb, ne-eqb, eq
 use lib.Dec.{ltb, eqb}
 use Rattle.text.specs.Number.{isDigit}
 use Rattle.text.specs.Decimal.{newline, space, digits, following, line}
-use Rattle.sheet.specs.Reading.{behind, Place, LineStart, WordStart, Behind, lineBefore, wordBefore}
+use Rattle.sheet.specs.Reading.{stripPrefix, Place, LineStart, WordStart, Behind, lineBefore, wordBefore}
 use Rattle.sheet.specs.Reading.{readLines}
 use Rattle.text.proofs.DigitLaws.{tenth-less, digits-single, digits-more}
 
@@ -113,18 +113,18 @@ module _ (limit : ℕ) where
       ∙ rw (read-lines ls (λ w m. h w (Memᴰ·append-right l m)))
 
 -- what stands behind a prefix
-pub behind-append : (prefix bytes : List ℕ) → behind prefix (prefix ++ bytes) ≡ some bytes
-unfolding behind
+pub behind-append : (prefix bytes : List ℕ) → stripPrefix prefix (prefix ++ bytes) ≡ some bytes
+unfolding stripPrefix
 behind-append [] bytes = refl
 behind-append (p ∷ prefix) bytes = rw (eq-eqb p p refl) (behind-append prefix bytes)
 
-pub behind-splits : (prefix bytes rest : List ℕ) → behind prefix bytes ≡ some rest → bytes ≡ prefix ++ rest
-unfolding behind
+pub behind-splits : (prefix bytes rest : List ℕ) → stripPrefix prefix bytes ≡ some rest → bytes ≡ prefix ++ rest
+unfolding stripPrefix
 behind-splits [] bytes rest e = cc
 behind-splits (p ∷ prefix) [] rest e = let z : _≡_ {A = ℕ} 0 1 = cc in absurd (omega arith)
 behind-splits (p ∷ prefix) (b ∷ bytes) rest e = go (eqb p b) refl (behind-splits prefix bytes rest) e
   where
-    go : (t : Bool) → eqb p b ≡ t → (behind prefix bytes ≡ some rest → bytes ≡ prefix ++ rest)
-        → cond t (behind prefix bytes) none ≡ some rest → b ∷ bytes ≡ p ∷ prefix ++ rest
+    go : (t : Bool) → eqb p b ≡ t → (stripPrefix prefix bytes ≡ some rest → bytes ≡ prefix ++ rest)
+        → cond t (stripPrefix prefix bytes) none ≡ some rest → b ∷ bytes ≡ p ∷ prefix ++ rest
     go true q ih e = let f = ih e in let g = eqb-true p b q in cc
     go false q ih e = let z : _≡_ {A = ℕ} 0 1 = cc in absurd (omega arith)

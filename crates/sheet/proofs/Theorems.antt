@@ -12,7 +12,7 @@ use Rattle.types.specs.Rows.{methodInShape, readKnown}
 use Rattle.text.specs.Decimal.{line, following, digits, digitsFor}
 use Rattle.sheet.specs.Text.{lists, text}
 use Rattle.sheet.specs.Reading.{recordsOf, readText, textChecks, sheetOf, sheetIn, linesBehind, ten, readLines}
-use Rattle.sheet.specs.Reading.{behind}
+use Rattle.sheet.specs.Reading.{stripPrefix}
 use Rattle.sheet.specs.Shape.{readSheet, sheetWords, sheetEnds, sheetChecks, sheetInShape}
 use Rattle.sheet.specs.Answer.{readWords, readEnds}
 use Rattle.sheet.specs.Theorems.{TextIsOneToOne, ReadingIsInverse, ReadingJudgesShapes}
@@ -53,14 +53,14 @@ pub words-take-two-bytes : WordsTakeTwoBytes
 words-take-two-bytes bytes r e = rw ((reads-back bytes .given r) .0 e .0 .spelt) (text-bytes r)
 
 pub examples-hold : ExamplesHold
-unfolding readText textChecks sheetOf sheetIn linesBehind ten readLines behind all unless flatten
+unfolding readText textChecks sheetOf sheetIn linesBehind ten readLines stripPrefix all unless flatten
 examples-hold = (
   refl,
   (refl, (refl, (refl, (refl, (refl, (refl, (refl, (refl, (refl, (refl, (refl, (refl, (refl, (refl, tt)))))))))))))),
 )
 
 pub sheet-examples-hold : SheetExamplesHold
-unfolding readSheet sheetChecks textChecks sheetOf sheetIn linesBehind ten readLines behind all unless flatten
+unfolding readSheet sheetChecks textChecks sheetOf sheetIn linesBehind ten readLines stripPrefix all unless flatten
     flatMap text line following digits digitsFor
     sheetInShape methodInShape namesInShape boundsInShape inShape itemsOf readAll readType readStep readKnown
     readLowered readBare readOpaque readSlice readStruct

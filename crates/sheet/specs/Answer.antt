@@ -10,7 +10,7 @@ use Rattle.answers.specs.Refusals.{Check, Outcome, unless}
 use Rattle.answers.specs.Lent.{verdictOf, resultOr, roomCheck}
 use Rattle.answers.specs.Lists.{endsFrom}
 use Rattle.sheet.specs.declared.reading.Text.{Text}
-use Rattle.sheet.specs.Text.{records, Records, lists, wordsOf}
+use Rattle.sheet.specs.Text.{recordCount, Records, lists, wordsOf}
 use Rattle.sheet.specs.Reading.{sheetOf, textChecks}
 
 -- the words of the record with a number: from where the one before ends to where it ends. None where there is no such
@@ -20,17 +20,17 @@ startOf ends i = getD (0 ∷ ends) i 0
 
 unfoldable pub recordWords : List ℕ → List ℕ → ℕ → List ℕ
 recordWords words ends i =
-    cond (ltb i records && (leb (startOf ends i) (getD ends i 0) && leb (getD ends i 0) (length words)))
+    cond (ltb i recordCount && (leb (startOf ends i) (getD ends i 0) && leb (getD ends i 0) (length words)))
     (slice (startOf ends i) (getD ends i 0) words)
     []
 
 -- an answer from the ends of the records; beside a refusal all ends are 0
-abbrev pub answerOf : Outcome (List ℕ) → Text
-answerOf o = record { verdict = verdictOf o; ends = resultOr (replicate records 0) o }
+abbrev pub textAnswer : Outcome (List ℕ) → Text
+textAnswer o = record { verdict = verdictOf o; ends = resultOr (replicate recordCount 0) o }
 
 -- the answer before the slice is looked at
 unfoldable pub measured : List ℕ → Text
-measured bytes = answerOf (unless (textChecks bytes) (endsFrom 0 (lists (sheetOf bytes))))
+measured bytes = textAnswer (unless (textChecks bytes) (endsFrom 0 (lists (sheetOf bytes))))
 
 -- some checks, then 9: the slice is too short for the words of all records
 abbrev pub withRoom : List Check → ℕ → Records → List Check
@@ -47,4 +47,4 @@ unfoldable pub readEnds : List ℕ → ℕ → Outcome (List ℕ)
 readEnds bytes room = unless (readChecks bytes room) (endsFrom 0 (lists (sheetOf bytes)))
 
 unfoldable pub readAnswer : List ℕ → ℕ → Text
-readAnswer bytes room = answerOf (readEnds bytes room)
+readAnswer bytes room = textAnswer (readEnds bytes room)

@@ -79,26 +79,27 @@ examples =
     ∷ []
 
 -- the smallest sheet but for `params` and `force`
-abbrev pub sheetWith : List ℕ → List ℕ → Records
-sheetWith params force = recordsOf ((0 ∷ []) ∷ (0 ∷ []) ∷ [] ∷ [] ∷ [] ∷ [] ∷ [] ∷ params ∷ [] ∷ force ∷ [])
+abbrev pub smallestWith : List ℕ → List ℕ → Records
+smallestWith params force = recordsOf ((0 ∷ []) ∷ (0 ∷ []) ∷ [] ∷ [] ∷ [] ∷ [] ∷ [] ∷ params ∷ [] ∷ force ∷ [])
 
 abbrev pub sheetExamples : List Example
 sheetExamples =
     reads sheetBytes (Gives sheetRecords)
-    ∷ reads (text (sheetWith [] (0 ∷ []))) (Gives (sheetWith [] (0 ∷ [])))
+    ∷ reads (text (smallestWith [] (0 ∷ []))) (Gives (smallestWith [] (0 ∷ [])))
     -- empty `names`; empty `force`; both that and a line too many
     ∷ reads (heading ++ emptyLines 10) (Refuses Malformed)
-    ∷ reads (text (sheetWith [] [])) (Refuses Malformed)
-    ∷ reads (text (sheetWith [] []) ++ emptyLines 1) (Refuses Unreadable)
+    ∷ reads (text (smallestWith [] [])) (Refuses Malformed)
+    ∷ reads (text (smallestWith [] []) ++ emptyLines 1) (Refuses Unreadable)
     -- an optional opaque under an option, an option there, a row that is not there
-    ∷ reads (text (sheetWith (4 ∷ 1 ∷ 1 ∷ 0 ∷ 0 ∷ []) (0 ∷ []))) (Gives (sheetWith (4 ∷ 1 ∷ 1 ∷ 0 ∷ 0 ∷ []) (0 ∷ [])))
-    ∷ reads (text (sheetWith (4 ∷ 4 ∷ 0 ∷ []) (0 ∷ []))) (Refuses Malformed)
-    ∷ reads (text (sheetWith (2 ∷ 0 ∷ 0 ∷ []) (0 ∷ []))) (Refuses Malformed)
+    ∷ reads (text (smallestWith (4 ∷ 1 ∷ 1 ∷ 0 ∷ 0 ∷ []) (0 ∷ [])))
+    (Gives (smallestWith (4 ∷ 1 ∷ 1 ∷ 0 ∷ 0 ∷ []) (0 ∷ [])))
+    ∷ reads (text (smallestWith (4 ∷ 4 ∷ 0 ∷ []) (0 ∷ []))) (Refuses Malformed)
+    ∷ reads (text (smallestWith (2 ∷ 0 ∷ 0 ∷ []) (0 ∷ []))) (Refuses Malformed)
     -- `force` 1; beside it a row that is not there, and a line too many; `force` 2
-    ∷ reads (text (sheetWith [] (1 ∷ []))) (Refuses Retired)
-    ∷ reads (text (sheetWith (2 ∷ 0 ∷ 0 ∷ []) (1 ∷ []))) (Refuses Malformed)
-    ∷ reads (text (sheetWith [] (1 ∷ [])) ++ emptyLines 1) (Refuses Unreadable)
-    ∷ reads (text (sheetWith [] (2 ∷ []))) (Refuses Malformed)
+    ∷ reads (text (smallestWith [] (1 ∷ []))) (Refuses Retired)
+    ∷ reads (text (smallestWith (2 ∷ 0 ∷ 0 ∷ []) (1 ∷ []))) (Refuses Malformed)
+    ∷ reads (text (smallestWith [] (1 ∷ [])) ++ emptyLines 1) (Refuses Unreadable)
+    ∷ reads (text (smallestWith [] (2 ∷ []))) (Refuses Malformed)
     ∷ []
 
 -- each of a list is read as expected

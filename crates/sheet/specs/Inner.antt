@@ -16,7 +16,7 @@ use Rattle.sheet.specs.declared.lines.Read.the-variants as read
 use Rattle.sheet.specs.declared.lines.Judged.{Judged}
 use Rattle.sheet.specs.declared.lines.Judged.the-variants as judged
 use Rattle.records.specs.Reading.{mostWords}
-use Rattle.sheet.specs.Text.{records, Records, lists, wordsOf, mostWord}
+use Rattle.sheet.specs.Text.{recordCount, Records, lists, wordsOf, mostWord}
 use Rattle.sheet.specs.Reading.{Place, LineStart, lineBefore, readLines, ten}
 use Rattle.sheet.specs.Reading.{allShort, sheetOf, textChecks}
 use Rattle.sheet.specs.Shape.{recordsChecks}
@@ -47,7 +47,7 @@ LineRead bytes from words words′ to read.Nothing = NoLine bytes from
 pub record TenAt (bytes : List ℕ) (from : ℕ) (words words′ ends : List ℕ) (few : Bool) : Type 0 where
   pub lines : List (List ℕ)
   pub reads : readFrom LineStart bytes from ≡ some lines
-  pub count : length lines ≡ records
+  pub count : length lines ≡ recordCount
   pub size : allShort lines ≡ few
   pub stored : words′ ≡ sets words 0 (flatten lines)
   pub placed : ends ≡ endsFrom 0 lines
@@ -99,4 +99,4 @@ pub record Counted (bytes ends : List ℕ) : Type 0 where
 
 -- so many words are enough for any sheet of these bytes
 abbrev pub Roomy : List ℕ → ℕ → Type 0
-Roomy bytes room = (n : ℕ) → n ≤ records * mostWords → 2 * n ≤ length bytes → n ≤ room
+Roomy bytes room = (n : ℕ) → n ≤ recordCount * mostWords → 2 * n ≤ length bytes → n ≤ room

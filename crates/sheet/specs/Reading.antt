@@ -11,14 +11,14 @@ use Rattle.answers.specs.Refusals.{Check, check, Outcome, unless}
 use Rattle.text.specs.Decimal.{newline, space}
 use Rattle.text.specs.Number.{isDigit}
 use Rattle.records.specs.Reading.{fewWords}
-use Rattle.sheet.specs.Text.{records, heading, Records, lists, mostWord, mostBytes}
+use Rattle.sheet.specs.Text.{recordCount, heading, Records, lists, mostWord, mostBytes}
 use Rattle.answers.specs.Lists.{all}
 
 -- what follows the bytes of a prefix, where the bytes begin with it
-unfoldable pub behind : List ℕ → List ℕ → Option (List ℕ)
-behind [] bytes = some bytes
-behind (p ∷ prefix) [] = none
-behind (p ∷ prefix) (b ∷ bytes) = let rest = behind prefix bytes in cond (eqb p b) rest none
+unfoldable pub stripPrefix : List ℕ → List ℕ → Option (List ℕ)
+stripPrefix [] bytes = some bytes
+stripPrefix (p ∷ prefix) [] = none
+stripPrefix (p ∷ prefix) (b ∷ bytes) = let rest = stripPrefix prefix bytes in cond (eqb p b) rest none
 
 -- where reading stands: at the start of a line, at the start of a word behind a space, or behind the digits of a number
 pub data Place : Type 0 where
@@ -80,7 +80,7 @@ recordsOf ls =
 
 unfoldable pub ten : Option (List (List ℕ)) → Option Records
 ten none = none
-ten (some ls) = cond (eqb (length ls) records) (some (recordsOf ls)) none
+ten (some ls) = cond (eqb (length ls) recordCount) (some (recordsOf ls)) none
 
 -- the lines behind the heading
 unfoldable pub linesBehind : Option (List ℕ) → Option (List (List ℕ))
@@ -89,7 +89,7 @@ linesBehind (some bytes) = readLines mostWord LineStart bytes
 
 -- the sheet that the bytes are: at most 65,536 bytes, the heading and ten lines; or none
 unfoldable pub sheetIn : List ℕ → Option Records
-sheetIn bytes = cond (leb (length bytes) mostBytes) (ten (linesBehind (behind heading bytes))) none
+sheetIn bytes = cond (leb (length bytes) mostBytes) (ten (linesBehind (stripPrefix heading bytes))) none
 
 -- the same, and empty records where there is none
 unfoldable pub sheetOf : List ℕ → Records

@@ -12,7 +12,7 @@ use Rattle.sheet.specs.declared.reading.Text.{Text}
 use Rattle.sheet.specs.Text.{Records, lists, wordsOf}
 use Rattle.sheet.specs.Reading.{sheetOf, textChecks}
 use Rattle.answers.specs.Lists.{endsFrom}
-use Rattle.sheet.specs.Answer.{answerOf, withRoom}
+use Rattle.sheet.specs.Answer.{textAnswer, withRoom}
 
 -- Whether all ten are in shape; the last four are those of a method (`structs`; `params` and `output` beside so many
 -- rows; `force`)
@@ -45,4 +45,4 @@ unfoldable pub sheetEnds : List ℕ → ℕ → Outcome (List ℕ)
 sheetEnds bytes room = unless (callChecks bytes room) (endsFrom 0 (lists (sheetOf bytes)))
 
 unfoldable pub sheetAnswer : List ℕ → ℕ → Text
-sheetAnswer bytes room = answerOf (sheetEnds bytes room)
+sheetAnswer bytes room = textAnswer (sheetEnds bytes room)

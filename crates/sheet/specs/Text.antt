@@ -42,8 +42,8 @@ unfoldable pub text : Records → List ℕ
 text r = heading ++ flatMap line (lists r)
 
 -- how many records there are
-abbrev pub records : ℕ
-records = 10
+abbrev pub recordCount : ℕ
+recordCount = 10
 
 -- the limits of a word, and of a sheet in bytes; that of a record in words is `mostWords` of `records`
 abbrev pub mostWord : ℕ

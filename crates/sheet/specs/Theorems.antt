@@ -12,7 +12,7 @@ use Rattle.answers.specs.declared.Refusal.the-variants.{Malformed, NoRoom, Unre
 use Rattle.answers.specs.Refusals.{Outcome, Gives, Refuses}
 use Rattle.types.specs.Rows.{forced}
 use Rattle.records.specs.Reading.{mostWords}
-use Rattle.sheet.specs.Text.{records, Records, lists, wordsOf, text, mostWord, mostBytes, WordsUpTo}
+use Rattle.sheet.specs.Text.{recordCount, Records, lists, wordsOf, text, mostWord, mostBytes, WordsUpTo}
 use Rattle.sheet.specs.Reading.{readText}
 use Rattle.answers.specs.Lists.{endsFrom}
 use Rattle.sheet.specs.Answer.{readWords, readEnds}
@@ -85,13 +85,14 @@ CallReadsSheet =
 
 -- The words of each record stand from where the one before ends to where it ends, whatever is behind them
 abbrev pub RecordsInPlace : Type 0
-RecordsInPlace = (r : Records) (rest : List ℕ) (i : ℕ) → i < records
+RecordsInPlace = (r : Records) (rest : List ℕ) (i : ℕ) → i < recordCount
     → slice (getD (0 ∷ endsFrom 0 (lists r)) i 0) (getD (endsFrom 0 (lists r)) i 0) (wordsOf r ++ rest)
     ≡ getD (lists r) i []
 
 -- A slice of 10,240 words takes any sheet that reading gives
 abbrev pub RoomForAnySheet : Type 0
-RoomForAnySheet = (bytes : List ℕ) (r : Records) → readText bytes ≡ Gives r → length (wordsOf r) ≤ records * mostWords
+RoomForAnySheet = (bytes : List ℕ) (r : Records) → readText bytes ≡ Gives r
+    → length (wordsOf r) ≤ recordCount * mostWords
 
 -- and a sheet has at most half as many words as bytes, so that a small sheet needs little room
 abbrev pub WordsTakeTwoBytes : Type 0

@@ -10,7 +10,7 @@ ghost use Rattle.answers.specs.Lent.{held, left};
 ghost use Rattle.sheet.specs.declared.lines.Judged.the-variants.{TooLong};
 ghost use Rattle.records.specs.Reading.{mostWords};
 ghost use Rattle.sheet.specs.Inner.{LineRead, LinesRead};
-ghost use Rattle.sheet.specs.Text.{records};
+ghost use Rattle.sheet.specs.Text.{recordCount};
 use super::reading::Text;
 use records::End;
 use text::Found;
@@ -95,7 +95,7 @@ pub(crate) fn lines(
     words: &mut [usize],
     ends: &mut [usize; Text::RECORDS],
 ) -> Judged
-    requires { ⌜ length (now ends) ≡ records ⌝ }
+    requires { ⌜ length (now ends) ≡ recordCount ⌝ }
     ensures { λ r. ⌜ LinesRead (held bytes) from (held words) (left words) (left ends) r ⌝ }
 {
     let mut at = from;

@@ -8,8 +8,8 @@ ghost use lib.Seq.{sets};
 ghost use Rattle.answers.specs.Refusals.{Refuses, NoneDue};
 ghost use Rattle.answers.specs.Lent.{held, room, left, Fills};
 ghost use Rattle.sheet.specs.Text.{heading, wordsOf};
-ghost use Rattle.sheet.specs.Reading.{behind, sheetOf, textChecks};
-ghost use Rattle.sheet.specs.Answer.{answerOf, measured, readAnswer, readWords};
+ghost use Rattle.sheet.specs.Reading.{stripPrefix, sheetOf, textChecks};
+ghost use Rattle.sheet.specs.Answer.{textAnswer, measured, readAnswer, readWords};
 use super::lines::Judged;
 use super::lines::lines;
 use super::shapes::both;
@@ -87,7 +87,7 @@ pub fn read_text(sheet: &[u8], words: &mut [usize]) -> Text
 
 // A refusal; all ends are 0.
 pub(crate) fn refused(refusal: Refusal) -> Text
-    ensures { λ r. ⌜ r ≡ answerOf (Refuses refusal) ⌝ }
+    ensures { λ r. ⌜ r ≡ textAnswer (Refuses refusal) ⌝ }
 {
     Text {
         verdict: Verdict::Refused(refusal),
@@ -153,7 +153,7 @@ fn write(sheet: &[u8], words: &mut [usize])
 // Whether the first line is the heading. All its bytes are compared: without an early end the compiler compares many at
 // a time.
 fn headed(bytes: &[u8]) -> bool
-    ensures { λ r. ⌜ behind heading (held bytes) ≡ cond r (some (drop 66 (held bytes))) none ⌝ }
+    ensures { λ r. ⌜ stripPrefix heading (held bytes) ≡ cond r (some (drop 66 (held bytes))) none ⌝ }
 {
     let line = b"names bounds types self steps returns structs params output force\n";
     if bytes.len() < Text::HEADING {

@@ -3,7 +3,7 @@ ghost use Prim.Native.Nat.{_<_};
 ghost use mathlib.Core.Path.{_≡_};
 ghost use Rattle.answers.specs.Lent.{held};
 ghost use Rattle.sheet.specs.Answer.{recordWords, startOf};
-ghost use Rattle.sheet.specs.Text.{records};
+ghost use Rattle.sheet.specs.Text.{recordCount};
 use super::reading::Text;
 
 // The words of the record with a number, 0 to 9, in a slice where ten records end at these places: as `read_text` and
@@ -27,7 +27,7 @@ pub fn record_words(words: &[usize], ends: [usize; Text::RECORDS], i: usize) -> 
 
 // Where a record starts.
 fn start_of(ends: [usize; Text::RECORDS], i: usize) -> usize
-    requires { ⌜ i < records ⌝ }
+    requires { ⌜ i < recordCount ⌝ }
     ensures { λ r. ⌜ r ≡ startOf ends i ⌝ }
 {
     if i == 0 {

@@ -17,7 +17,7 @@ use Rattle.records.proofs.ReadingLaws.{LifetimesIn, holds-read, lifetimes-read}
 use Rattle.records.proofs.EndLaws.{ends-told, ends-past, ends-within, lifetimes-end}
 use Rattle.types.specs.declared.types.Kind.{Kind}
 use Rattle.types.specs.declared.types.Own.{Own}
-use Rattle.types.specs.LoweredTypes.{lowered, readFlag}
+use Rattle.types.specs.LoweredTypes.{loweredType, readFlag}
 use Rattle.types.specs.Places.{Stands}
 
 -- ---- the word at a place, and those behind it
@@ -116,7 +116,7 @@ flag-fails word words h = rw (ne-eqb word 0 (λ e. omega arith), ne-eqb word 1 (
 
 pub stands-none : {words : List ℕ} {at : ℕ} (option : Bool) (kind : Kind) (own : Own) (from next : ℕ) → at < next
     → next ≤ length words
-    → Stands words at (lowered option kind [] own) (drop next words)
+    → Stands words at (loweredType option kind [] own) (drop next words)
     (record { option = option; kind = kind; from = from; count = 0; own = own; next = next })
 stands-none option kind own from next past within =
     record {
@@ -133,7 +133,7 @@ stands-none option kind own from next past within =
 
 pub stands-path : {words path : List ℕ} {at behind : ℕ} → PathAt words (at + 2) behind path
     → (option : Bool) (kind : Kind) (own : Own) (next : ℕ) → behind ≤ next → next ≤ length words
-    → Stands words at (lowered option kind path own) (drop next words)
+    → Stands words at (loweredType option kind path own) (drop next words)
     (record { option = option; kind = kind; from = at + 3; count = behind - (at + 3); own = own; next = next })
 stands-path {words} {path} {at} {behind} there option kind own next past within =
     let n : behind - (at + 3) ≡ length path = omega (arith, there .size) in

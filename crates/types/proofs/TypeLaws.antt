@@ -12,7 +12,7 @@ use Rattle.types.specs.declared.types.Own.the-variants.{Absent, Word, St
 use Rattle.types.specs.declared.types.Parts.{Parts}
 use Rattle.types.specs.declared.types.Located.{Located}
 use Rattle.types.specs.declared.types.Located.the-variants.{At, Missing}
-use Rattle.types.specs.LoweredTypes.{LoweredType, lowered, readFlag, readOwner, readOpaque, readStruct}
+use Rattle.types.specs.LoweredTypes.{LoweredType, loweredType, readFlag, readOwner, readOpaque, readStruct}
 use Rattle.types.specs.LoweredTypes.{readSlice, readBare, readLowered, located}
 use Rattle.types.specs.Places.{Stands, Locates, locates, nowhere}
 use Rattle.types.specs.Inner.{startsAt, LocatesBare}
@@ -78,7 +78,7 @@ module _ (words : List ℕ) (at : ℕ) (option : Bool) where
       opaque-path : readOpaque option (drop (at + 1) words)
           ≡ onward (readLifetimes (drop (at + 2) words)) (λ path behind.
           onward (readFlag behind) (λ borrowed rest.
-          onward (readOwner borrowed rest) (λ own end. Read (lowered option Opaque path own) end)))
+          onward (readOwner borrowed rest) (λ own end. Read (loweredType option Opaque path own) end)))
       unfolding readOpaque
       opaque-path = let f = flag-read (getD words (at + 1) 0) (drop (at + 2) words) flag in rw (word-behind words at h, f .1)
 

@@ -31,8 +31,8 @@ pub record LoweredType : Type 0 where
   pub path : List ℕ
   pub own : Own
 
-abbrev pub lowered : Bool → Kind → List ℕ → Own → LoweredType
-lowered option kind path own = record { option = option; kind = kind; path = path; own = own }
+abbrev pub loweredType : Bool → Kind → List ℕ → Own → LoweredType
+loweredType option kind path own = record { option = option; kind = kind; path = path; own = own }
 
 -- Reading
 
@@ -51,31 +51,31 @@ readOpaque option words =
     onward (readFlag words) (λ optional rest.
     onward (readLifetimes rest) (λ path behind.
     onward (readFlag behind) (λ borrowed owner.
-    onward (readOwner borrowed owner) (λ own end. Read (lowered option Opaque path own) end))))
+    onward (readOwner borrowed owner) (λ own end. Read (loweredType option Opaque path own) end))))
 
 -- code 2, a struct: its row, its words
 unfoldable pub readStruct : Bool → List ℕ → Reading LoweredType
 readStruct option words =
     onward (readWord words)
-    (λ row rest. onward (readLifetimes rest) (λ path end. Read (lowered option (Struct row) path Absent) end))
+    (λ row rest. onward (readLifetimes rest) (λ path end. Read (loweredType option (Struct row) path Absent) end))
 
 -- code 3, a slice: 0 without a lifetime; 1 with its own; 2 `Strs`; 3 of opaques, with their path words and its own
 unfoldable pub readSlice : Bool → List ℕ → Reading LoweredType
 readSlice option [] = Fails
 readSlice option (code ∷ words) =
-    cond (eqb code 0) (Read (lowered option Slice [] Absent) words)
-    (cond (eqb code 1) (onward (readWord words) (λ word end. Read (lowered option Slice [] (Word word)) end))
-    (cond (eqb code 2) (Read (lowered option Slice [] Strs) words)
+    cond (eqb code 0) (Read (loweredType option Slice [] Absent) words)
+    (cond (eqb code 1) (onward (readWord words) (λ word end. Read (loweredType option Slice [] (Word word)) end))
+    (cond (eqb code 2) (Read (loweredType option Slice [] Strs) words)
     (cond (eqb code 3)
     (onward (readLifetimes words)
-    (λ path rest. onward (readWord rest) (λ word end. Read (lowered option Slice path (Word word)) end)))
+    (λ path rest. onward (readWord rest) (λ word end. Read (loweredType option Slice path (Word word)) end)))
     Fails)))
 
 -- a type that is no option; code 0 is one without lifetimes
 unfoldable pub readBare : Bool → List ℕ → Reading LoweredType
 readBare option [] = Fails
 readBare option (code ∷ words) =
-    cond (eqb code 0) (Read (lowered option Plain [] Absent) words)
+    cond (eqb code 0) (Read (loweredType option Plain [] Absent) words)
     (cond (eqb code 1) (readOpaque option words)
     (cond (eqb code 2) (readStruct option words)
     (cond (eqb code 3) (readSlice option words)

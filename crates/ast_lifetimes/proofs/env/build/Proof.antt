@@ -3,7 +3,7 @@
 use mathlib.Core.Path.{refl}
 use native.Mathlib.Omega.{arith}
 use borrow.Author.Needs.{needs}
-use Rattle.ast_lifetimes.specs.Types.{typesOf}
+use Rattle.ast_lifetimes.specs.Types.{typeNamesOf}
 use Rattle.ast_lifetimes.proofs.BuildLaws.{Shaped, shaped, ImplNamed, ImplBound, AllNamed, AllBound}
 use Rattle.ast_lifetimes.proofs.BuildLaws.{impl-names-refused, impl-named, impl-pairs-refused, impl-bound}
 use Rattle.ast_lifetimes.proofs.BuildLaws.{method-names-refused, all-named, method-pairs-refused, all-bound}
@@ -126,7 +126,7 @@ push-types-requires : tie.Need-push-types-requires
 push-types-requires c κs =
     let closed = c .before .before .before .before in
     let f = four (closed .before .before .before .before) in (
-      (typesOf _, f .shaped .in-types),
+      (typeNamesOf _, f .shaped .in-types),
       ((f .named .few, f .named .size), ((f .sides .few, f .sides .size-longs, f .sides .size-shorts), closed .close .ensures)),
     )
 

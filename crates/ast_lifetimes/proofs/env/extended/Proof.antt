@@ -2,7 +2,7 @@
 use mathlib.Core.Path.{_≡_}
 use lib.ListN.{length, length-map}
 use borrow.Author.Needs.{needs}
-use Rattle.ast_lifetimes.specs.Types.{typesOf}
+use Rattle.ast_lifetimes.specs.Types.{typeNamesOf}
 use Rattle.ast_lifetimes.proofs.ReadingLaws.{types-encoded}
 use Rattle.ast_lifetimes.proofs.ExtendLaws.{valid-named, valid-pushed, split-below, extended-few, extended-small}
 use Rattle.ast_lifetimes.proofs.ExtendLaws.{extended-refused, extended-given}
@@ -19,7 +19,7 @@ push-types-requires c κs =
     let s = at-split .before .before .before .before .before .before in
     let e = s .args .env in
     let splits = at-split .split .ensures in (
-      (typesOf (s .args .types .now), types-encoded (s .args .types .now) (s .pre .1)),
+      (typeNamesOf (s .args .types .now), types-encoded (s .args .types .now) (s .pre .1)),
       (
         (valid-named e (s .pre .0), full s),
         ((valid-pushed e (s .pre .0), splits .size-longs, splits .size-shorts), at-close .close .ensures),

@@ -43,6 +43,7 @@ returns-3 c =
     than-traversal (s .args .longer) (s .args .env) (s .args .name) (s .args .out .now) (none n) (full s)
     (c .before .before .before .before .before .before .before .position .ensures)
     (c .before .before .before .before .before .before .if1 .left)
+    (c .before .before .before .before .before .from-bounds .ensures)
     (c .before .before .before .before .new .ensures) (c .before .before .depth-first-lifetimes .ensures)
 
 pub list-than-spec : {M : Type 1} → statement M
@@ -54,5 +55,5 @@ list-than-spec =
     (λ c. search needs)
     position-requires
     returns-2
-    (λ c κs. search needs) (λ c κs. search needs) (λ c. search needs)
+    (λ c κs. search needs) (λ c κs. search needs) (λ c κs. search needs) (λ c. search needs)
     returns-3)

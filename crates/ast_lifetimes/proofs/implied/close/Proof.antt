@@ -4,14 +4,14 @@ use mathlib.Core.Path.{_≡_}
 use native.Mathlib.Omega.{arith}
 use borrow.Author.Needs.{needs}
 use lib.ListN.{length}
-use Rattle.ast_lifetimes.specs.Inner.{sidesOf, Reaches}
+use Rattle.ast_lifetimes.specs.Inner.{sidesOf, OutliveSets}
 use Rattle.ast_lifetimes.proofs.OutlivedLaws.{closing-start, closing-more}
 use Rattle.ast_lifetimes.proofs.implied.close.Statement.{statement}
 use Rattle.ast_lifetimes.proofs.implied.close.Tie as tie
 
 abbrev Inv-loop : tie.InvT-loop
 Inv-loop longs shorts pushed named reach₀ i₀ reach i =
-    (i ≤ pushed) × (length reach ≡ 32) × Reaches (sidesOf i longs shorts) named reach
+    (i ≤ pushed) × (length reach ≡ 32) × OutliveSets (sidesOf i longs shorts) named reach
 
 abbrev μ-loop : tie.MeasureT-loop
 μ-loop longs shorts pushed named reach₀ i₀ reach i = pushed - i

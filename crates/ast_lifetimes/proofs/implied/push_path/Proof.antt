@@ -10,7 +10,7 @@ use lib.ListN.{length, take, getD}
 use lib.Seq.{slice, length-take-le}
 use Rattle.ast_lifetimes.specs.Shapes.{isName, pair}
 use Rattle.ast_lifetimes.specs.Env.{place, among, pathPairs}
-use Rattle.ast_lifetimes.specs.Inner.{sidesOf, Reaches, isImplied, Joins}
+use Rattle.ast_lifetimes.specs.Inner.{sidesOf, OutliveSets, isImplied, Joins}
 use Rattle.ast_lifetimes.proofs.ImpliedLoops.{Run, run-start, extends-one, accepted-sides, extends-refused}
 use Rattle.ast_lifetimes.proofs.ImpliedLoops.{run-same, run-end, run-refused, run-more}
 use Rattle.ast_lifetimes.proofs.PathLaws.{implied-test, path-pushed, path-passed, path-end}
@@ -32,7 +32,7 @@ named-long s = length-take-le (s .args .named) (s .args .names .now) (omega (ari
 
 -- the sets at entry
 reaches : (s : tie.Start Inv-lifetimes μ-lifetimes)
-    → Reaches (sidesOf (s .args .pushed) (s .args .longs .now) (s .args .shorts .now))
+    → OutliveSets (sidesOf (s .args .pushed) (s .args .longs .now) (s .args .shorts .now))
     (length (take (s .args .named) (s .args .names .now))) (s .args .reach .now)
 reaches s = rw (named-long s) (s .pre .1 .1 .1 .1)
 

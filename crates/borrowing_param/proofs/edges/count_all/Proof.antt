@@ -6,7 +6,7 @@ use mathlib.Core.Logic.{⊎-elim}
 use native.Mathlib.Omega.{arith}
 use Rattle.lifetimes.specs.declared.lifetime.Lifetime.{Lifetime}
 use Rattle.lifetimes.specs.Sets.{member}
-use Rattle.borrowing_param.specs.Inner.{typeIn, Below}
+use Rattle.borrowing_param.specs.Inner.{typeIn, SetBelow}
 use Rattle.borrowing_param.proofs.EdgesLaws.{path-few}
 use Rattle.borrowing_param.proofs.EdgesLoops.{below-64, CountingAll, counting-all, counted-few, counting-all-more}
 use Rattle.borrowing_param.proofs.EdgesLoops.{counting-all-not, counting-all-end}
@@ -15,7 +15,7 @@ use Rattle.borrowing_param.proofs.edges.count_all.Statement.{statement}
 use Rattle.borrowing_param.proofs.edges.count_all.Tie as tie
 
 abbrev Inv-loop : tie.InvT-loop
-Inv-loop used drawn words parts limit n₀ l₀ n l = Below used limit × CountingAll used drawn (typeIn words parts) n l
+Inv-loop used drawn words parts limit n₀ l₀ n l = SetBelow used limit × CountingAll used drawn (typeIn words parts) n l
 
 abbrev μ-loop : tie.MeasureT-loop
 μ-loop used drawn words parts limit n₀ l₀ n l = limit - l

@@ -8,7 +8,7 @@ use Rattle.lifetimes.specs.declared.lifetime.Lifetime.{Lifetime}
 use Rattle.lifetimes.specs.Sets.{member}
 use Rattle.borrowing_param.specs.Brings.{bring}
 use Rattle.borrowing_param.specs.Visit.{drawsIn}
-use Rattle.borrowing_param.specs.Inner.{typeIn, Below, allIn}
+use Rattle.borrowing_param.specs.Inner.{typeIn, SetBelow, allIn}
 use Rattle.borrowing_param.proofs.EdgesLoops.{below-64, Storing, storing-start, storing-fits, storing-part}
 use Rattle.borrowing_param.proofs.EdgesLoops.{storing-none, storing-end, leftAll, all-left, all-end, all-here}
 use Rattle.borrowing_param.proofs.EdgesLoops.{all-not}
@@ -18,7 +18,7 @@ use Rattle.borrowing_param.proofs.edges.store_all.Tie as tie
 
 abbrev Inv-used : tie.InvT-used
 Inv-used used drawn words parts param edges₀ at pairs₀ limit next₀ i₀ edges pairs next i =
-    Below used limit
+    SetBelow used limit
     × Storing (allIn used drawn (typeIn words parts) param) (leftAll used drawn (typeIn words parts) param i)
     at pairs₀ edges₀ next pairs edges
 

@@ -9,7 +9,7 @@ use Rattle.lifetimes.specs.declared.lifetime.Lifetime.{Lifetime}
 use Rattle.lifetimes.specs.Sets.{member}
 use Rattle.borrowing_param.specs.Visit.{drawsIn}
 use Rattle.borrowing_param.specs.BorrowMap.{listedEdges}
-use Rattle.borrowing_param.specs.Inner.{Below}
+use Rattle.borrowing_param.specs.Inner.{SetBelow}
 use Rattle.borrowing_param.specs.InnerMap.{paramTypes, visitorIn, bringFrom}
 use Rattle.borrowing_param.proofs.EdgesLoops.{below-64, Storing, storing-start, storing-fits, storing-part}
 use Rattle.borrowing_param.proofs.EdgesLoops.{storing-none, storing-end}
@@ -20,7 +20,7 @@ use Rattle.borrowing_param.proofs.listed.store_listed.Tie as tie
 
 abbrev Inv-used : tie.InvT-used
 Inv-used used drawn params edges₀ limit pairs₀ next₀ i₀ edges pairs next i =
-    Below used limit × Storing (listedEdges (visitorIn used drawn) (paramTypes params))
+    SetBelow used limit × Storing (listedEdges (visitorIn used drawn) (paramTypes params))
     (leftListed used drawn (paramTypes params) i) 0 pairs₀ edges₀ next pairs edges
 
 abbrev μ-used : tie.MeasureT-used

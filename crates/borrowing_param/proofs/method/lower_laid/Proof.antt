@@ -6,7 +6,7 @@ use Rattle.lifetimes.specs.Env.{envOf, made}
 use Rattle.sheet.specs.Text.{Records}
 use Rattle.sheet.specs.Shape.{recordsChecks}
 use Rattle.sheet.specs.Inner.{recordsAt}
-use Rattle.borrowing_param.specs.InnerSheet.{records, methodOf}
+use Rattle.borrowing_param.specs.InnerSheet.{tenRecords, loweredEnv}
 use Rattle.borrowing_param.proofs.SheetLaws.{ten-found}
 use borrow.Author.Needs.{needs}
 use Rattle.borrowing_param.proofs.method.lower_laid.Statement.{statement}
@@ -17,7 +17,7 @@ abbrev start : tie.After-record-words10 → tie.Start
 start c = c .before .before .before .before .before .before .before .before .before .before .before
 
 found : (c : tie.After-record-words10)
-    → records (c .before .before .before .before .before .before .before .before .before .record-words .result .now)
+    → tenRecords (c .before .before .before .before .before .before .before .before .before .record-words .result .now)
     (c .before .before .before .before .before .before .before .before .record-words2 .result .now)
     (c .before .before .before .before .before .before .before .record-words3 .result .now)
     (c .before .before .before .before .before .before .record-words4 .result .now)
@@ -40,7 +40,7 @@ lower-records-requires : tie.Need-lower-records-requires
 lower-records-requires c κs = subst (λ (r : Records). NoneDue (recordsChecks r)) (sym (found c)) (start c .pre .1)
 
 returns : tie.Need-returns
-returns c = c .lower-records .ensures ∙ ap (λ (r : Records). made (envOf 0 0 []) (methodOf r)) (found (c .before))
+returns c = c .lower-records .ensures ∙ ap (λ (r : Records). made (envOf 0 0 []) (loweredEnv r)) (found (c .before))
 
 pub lower-laid-spec : {M : Type 1} → statement M
 lower-laid-spec =

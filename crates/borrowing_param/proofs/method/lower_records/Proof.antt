@@ -1,6 +1,6 @@
 -- `lower_records` meets its contract: each way out is one law of proofs/MethodLaws.antt.
 use Rattle.sheet.specs.Text.{Records}
-use Rattle.borrowing_param.specs.InnerSheet.{records}
+use Rattle.borrowing_param.specs.InnerSheet.{tenRecords}
 use Rattle.borrowing_param.proofs.MethodLaws.{names-refused, steps-refused, method-refused, method-given}
 use borrow.Author.Needs.{needs}
 use Rattle.borrowing_param.proofs.method.lower_records.Statement.{statement}
@@ -8,7 +8,7 @@ use Rattle.borrowing_param.proofs.method.lower_records.Tie as tie
 
 abbrev sheetIn : tie.Start → Records
 sheetIn c =
-    records (c .args .names .now) (c .args .bounds .now) (c .args .types .now) (c .args .receiver .now)
+    tenRecords (c .args .names .now) (c .args .bounds .now) (c .args .types .now) (c .args .receiver .now)
     (c .args .steps .now) (c .args .returns .now) (c .args .structs .now) (c .args .params .now)
     (c .args .output .now) (c .args .force .now)
 

@@ -10,7 +10,7 @@ finish-spec =
     (tie.spec
     (λ c κs. search needs) (λ c. search needs) (λ c κs. search needs)
     (λ c. search (finish-env, needs))
-    (λ c. search needs) (λ c κs. search needs) (λ c. search needs) (λ c κs. search needs)
+    (λ c. search needs) (λ c κs. search needs) (λ c κs. search needs) (λ c. search needs) (λ c κs. search needs)
     (λ c. search (finish-refused, needs))
     (λ c. search needs)
     (λ c. search (finish-given, needs)))

@@ -60,7 +60,7 @@ returns-4 : tie.Need-returns-4
 returns-4 c =
     let judged = c .before .before .before in
     let told = judged .before .before .before .before in
-    measure-all (valid told) (judged .judge .ensures) (c .before .enum-told3 .given .1)
+    measure-all (valid told) (judged .judge .ensures) (c .before .enum-told3 .given .1) (c .from-bounds .ensures)
 
 pub measure-spec : {M : Type 1} → statement M
 measure-spec =
@@ -75,5 +75,5 @@ measure-spec =
     judge-requires
     (λ c. search needs) (λ c κs. search needs)
     returns-3
-    (λ c. search needs)
+    (λ c. search needs) (λ c κs. search needs)
     returns-4)

@@ -5,7 +5,7 @@ use Rattle.sheet.specs.Text.{Records}
 use Rattle.answers.specs.Refusals.{NoneDue}
 use Rattle.sheet.specs.Shape.{recordsChecks}
 use Rattle.sheet.specs.Inner.{recordsAt}
-use Rattle.borrowing_param.specs.InnerSheet.{records}
+use Rattle.borrowing_param.specs.InnerSheet.{tenRecords}
 use Rattle.borrowing_param.proofs.SheetLaws.{ten-found}
 use Rattle.listing.specs.InnerListing.{listedRecords, ListsWithin, Ample}
 use borrow.Author.Needs.{needs}
@@ -19,7 +19,7 @@ start c =
 
 abbrev sheetIn : tie.After-record-words10 → Records
 sheetIn c =
-    records (c .before .before .before .before .before .before .before .before .before .record-words .result .now)
+    tenRecords (c .before .before .before .before .before .before .before .before .before .record-words .result .now)
     (c .before .before .before .before .before .before .before .before .record-words2 .result .now)
     (c .before .before .before .before .before .before .before .record-words3 .result .now)
     (c .before .before .before .before .before .before .record-words4 .result .now)

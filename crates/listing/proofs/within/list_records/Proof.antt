@@ -1,7 +1,7 @@
 -- `list_records` meets its contract: each way out is one law of proofs/WithinRecordsLaws.antt.
 use lib.ListN.{length, replicate}
 use Rattle.sheet.specs.Text.{Records}
-use Rattle.borrowing_param.specs.InnerSheet.{records}
+use Rattle.borrowing_param.specs.InnerSheet.{tenRecords}
 use Rattle.listing.proofs.WithinRecordsLaws.{steps-short, returns-short, names-listed, steps-listed, Elided}
 use Rattle.listing.proofs.WithinRecordsLaws.{own-stands, steps-stand, returns-stand, used-listed, listable}
 use Rattle.listing.proofs.WithinRecordsLaws.{records-listed}
@@ -11,7 +11,7 @@ use Rattle.listing.proofs.within.list_records.Tie as tie
 
 abbrev sheetIn : tie.Start → Records
 sheetIn c =
-    records (c .args .names .now) (c .args .bounds .now) (c .args .types .now) (c .args .receiver .now)
+    tenRecords (c .args .names .now) (c .args .bounds .now) (c .args .types .now) (c .args .receiver .now)
     (c .args .steps .now) (c .args .returns .now) (c .args .structs .now) (c .args .params .now)
     (c .args .output .now) (c .args .force .now)
 

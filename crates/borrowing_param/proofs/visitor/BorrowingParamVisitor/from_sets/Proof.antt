@@ -5,7 +5,7 @@ use mathlib.Core.Path.{sym, ap, _∙_}
 use borrow.Author.Tests.{not-true, not-false}
 use Rattle.lifetimes.specs.declared.lifetime.Lifetime.{Lifetime}
 use Rattle.lifetimes.specs.Sets.{member}
-use Rattle.borrowing_param.specs.Inner.{Below}
+use Rattle.borrowing_param.specs.Inner.{SetBelow}
 use Rattle.borrowing_param.proofs.NewLaws.{Keeping, keeping-start, keeping-not, keeping-one, keeping-end}
 use Rattle.borrowing_param.proofs.EdgesLoops.{below-64}
 use borrow.Author.Needs.{needs}
@@ -13,7 +13,7 @@ use Rattle.borrowing_param.proofs.visitor.BorrowingParamVisitor.from_se
 use Rattle.borrowing_param.proofs.visitor.BorrowingParamVisitor.from_sets.Tie as tie
 
 abbrev Inv-lifetimes : tie.InvT-lifetimes
-Inv-lifetimes used sets limit draws₀ i₀ draws i = Below used limit × Keeping used sets draws i
+Inv-lifetimes used sets limit draws₀ i₀ draws i = SetBelow used limit × Keeping used sets draws i
 
 abbrev μ-lifetimes : tie.MeasureT-lifetimes
 μ-lifetimes used sets limit draws₀ i₀ draws i = limit - i

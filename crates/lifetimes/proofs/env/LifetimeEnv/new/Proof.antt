@@ -3,7 +3,7 @@ use mathlib.Core.Path.{sym, _∙_}
 use native.Mathlib.Omega.{arith}
 use borrow.Author.Needs.{needs}
 use borrow.Author.Tests.{not-true, not-false}
-use Rattle.lifetimes.specs.Env.{pairsOf}
+use Rattle.lifetimes.specs.Env.{boundsOfPairs}
 use Rattle.lifetimes.proofs.BoundsLaws.{below-larger}
 use Rattle.lifetimes.proofs.EnvLoops.{new-half, new-lifetimes, new-bounds, new-declared, new-outside, new-given}
 use Rattle.lifetimes.proofs.env.LifetimeEnv.new.Statement.{statement}
@@ -24,18 +24,20 @@ filled-requires : tie.Need-filled-requires
 filled-requires c κs =
     let below = sym (c .before .pairs-below .ensures) ∙ not-false _ (c .if5 .left) in
     let a = c .before .before .before .before .before .before .before .args in
-    (search needs, search needs, below-larger (a .declared) 256 (omega arith) (pairsOf (a .pairs .now)) below)
+    (search needs, search needs, below-larger (a .declared) 256 (omega arith) (boundsOfPairs (a .pairs .now)) below)
 
 returns-6 : tie.Need-returns-6
 returns-6 c =
-    let at-if3 = c .before .before .before .before in
+    let at-if4 = c .before .before .before .before in
+    let at-if3 = at-if4 .before in
     let at-if2 = at-if3 .before in
     let at-if1 = at-if2 .before in
     let a = at-if1 .before .before .args in
-    new-given (a .declared) (a .count) (a .pairs .now) (at-if1 .if1 .left) (at-if2 .if2 .left) (at-if3 .if3 .left)
-    (c .before .before .before .if4 .left)
-    (sym (c .before .before .pairs-below .ensures) ∙ not-false _ (c .before .if5 .left))
-    (c .filled .ensures)
+    rw (c .from-bounds .ensures)
+    (new-given (a .declared) (a .count) (a .pairs .now) (at-if1 .if1 .left) (at-if2 .if2 .left) (at-if3 .if3 .left)
+    (at-if4 .if4 .left)
+    (sym (c .before .before .before .pairs-below .ensures) ∙ not-false _ (c .before .before .if5 .left))
+    (c .before .filled .ensures))
 
 pub new-spec : {M : Type 1} → statement M
 new-spec =
@@ -52,4 +54,5 @@ new-spec =
     (λ c κs. search needs) (λ c κs. search needs)
     returns-5
     filled-requires
+    (λ c κs. search needs)
     returns-6)

@@ -6,7 +6,7 @@ use Rattle.lifetimes.proofs.env.LifetimeEnv.none.Tie as tie
 
 returns : tie.Need-returns
 unfolding envOf
-returns c = rw (c .none .ensures)
+returns c = rw (c .from-bounds .ensures, c .before .none .ensures)
 
 pub none-spec : {M : Type 1} → statement M
-none-spec = tie.close (tie.spec (λ c κs. search needs) returns)
+none-spec = tie.close (tie.spec (λ c κs. search needs) (λ c κs. search needs) returns)

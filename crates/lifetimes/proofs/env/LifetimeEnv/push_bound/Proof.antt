@@ -45,15 +45,16 @@ bound-of-requires c κs =
 
 returns-4 : tie.Need-returns-4
 returns-4 c =
-    let at-index = c .before .before .before .before in
+    let at-bound = c .before in
+    let at-index = at-bound .before .before .before .before in
     let at-enum-told = at-index .before in
     let at-check = at-enum-told .before .before in
     let at-if1 = at-check .before in
     let s = at-if1 .before .before in
     let a = s .args in let t : bothBelow (a .self .declared) (above (a .longer .0) (a .shorter .0)) ≡ true =
-    rw (at-index .index .ensures, c .before .before .before .index2 .ensures)
-    at (sym (c .before .before .numbers-below .ensures) ∙ not-false _ (c .before .if2 .left)) in
-    rw (c .bound-of .ensures, at-index .index .ensures, c .before .before .before .index2 .ensures)
+    rw (at-index .index .ensures, at-bound .before .before .before .index2 .ensures)
+    at (sym (at-bound .before .before .numbers-below .ensures) ∙ not-false _ (at-bound .before .if2 .left)) in
+    rw (c .from-bounds .ensures, at-bound .bound-of .ensures, at-index .index .ensures, at-bound .before .before .before .index2 .ensures)
     (push-given (a .self) (above (a .longer .0) (a .shorter .0)) (full s) (at-if1 .if1 .left) (at-check .check .ensures)
     (at-enum-told .enum-told .given .1) t)
 
@@ -67,5 +68,5 @@ push-bound-spec =
     (λ c κs. search needs) (λ c κs. search needs) (λ c κs. search needs)
     returns-3
     bound-of-requires
-    (λ c. search needs) (λ c. search needs) (λ c. search needs)
+    (λ c. search needs) (λ c. search needs) (λ c. search needs) (λ c κs. search needs)
     returns-4)
