@@ -148,15 +148,14 @@ fn list_records(
     if let Verdict::Refused(refusal) = elided {
         return Within::Done(Listed::Refused(refusal));
     }
-    let env = lowered.env;
     let selves = lowered.selves;
     let stepped = lowered.steps;
     let returned = lowered.returns;
-    let used = used_method_lifetimes(env, structs, params, output, force);
+    let used = used_method_lifetimes(lowered.env, structs, params, output, force);
     match used {
         UsedLifetimes::Refused(refusal) => Within::Done(Listed::Refused(refusal)),
         UsedLifetimes::Set(members) => list_method(
-            env,
+            lowered.env,
             members,
             structs,
             params,

@@ -62,33 +62,33 @@ returns-4 c =
     (c .before .elided .given .1)
 
 part-list-method-end : tie.Need-part-list-method-end
-part-list-method-end c = own-stands (elided (c .before .before .before .before .before .before)) .0
+part-list-method-end c = own-stands (elided (c .before .before .before .before .before)) .0
 
 part-list-method-end-2 : tie.Need-part-list-method-end-2
-part-list-method-end-2 c = steps-stand (elided (c .before .before .before .before .before .before .before .before)) .0
+part-list-method-end-2 c = steps-stand (elided (c .before .before .before .before .before .before .before)) .0
 
 part-list-method-end-3 : tie.Need-part-list-method-end-3
 part-list-method-end-3 c =
-    returns-stand (elided (c .before .before .before .before .before .before .before .before .before .before)) .0
+    returns-stand (elided (c .before .before .before .before .before .before .before .before .before)) .0
 
 list-method-requires : tie.Need-list-method-requires
 list-method-requires c κs =
     let used = c .before .before .before .before .before .before .before .before .before .before in
-    let told = used .before .before .before .before in (
+    let told = used .before .before .before in (
       listable (elided told) (used .before .before .used-method-lifetimes .ensures) (used .used2 .given .1),
       begun (accepted told) .pre .1,
     )
 
 returns-5 : tie.Need-returns-5
 returns-5 c =
-    used-listed (elided (c .before .before .before .before .before))
+    used-listed (elided (c .before .before .before .before))
     (c .before .before .before .used-method-lifetimes .ensures) (c .before .used .given .1)
 
 returns-6 : tie.Need-returns-6
 returns-6 c =
     let listed = c .before .before .before .before .before .before in
     let used = listed .before .before .before .before .before .before .before .before .before .before .before in
-    let told = used .before .before .before .before in
+    let told = used .before .before .before in
     records-listed (elided told) (used .before .before .used-method-lifetimes .ensures) (used .used2 .given .1)
     (length (begun (accepted told) .args .lists .now)) (length (begun (accepted told) .args .edges .now))
     (listed .list-method .result) (begun (accepted told) .args .out .now)
