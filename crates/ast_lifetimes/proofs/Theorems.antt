@@ -48,7 +48,7 @@ pub ast-reach-is-outlives : AstReachIsOutlives
 ast-reach-is-outlives longer names bs word = record {
   unknown = λ e. rw e;
   members = λ e b. rw e (listed-toward walk.FirstFirst longer bs (env.place names word) b);
-  hir = λ e b. rw e (
+  traversed = λ e b. rw e (
     λ m. (listed-toward walk.LastFirst longer bs (env.place names word) b) .1
         ((listed-toward walk.FirstFirst longer bs (env.place names word) b) .0 m),
     λ m. (listed-toward walk.FirstFirst longer bs (env.place names word) b) .1

@@ -39,12 +39,12 @@ AcceptedIsValid = (names bounds types : List ℕ) (e : LifetimeEnv) → fromMeth
     → NoneDue (envChecks e)
 
 -- `longer_than` and `shorter_than`: nothing for an unknown name; of a declared one exactly what outlives it (what it
--- outlives), each once: the members of the HIR's list. One statement over the direction.
+-- outlives), each once: the members of the HIR's traversal along the same bounds. One statement over the direction.
 pub record ListsNamedReach (longer : Bool) (names : List ℕ) (bs : List Bound) (word : ℕ) : Type 0 where
   pub unknown : isDeclared names word ≡ false → reachOf longer names bs word ≡ []
   pub members : isDeclared names word ≡ true → (b : ℕ) → List·Memᴰ b (reachOf longer names bs word)
       ↔ Toward longer bs (place names word) b
-  pub hir : isDeclared names word ≡ true → (b : ℕ) → List·Memᴰ b (reachOf longer names bs word)
+  pub traversed : isDeclared names word ≡ true → (b : ℕ) → List·Memᴰ b (reachOf longer names bs word)
       ↔ List·Memᴰ b (traversal LastFirst longer bs (place names word))
   pub once : List·Nodup (reachOf longer names bs word)
 
