@@ -2,6 +2,7 @@
 
     base         refusals; words as text; the ten records of a sheet
     text         bytes to ten records, and whether these are in shape
+    printing     numbers and lines as bytes: what the crate `text` prints and reads
     environment  names, bounds, types: the AST's environment, and a method's
     elision      self, steps, returns: the lowerer, step by step
     methods      lowered types, structs, params, output, force: a method, its used lifetimes, a field's pairs

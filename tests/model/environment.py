@@ -38,6 +38,7 @@ class Env(NamedTuple):
 
 
 NO_LIFETIMES = Env(0, 0, 0, [])  # the environment beside a refusal
+NO_NAMES = AstEnv(0, [], 0, [])  # the AST's
 
 
 def filled(pushed, bounds):
@@ -158,6 +159,12 @@ def from_method_item(names, bounds, types):
 def within(limit, bounds):
     """8 where a bound has a side past a limit."""
     refuse(any(side >= limit for bound in bounds for side in bound), 8)
+
+
+def check_bounds(lifetimes, pushed, bounds):
+    """Whether these are bounds between so many lifetimes."""
+    refuse(pushed > MAX_BOUNDS, 4)
+    within(lifetimes, filled(pushed, kept(bounds)))
 
 
 def check(env):

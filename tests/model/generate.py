@@ -7,6 +7,7 @@ A sheet is a dict from the names of the records to their words while it is being
 """
 import random
 
+from . import printing
 from .base import LARGEST, RECORDS, flat, paired, written
 from .environment import MAX_BOUNDS, MAX_LIFETIMES, MAX_NAMES, AstEnv, Env
 from .listing import Answer
@@ -789,3 +790,54 @@ def rooms(rng, lengths, short=0.0):
 def visits(rng, params):
     """Params to visit, in any order and with repeats."""
     return [rng.randrange(params) for _ in range(rng.randint(1, 2 * params))] if params else []
+
+
+def number(rng):
+    """A number with any number of digits, often at an end of those with as many."""
+    power = 10 ** rng.randrange(20)
+    return rng.choice([rng.randrange(10), rng.randrange(100), rng.randrange(power), power - 1, power, 65535, 65536, LARGEST])
+
+
+def printer(rng, which=None):
+    """Which printer, place, number, width, words, room: room for the text, just so much, too little or none; the place before the end, at it, behind it, or near 2^64 - 1."""
+    which = rng.choice(printing.PRINTERS) if which is None else which
+    given, ws = number(rng), [number(rng) for _ in range(rng.choice([0, 1, 1, 2, 3, 6]))]
+    if which == printing.TEXT:
+        ws = [rng.choice([rng.randrange(256), 32, 48, 255, rng.randrange(1024)]) for _ in range(rng.choice([0, 1, 2, 5, 9]))]
+    size = len(str(given))
+    width = rng.choice([0, max(0, size - 1), size, size + 1, size + 3, rng.randrange(30), rng.choice([100, LARGEST - size, LARGEST])])
+    need = min(printing.length(which, given, width, ws), 30)
+    at = rng.choice([0, 0, 1, 2, 5])
+    room = rng.choice([0, max(0, at + need - 3), max(0, at + need - 1)] + [at + need] * 2 + [at + need + 1, at + need + 4])
+    at = rng.choice([at] * 8 + [max(0, room - 1), room, room + 1, LARGEST - need - 1, LARGEST - need, LARGEST - rng.randrange(need + 1), LARGEST])
+    return which, at, given, width, ws, room
+
+
+def reading(rng):
+    """Bytes, a place, a limit: digits between other bytes, now and then none of them or a leading nought; the limit near their value."""
+    value = rng.choice([number(rng)] * 6 + [LARGEST + 1, LARGEST + rng.randrange(2**64), 10 ** rng.randrange(20, 24)])
+    digits = rng.choice(["", "0", "00"] + [str(value)] * 9 + [f"0{value}"])
+    front = rng.choice(["", "", "", " ", "a", "7 ", "0 ", "\n", "12/"])
+    data = [*(front + digits).encode(), *rng.choice([b"", b"", b" ", b"\n", b"a", b"/", b":", b" 7", b"\x00", b"\xff9"])]
+    place = rng.choice([len(front)] * 9 + [0, len(front) + 1, max(0, len(data) - 1), len(data), len(data) + 1, LARGEST])
+    limit = rng.choice([value] * 3 + [value + 1, max(0, value - 1), value // 10, 10 * value, 0, 5, 9, 65535] + [LARGEST] * 4)
+    return data, place, min(limit, LARGEST)
+
+
+def visitor_sets(rng):
+    """Used lifetimes, now and then some that are in no set; and sets, fewer or more than there are lifetimes."""
+    lifetimes = rng.choice([rng.sample(range(66), rng.choice([0, 1, 2, 4, 8])), list(range(rng.choice([3, 8, 64]))), [rng.randrange(8), LARGEST]])
+    sets = [rng.choice([0, 1 << rng.randrange(64), rng.getrandbits(64), rng.randrange(9), LARGEST]) for _ in range(rng.choice([0, 1, 2, 3, 4, 6, 8, 8, 12, rng.choice([16, 63, 64, 65])]))]
+    return lifetimes, sets
+
+
+def pushed_bounds(rng):
+    """How many lifetimes, how many bounds are pushed, bounds: now and then a side at the limit or past it, among the pushed ones or behind them, or one too many."""
+    lifetimes = rng.choice([0, 1, 2, 3, 8, 32, 64, 254, 255, 256, LARGEST])
+    limit = max(1, min(lifetimes, 255))
+    bounds = [(rng.randrange(limit), rng.randrange(limit)) for _ in range(rng.choice([0, 1, 2, 3, 4, 5, 8, 12, 20, rng.choice([20, 255, 256, 257])]))]
+    if bounds and rng.random() < 0.5:
+        past = rng.choice([lifetimes, lifetimes, lifetimes + 1, 255, LARGEST])
+        bounds[rng.choice([0, rng.randrange(len(bounds)), -1])] = rng.choice([(min(past, LARGEST), 0), (0, min(past, LARGEST))])
+    pushed = rng.choice([len(bounds)] * 6 + [len(bounds) + 1, max(0, len(bounds) - 1), 0, MAX_BOUNDS, MAX_BOUNDS + 1, LARGEST])
+    return lifetimes, pushed, bounds

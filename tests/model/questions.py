@@ -5,25 +5,27 @@ crates/vectors/src, in the module of its crate:
 
     ast.rt           1 from_method_item; 2, 3, 4 the shapes of names, bounds, types; 5 longer_than, shorter_than; 6 extend_implicit_lifetime_bounds
     lowering.rt      7 lower; 8, 9 the shapes of self, steps
-    types.rt         10 check_method, used_method_lifetimes; 11 compute_for_struct_field; 12 type_lifetimes
-    visits.rt        13 a visitor and its visits; 27 edge_at
+    lowered.rt       10 check_method, used_method_lifetimes; 11 compute_for_struct_field; 12 type_lifetimes
+    visits.rt        13 a visitor and its visits; 27 edge_at; 30 from_sets
     lowerer.rt       14 a step of a lowerer; 15 finish; 21 no_self_ref, lower_self_ref; 22 input_then_output
     reach.rt         16 check, all_longer_lifetimes, all_shorter_lifetimes
-    environments.rt  17 LifetimeEnv::new; 18 push_bound, get_bounds
+    environments.rt  17 LifetimeEnv::new; 18 push_bound, get_bounds; 32 Bounds::none, LifetimeEnv::none, the AST's LifetimeEnv::none
+    bounds.rt        31 Bounds::check
     words.rt         19 set::members, copy_words; 20 word
     borrows.rt       23 borrow_method
     sheets.rt        24 lower_sheet; 25 borrow_sheet, borrows_sheet; 26 listing, borrows_listing
+    texts.rt         28 put_text, put_number, put_padded, put_following, put_line; 29 read_number
 """
-from . import elision, environment, methods, text
+from . import elision, environment, methods, printing, text
 from .base import LARGEST, Refusal, flat, number_of, record, refuse, words
 from .elision import Lowerer
 from .listing import by_model, method_of
+from .printing import DOT, MOST_ROOM
 from .visits import EDGE, Visits, borrows
 
-MOST_BYTES = 262144  # of questions that the program reads
-EDGES_ROOM, BYTES_ROOM = 20480, 16384  # the most words for edges and the most bytes that it lends; of other words it lends 8,192
-UNWRITTEN = 99  # every word of a lent slice before the call
-DOT = ord(".")  # every byte of one
+MOST_BYTES = 524288  # of questions that the program reads
+EDGES_ROOM, BYTES_ROOM = 20480, MOST_ROOM  # the most words for edges and the most bytes that it lends; of other words it lends 8,192
+UNWRITTEN = 99  # every word of a lent slice before the call; every byte of one is a dot
 
 
 def refused(number):
@@ -55,7 +57,7 @@ def records_of(*rs):
     return flat(map(record, rs))
 
 
-# ---- kinds 1 to 6, 17 and 18: environments
+# ---- kinds 1 to 6, 17, 18, 31 and 32: environments and their bounds
 
 
 def accepted(bounds, longer, shorter):
@@ -110,9 +112,14 @@ def bounds_filled(bounds):
     return [len(bounds)] + flat(bounds)
 
 
+def whole_ast(env):
+    """An AST environment as answers have it: all 32 places for names, and the bounds."""
+    return [env.named, env.pushed] + (env.names + [0] * 32)[:32] + bounds_filled(env.bounds)
+
+
 def extended(verdict, env):
-    """Kind 6: all 32 places for names, and the bounds."""
-    return [verdict, env.named, env.pushed] + (env.names + [0] * 32)[:32] + bounds_filled(env.bounds)
+    """Kind 6."""
+    return [verdict] + whole_ast(env)
 
 
 def extend_question(env, types):
@@ -151,6 +158,23 @@ def push_answer(env, longer, shorter):
     found = answered(environment.push_bound, env, longer, shorter)
     after = [found] + whole(env) if isinstance(found, int) else [0] + whole(found)
     return after + [int(k < env.declared) for k in (longer, shorter)]
+
+
+def check_question(lifetimes, pushed, bounds):
+    return [31, lifetimes, pushed] + record(flat(bounds))
+
+
+def check_answer(lifetimes, pushed, bounds):
+    return [number_of(environment.check_bounds, lifetimes, pushed, bounds)]
+
+
+def none_question():
+    return [32]
+
+
+def none_answer():
+    """No bounds, an environment without lifetimes, an AST environment without names."""
+    return [0] + bounds_filled([]) + whole(environment.NO_LIFETIMES) + whole_ast(environment.NO_NAMES)
 
 
 # ---- kind 16: reach
@@ -450,3 +474,40 @@ def edge_question(ws, place):
 def edge_answer(ws, place):
     found = ws[EDGE * place:EDGE * (place + 1)]
     return [1] + found if len(found) == EDGE else [0]
+
+
+# ---- kinds 28 and 29: the crate text
+
+
+def put_question(which, at, number, width, ws, room):
+    return [28, which, at, number, width] + record(ws) + [room]
+
+
+def put_answer(*asked):
+    place, out = printing.put(*asked)
+    return [place] + out
+
+
+def read_question(data, at, limit):
+    return [29] + record(data) + [at, limit]
+
+
+def read_answer(data, at, limit):
+    found = printing.read_number(data, at, limit)
+    return [0] if found is None else [1, *found]
+
+
+# ---- kind 30: a visitor from sets, each the sum of 2^k over its lifetimes k
+
+
+def sets_question(lifetimes, sets):
+    return [30] + records_of(lifetimes, sets)
+
+
+def sets_answer(lifetimes, sets):
+    """The set of the used lifetimes, no edges, and at each used lifetime its set, at the others 0."""
+    used_ones = {k for k in lifetimes if k < environment.MAX_LIFETIMES}
+    drawn = [found if k in used_ones else 0 for k, found in enumerate(sets[: environment.MAX_LIFETIMES])]
+    while drawn and drawn[-1] == 0:
+        drawn.pop()
+    return [sum(2**k for k in used_ones), 0] + record(drawn)

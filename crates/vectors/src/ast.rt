@@ -87,8 +87,7 @@ pub(crate) fn lists(words: &[usize], at: usize) -> usize
 }
 
 // Kind 6: an environment made by hand, and the record types. `extend_implicit_lifetime_bounds`: the refusal's number or
-// 0, and the whole environment: how many names and how many bounds there are, all places for names, and the bounds up
-// to the last that is not 0 0, with their number in front.
+// 0, and the whole environment.
 pub(crate) fn extend_implicit_lifetime_bounds(words: &[usize], at: usize) -> usize
     requires { ⌜ at ≤ length (now words) ⌝ }
     ensures { λ r. ⌜ (at ≤ r) × (r ≤ length (now (words .entry))) ⌝ }
@@ -99,11 +98,7 @@ pub(crate) fn extend_implicit_lifetime_bounds(words: &[usize], at: usize) -> usi
     let verdict = made.verdict;
     let extended = made.env;
     print::first(print::number_of(verdict));
-    print::next(extended.named);
-    print::next(extended.bounds.pushed);
-    print_names(extended);
-    let bounds = extended.bounds;
-    bounds::print_filled(bounds);
+    print_whole(extended);
     print::end();
     scan::behind_record(words, types)
 }
@@ -158,6 +153,16 @@ fn print_environment(env: LifetimeEnv) {
     print::next(pushed);
     bounds::print_first(bounds, scan::least(pushed, Bounds::MAX));
     print_lists(env, scan::least(named, LifetimeEnv::MAX_NAMES));
+}
+
+// A whole environment: how many names and how many bounds there are, all places for names, and the bounds up to the
+// last that is not 0 0, with their number in front.
+pub(crate) fn print_whole(env: LifetimeEnv) {
+    let bounds = env.bounds;
+    print::next(env.named);
+    print::next(bounds.pushed);
+    print_names(env);
+    bounds::print_filled(bounds);
 }
 
 // All places for names.

@@ -1,10 +1,24 @@
-// Bounds made by hand, and printed: what the AST's environments and those of methods share.
+// Bounds made by hand, asked about by themselves, and printed: what the AST's environments and those of methods share.
 ghost use Prim.Native.Nat.{_≤_};
+ghost use lib.ListN.{length};
 use super::print;
 use super::scan;
 use lifetimes::Bound;
 use lifetimes::Bounds;
 use lifetimes::Lifetime;
+
+// Kind 31: how many lifetimes there are, how many bounds are pushed, taken as it is, and the record of pairs longer,
+// shorter. `Bounds::check`: the refusal's number or 0.
+pub(crate) fn check(words: &[usize], at: usize) -> usize
+    requires { ⌜ at ≤ length (now words) ⌝ }
+    ensures { λ r. ⌜ (at ≤ r) × (r ≤ length (now (words .entry))) ⌝ }
+{
+    let count = scan::behind(words, at);
+    let pairs = scan::behind(words, count);
+    let bounds = of_pairs(scan::number(words, count), scan::record(words, pairs));
+    print::verdict(bounds.check(scan::number(words, at)));
+    scan::behind_record(words, pairs)
+}
 
 // Bounds of which so many count as pushed, whatever their number is; their places hold pairs of words, longer and
 // shorter, and 0 0 behind them.

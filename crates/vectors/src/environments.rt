@@ -1,13 +1,17 @@
-// Questions for the crate `lifetimes`: an environment that is made, and one bound more.
+// Questions for the crate `lifetimes`: an environment that is made, and one bound more; and what `none` gives, here and
+// in the crate `ast_lifetimes`.
 //
 // A method's environment made by hand is asked for as: how many lifetimes are declared, how many there are, how many
 // bounds are pushed, the record of pairs longer, shorter. The three numbers are taken as they are, beyond every limit
 // too; what the record leaves of the bounds is 0 0.
+ghost use mathlib.Core.Path.{_≡_};
 ghost use Prim.Native.Nat.{_≤_};
 ghost use lib.ListN.{length};
+use super::ast;
 use super::bounds;
 use super::print;
 use super::scan;
+use lifetimes::Bounds;
 use lifetimes::Lifetime;
 use lifetimes::LifetimeEnv;
 
@@ -53,6 +57,21 @@ pub(crate) fn push_bound(words: &[usize], at: usize) -> usize
     print::flag(env.get_bounds(shorter));
     print::end();
     scan::behind(words, below)
+}
+
+// Kind 32, with nothing behind it: `Bounds::none`, how many bounds are pushed, and the bounds up to the last that is
+// not 0 0, with their number in front; `LifetimeEnv::none`, and that of the crate `ast_lifetimes`, each as a whole.
+// Answers the place that it is given.
+pub(crate) fn none(at: usize) -> usize
+    ensures { λ r. ⌜ r ≡ at ⌝ }
+{
+    let bounds = Bounds::none();
+    print::first(bounds.pushed);
+    bounds::print_filled(bounds);
+    print_environment(LifetimeEnv::none());
+    ast::print_whole(ast_lifetimes::LifetimeEnv::none());
+    print::end();
+    at
 }
 
 // The environment made by hand that is asked for at a place.

@@ -1,7 +1,8 @@
 // The probe: a program that answers questions about the library's calls. The gate replays questions whose answers the
-// scope paper ("01") and the Rust gave; compare/run asks it for what the program `borrows` does not list.
+// scope paper ("01"), the Rust, and for calls that neither has the definitions gave; compare/run asks it for what the
+// program `borrows` does not list.
 //
-// Standard input holds numbers, at most 262,144 bytes of them. A question is its kind and what the kind asks for; a
+// Standard input holds numbers, at most 524,288 bytes of them. A question is its kind and what the kind asks for; a
 // record in it is the number of its words, then they. Each answer is a line of numbers on standard output. The files
 // stdin and stdout beside src/ are made by tests/vectors.py.
 //
@@ -20,6 +21,7 @@ mod reach;
 mod rooms;
 mod scan;
 mod sheets;
+mod texts;
 mod visits;
 mod words;
 
@@ -59,6 +61,11 @@ fn answer(kind: usize, words: &[usize], at: usize) -> usize
         23 => borrows::borrow(words, at),
         24 | 25 | 26 => sheets::ask(kind, words, at),
         27 => visits::edge(words, at),
+        28 => texts::put(words, at),
+        29 => texts::read(words, at),
+        30 => visits::from_sets(words, at),
+        31 => bounds::check(words, at),
+        32 => environments::none(at),
         _ => words.len(),
     }
 }
@@ -72,21 +79,21 @@ fn answer_all(words: &[usize]) {
 }
 
 // How many bytes of questions are read.
-const BYTES: usize = 262144;
+const BYTES: usize = 524288;
 
 // How many numbers: every other byte may be one.
-const NUMBERS: usize = 131072;
+const NUMBERS: usize = 262144;
 
 // Room for the bytes that are read.
 fn room_for_bytes() -> [u8; BYTES]
-    ensures { λ r. ⌜ 262144 ≡ length r ⌝ }
+    ensures { λ r. ⌜ 524288 ≡ length r ⌝ }
 {
     [0; BYTES]
 }
 
 // Room for their numbers.
 fn room_for_numbers() -> [usize; NUMBERS]
-    ensures { λ r. ⌜ 131072 ≡ length r ⌝ }
+    ensures { λ r. ⌜ 262144 ≡ length r ⌝ }
 {
     [0; NUMBERS]
 }

@@ -38,11 +38,14 @@ fn run_end(bytes: &[u8], from: usize, digits: bool) -> usize
     at
 }
 
-// A number with one digit more behind it; from 18446744073709551610 on, the largest `usize`.
+// A number with one digit more behind it, at most the largest `usize`.
 fn with_digit(number: usize, digit: usize) -> usize
     requires { ⌜ digit ≤ 10 ⌝ }
 {
-    if 1844674407370955160 < number {
+    if 1844674407370955161 < number {
+        return usize::MAX;
+    }
+    if usize::MAX - number * 10 < digit {
         return usize::MAX;
     }
     number * 10 + digit
@@ -125,6 +128,20 @@ pub(crate) fn record(words: &[usize], at: usize) -> &[usize]
     }
     let from = at + 1;
     &words[from..to]
+}
+
+// The bytes that the words of a record are, each by its remainder by 256, to the front of a slice, as far as there is
+// room. Answers how many they are.
+pub(crate) fn lay(record: &[usize], bytes: &mut [u8]) -> usize
+    ensures { λ r. ⌜ r ≤ length (now (bytes .exit)) ⌝ }
+{
+    let n = least(record.len(), bytes.len());
+    let mut i = 0;
+    while i < n {
+        bytes[i] = (record[i] % 256) as u8;
+        i += 1;
+    }
+    n
 }
 
 // The lesser of two numbers.

@@ -33,23 +33,10 @@ pub(crate) fn ask(kind: usize, words: &[usize], at: usize) -> usize
 {
     let lengths = scan::behind_record(words, at);
     let mut bytes = rooms::bytes();
-    let n = lay(scan::record(words, at), &mut bytes);
+    let n = scan::lay(scan::record(words, at), &mut bytes);
     print_sheet(kind, &bytes[..n], scan::record(words, lengths));
     print::end();
     scan::behind_record(words, lengths)
-}
-
-// The bytes of a record to the front of a slice, as far as there is room. Answers how many they are.
-fn lay(record: &[usize], bytes: &mut [u8]) -> usize
-    ensures { λ r. ⌜ r ≤ length (now (bytes .exit)) ⌝ }
-{
-    let n = scan::least(record.len(), bytes.len());
-    let mut i = 0;
-    while i < n {
-        bytes[i] = (record[i] % 256) as u8;
-        i += 1;
-    }
-    n
 }
 
 // What a kind prints of a sheet.

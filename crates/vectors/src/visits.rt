@@ -6,12 +6,14 @@ use super::lowered;
 use super::print;
 use super::rooms;
 use super::scan;
+use super::words;
 use answers::Verdict;
 use borrowing_param::BorrowingParamVisitor;
 use borrowing_param::EdgeAt;
 use borrowing_param::LifetimeEdge;
 use borrowing_param::ParamBorrowInfo;
 use borrowing_param::edge_at;
+use lifetimes::LifetimeEnv;
 use lifetimes::set;
 use records::End;
 
@@ -190,4 +192,77 @@ fn print_edge(edge: LifetimeEdge) {
     print::next(edge.kind);
     print::next(edge.def);
     print::next(edge.option);
+}
+
+// Kind 30: a record of lifetimes, of which those below 64 are used, and a record of sets, one for each lifetime from 0
+// on, each as a number; the first 64 are taken, and the others are empty. `BorrowingParamVisitor::from_sets`: the set
+// of the used lifetimes as a number, how many edges are stored, and the drawn sets up to the last that is not empty,
+// with their number in front.
+pub(crate) fn from_sets(words: &[usize], at: usize) -> usize
+    requires { ⌜ at ≤ length (now words) ⌝ }
+    ensures { λ r. ⌜ (at ≤ r) × (r ≤ length (now (words .entry))) ⌝ }
+{
+    let given = scan::behind_record(words, at);
+    let used = words::set_of(scan::record(words, at));
+    let sets = sets_of(scan::record(words, given));
+    let visitor = BorrowingParamVisitor::from_sets(used, &sets);
+    print::first(number_of(visitor.used));
+    print::next(visitor.stored);
+    print_drawn(visitor);
+    print::end();
+    scan::behind_record(words, given)
+}
+
+// Numbers as sets, in the places for those of all lifetimes.
+fn sets_of(numbers: &[usize]) -> [u64; LifetimeEnv::MAX_LIFETIMES] {
+    let mut sets = [set::EMPTY; LifetimeEnv::MAX_LIFETIMES];
+    let n = scan::least(numbers.len(), LifetimeEnv::MAX_LIFETIMES);
+    let mut i = 0;
+    while i < n {
+        sets[i] = set_from(numbers[i]);
+        i += 1;
+    }
+    sets
+}
+
+// A number as a set.
+fn set_from(number: usize) -> u64 {
+    number as u64
+}
+
+// A set as a number.
+fn number_of(members: u64) -> usize {
+    members as usize
+}
+
+// The drawn sets up to the last that is not empty, with their number in front.
+fn print_drawn(visitor: BorrowingParamVisitor) {
+    let n = drawn(visitor);
+    print::next(n);
+    print_sets(visitor, n);
+}
+
+// How many drawn sets stand before those at the end that are empty.
+fn drawn(visitor: BorrowingParamVisitor) -> usize
+    ensures { λ r. ⌜ r ≤ 64 ⌝ }
+{
+    let mut n = LifetimeEnv::MAX_LIFETIMES;
+    while 0 < n {
+        if visitor.draws[n - 1] != set::EMPTY {
+            return n;
+        }
+        n -= 1;
+    }
+    0
+}
+
+// The first drawn sets.
+fn print_sets(visitor: BorrowingParamVisitor, n: usize)
+    requires { ⌜ n ≤ 64 ⌝ }
+{
+    let mut i = 0;
+    while i < n {
+        print::next(number_of(visitor.draws[i]));
+        i += 1;
+    }
 }

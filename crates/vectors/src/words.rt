@@ -77,8 +77,8 @@ fn list_to(copied: bool, given: &[usize], count: usize, out: &mut [usize]) -> Li
     set::members(set_of(given), out)
 }
 
-// The set of some lifetimes.
-fn set_of(lifetimes: &[usize]) -> u64 {
+// The set of some lifetimes, those below 64.
+pub(crate) fn set_of(lifetimes: &[usize]) -> u64 {
     let mut found = 0;
     let mut i = 0;
     while i < lifetimes.len() {

@@ -3,8 +3,8 @@ use Prim.Native.Nat.{_≤_, _-_}
 use mathlib.Core.Path.{_≡_}
 use lib.ListN.{length}
 use borrow.Author.Needs.{needs}
-use Rattle.vectors.proofs.sheets.lay.Statement.{statement}
-use Rattle.vectors.proofs.sheets.lay.Tie as tie
+use Rattle.vectors.proofs.scan.lay.Statement.{statement}
+use Rattle.vectors.proofs.scan.lay.Tie as tie
 
 abbrev Inv-loop : tie.InvT-loop
 Inv-loop «record» bytes₀ n i₀ bytes i = (i ≤ n) × (length bytes ≡ length bytes₀)
