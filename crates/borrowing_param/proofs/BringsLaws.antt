@@ -18,9 +18,9 @@ use Rattle.lifetimes.specs.Numbers.{lifetime}
 use Rattle.lifetimes.specs.LoweredWords.{fromWord}
 use Rattle.lifetimes.specs.Sets.{member, insert}
 use Rattle.lifetimes.proofs.SetLaws.{member-empty, member-insert-same, member-insert-true, member-insert-keeps}
-use Rattle.types.specs.declared.types.Kind.{Kind}
-use Rattle.types.specs.declared.types.Kind.the-variants.{Plain, Opaque, Struct, Slice}
-use Rattle.types.specs.LoweredTypes.{LoweredType, lifetimesOf}
+use Rattle.hir_types.specs.declared.types.Kind.{Kind}
+use Rattle.hir_types.specs.declared.types.Kind.the-variants.{Plain, Opaque, Struct, Slice}
+use Rattle.hir_types.specs.LoweredTypes.{LoweredType, lifetimesOf}
 use Rattle.borrowing_param.specs.declared.visitor.LifetimeEdge.{LifetimeEdge}
 use Rattle.borrowing_param.specs.Edges.{edge}
 use Rattle.borrowing_param.specs.Brings.{drawn, anyDrawn, structEdges, optionOf, bringAs, bring, answerNumber, note}

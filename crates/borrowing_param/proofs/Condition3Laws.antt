@@ -22,11 +22,11 @@ use Rattle.answers.proofs.RefusalLaws.{due-given, none-first, none-more, none-s
 use Rattle.answers.proofs.ListLaws.{range-has, filter-has}
 use Rattle.lifetimes.proofs.SetLaws.{members-has}
 use Rattle.lifetimes.proofs.Theorems.{reach-is-outlives, outlives-is-forced}
-use Rattle.types.specs.declared.types.Kind.{Kind}
-use Rattle.types.specs.declared.types.Kind.the-variants.{Plain, Opaque, Struct, Slice}
-use Rattle.types.specs.LoweredTypes.{LoweredType}
-use Rattle.types.specs.Rows.{rowsOf, structsInShape, paramsInShape}
-use Rattle.types.proofs.ShapeLaws.{four-in-shape}
+use Rattle.hir_types.specs.declared.types.Kind.{Kind}
+use Rattle.hir_types.specs.declared.types.Kind.the-variants.{Plain, Opaque, Struct, Slice}
+use Rattle.hir_types.specs.LoweredTypes.{LoweredType}
+use Rattle.hir_types.specs.Rows.{rowsOf, structsInShape, paramsInShape}
+use Rattle.hir_types.proofs.ShapeLaws.{four-in-shape}
 use Rattle.methods.specs.Method.{typesIn, typeChecks, rowChecks, paramChecks, structsAndParamsChecks, methodChecks}
 use Rattle.methods.specs.Used.{usedSet, outputNumbers}
 use Rattle.borrowing_param.specs.declared.visitor.LifetimeEdge.{LifetimeEdge}

@@ -21,13 +21,13 @@ use Rattle.lifetimes.specs.Linked.{linkedWord, linkedAnswer}
 use Rattle.lifetimes.proofs.LinkedLaws.{word-only, word-told}
 use Rattle.lifetimes.specs.LoweredWords.{fromWord}
 use Rattle.lifetimes.specs.Sets.{member}
-use Rattle.types.specs.declared.types.Kind.{Kind}
-use Rattle.types.specs.declared.types.Kind.the-variants.{Plain, Opaque, Struct, Slice}
-use Rattle.types.specs.declared.types.Parts.{Parts}
-use Rattle.types.specs.declared.types.OwnLifetime.{OwnLifetime}
-use Rattle.types.specs.declared.types.OwnLifetime.the-variants as behind
-use Rattle.types.specs.LoweredTypes.{LoweredType, lifetimesOf, ownLifetimes, ownLifetime}
-use Rattle.types.proofs.LifetimeLaws.{own-one, own-none}
+use Rattle.hir_types.specs.declared.types.Kind.{Kind}
+use Rattle.hir_types.specs.declared.types.Kind.the-variants.{Plain, Opaque, Struct, Slice}
+use Rattle.hir_types.specs.declared.types.Parts.{Parts}
+use Rattle.hir_types.specs.declared.types.OwnLifetime.{OwnLifetime}
+use Rattle.hir_types.specs.declared.types.OwnLifetime.the-variants as behind
+use Rattle.hir_types.specs.LoweredTypes.{LoweredType, lifetimesOf, ownLifetimes, ownLifetime}
+use Rattle.hir_types.proofs.LifetimeLaws.{own-one, own-none}
 use Rattle.borrowing_param.specs.declared.edges.First.{First}
 use Rattle.borrowing_param.specs.declared.edges.First.the-variants.{At, Absent}
 use Rattle.borrowing_param.specs.declared.visitor.LifetimeEdge.{LifetimeEdge}

@@ -16,8 +16,8 @@ use Rattle.lifetimes.specs.declared.maybe_static.MaybeStatic.{MaybeStatic}
 use Rattle.lifetimes.specs.LoweredWords.{fromWord}
 use Rattle.answers.specs.Lists.{range, filter, numbered}
 use Rattle.lifetimes.specs.Sets.{member, insert, members}
-use Rattle.types.specs.declared.types.Kind.the-variants.{Plain, Opaque, Struct, Slice}
-use Rattle.types.specs.LoweredTypes.{LoweredType, lifetimesOf}
+use Rattle.hir_types.specs.declared.types.Kind.the-variants.{Plain, Opaque, Struct, Slice}
+use Rattle.hir_types.specs.LoweredTypes.{LoweredType, lifetimesOf}
 use Rattle.borrowing_param.specs.declared.visitor.LifetimeEdge.{LifetimeEdge}
 use Rattle.borrowing_param.specs.Edges.{edge, width, edgeWords}
 use Rattle.borrowing_param.specs.Brings.{drawn, anyDrawn, oneEdge, structEdges, bring, note, notes}

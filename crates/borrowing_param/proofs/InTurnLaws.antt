@@ -18,7 +18,7 @@ use Rattle.answers.specs.Lists.{range, numbered}
 use Rattle.lifetimes.specs.Sets.{member}
 use Rattle.answers.proofs.ListLaws.{length-range, getD-range, range-has}
 use Rattle.lifetimes.proofs.SetLaws.{members-has}
-use Rattle.types.specs.LoweredTypes.{LoweredType}
+use Rattle.hir_types.specs.LoweredTypes.{LoweredType}
 use Rattle.methods.specs.Method.{typesIn, methodChecks}
 use Rattle.borrowing_param.specs.declared.visitor.ParamBorrowInfo.{ParamBorrowInfo}
 use Rattle.borrowing_param.specs.declared.visitor.BorrowingParamVisitor.{BorrowingParamVisitor}

@@ -28,13 +28,13 @@ use Rattle.records.specs.Copied.{copied}
 use Rattle.records.proofs.CopyLaws.{copied-stores}
 use Rattle.records.specs.Reading.{Read, Fails, readAll, readOr, fewWords, inShape, itemsOf}
 use Rattle.records.proofs.ReadingLaws.{Holds, read, fails, holds-onward, holds-or, fails-read}
-use Rattle.types.specs.declared.types.Parts.{Parts}
-use Rattle.types.specs.declared.types.Located.{Located}
-use Rattle.types.specs.declared.types.Located.the-variants.{At, Missing}
-use Rattle.types.specs.LoweredTypes.{LoweredType, readLowered, located}
-use Rattle.types.specs.Rows.{Row, rowsOf, readKnown, typesOf, structsInShape, paramsInShape}
-use Rattle.types.proofs.LocatedLaws.{type-located}
-use Rattle.types.proofs.FoundLaws.{found-told, missing-told, path-inside}
+use Rattle.hir_types.specs.declared.types.Parts.{Parts}
+use Rattle.hir_types.specs.declared.types.Located.{Located}
+use Rattle.hir_types.specs.declared.types.Located.the-variants.{At, Missing}
+use Rattle.hir_types.specs.LoweredTypes.{LoweredType, readLowered, located}
+use Rattle.hir_types.specs.Rows.{Row, rowsOf, readKnown, typesOf, structsInShape, paramsInShape}
+use Rattle.hir_types.proofs.LocatedLaws.{type-located}
+use Rattle.hir_types.proofs.FoundLaws.{found-told, missing-told, path-inside}
 use Rattle.methods.specs.Method.{typesIn, rowChecks, paramChecks, structsAndParamsChecks, structsAndParamsVerdict}
 use Rattle.borrowing_param.specs.declared.listed.BorrowMap.{BorrowMap}
 use Rattle.borrowing_param.specs.declared.listed.Counted.{Counted}

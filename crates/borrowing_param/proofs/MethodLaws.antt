@@ -29,7 +29,7 @@ use Rattle.elision.specs.Steps.{receiverOf, stepsOf}
 use Rattle.elision.specs.Rfc as rfc
 use Rattle.elision.specs.Lowering.{inShapeAll, loweredRecords, measureChecks, measureRecords, answered}
 use Rattle.elision.proofs.Theorems.{rfc141-says}
-use Rattle.types.specs.Rows.{methodInShape, shapeChecks}
+use Rattle.hir_types.specs.Rows.{methodInShape, shapeChecks}
 use Rattle.methods.specs.Method.{placeChecks, outputLifetimes, anyPast, methodChecks, methodVerdict}
 use Rattle.sheet.specs.Text.{Records}
 use Rattle.sheet.specs.Shape.{sheetInShape, recordsChecks}

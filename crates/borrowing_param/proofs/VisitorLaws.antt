@@ -25,16 +25,16 @@ use Rattle.answers.specs.Refusals.{check, unless, FirstDue, here, later, NoneDu
 use Rattle.answers.proofs.RefusalLaws.{due-given, due-refused, refused-first, accepted-none, none-first}
 use Rattle.records.specs.Reading.{Reading, Read, Fails, onward, readAll, fewWords, inShape, itemsOf}
 use Rattle.records.proofs.ReadingLaws.{Holds, read, fails, holds-read, holds-cond, holds-onward, holds-or, fails-read}
-use Rattle.types.specs.declared.types.Kind.{Kind}
-use Rattle.types.specs.declared.types.Kind.the-variants.{Plain, Opaque, Struct, Slice}
-use Rattle.types.specs.declared.types.Parts.{Parts}
-use Rattle.types.specs.declared.types.Located.{Located}
-use Rattle.types.specs.declared.types.Located.the-variants.{At, Missing}
-use Rattle.types.specs.LoweredTypes.{LoweredType, readLowered, knows, located}
-use Rattle.types.specs.Rows.{rowsOf, readKnown, typesOf, paramsInShape, structsInShape}
-use Rattle.types.specs.Places.{Stands, nowhere, codeOf, codeIn, Coded}
-use Rattle.types.proofs.LocatedLaws.{type-few, type-located, type-coded}
-use Rattle.types.proofs.FoundLaws.{found-told, missing-told, code-told, path-inside}
+use Rattle.hir_types.specs.declared.types.Kind.{Kind}
+use Rattle.hir_types.specs.declared.types.Kind.the-variants.{Plain, Opaque, Struct, Slice}
+use Rattle.hir_types.specs.declared.types.Parts.{Parts}
+use Rattle.hir_types.specs.declared.types.Located.{Located}
+use Rattle.hir_types.specs.declared.types.Located.the-variants.{At, Missing}
+use Rattle.hir_types.specs.LoweredTypes.{LoweredType, readLowered, knows, located}
+use Rattle.hir_types.specs.Rows.{rowsOf, readKnown, typesOf, paramsInShape, structsInShape}
+use Rattle.hir_types.specs.Places.{Stands, nowhere, codeOf, codeIn, Coded}
+use Rattle.hir_types.proofs.LocatedLaws.{type-few, type-located, type-coded}
+use Rattle.hir_types.proofs.FoundLaws.{found-told, missing-told, code-told, path-inside}
 use Rattle.methods.specs.Method.{typesIn, structsAndParamsChecks, structsAndParamsVerdict}
 use Rattle.borrowing_param.specs.declared.visitor.LifetimeEdge.{LifetimeEdge}
 use Rattle.borrowing_param.specs.declared.visitor.BorrowingParamVisitor.{BorrowingParamVisitor}

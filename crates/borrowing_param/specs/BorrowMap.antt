@@ -7,7 +7,7 @@ use lib.ListN.{length}
 use Rattle.answers.specs.declared.Verdict.the-variants as verdict
 use Rattle.answers.specs.Refusals.{Check, Outcome, Gives, Refuses, unless, over}
 use Rattle.answers.specs.Lent.{Slice, Fills, roomCheck}
-use Rattle.types.specs.LoweredTypes.{LoweredType}
+use Rattle.hir_types.specs.LoweredTypes.{LoweredType}
 use Rattle.methods.specs.Method.{typesIn, structsAndParamsChecks}
 use Rattle.borrowing_param.specs.declared.listed.BorrowMap.{BorrowMap}
 use Rattle.borrowing_param.specs.declared.visitor.LifetimeEdge.{LifetimeEdge}

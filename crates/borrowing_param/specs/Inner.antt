@@ -12,12 +12,12 @@ use Rattle.lifetimes.specs.LoweredWords.{fromWord}
 use Rattle.lifetimes.specs.Limits.{mostLifetimes}
 use Rattle.lifetimes.specs.Sets.{members}
 use Rattle.records.specs.Reading.{Reading, onward}
-use Rattle.types.specs.declared.types.Kind.{Kind}
-use Rattle.types.specs.declared.types.Kind.the-variants.{Plain, Opaque, Struct, Slice}
-use Rattle.types.specs.declared.types.Parts.{Parts}
-use Rattle.types.specs.declared.types.Located.{Located}
-use Rattle.types.specs.LoweredTypes.{LoweredType, ownLifetimes, readLowered}
-use Rattle.types.specs.Places.{Locates, CodedAt}
+use Rattle.hir_types.specs.declared.types.Kind.{Kind}
+use Rattle.hir_types.specs.declared.types.Kind.the-variants.{Plain, Opaque, Struct, Slice}
+use Rattle.hir_types.specs.declared.types.Parts.{Parts}
+use Rattle.hir_types.specs.declared.types.Located.{Located}
+use Rattle.hir_types.specs.LoweredTypes.{LoweredType, ownLifetimes, readLowered}
+use Rattle.hir_types.specs.Places.{Locates, CodedAt}
 use Rattle.borrowing_param.specs.declared.edges.First.{First}
 use Rattle.borrowing_param.specs.declared.edges.First.the-variants.{At, Absent}
 use Rattle.borrowing_param.specs.declared.visitor.LifetimeEdge.{LifetimeEdge}

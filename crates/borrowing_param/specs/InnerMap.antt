@@ -9,7 +9,7 @@ use lib.Seq.{sets}
 use Rattle.answers.specs.Refusals.{Check, Outcome, unless}
 use Rattle.answers.specs.Lent.{roomCheck}
 use Rattle.records.specs.Reading.{Read, itemsOf}
-use Rattle.types.specs.LoweredTypes.{LoweredType, readLowered}
+use Rattle.hir_types.specs.LoweredTypes.{LoweredType, readLowered}
 use Rattle.methods.specs.Method.{mostParams}
 use Rattle.borrowing_param.specs.declared.listed.Counted.{Counted}
 use Rattle.borrowing_param.specs.declared.visitor.LifetimeEdge.{LifetimeEdge}

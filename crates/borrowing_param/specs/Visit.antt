@@ -8,7 +8,7 @@ use lib.Seq.{sets}
 use Rattle.answers.specs.declared.Refusal.the-variants.{NoRoom}
 use Rattle.lifetimes.specs.Limits.{mostLifetimes}
 use Rattle.lifetimes.specs.Sets.{member, members}
-use Rattle.types.specs.LoweredTypes.{LoweredType}
+use Rattle.hir_types.specs.LoweredTypes.{LoweredType}
 use Rattle.borrowing_param.specs.declared.visitor.LifetimeEdge.{LifetimeEdge}
 use Rattle.borrowing_param.specs.declared.visitor.ParamBorrowInfo.{ParamBorrowInfo}
 use Rattle.borrowing_param.specs.declared.visitor.BorrowingParamVisitor.{BorrowingParamVisitor}

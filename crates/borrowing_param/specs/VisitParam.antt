@@ -6,9 +6,9 @@ use lib.Dec.{leb}
 use lib.ListN.{length, getD}
 use Rattle.answers.specs.declared.Refusal.the-variants.{Malformed}
 use Rattle.answers.specs.Refusals.{Check, check, Outcome, Gives, Refuses, unless}
-use Rattle.types.specs.declared.types.Kind.the-variants.{Plain}
-use Rattle.types.specs.declared.types.Own.the-variants.{Absent}
-use Rattle.types.specs.LoweredTypes.{LoweredType, loweredType}
+use Rattle.hir_types.specs.declared.types.Kind.the-variants.{Plain}
+use Rattle.hir_types.specs.declared.types.Own.the-variants.{Absent}
+use Rattle.hir_types.specs.LoweredTypes.{LoweredType, loweredType}
 use Rattle.methods.specs.Method.{typesIn, structsAndParamsChecks}
 use Rattle.borrowing_param.specs.Brings.{refuse}
 use Rattle.borrowing_param.specs.Visit.{State, VisitOutcome, outcome, visit}

@@ -10,7 +10,7 @@ ghost use Rattle.answers.specs.Lent.{held, left};
 ghost use Rattle.lifetimes.specs.Limits.{mostLifetimes};
 ghost use Rattle.lifetimes.specs.LoweredWords.{fromWord};
 ghost use Rattle.borrowing_param.specs.Edges.{width, mostDefs, edgeWords, edgeIn};
-ghost use Rattle.types.specs.LoweredTypes.{lifetimesOf};
+ghost use Rattle.hir_types.specs.LoweredTypes.{lifetimesOf};
 ghost use Rattle.borrowing_param.specs.Brings.{drawn, anyDrawn, oneEdge, optionOf, bring};
 ghost use Rattle.borrowing_param.specs.Visit.{drawsIn};
 ghost use Rattle.borrowing_param.specs.Inner.{SetBelow, Inside, typeIn, firstFrom, FirstDrawn, countDrawn, oneIf};
@@ -18,6 +18,10 @@ ghost use Rattle.borrowing_param.specs.Inner.{CountsFor, CountsAll, stru
 use super::visitor::BorrowingParamVisitor;
 use super::visitor::LifetimeEdge;
 use super::visitor::ParamBorrowInfo;
+use hir_types::Kind;
+use hir_types::OwnLifetime;
+use hir_types::Parts;
+use hir_types::path_words;
 use lifetimes::DefLifetime;
 use lifetimes::Lifetime;
 use lifetimes::LifetimeEnv;
@@ -25,10 +29,6 @@ use lifetimes::LinkedWord;
 use lifetimes::MaybeStatic;
 use lifetimes::linked_word;
 use lifetimes::set;
-use types::Kind;
-use types::OwnLifetime;
-use types::Parts;
-use types::path_words;
 
 // The edge at a place of a slice of edges. Absent past its last whole edge.
 pub enum EdgeAt {

@@ -19,14 +19,14 @@ use super::visitor::ParamBorrowInfo;
 use super::visitor::number_of;
 use answers::Refusal;
 use answers::Verdict;
+use hir_types::Located;
+use hir_types::type_at;
 use lifetimes::Lifetime;
 use lifetimes::LifetimeEnv;
 use lifetimes::set;
 use methods::MAX_PARAMS;
 use methods::check_structs_and_params;
 use records::copy_words;
-use types::Located;
-use types::type_at;
 
 // How many parameters and edges there are, or why the call is refused; beside a refusal none.
 pub struct BorrowMap {

@@ -9,13 +9,17 @@ ghost use Rattle.borrowing_param.specs.Visit.{state, outcome, visit};
 ghost use Rattle.borrowing_param.specs.VisitParam.{visitParam};
 ghost use Rattle.borrowing_param.specs.New.{created, visitorFrom};
 ghost use Rattle.borrowing_param.specs.Inner.{Inside, typeIn, FoundAt, numberBy};
-ghost use Rattle.types.specs.Places.{Coded};
+ghost use Rattle.hir_types.specs.Places.{Coded};
 ghost use Rattle.answers.specs.Lent.{held, left};
 use super::edges::count_all;
 use super::edges::past_last;
 use super::edges::store_all;
 use answers::Refusal;
 use answers::Verdict;
+use hir_types::Kind;
+use hir_types::Located;
+use hir_types::Parts;
+use hir_types::type_at;
 use lifetimes::Lifetime;
 use lifetimes::LifetimeEnv;
 use lifetimes::set;
@@ -23,10 +27,6 @@ use methods::UsedLifetimes;
 use methods::check_structs_and_params;
 use methods::used_method_lifetimes;
 use records::End;
-use types::Kind;
-use types::Located;
-use types::Parts;
-use types::type_at;
 
 // One edge: the values of its line in the listing. Kind 1 is the Rust's `OpaqueParam`, 2 `SliceParam`, 3
 // `StructLifetime`; the used lifetime is the key of its map.

@@ -17,8 +17,8 @@ use Rattle.ast_lifetimes.specs.Examples as ast
 use Rattle.elision.specs.Steps as steps
 use Rattle.elision.specs.Rfc as rfc
 use Rattle.elision.specs.Examples as elision
-use Rattle.types.specs.LoweredTypes as types
-use Rattle.types.specs.Rows as rows
+use Rattle.hir_types.specs.LoweredTypes as types
+use Rattle.hir_types.specs.Rows as rows
 use Rattle.methods.specs.Used as used
 use Rattle.text.specs.Decimal as decimal
 use Rattle.sheet.specs.Reading as read

@@ -28,7 +28,7 @@ use Rattle.answers.proofs.RefusalLaws.{none-more, none-split, first-behind}
 use Rattle.answers.proofs.ListLaws.{range-has, length-range}
 use Rattle.lifetimes.proofs.ReachLaws.{reach-few}
 use Rattle.lifetimes.proofs.ReachLoops.{length-ends}
-use Rattle.types.specs.LoweredTypes.{LoweredType}
+use Rattle.hir_types.specs.LoweredTypes.{LoweredType}
 use Rattle.methods.specs.Method.{typesIn, structsAndParamsChecks}
 use Rattle.text.specs.Decimal.{line}
 use Rattle.borrowing_param.specs.declared.listed.BorrowMap.{BorrowMap}

@@ -17,7 +17,7 @@ use Rattle.lifetimes.specs.declared.maybe_static.MaybeStaticDef.the-variants.{S
 use Rattle.lifetimes.specs.Numbers.{defLifetime}
 use Rattle.lifetimes.specs.LoweredWords.{defFromWord}
 use Rattle.answers.proofs.RefusalLaws.{given-due}
-use Rattle.types.specs.Rows.{rowsOf}
+use Rattle.hir_types.specs.Rows.{rowsOf}
 use Rattle.methods.specs.declared.fields.FieldPair.{FieldPair}
 use Rattle.methods.specs.Method.{rowAt}
 use Rattle.methods.specs.Fields.{fieldAt, fieldPair, filledBy, pairsFrom, fieldChecks, fieldPairs}

@@ -31,12 +31,12 @@ use Rattle.answers.proofs.RefusalLaws.{due-given, due-refused, refused-first, a
 use Rattle.answers.proofs.RefusalLaws.{none-split}
 use Rattle.lifetimes.proofs.LinkedLaws.{pair-told}
 use Rattle.records.specs.Reading.{Read, Fails}
-use Rattle.types.specs.declared.types.Parts.{Parts}
-use Rattle.types.specs.declared.types.Kind.the-variants.{Struct}
-use Rattle.types.specs.LoweredTypes.{LoweredType, readLowered}
-use Rattle.types.specs.Rows.{Row, rowWith, readKnown, readTypes, readRow, rowsOf, structsInShape, howMany}
-use Rattle.types.proofs.FoundLaws.{Found}
-use Rattle.types.proofs.ShapeLaws.{refused-shape}
+use Rattle.hir_types.specs.declared.types.Parts.{Parts}
+use Rattle.hir_types.specs.declared.types.Kind.the-variants.{Struct}
+use Rattle.hir_types.specs.LoweredTypes.{LoweredType, readLowered}
+use Rattle.hir_types.specs.Rows.{Row, rowWith, readKnown, readTypes, readRow, rowsOf, structsInShape, howMany}
+use Rattle.hir_types.proofs.FoundLaws.{Found}
+use Rattle.hir_types.proofs.ShapeLaws.{refused-shape}
 use Rattle.methods.specs.declared.fields.Field.the-variants.{Missing}
 use Rattle.methods.specs.declared.fields.Field.the-variants as aField
 use Rattle.methods.specs.declared.fields.FieldPair.{FieldPair}

@@ -13,12 +13,12 @@ use Rattle.answers.specs.Refusals.{check, unless}
 use Rattle.records.specs.Reading.{Read, Fails}
 use Rattle.answers.specs.Lent.{judged}
 use Rattle.answers.proofs.VerdictLaws.{judged-after, judged-stays}
-use Rattle.types.specs.declared.types.Kind.{Kind}
-use Rattle.types.specs.declared.types.Kind.the-variants.{Plain, Opaque, Struct, Slice}
-use Rattle.types.specs.declared.types.Parts.{Parts}
-use Rattle.types.specs.LoweredTypes.{LoweredType, readLowered, knows}
-use Rattle.types.specs.Rows.{Row, readKnown, readTypes}
-use Rattle.types.proofs.FoundLaws.{Found}
+use Rattle.hir_types.specs.declared.types.Kind.{Kind}
+use Rattle.hir_types.specs.declared.types.Kind.the-variants.{Plain, Opaque, Struct, Slice}
+use Rattle.hir_types.specs.declared.types.Parts.{Parts}
+use Rattle.hir_types.specs.LoweredTypes.{LoweredType, readLowered, knows}
+use Rattle.hir_types.specs.Rows.{Row, readKnown, readTypes}
+use Rattle.hir_types.proofs.FoundLaws.{Found}
 use Rattle.methods.specs.declared.fits.Fit.{Fit}
 use Rattle.methods.specs.declared.fits.Fit.the-variants.{To, Misfit}
 use Rattle.methods.specs.Method.{misfit, misfits, typeChecks, paramChecks}

@@ -19,10 +19,10 @@ use Rattle.answers.proofs.RefusalLaws.{due-given, accepted-none, none-first}
 use Rattle.records.specs.Reading.{Read}
 use Rattle.answers.specs.Lent.{judged}
 use Rattle.answers.proofs.VerdictLaws.{judged-after, judged-stays, refused-accepted}
-use Rattle.types.specs.declared.shapes.Shape.{Shape}
-use Rattle.types.specs.Rows.{readKnown, readTypes, rowsOf, structsInShape, paramsInShape, typesOf}
-use Rattle.types.specs.Rows.{methodInShape, shapeChecks, methodShape, howMany}
-use Rattle.types.proofs.ShapeLaws.{counted-shape, refused-shape, four-in-shape, shape-verdict}
+use Rattle.hir_types.specs.declared.shapes.Shape.{Shape}
+use Rattle.hir_types.specs.Rows.{readKnown, readTypes, rowsOf, structsInShape, paramsInShape, typesOf}
+use Rattle.hir_types.specs.Rows.{methodInShape, shapeChecks, methodShape, howMany}
+use Rattle.hir_types.proofs.ShapeLaws.{counted-shape, refused-shape, four-in-shape, shape-verdict}
 use Rattle.methods.specs.declared.fits.Fit.{Fit}
 use Rattle.methods.specs.declared.fits.Fit.the-variants.{To, Misfit}
 use Rattle.methods.specs.declared.output.Collected.{Collected}

@@ -16,14 +16,14 @@ use Rattle.lifetimes.specs.LoweredWords.{fromWord}
 use Rattle.lifetimes.specs.Sets.{insert, insertAll}
 use Rattle.lifetimes.proofs.SetLaws.{insertAll-append}
 use Rattle.records.specs.Reading.{Read, Fails}
-use Rattle.types.specs.declared.types.Own.{Own}
-use Rattle.types.specs.declared.types.Parts.{Parts}
-use Rattle.types.specs.declared.types.OwnLifetime.{OwnLifetime}
-use Rattle.types.specs.declared.types.OwnLifetime.the-variants as behind
-use Rattle.types.specs.LoweredTypes.{LoweredType, readLowered, ownLifetimes, lifetimesOf, ownLifetime}
-use Rattle.types.proofs.LifetimeLaws.{own-one, own-none}
-use Rattle.types.specs.Rows.{readKnown, readTypes}
-use Rattle.types.proofs.FoundLaws.{Found, path-inside}
+use Rattle.hir_types.specs.declared.types.Own.{Own}
+use Rattle.hir_types.specs.declared.types.Parts.{Parts}
+use Rattle.hir_types.specs.declared.types.OwnLifetime.{OwnLifetime}
+use Rattle.hir_types.specs.declared.types.OwnLifetime.the-variants as behind
+use Rattle.hir_types.specs.LoweredTypes.{LoweredType, readLowered, ownLifetimes, lifetimesOf, ownLifetime}
+use Rattle.hir_types.proofs.LifetimeLaws.{own-one, own-none}
+use Rattle.hir_types.specs.Rows.{readKnown, readTypes}
+use Rattle.hir_types.proofs.FoundLaws.{Found, path-inside}
 use Rattle.methods.specs.declared.output.Collected.{Collected}
 use Rattle.methods.specs.declared.output.Collected.the-variants.{Set, Past}
 use Rattle.methods.specs.Method.{isPast}

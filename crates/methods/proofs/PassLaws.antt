@@ -10,13 +10,13 @@ use lib.ListN.{length, getD, take, drop, length-drop}
 use borrow.Author.Tests.{leb-true}
 use Rattle.records.specs.Reading.{Reading, Read, Fails, onward, isRead, readOr, readWord, readAll, inShape, itemsOf}
 use Rattle.records.specs.Reading.{fewWords}
-use Rattle.types.specs.declared.types.Parts.{Parts}
-use Rattle.types.specs.LoweredTypes.{LoweredType, readLowered, knows}
-use Rattle.types.specs.Rows.{Row, rowWith, readKnown, readTypes, readRow}
-use Rattle.types.proofs.PathLaws.{word-here, word-behind}
-use Rattle.types.proofs.FoundLaws.{Found}
+use Rattle.hir_types.specs.declared.types.Parts.{Parts}
+use Rattle.hir_types.specs.LoweredTypes.{LoweredType, readLowered, knows}
+use Rattle.hir_types.specs.Rows.{Row, rowWith, readKnown, readTypes, readRow}
+use Rattle.hir_types.proofs.PathLaws.{word-here, word-behind}
+use Rattle.hir_types.proofs.FoundLaws.{Found}
 use Rattle.records.proofs.ReadingLaws.{passed, fails-read}
-use Rattle.types.specs.Places.{Stands}
+use Rattle.hir_types.specs.Places.{Stands}
 
 -- one reading after another: both were read
 pub record Both {A B : Type 0} (r : Reading A) (next : A → List ℕ → Reading B) (b : B) (rest : List ℕ) : Type 0 where

@@ -16,7 +16,7 @@ use Rattle.answers.specs.declared.Verdict.the-variants.{Accepted, Refused}
 use Rattle.answers.specs.Refusals.{unless}
 use Rattle.answers.specs.Lent.{judged}
 use Rattle.answers.proofs.VerdictLaws.{judged-after, judged-stays, refused-accepted}
-use Rattle.types.specs.Rows.{Row, rowWith, readRow, rowsOf, structsInShape}
+use Rattle.hir_types.specs.Rows.{Row, rowWith, readRow, rowsOf, structsInShape}
 use Rattle.methods.specs.declared.fits.Fit.{Fit}
 use Rattle.methods.specs.declared.fits.Fit.the-variants.{To, Misfit}
 use Rattle.methods.specs.Method.{rowAt, typeChecks, rowChecks}

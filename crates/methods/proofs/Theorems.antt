@@ -7,8 +7,8 @@ use Rattle.lifetimes.specs.Sets as sets
 use Rattle.lifetimes.specs.Bounds as bounds
 use Rattle.lifetimes.specs.Env as env
 use Rattle.records.specs.Reading as reading
-use Rattle.types.specs.LoweredTypes as types
-use Rattle.types.specs.Rows as rows
+use Rattle.hir_types.specs.LoweredTypes as types
+use Rattle.hir_types.specs.Rows as rows
 use Rattle.methods.specs.Used as used
 use Rattle.methods.specs.Fields as fields
 use Rattle.methods.specs.Theorems.{UsedLifetimesAre, ForceIsRetired, FieldPairsAre, ExamplesHold}

@@ -19,13 +19,13 @@ use Rattle.answers.proofs.RefusalLaws.{given-due, due-refused, none-first}
 use Rattle.lifetimes.proofs.SetLaws.{setOf-has, setOf-few}
 use Rattle.records.specs.Reading.{Read}
 use Rattle.records.proofs.ReadingLaws.{holds-read}
-use Rattle.types.specs.declared.types.Own.{Own}
-use Rattle.types.specs.declared.types.Own.the-variants as own
-use Rattle.types.specs.LoweredTypes.{LoweredType, ownLifetimes, lifetimesOf}
-use Rattle.types.specs.Rows.{readTypes, rowsOf, methodInShape}
-use Rattle.types.specs.Rows.{forced}
-use Rattle.types.proofs.LocatedLaws.{type-few}
-use Rattle.types.proofs.ShapeLaws.{four-in-shape}
+use Rattle.hir_types.specs.declared.types.Own.{Own}
+use Rattle.hir_types.specs.declared.types.Own.the-variants as own
+use Rattle.hir_types.specs.LoweredTypes.{LoweredType, ownLifetimes, lifetimesOf}
+use Rattle.hir_types.specs.Rows.{readTypes, rowsOf, methodInShape}
+use Rattle.hir_types.specs.Rows.{forced}
+use Rattle.hir_types.proofs.LocatedLaws.{type-few}
+use Rattle.hir_types.proofs.ShapeLaws.{four-in-shape}
 use Rattle.methods.specs.Method.{typesIn, outputLifetimes, methodChecks}
 use Rattle.methods.specs.Used.{numbersOf, outputNumbers, usedSet}
 use Rattle.methods.specs.Theorems.{UsedLifetimesAre, ForceIsRetired}

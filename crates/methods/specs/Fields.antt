@@ -12,11 +12,11 @@ use Rattle.lifetimes.specs.Numbers.{defLifetime}
 use Rattle.lifetimes.specs.LoweredWords.{defFromWord}
 use Rattle.answers.specs.Lists.{numbered}
 use Rattle.answers.specs.Refusals.{Check, check, Outcome, Gives, Refuses, unless}
-use Rattle.types.specs.declared.types.Kind.{Kind}
-use Rattle.types.specs.declared.types.Kind.the-variants.{Plain, Opaque, Struct, Slice}
-use Rattle.types.specs.declared.types.Own.the-variants as own
-use Rattle.types.specs.LoweredTypes.{LoweredType, loweredType}
-use Rattle.types.specs.Rows.{Row, rowsOf, structsInShape}
+use Rattle.hir_types.specs.declared.types.Kind.{Kind}
+use Rattle.hir_types.specs.declared.types.Kind.the-variants.{Plain, Opaque, Struct, Slice}
+use Rattle.hir_types.specs.declared.types.Own.the-variants as own
+use Rattle.hir_types.specs.LoweredTypes.{LoweredType, loweredType}
+use Rattle.hir_types.specs.Rows.{Row, rowsOf, structsInShape}
 use Rattle.methods.specs.declared.fields.FieldPair.{FieldPair}
 use Rattle.methods.specs.declared.fields.FieldLifetimes.{FieldLifetimes}
 use Rattle.methods.specs.declared.fields.FieldAnswer.the-variants as answer

@@ -11,10 +11,10 @@ use Rattle.answers.specs.declared.Verdict.{Verdict}
 use Rattle.answers.specs.declared.Verdict.the-variants.{Accepted, Refused}
 use Rattle.records.specs.Reading.{Read, mostList}
 use Rattle.answers.specs.Lent.{judged}
-use Rattle.types.specs.declared.types.Kind.{Kind}
-use Rattle.types.specs.declared.types.Kind.the-variants.{Plain, Opaque, Struct, Slice}
-use Rattle.types.specs.LoweredTypes.{LoweredType, lifetimesOf}
-use Rattle.types.specs.Rows.{Row, readKnown, readTypes, readRow, rowsOf, structsInShape, paramsInShape}
+use Rattle.hir_types.specs.declared.types.Kind.{Kind}
+use Rattle.hir_types.specs.declared.types.Kind.the-variants.{Plain, Opaque, Struct, Slice}
+use Rattle.hir_types.specs.LoweredTypes.{LoweredType, lifetimesOf}
+use Rattle.hir_types.specs.Rows.{Row, readKnown, readTypes, readRow, rowsOf, structsInShape, paramsInShape}
 use Rattle.methods.specs.declared.fits.Fit.{Fit}
 use Rattle.methods.specs.declared.fits.Fit.the-variants.{To, Misfit}
 use Rattle.lifetimes.specs.declared.maybe_static.MaybeStatic.{MaybeStatic}

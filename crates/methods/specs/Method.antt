@@ -14,11 +14,11 @@ use Rattle.answers.specs.Lists.{any, numbered}
 use Rattle.answers.specs.Refusals.{Check, check}
 use Rattle.answers.specs.Lent.{judged}
 use Rattle.lifetimes.specs.Env.{limitChecks, rangeChecks}
-use Rattle.types.specs.declared.types.Kind.{Kind}
-use Rattle.types.specs.declared.types.Kind.the-variants.{Plain, Opaque, Struct, Slice}
-use Rattle.types.specs.LoweredTypes.{LoweredType, lifetimesOf}
-use Rattle.types.specs.Rows.{Row, rowWith, rowsOf, typesOf, structsInShape, paramsInShape, methodInShape}
-use Rattle.types.specs.Rows.{shapeChecks}
+use Rattle.hir_types.specs.declared.types.Kind.{Kind}
+use Rattle.hir_types.specs.declared.types.Kind.the-variants.{Plain, Opaque, Struct, Slice}
+use Rattle.hir_types.specs.LoweredTypes.{LoweredType, lifetimesOf}
+use Rattle.hir_types.specs.Rows.{Row, rowWith, rowsOf, typesOf, structsInShape, paramsInShape, methodInShape}
+use Rattle.hir_types.specs.Rows.{shapeChecks}
 
 -- 01: "at most 32 rows", "at most 16 types" in `params`
 abbrev pub mostRows : ℕ

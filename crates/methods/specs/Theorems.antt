@@ -14,7 +14,7 @@ use Rattle.lifetimes.specs.Numbers.{lifetime, defLifetime}
 use Rattle.lifetimes.specs.LoweredWords.{defFromWord}
 use Rattle.answers.specs.Refusals.{Gives, Refuses}
 use Rattle.lifetimes.specs.Sets.{member, cardinality}
-use Rattle.types.specs.Rows.{rowsOf, forced, methodInShape}
+use Rattle.hir_types.specs.Rows.{rowsOf, forced, methodInShape}
 use Rattle.methods.specs.declared.fields.FieldPair.{FieldPair}
 use Rattle.methods.specs.Method.{rowAt, outputLifetimes}
 use Rattle.methods.specs.Used.{usedSet, mostUsed}

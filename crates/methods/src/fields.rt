@@ -5,7 +5,7 @@ ghost use mathlib.Core.List.{[]};
 ghost use Prim.Native.Nat.{_≤_, _<_};
 ghost use lib.ListN.{length};
 ghost use Rattle.answers.specs.Lent.{held};
-ghost use Rattle.types.specs.Rows.{rowsOf, structsInShape};
+ghost use Rattle.hir_types.specs.Rows.{rowsOf, structsInShape};
 ghost use Rattle.methods.specs.Fields.{pairsFrom, placed, givenPairs, fieldPairs, fieldAnswer};
 ghost use Rattle.methods.specs.Inner.{RowStands, TypesSkip, FieldIs};
 ghost use Rattle.records.specs.Reading.{mostList};
@@ -14,16 +14,16 @@ use super::fits::index_rows;
 use answers::Listed;
 use answers::Refusal;
 use answers::Verdict;
+use hir_types::Kind;
+use hir_types::Located;
+use hir_types::path_words;
+use hir_types::structs_shape;
+use hir_types::type_at;
 use lifetimes::DefLifetime;
 use lifetimes::LinkedPair;
 use lifetimes::MaybeStaticDef;
 use lifetimes::linked_pair;
 use records::End;
-use types::Kind;
-use types::Located;
-use types::path_words;
-use types::structs_shape;
-use types::type_at;
 
 // A lifetime of a field's definition, and the lifetime of the outer definition that fills it.
 pub struct FieldPair {

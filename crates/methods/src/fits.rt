@@ -4,14 +4,14 @@ ghost use mathlib.Core.Bool.{true};
 ghost use Prim.Native.Nat.{_≤_};
 ghost use lib.ListN.{length};
 ghost use Rattle.answers.specs.Lent.{held, left};
-ghost use Rattle.types.specs.Rows.{rowsOf, structsInShape};
+ghost use Rattle.hir_types.specs.Rows.{rowsOf, structsInShape};
 ghost use Rattle.methods.specs.Inner.{ParamsFit, TypesFit, Indexes, TypeFits, rowLifetimes, misfitIn};
 ghost use Rattle.methods.specs.Method.{mostRows};
 use answers::Refusal;
 use answers::Verdict;
-use types::Kind;
-use types::Located;
-use types::type_at;
+use hir_types::Kind;
+use hir_types::Located;
+use hir_types::type_at;
 
 // How many rows a method's structs may have.
 pub(crate) const MAX_ROWS: usize = 32;

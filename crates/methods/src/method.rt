@@ -14,11 +14,11 @@ use super::output::collect_types;
 use answers::Listed;
 use answers::Refusal;
 use answers::Verdict;
+use hir_types::method_shape;
+use hir_types::params_shape;
+use hir_types::structs_shape;
 use lifetimes::Bounds;
 use lifetimes::LifetimeEnv;
-use types::method_shape;
-use types::params_shape;
-use types::structs_shape;
 
 // A method that was judged, and the lifetimes of its output; beside a refusal none.
 pub(crate) struct Judged {

@@ -4,15 +4,15 @@ ghost use Prim.Native.Nat.{_≤_};
 ghost use lib.ListN.{length, take, drop};
 ghost use Rattle.answers.specs.Lent.{held};
 ghost use Rattle.lifetimes.specs.LoweredWords.{fromWord};
-ghost use Rattle.types.specs.LoweredTypes.{ownLifetimes};
+ghost use Rattle.hir_types.specs.LoweredTypes.{ownLifetimes};
 ghost use Rattle.methods.specs.Inner.{CollectIs, PathThere, TypesCollect};
 ghost use Rattle.lifetimes.specs.Limits.{mostLifetimes};
+use hir_types::Located;
+use hir_types::Own;
+use hir_types::OwnLifetime;
+use hir_types::type_at;
 use lifetimes::MaybeStatic;
 use lifetimes::set;
-use types::Located;
-use types::Own;
-use types::OwnLifetime;
-use types::type_at;
 
 // The set so far, or that a lifetime is past the count.
 pub(crate) enum Collected {

@@ -26,9 +26,9 @@ use Rattle.records.proofs.CopyLaws.{copied-stores, copied-all, copied-none}
 use Rattle.ast_lifetimes.specs.Shapes.{namesInShape, boundsInShape}
 use Rattle.ast_lifetimes.specs.Types.{typesInShape}
 use Rattle.elision.specs.Steps.{selfInShape, stepsInShape}
-use Rattle.types.specs.declared.shapes.Shape.{Shape}
-use Rattle.types.specs.Rows.{methodInShape, methodShape, checksVerdict}
-use Rattle.types.proofs.ShapeLaws.{shape-verdict}
+use Rattle.hir_types.specs.declared.shapes.Shape.{Shape}
+use Rattle.hir_types.specs.Rows.{methodInShape, methodShape, checksVerdict}
+use Rattle.hir_types.proofs.ShapeLaws.{shape-verdict}
 use Rattle.sheet.specs.Text.{Records, lists, wordsOf}
 use Rattle.sheet.specs.declared.reading.Text.{Text}
 use Rattle.sheet.specs.Reading.{sheetOf, textChecks, readText}

@@ -17,8 +17,8 @@ use Rattle.records.proofs.ReadingLaws.{passed}
 use Rattle.ast_lifetimes.specs.Shapes.{namesInShape, boundsInShape}
 use Rattle.ast_lifetimes.specs.Types.{typesInShape, readType}
 use Rattle.elision.specs.Steps.{selfInShape, stepsInShape, readStep}
-use Rattle.types.specs.Rows.{forceInShape, rowsOf, readRow, readKnown, forced, methodInShape}
-use Rattle.types.proofs.ShapeLaws.{four-in-shape}
+use Rattle.hir_types.specs.Rows.{forceInShape, rowsOf, readRow, readKnown, forced, methodInShape}
+use Rattle.hir_types.proofs.ShapeLaws.{four-in-shape}
 use Rattle.records.specs.Reading.{mostWords}
 use Rattle.sheet.specs.Text.{Records, lists}
 use Rattle.sheet.specs.Reading.{allShort, sheetOf, textChecks, readText}

@@ -7,8 +7,8 @@ use Rattle.records.specs.Reading.{inShape, itemsOf, readAll}
 use Rattle.ast_lifetimes.specs.Shapes.{namesInShape, boundsInShape}
 use Rattle.ast_lifetimes.specs.Types.{readType}
 use Rattle.elision.specs.Steps.{readStep}
-use Rattle.types.specs.LoweredTypes.{readLowered, readBare, readOpaque, readSlice, readStruct}
-use Rattle.types.specs.Rows.{methodInShape, readKnown}
+use Rattle.hir_types.specs.LoweredTypes.{readLowered, readBare, readOpaque, readSlice, readStruct}
+use Rattle.hir_types.specs.Rows.{methodInShape, readKnown}
 use Rattle.text.specs.Decimal.{line, following, digits, digitsFor}
 use Rattle.sheet.specs.Text.{lists, text}
 use Rattle.sheet.specs.Reading.{recordsOf, readText, textChecks, sheetOf, sheetIn, linesBehind, ten, readLines}

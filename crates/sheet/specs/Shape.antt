@@ -7,7 +7,7 @@ use Rattle.answers.specs.Refusals.{Check, Outcome, unless}
 use Rattle.ast_lifetimes.specs.Shapes.{namesInShape, boundsInShape}
 use Rattle.ast_lifetimes.specs.Types.{typesInShape}
 use Rattle.elision.specs.Steps.{selfInShape, stepsInShape}
-use Rattle.types.specs.Rows.{methodInShape, shapeChecks}
+use Rattle.hir_types.specs.Rows.{methodInShape, shapeChecks}
 use Rattle.sheet.specs.declared.reading.Text.{Text}
 use Rattle.sheet.specs.Text.{Records, lists, wordsOf}
 use Rattle.sheet.specs.Reading.{sheetOf, textChecks}

@@ -10,7 +10,7 @@ use lib.Seq.{slice}
 use Rattle.answers.specs.declared.Refusal.{Refusal}
 use Rattle.answers.specs.declared.Refusal.the-variants.{Malformed, NoRoom, Unreadable, Retired}
 use Rattle.answers.specs.Refusals.{Outcome, Gives, Refuses}
-use Rattle.types.specs.Rows.{forced}
+use Rattle.hir_types.specs.Rows.{forced}
 use Rattle.records.specs.Reading.{mostWords}
 use Rattle.sheet.specs.Text.{recordCount, Records, lists, wordsOf, text, mostWord, mostBytes, WordsUpTo}
 use Rattle.sheet.specs.Reading.{readText}

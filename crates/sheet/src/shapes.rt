@@ -5,7 +5,7 @@ ghost use Rattle.ast_lifetimes.specs.Shapes.{namesInShape, boundsInShape};
 ghost use Rattle.ast_lifetimes.specs.Types.{typesInShape};
 ghost use Rattle.elision.specs.Steps.{selfInShape, stepsInShape};
 ghost use Rattle.answers.specs.Lent.{held, isAccepted};
-ghost use Rattle.types.specs.Rows.{methodInShape, checksVerdict};
+ghost use Rattle.hir_types.specs.Rows.{methodInShape, checksVerdict};
 ghost use Rattle.sheet.specs.Inner.{recordAt, recordsAt, Laid, recordsVerdict};
 use super::reading::Text;
 use super::record::record_words;
@@ -16,7 +16,7 @@ use ast_lifetimes::names_shape;
 use ast_lifetimes::types_shape;
 use elision::self_shape;
 use elision::steps_shape;
-use types::method_shape;
+use hir_types::method_shape;
 
 // The first refusal of records whose words stand one record after another: 1 over all ten, then 13.
 pub(crate) fn judge_laid(words: &[usize], ends: [usize; Text::RECORDS]) -> Verdict

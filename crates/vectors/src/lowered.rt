@@ -5,6 +5,7 @@ use super::environments;
 use super::print;
 use super::scan;
 use answers::Verdict;
+use hir_types::LifetimeAt;
 use lifetimes::Lifetime;
 use lifetimes::MaybeStatic;
 use lifetimes::set;
@@ -12,7 +13,6 @@ use methods::FieldAnswer;
 use methods::FieldLifetimes;
 use methods::UsedLifetimes;
 use records::End;
-use types::LifetimeAt;
 
 // Kind 10: an environment made by hand, records structs, params, output, force. `check_method`: the refusal's number or
 // 0. Then `used_method_lifetimes`: the refusal's number; or 0 and the set, ascending.
@@ -53,7 +53,7 @@ pub(crate) fn type_lifetimes(words: &[usize], at: usize) -> usize
     ensures { λ r. ⌜ (at ≤ r) × (r ≤ length (now (words .entry))) ⌝ }
 {
     let index = scan::behind_record(words, at);
-    let found = types::type_lifetimes(scan::record(words, at), scan::number(words, index));
+    let found = hir_types::type_lifetimes(scan::record(words, at), scan::number(words, index));
     match found {
         LifetimeAt::Refused(refusal) => print::first(refusal.number()),
         LifetimeAt::Absent => {

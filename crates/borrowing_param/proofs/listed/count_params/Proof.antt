@@ -3,8 +3,8 @@
 use Prim.Native.Nat.{_-_}
 use native.Mathlib.Omega.{arith}
 use lib.ListN.{length}
-use Rattle.types.proofs.LocatedLaws.{type-coded}
-use Rattle.types.proofs.FoundLaws.{code-told}
+use Rattle.hir_types.proofs.LocatedLaws.{type-coded}
+use Rattle.hir_types.proofs.FoundLaws.{code-told}
 use Rattle.borrowing_param.specs.InnerMap.{paramTypes}
 use Rattle.borrowing_param.proofs.ListedLaws.{CountingParams, params-start, params-end, params-more, one-more}
 use Rattle.borrowing_param.proofs.ListedLaws.{brought-few, passing-missing, passing-next}

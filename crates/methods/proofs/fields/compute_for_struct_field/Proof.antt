@@ -5,8 +5,8 @@ use mathlib.Core.Path.{_≡_, refl, subst, _∙_}
 use lib.ListN.{length}
 use native.Mathlib.Omega.{arith}
 use borrow.Author.Needs.{needs}
-use Rattle.types.specs.Rows.{rowsOf, structsInShape}
-use Rattle.types.proofs.ShapeLaws.{counted-shape}
+use Rattle.hir_types.specs.Rows.{rowsOf, structsInShape}
+use Rattle.hir_types.proofs.ShapeLaws.{counted-shape}
 use Rattle.methods.specs.Inner.{FieldIs}
 use Rattle.methods.proofs.FieldsLaws.{compute-torn, compute-other, Indexed, few-rows, path-linked}
 use Rattle.methods.proofs.FieldsLaws.{compute-refused, compute-given}

@@ -2,9 +2,9 @@
 use mathlib.Core.Bool.{false}
 use mathlib.Core.Path.{_≡_, ap}
 use native.Mathlib.Omega.{arith}
-use Rattle.types.proofs.LocatedLaws.{type-located}
+use Rattle.hir_types.proofs.LocatedLaws.{type-located}
 use borrow.Author.Needs.{needs}
-use Rattle.types.proofs.FoundLaws.{found-told, missing-told}
+use Rattle.hir_types.proofs.FoundLaws.{found-told, missing-told}
 use Rattle.methods.specs.Fields.{isStruct}
 use Rattle.methods.specs.declared.fields.Field.the-variants.{Missing}
 use Rattle.methods.specs.Inner.{FieldIs}

@@ -1,9 +1,9 @@
 -- `skip_types` meets its contract. The loop's invariant is `Skips` of proofs/FieldsLaws.antt; the measure is how many
 -- types are left.
 use Prim.Native.Nat.{_-_}
-use Rattle.types.proofs.LocatedLaws.{type-located}
+use Rattle.hir_types.proofs.LocatedLaws.{type-located}
 use borrow.Author.Needs.{needs}
-use Rattle.types.proofs.FoundLaws.{found-told, missing-told}
+use Rattle.hir_types.proofs.FoundLaws.{found-told, missing-told}
 use Rattle.methods.proofs.FieldsLaws.{Skips, skips-start, skips-lost, skips-more, skips-end}
 use Rattle.methods.proofs.fields.skip_types.Statement.{statement}
 use Rattle.methods.proofs.fields.skip_types.Tie as tie

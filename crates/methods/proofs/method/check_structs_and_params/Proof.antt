@@ -1,6 +1,6 @@
 -- `check_structs_and_params` meets its contract: each way out is one law of proofs/MethodLaws.antt.
 use mathlib.Core.Path.{refl}
-use Rattle.types.proofs.ShapeLaws.{counted-shape}
+use Rattle.hir_types.proofs.ShapeLaws.{counted-shape}
 use Rattle.methods.proofs.MethodLaws.{alone-structs, alone-params, alone-rows, alone-fits}
 use borrow.Author.Needs.{needs}
 use Rattle.methods.proofs.method.check_structs_and_params.Statement.{statement}

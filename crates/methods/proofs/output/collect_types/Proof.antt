@@ -1,9 +1,9 @@
 -- `collect_types` meets its contract. The loop's invariant is `Collecting` of proofs/OutputLaws.antt; the measure is
 -- how many types are to be read.
 use Prim.Native.Nat.{_-_}
-use Rattle.types.proofs.LocatedLaws.{type-located}
+use Rattle.hir_types.proofs.LocatedLaws.{type-located}
 use borrow.Author.Needs.{needs}
-use Rattle.types.proofs.FoundLaws.{found-told, missing-told}
+use Rattle.hir_types.proofs.FoundLaws.{found-told, missing-told}
 use Rattle.methods.proofs.OutputLaws.{Collecting, collecting-start, collecting-lost, Reading, path-there}
 use Rattle.methods.proofs.OutputLaws.{collecting-past, collecting-own, collecting-more, collecting-end}
 use Rattle.methods.proofs.output.collect_types.Statement.{statement}

@@ -1,6 +1,6 @@
 -- `visit_param` meets its contract: each way out is a law of proofs/VisitorLaws.antt.
 use mathlib.Core.Path.{ap, sym, _∙_}
-use Rattle.types.proofs.FoundLaws.{found-told, missing-told}
+use Rattle.hir_types.proofs.FoundLaws.{found-told, missing-told}
 use Rattle.borrowing_param.specs.declared.visitor.Visited.{Visited}
 use Rattle.borrowing_param.specs.Visit.{outcome, state}
 use Rattle.borrowing_param.proofs.VisitorLaws.{nowhere-refused, records-refused, records-accepted, parts-there}

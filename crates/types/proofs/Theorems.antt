@@ -1,6 +1,0 @@
--- The main theorem: a term of exactly the type that specs/Theorems.antt states, and nothing else.
-use Rattle.types.specs.Theorems.{LifetimesInOrder}
-use Rattle.types.proofs.LifetimeLaws.{in-order}
-
-pub lifetimes-in-order : LifetimesInOrder
-lifetimes-in-order = in-order
