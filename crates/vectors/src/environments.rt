@@ -85,11 +85,7 @@ pub(crate) fn made_by_hand(words: &[usize], at: usize) -> LifetimeEnv
     let count = scan::number(words, total);
     let pushed = scan::number(words, bound);
     let bounds = bounds::of_pairs(pushed, scan::record(words, pairs));
-    LifetimeEnv {
-        declared,
-        count,
-        bounds,
-    }
+    LifetimeEnv::from_bounds(declared, count, bounds)
 }
 
 // The place behind it.
