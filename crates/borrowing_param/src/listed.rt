@@ -87,8 +87,9 @@ fn map_params(
     ensures { λ r. ⌜ MapsTo (mapOf visitor (paramTypes (held params)) (room answers) (room edges)) r answers edges ⌝ }
 {
     let used = visitor.used;
+    let draws = visitor.draws;
     let mut numbers = [0usize; MAX_PARAMS];
-    let counted = count_params(used, &visitor.draws, params, &mut numbers);
+    let counted = count_params(used, &draws, params, &mut numbers);
     let count = counted.params;
     let total = counted.edges;
     if answers.len() < count {
@@ -98,7 +99,7 @@ fn map_params(
         return unmapped(Refusal::NoRoom);
     }
     copy_words(&numbers, count, answers);
-    let stored = store_listed(used, &visitor.draws, params, edges);
+    let stored = store_listed(used, &draws, params, edges);
     BorrowMap {
         verdict: Verdict::Accepted,
         params: count,

@@ -7,7 +7,7 @@ use borrow.Author.Needs.{needs}
 use Rattle.borrowing_param.proofs.listed.map_params.Statement.{statement}
 use Rattle.borrowing_param.proofs.listed.map_params.Tie as tie
 
-full : (c : tie.Start) → length (c .args .t1 .draws) ≡ 64
+full : (c : tie.Start) → length (c .args .visitor .draws) ≡ 64
 full c = simp length-map at (c .good .0 .1 .1 .1 .0 .1 .0 .1)
 
 count-params-requires : tie.Need-count-params-requires
@@ -21,17 +21,17 @@ slice-aggregate-copy-words : tie.Need-slice-aggregate-copy-words
 slice-aggregate-copy-words c =
     let at-count-params = c .before .before .before in
     let s = at-count-params .before .before .before .before .before .before .before in
-    sym (numbers-size (s .args .t1) (paramTypes (s .args .params .now)) (at-count-params .count-params .ensures) refl)
+    sym (numbers-size (s .args .visitor) (paramTypes (s .args .params .now)) (at-count-params .count-params .ensures) refl)
 
 store-listed-requires : tie.Need-store-listed-requires
 store-listed-requires c κs =
-    let at-if2 = c .before .before .before .before .before .before .before .before in
+    let at-if2 = c .before .before .before .before .before .before .before in
     let at-if1 = at-if2 .before in
     let at-count-params = at-if1 .before in
     let s = at-count-params .before .before .before .before .before .before .before in (
       s .pre,
       full s,
-      listed-room (s .args .t1) (paramTypes (s .args .params .now)) (at-count-params .count-params .ensures)
+      listed-room (s .args .visitor) (paramTypes (s .args .params .now)) (at-count-params .count-params .ensures)
           (at-if2 .if2 .left),
     )
 
