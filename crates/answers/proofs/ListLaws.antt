@@ -4,7 +4,7 @@ use mathlib.Core.Bool.{Bool, true, false, cond, _&&_, _||_, true≢false, and-eq
 use mathlib.Core.Logic.{_↔_, ⊎-elim, ∥∥₁-elim, ∥∥₁-map}
 use mathlib.Core.Path.{_≡_, refl, sym, ap, _∙_}
 use mathlib.Core.List.{List, [], _∷_, _++_, map, List·Memᴰ, List·Memᴰ·head, List·Memᴰ·tail, List·Memᴰ·not-nil}
-use mathlib.Core.List.{List·Memᴰ·cases-cons, Pairwise, Pairwise·nil, Pairwise·cons}
+use mathlib.Core.List.{List·Memᴰ·cases-cons, flatten, Pairwise, Pairwise·nil, Pairwise·cons}
 use native.Mathlib.Decide.{ℕ-discrete}
 use native.Mathlib.Bridge.{le-prop}
 use native.Mathlib.Omega.{arith}
@@ -101,6 +101,12 @@ module _ {A : Type 0} (test : A → Bool) where
           → t || any test (l ++ m) ≡ (t || any test l) || any test m
       go true r = refl
       go false r = r
+
+  -- in lists one after another
+  pub any-flatten : (ls : List (List A)) → any test (flatten ls) ≡ any (any test) ls
+  unfolding any flatten
+  any-flatten [] = refl
+  any-flatten (l ∷ ls) = any-append l (flatten ls) ∙ ap (λ (b : Bool). any test l || b) (any-flatten ls)
 
   pub all-has : (l : List A) → all test l ≡ true → (x : A) → List·Memᴰ x l → test x ≡ true
   unfolding all

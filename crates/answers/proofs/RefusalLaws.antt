@@ -1,7 +1,7 @@
 -- Laws of the checks: the refusal that `unless` gives is the first due, and both ways; what none being due says; what a
 -- verdict says; more checks at the end.
 use mathlib.Core.Bool.{Bool, true, false, cond}
-use mathlib.Core.Path.{_≡_, refl}
+use mathlib.Core.Path.{_≡_, refl, ap, _∙_}
 use mathlib.Core.List.{List, [], _∷_, _++_}
 use Prim.Native.Nat.{ℕ}
 use native.Mathlib.Omega.{arith}
@@ -88,3 +88,12 @@ pub first-behind : {r : Refusal} {checks more : List Check} → NoneDue checks �
 first-behind end f = f
 first-behind (next {c} h n) (here d e) = let z : _≡_ {A = ℕ} 0 1 = cc in absurd (omega arith)
 first-behind (next h n) (later d f) = first-behind n f
+
+-- further checks of which none is due, if none of the first is
+pub further : {A : Type 0} (a : A) (checks more : List Check) → (NoneDue checks → NoneDue more)
+    → unless (checks ++ more) a ≡ unless checks a
+further {A} a checks more f = go (unless checks a) refl
+  where
+    go : (o : Outcome A) → unless checks a ≡ o → unless (checks ++ more) a ≡ o
+    go (Gives b) e = let n = given-due a b checks e in due-given a (none-more (n .0) (f (n .0))) ∙ ap (λ (x : A). Gives x) (n .1)
+    go (Refuses k) e = due-refused a (first-more more (refused-due a k checks e))
