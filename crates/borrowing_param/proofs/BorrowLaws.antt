@@ -24,8 +24,7 @@ use Rattle.sheet.specs.Text.{Records, lists}
 use Rattle.sheet.specs.Reading.{sheetOf}
 use Rattle.sheet.specs.Shape.{sheetChecks}
 use Rattle.sheet.specs.Answer.{recordWords}
-use Rattle.sheet.specs.Inner.{Laid}
-use Rattle.sheet.proofs.LaidLaws.{laid-words, laid-record}
+use Rattle.sheet.proofs.LaidLaws.{Laid, laid-record}
 use Rattle.borrowing_param.specs.declared.borrows.Borrows as answer
 use Rattle.borrowing_param.specs.declared.listed.BorrowMap.{BorrowMap}
 use Rattle.borrowing_param.specs.declared.method.SheetMethod.{SheetMethod}
@@ -245,7 +244,7 @@ module _ (bytes : List ℕ) (used answers edges : Slice) where
 
       found : (i : ℕ) → i < 10 → recordWords scratch (m .ends) i ≡ getD (lists sheet) i []
       unfolding laid
-      found i h = laid-words laid i h ∙ laid-record laid i h
+      found i h = laid-record laid i h
 
       module _ {a b c d : List ℕ} (pa : a ≡ recordWords scratch (m .ends) 6) (pb : b ≡ recordWords scratch (m .ends) 7)
           (pc : c ≡ recordWords scratch (m .ends) 8) (pd : d ≡ recordWords scratch (m .ends) 9) where

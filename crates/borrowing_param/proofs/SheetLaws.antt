@@ -28,16 +28,16 @@ use Rattle.sheet.specs.declared.reading.Text.{Text}
 use Rattle.sheet.specs.Text.{Records, lists, wordsOf}
 use Rattle.sheet.specs.Reading.{sheetOf, textChecks}
 use Rattle.answers.specs.Lists.{endsFrom}
-use Rattle.sheet.specs.Answer.{recordWords}
+use Rattle.sheet.specs.Answer.{recordsAt}
 use Rattle.sheet.specs.Shape as shape
 use Rattle.sheet.specs.Shape.{sheetAnswer, sheetEnds, callChecks}
-use Rattle.sheet.specs.Inner.{recordsAt, Laid, Roomy}
+use Rattle.sheet.specs.Inner.{Roomy}
 use Rattle.sheet.proofs.ReadingLaws.{last-end}
-use Rattle.sheet.proofs.LaidLaws.{laid-words, laid-records, roomy-fits}
+use Rattle.sheet.proofs.LaidLaws.{Laid, laid-records, roomy-fits}
 use Rattle.borrowing_param.specs.declared.method.SheetMethod.{SheetMethod}
 use Rattle.borrowing_param.specs.SheetMethod.{envOfSheet, loweringChecks, sheetRefusals, lowerSheet, methodAnswer}
 use Rattle.borrowing_param.specs.SheetMethod.{methodWords}
-use Rattle.borrowing_param.specs.InnerSheet.{tenRecords, loweredEnv, JudgesSheet}
+use Rattle.borrowing_param.specs.InnerSheet.{loweredEnv, JudgesSheet}
 
 -- the first due is in the one list or in the other
 first-either : {k : Refusal} (checks more : List Check) → FirstDue k (checks ++ more)
@@ -49,27 +49,6 @@ first-either {k} (c ∷ cs) more (later d f) = go (first-either cs more f)
     go : FirstDue k cs ⊎ (NoneDue cs × FirstDue k more) → FirstDue k (c ∷ cs) ⊎ (NoneDue (c ∷ cs) × FirstDue k more)
     go (inl g) = inl (later d g)
     go (inr (n, g)) = inr (next d n, g)
-
--- ten records, found one by one
-pub ten-found : {words ends : List ℕ} → Laid words ends → {a b c d e f g h i j : List ℕ}
-    → a ≡ recordWords words ends 0 → b ≡ recordWords words ends 1 → c ≡ recordWords words ends 2
-    → d ≡ recordWords words ends 3 → e ≡ recordWords words ends 4
-    → f ≡ recordWords words ends 5 → g ≡ recordWords words ends 6 → h ≡ recordWords words ends 7
-    → i ≡ recordWords words ends 8 → j ≡ recordWords words ends 9
-    → tenRecords a b c d e f g h i j ≡ recordsAt words ends
-ten-found l pa pb pc pd pe pf pg ph pi pj =
-    rw (
-      pa ∙ laid-words l 0 (omega arith),
-      pb ∙ laid-words l 1 (omega arith),
-      pc ∙ laid-words l 2 (omega arith),
-      pd ∙ laid-words l 3 (omega arith),
-      pe ∙ laid-words l 4 (omega arith),
-      pf ∙ laid-words l 5 (omega arith),
-      pg ∙ laid-words l 6 (omega arith),
-      ph ∙ laid-words l 7 (omega arith),
-      pi ∙ laid-words l 8 (omega arith),
-      pj ∙ laid-words l 9 (omega arith),
-    )
 
 module _ (bytes : List ℕ) where
   abbrev sheet : Records
@@ -128,7 +107,7 @@ module _ (bytes : List ℕ) where
       unfolding sheetAnswer sheetEnds
       ends-are = ap (λ (x : Text). x .ends) read ∙ ap (resultOr _) (due-given (endsFrom 0 (lists sheet)) call-none)
 
-      pub read-laid : Laid scratch₁ (t .ends)
+      read-laid : Laid scratch₁ (t .ends)
       unfolding shape.sheetWords
       read-laid = record {
         sheet = sheet;
@@ -141,9 +120,8 @@ module _ (bytes : List ℕ) where
       unfolding read-laid
       found = laid-records read-laid
 
-      pub judge-shape : Laid scratch₁ (t .ends) × NoneDue (shape.recordsChecks (recordsAt scratch₁ (t .ends)))
-      judge-shape =
-          (read-laid, subst (λ (r : Records). NoneDue (shape.recordsChecks r)) (sym found) (read-parts read-none .1))
+      pub judge-shape : NoneDue (shape.recordsChecks (recordsAt scratch₁ (t .ends)))
+      judge-shape = subst (λ (r : Records). NoneDue (shape.recordsChecks r)) (sym found) (read-parts read-none .1)
 
       module _ {a : Made} (judged : a ≡ made (envOf 0 0 []) (loweredEnv (recordsAt scratch₁ (t .ends)))) where
         at-sheet : a ≡ made (envOf 0 0 []) (loweredEnv sheet)

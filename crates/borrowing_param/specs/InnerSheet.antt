@@ -14,22 +14,6 @@ use Rattle.borrowing_param.specs.declared.visitor.BorrowingParamVisitor.
 use Rattle.borrowing_param.specs.Borrows.{Borrows, borrowsBy, borrowsRoomChecks}
 use Rattle.borrowing_param.specs.SheetMethod.{envOfSheet, loweringChecks, sheetRefusals, methodAnswer}
 
-abbrev pub tenRecords : List ℕ → List ℕ → List ℕ → List ℕ → List ℕ → List ℕ → List ℕ → List ℕ → List ℕ → List ℕ
-    → Records
-tenRecords names bounds types self steps returns structs params output force =
-    record {
-      names = names;
-      bounds = bounds;
-      types = types;
-      self = self;
-      steps = steps;
-      returns = returns;
-      structs = structs;
-      params = params;
-      output = output;
-      force = force;
-    }
-
 -- a sheet of so few bytes is judged in small scratch
 abbrev pub smallBytes : ℕ
 smallBytes = 1024

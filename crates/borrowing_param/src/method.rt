@@ -9,10 +9,12 @@ ghost use lib.ListN.{length};
 ghost use Rattle.answers.specs.Refusals.{Refuses, NoneDue};
 ghost use Rattle.answers.specs.Lent.{held, room, left, Fills};
 ghost use Rattle.lifetimes.specs.Env.{envOf, made};
+ghost use Rattle.sheet.specs.Text.{tenRecords};
+ghost use Rattle.sheet.specs.Answer.{recordsAt};
 ghost use Rattle.sheet.specs.Shape.{recordsChecks};
-ghost use Rattle.sheet.specs.Inner.{Laid, recordsAt, Roomy};
+ghost use Rattle.sheet.specs.Inner.{Roomy};
 ghost use Rattle.borrowing_param.specs.SheetMethod.{lowerSheet, methodAnswer, methodWords};
-ghost use Rattle.borrowing_param.specs.InnerSheet.{tenRecords, smallBytes, loweredEnv, JudgesSheet};
+ghost use Rattle.borrowing_param.specs.InnerSheet.{smallBytes, loweredEnv, JudgesSheet};
 use answers::Listed;
 use answers::Refusal;
 use answers::Verdict;
@@ -109,7 +111,7 @@ pub(crate) fn judge_sheet(sheet: &[u8], scratch: &mut [usize]) -> SheetMethod
 // The environment of records that were read, whose words stand one record after another, or the first refusal due on
 // them.
 fn lower_laid(words: &[usize], ends: [usize; Text::RECORDS]) -> Made
-    requires { ⌜ Laid (now words) ends × NoneDue (recordsChecks (recordsAt (now words) ends)) ⌝ }
+    requires { ⌜ NoneDue (recordsChecks (recordsAt (now words) ends)) ⌝ }
     ensures { λ r. ⌜ r ≡ made (envOf 0 0 []) (loweredEnv (recordsAt (held words) ends)) ⌝ }
 {
     lower_records(

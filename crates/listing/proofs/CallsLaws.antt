@@ -26,7 +26,8 @@ use Rattle.sheet.specs.Text.{Records}
 use Rattle.sheet.specs.Reading.{sheetOf}
 use Rattle.sheet.specs.Shape as shape
 use Rattle.sheet.specs.Shape.{sheetAnswer}
-use Rattle.sheet.specs.Inner.{recordsAt, Roomy}
+use Rattle.sheet.specs.Answer.{recordsAt}
+use Rattle.sheet.specs.Inner.{Roomy}
 use Rattle.borrowing_param.specs.SheetMethod.{loweringChecks, sheetRefusals}
 use Rattle.borrowing_param.specs.Borrows.{sheetBorrows}
 use Rattle.borrowing_param.proofs.SheetLaws.{text-first, read-none, read-parts, found}
@@ -39,7 +40,8 @@ use Rattle.text.specs.Printing.{Prints}
 use Rattle.text.proofs.PrintLaws.{prints-length}
 use Rattle.listing.specs.InnerListing.{listedSheet, listedRecords, StandsInFront, ListsTo, ListsWithin, Ample}
 use Rattle.listing.specs.InnerListing.{loweredRoom, listsRoom, edgesRoom}
-use Rattle.listing.proofs.RoomLaws.{line-short, listing-short, lineBytes, two-digits}
+use Rattle.text.proofs.LineLaws.{line-short, lineBytes}
+use Rattle.listing.proofs.RoomLaws.{listing-short, two-digits}
 
 module _ (bytes : List ℕ) where
   abbrev sheet : Records

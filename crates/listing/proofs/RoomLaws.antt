@@ -1,9 +1,9 @@
 -- How long a listing can be: line by line, a line by how many digits each of its columns has at most. The sum is
 -- `listingBytes`.
-use Prim.Native.Nat.{ℕ, zero, suc, _+_, _*_, _≤_, _<_}
+use Prim.Native.Nat.{ℕ, suc, _+_, _*_, _≤_, _<_}
 use mathlib.Core.Bool.{true}
 use mathlib.Core.Path.{_≡_, refl}
-use mathlib.Core.List.{List, [], _∷_, _++_, flatMap, List·Memᴰ, List·Memᴰ·head, List·Memᴰ·tail}
+use mathlib.Core.List.{List, [], _∷_, _++_, List·Memᴰ, List·Memᴰ·head, List·Memᴰ·tail}
 use native.Mathlib.Omega.{arith}
 use lib.ListN.{length, getD, replicate, length-append, length-map}
 use borrow.Author.Tests.{ltb-false, not-false}
@@ -26,10 +26,11 @@ use Rattle.elision.specs.Rfc as rfc
 use Rattle.elision.specs.Lowering.{words}
 use Rattle.elision.proofs.SmallLaws.{AllSmall}
 use Rattle.elision.proofs.SizeLaws.{lowered-self, lowered-steps, lowered-returns, accepted-small}
-use Rattle.text.specs.Decimal.{digits, following, line}
+use Rattle.text.specs.Decimal.{digits, line}
 use Rattle.sheet.specs.Text.{Records}
 use Rattle.sheet.specs.Shape.{sheetInShape, recordsChecks}
 use Rattle.text.proofs.DigitLaws.{digits-length}
+use Rattle.text.proofs.LineLaws.{Under, lineBytes, line-short, even-line, lines-short}
 use Rattle.sheet.proofs.Theorems.{shapes-are-short}
 use Rattle.borrowing_param.specs.declared.visitor.LifetimeEdge.{LifetimeEdge}
 use Rattle.borrowing_param.specs.Edges.{edgeWords}
@@ -46,36 +47,6 @@ use Rattle.listing.specs.Listing.{edgeLine, edgeLines, listingOf, mostEd
 use Rattle.listing.specs.InnerListing.{loweredRoom}
 
 -- ---- lines
-
--- words under columns: none has more digits than its column
-abbrev pub Under : List ℕ → List ℕ → Type 0
-Under [] [] = Unit {0}
-Under [] (w ∷ ws) = ⊥
-Under (d ∷ ds) [] = ⊥
-Under (d ∷ ds) (w ∷ ws) = (length (digits w) ≤ d) × Under ds ws
-
--- so many bytes their line has at most: the digits, a space between, the line's end
-abbrev followingBytes : List ℕ → ℕ
-followingBytes [] = 1
-followingBytes (d ∷ ds) = 1 + d + followingBytes ds
-
-abbrev pub lineBytes : List ℕ → ℕ
-lineBytes [] = 1
-lineBytes (d ∷ ds) = d + followingBytes ds
-
-following-short : (ds ws : List ℕ) → Under ds ws → length (following ws) ≤ followingBytes ds
-unfolding following
-following-short [] [] u = omega arith
-following-short [] (w ∷ ws) u = absurd u
-following-short (d ∷ ds) [] u = absurd u
-following-short (d ∷ ds) (w ∷ ws) u = rw length-append (omega (arith, u .0, following-short ds ws (u .1)))
-
-pub line-short : (ds ws : List ℕ) → Under ds ws → length (line ws) ≤ lineBytes ds
-unfolding line
-line-short [] [] u = omega arith
-line-short [] (w ∷ ws) u = absurd u
-line-short (d ∷ ds) [] u = absurd u
-line-short (d ∷ ds) (w ∷ ws) u = rw length-append (omega (arith, u .0, following-short ds ws (u .1)))
 
 pub one-digit : {w : ℕ} → w < 10 → length (digits w) ≤ 1
 one-digit {w} h = digits-length 0 w (omega arith)
@@ -95,26 +66,8 @@ two-each : (ws : List ℕ) → Below 100 ws → Under (replicate (length ws) 2) 
 two-each [] b = tt
 two-each (w ∷ ws) b = (two-digits (b .0), two-each ws (b .1))
 
-following-even : (n : ℕ) → followingBytes (replicate n 2) ≡ wordsBytes n
-following-even zero = refl
-following-even (suc n) = omega (arith, following-even n)
-
-line-even : (n : ℕ) → lineBytes (replicate n 2) ≤ wordsBytes n
-line-even zero = omega arith
-line-even (suc n) = omega (arith, following-even n)
-
 pub words-short : (ws : List ℕ) → Below 100 ws → length (line ws) ≤ wordsBytes (length ws)
-words-short ws b = omega (arith, line-short (replicate (length ws) 2) ws (two-each ws b), line-even (length ws))
-
--- a line for each of some things, each of at most so many bytes
-pub lines-short : {A : Type 0} (f : A → List ℕ) (n : ℕ) (l : List A) → ((a : A) → List·Memᴰ a l → length (f a) ≤ n)
-    → length (flatMap f l) ≤ n * length l
-unfolding flatMap
-lines-short f n [] h = omega arith
-lines-short f n (a ∷ l) h =
-    let first = h a (List·Memᴰ·head refl) in
-    let rest = lines-short f n l (λ x m. h x (List·Memᴰ·tail m)) in
-    rw length-append (omega (arith, first, rest))
+words-short ws b = omega (arith, line-short (replicate (length ws) 2) ws (two-each ws b), even-line 2 (length ws))
 
 pub below-from : (n : ℕ) (ws : List ℕ) → ((w : ℕ) → List·Memᴰ w ws → w < n) → Below n ws
 below-from n [] h = tt

@@ -49,10 +49,11 @@ use Rattle.listing.specs.Listing.{edgeLines, mostEdges}
 use Rattle.text.specs.Printing.{Prints}
 use Rattle.text.proofs.PrintLaws.{prints-length}
 use Rattle.listing.specs.InnerSections.{listLines, cutFrom, Ascend}
-use Rattle.listing.specs.InnerListing.{ListsTo, ListsWithin, methodBorrows, methodListing, listedMethod, Listable}
+use Rattle.listing.specs.InnerListing.{ListsWithin, methodBorrows, methodListing, listedMethod, Listable}
 use Rattle.listing.specs.InnerListing.{sections, edgesOverflow, listsRoom, edgesRoom}
 use Rattle.listing.proofs.ListingLaws.{cut-lists, ends-ascend, numbered-map}
-use Rattle.listing.proofs.RoomLaws.{lines-short, lifetimes-few}
+use Rattle.text.proofs.LineLaws.{lines-short}
+use Rattle.listing.proofs.RoomLaws.{lifetimes-few}
 
 flatten-map : {A : Type 0} (f : A → List ℕ) (l : List A) → flatten (map f l) ≡ flatMap f l
 unfolding flatten flatMap

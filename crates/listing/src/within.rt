@@ -4,9 +4,10 @@ ghost use mathlib.Core.Path.{_≡_};
 ghost use lib.ListN.{length};
 ghost use Rattle.answers.specs.Refusals.{NoneDue};
 ghost use Rattle.answers.specs.Lent.{held, room, left};
+ghost use Rattle.sheet.specs.Text.{tenRecords};
+ghost use Rattle.sheet.specs.Answer.{recordsAt};
 ghost use Rattle.sheet.specs.Shape.{recordsChecks};
-ghost use Rattle.sheet.specs.Inner.{Laid, recordsAt, Roomy};
-ghost use Rattle.borrowing_param.specs.InnerSheet.{tenRecords};
+ghost use Rattle.sheet.specs.Inner.{Roomy};
 ghost use Rattle.listing.specs.InnerListing.{listedSheet, listedRecords, Ample, ListsWithin, listedMethod};
 ghost use Rattle.listing.specs.InnerListing.{Listable, edgesOverflow, listsRoom, edgesRoom};
 use super::whole::put_listing;
@@ -80,8 +81,7 @@ fn list_laid(
     edges: &mut [usize],
     out: &mut [u8],
 ) -> Within
-    requires { ⌜ Laid (now words) ends × NoneDue (recordsChecks (recordsAt (now words) ends))
-        × (length (now edges) ≤ edgesRoom) ⌝ }
+    requires { ⌜ NoneDue (recordsChecks (recordsAt (now words) ends)) × (length (now edges) ≤ edgesRoom) ⌝ }
     ensures { λ r. ⌜ ListsWithin (listedRecords (recordsAt (held words) ends))
         (Ample (room given) (room taken) (room lists) (room edges)) (held out) r (left out) ⌝ }
 {

@@ -2,7 +2,7 @@
 use Prim.Native.Nat.{ℕ, zero, suc, _+_, _*_, _-_, _≤_, _<_}
 use mathlib.Core.Bool.{Bool, true, false, _&&_, true≢false, false≢true}
 use mathlib.Core.Path.{_≡_, refl, sym, ap, _∙_}
-use mathlib.Core.List.{List, [], _∷_, flatten}
+use mathlib.Core.List.{List, [], _∷_, _++_, flatten}
 use native.Mathlib.Nat.{sub-zero}
 use native.Mathlib.Omega.{arith}
 use borrow.Author.Tests.{lt-ltb, le-ltb, le-leb, lt-leb}
@@ -29,13 +29,13 @@ use Rattle.elision.specs.Steps.{selfInShape, stepsInShape}
 use Rattle.hir_types.specs.declared.shapes.Shape.{Shape}
 use Rattle.hir_types.specs.Rows.{methodInShape, methodShape, checksVerdict}
 use Rattle.hir_types.proofs.ShapeLaws.{shape-verdict}
-use Rattle.sheet.specs.Text.{Records, lists, wordsOf}
+use Rattle.sheet.specs.Text.{Records, tenRecords, lists, wordsOf}
 use Rattle.sheet.specs.declared.reading.Text.{Text}
 use Rattle.sheet.specs.Reading.{sheetOf, textChecks, readText}
 use Rattle.answers.specs.Lists.{endsFrom}
-use Rattle.sheet.specs.Answer.{textAnswer, startOf, recordWords, measured}
-use Rattle.sheet.specs.Shape.{sheetInShape, sheetAnswer, sheetWords}
-use Rattle.sheet.specs.Inner.{recordAt, recordsAt, Laid, recordsVerdict, Counted, Roomy}
+use Rattle.sheet.specs.Answer.{textAnswer, startOf, recordWords, recordsAt, measured}
+use Rattle.sheet.specs.Shape.{sheetInShape, recordsVerdict, sheetAnswer, sheetWords}
+use Rattle.sheet.specs.Inner.{Counted, Roomy}
 use Rattle.sheet.proofs.ReadingLaws.{last-end, list-between, none-due, counted, sheet-short, sheet-wrote}
 use Rattle.sheet.proofs.Theorems.{room-for-any-sheet, words-take-two-bytes}
 
@@ -95,6 +95,13 @@ module _ (words ends : List ℕ) (i : ℕ) where
           rw (is, lt-ltb i 10 h, in-order, le-leb (getD ends i 0) (length words) m)
           (part-is (startOf ends i) (getD ends i 0) words (omega (arith, is)))
 
+-- the words of some records stand one record after another, and these are their ends
+pub record Laid (words ends : List ℕ) : Type 0 where
+  pub sheet : Records
+  pub rest : List ℕ
+  pub stored : words ≡ wordsOf sheet ++ rest
+  pub placed : ends ≡ endsFrom 0 (lists sheet)
+
 module _ {words ends : List ℕ} (l : Laid words ends) where
   pub laid-after : (i : ℕ) → i < 10 → getD (0 ∷ ends) i 0 ≤ getD ends i 0
   laid-after i h = rw (l .placed) (end-after 0 (lists (l .sheet)) i h)
@@ -102,18 +109,16 @@ module _ {words ends : List ℕ} (l : Laid words ends) where
   pub laid-inside : (i : ℕ) → i < 10 → getD ends i 0 ≤ length words
   laid-inside i h = rw (l .placed, l .stored, length-append) (omega (arith, end-inside 0 (lists (l .sheet)) i h))
 
-  -- the public call finds it there
-  pub laid-words : (i : ℕ) → i < 10 → recordWords words ends i ≡ recordAt words ends i
+  -- each is found there by its ends
+  pub laid-record : (i : ℕ) → i < 10 → recordWords words ends i ≡ getD (lists (l .sheet)) i []
   unfolding recordWords
-  laid-words i h =
+  laid-record i h =
       rw (
         lt-ltb i 10 h,
         le-leb (startOf ends i) (getD ends i 0) (laid-after i h),
         le-leb (getD ends i 0) (length words) (laid-inside i h),
       )
-
-  pub laid-record : (i : ℕ) → i < 10 → recordAt words ends i ≡ getD (lists (l .sheet)) i []
-  laid-record i h = rw (l .placed, l .stored) (list-between [] 0 (lists (l .sheet)) (l .rest) i refl h)
+      (rw (l .placed, l .stored) (list-between [] 0 (lists (l .sheet)) (l .rest) i refl h))
 
   pub laid-records : recordsAt words ends ≡ l .sheet
   laid-records =
@@ -129,6 +134,15 @@ module _ {words ends : List ℕ} (l : Laid words ends) where
         laid-record 8 (omega arith),
         laid-record 9 (omega arith),
       )
+
+-- ten records, found one by one
+pub ten-found : (words ends : List ℕ) {a b c d e f g h i j : List ℕ}
+    → a ≡ recordWords words ends 0 → b ≡ recordWords words ends 1 → c ≡ recordWords words ends 2
+    → d ≡ recordWords words ends 3 → e ≡ recordWords words ends 4
+    → f ≡ recordWords words ends 5 → g ≡ recordWords words ends 6 → h ≡ recordWords words ends 7
+    → i ≡ recordWords words ends 8 → j ≡ recordWords words ends 9
+    → tenRecords a b c d e f g h i j ≡ recordsAt words ends
+ten-found words ends pa pb pc pd pe pf pg ph pi pj = rw (pa, pb, pc, pd, pe, pf, pg, ph, pi, pj)
 
 -- an accepted text in scratch
 module _ {bytes ends : List ℕ} (c : Counted bytes ends) where
@@ -210,19 +224,15 @@ accepted-shape : (t : Bool) → isAccepted (shapeVerdict t) ≡ t
 accepted-shape true = refl
 accepted-shape false = refl
 
-pub shape-is : (shape : List ℕ → Bool) {l m : List ℕ} {v : Verdict} {t : Bool} → m ≡ l → v ≡ shapeVerdict (shape m)
+pub shape-is : (shape : List ℕ → Bool) (l : List ℕ) {v : Verdict} {t : Bool} → v ≡ shapeVerdict (shape l)
     → t ≡ isAccepted v → t ≡ shape l
-shape-is shape {l} e f g = g ∙ ap isAccepted (f ∙ ap (λ (x : List ℕ). shapeVerdict (shape x)) e) ∙ accepted-shape (shape l)
+shape-is shape l f g = g ∙ ap isAccepted f ∙ accepted-shape (shape l)
 
 -- all of three
 pub all-three : {a b c t u w r s : Bool} → t ≡ a → u ≡ b → w ≡ c → s ≡ u && w → r ≡ t && s → r ≡ a && (b && c)
 all-three e f g h k = k ∙ rw (h, e, f, g)
 
--- the first refusals of a method's four records, and of all ten
-pub method-is : {a b c d a′ b′ c′ d′ : List ℕ} {s : Shape} → a′ ≡ a → b′ ≡ b → c′ ≡ c → d′ ≡ d
-    → s ≡ methodShape a′ b′ c′ d′ → s .verdict ≡ checksVerdict (methodInShape a b c d) d
-method-is {a} {b} {c} {d} e f g h k = rw (k, e, f, g, h) (shape-verdict a b c d)
-
+-- the first refusals of all ten, from those of a method's four
 module _ (r : Records) {t u x : Bool}
     (e : t ≡ namesInShape (r .names) && (boundsInShape (r .bounds) && typesInShape (r .types)))
     (f : u ≡ selfInShape (r .self) && (stepsInShape (r .steps) && stepsInShape (r .returns))) (g : x ≡ t && u) where
@@ -242,8 +252,11 @@ module _ (r : Records) {t u x : Bool}
       go true false k = refl
       go false b k = refl
 
-  pub sheet-judged : x ≡ true → {v : Verdict} → v ≡ checksVerdict method (r .force) → v ≡ recordsVerdict r
-  sheet-judged h k = k ∙ ap (λ (b : Bool). checksVerdict b (r .force)) (sym (of-parts ∙ go t u (sym g ∙ h)))
+  pub sheet-judged : x ≡ true → {s : Shape} → s ≡ methodShape (r .structs) (r .params) (r .output) (r .force)
+      → s .verdict ≡ recordsVerdict r
+  sheet-judged h k =
+      ap (λ (y : Shape). y .verdict) k ∙ shape-verdict (r .structs) (r .params) (r .output) (r .force)
+      ∙ ap (λ (b : Bool). checksVerdict b (r .force)) (sym (of-parts ∙ go t u (sym g ∙ h)))
     where
       go : (a b : Bool) → (a && b) ≡ true → (a && (b && method)) ≡ method
       go true true k = refl

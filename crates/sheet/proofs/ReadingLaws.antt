@@ -30,8 +30,8 @@ use Rattle.sheet.specs.Reading.{stripPrefix, LineStart, recordsOf, ten, 
 use Rattle.sheet.specs.Reading.{allShort, textChecks}
 use Rattle.answers.specs.Lists.{endsFrom}
 use Rattle.sheet.specs.Answer.{textAnswer, measured, withRoom, readWords, readEnds, readAnswer}
-use Rattle.sheet.specs.Shape.{recordsChecks, sheetChecks, sheetWords, sheetEnds, sheetAnswer}
-use Rattle.sheet.specs.Inner.{readFrom, TenAt, LinesRead, recordsVerdict, Counted}
+use Rattle.sheet.specs.Shape.{recordsChecks, recordsVerdict, sheetChecks, sheetWords, sheetEnds, sheetAnswer}
+use Rattle.sheet.specs.Inner.{readFrom, TenAt, LinesRead, Counted}
 use Rattle.sheet.specs.Theorems.{CallGives}
 use Rattle.sheet.proofs.TextLaws.{read-lines}
 use Rattle.sheet.proofs.SheetLaws.{lists-of-ten, in-sheet}

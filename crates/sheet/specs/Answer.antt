@@ -10,7 +10,7 @@ use Rattle.answers.specs.Refusals.{Check, Outcome, unless}
 use Rattle.answers.specs.Lent.{verdictOf, resultOr, roomCheck}
 use Rattle.answers.specs.Lists.{endsFrom}
 use Rattle.sheet.specs.declared.reading.Text.{Text}
-use Rattle.sheet.specs.Text.{recordCount, Records, lists, wordsOf}
+use Rattle.sheet.specs.Text.{recordCount, Records, tenRecords, lists, wordsOf}
 use Rattle.sheet.specs.Reading.{sheetOf, textChecks}
 
 -- the words of the record with a number: from where the one before ends to where it ends. None where there is no such
@@ -23,6 +23,13 @@ recordWords words ends i =
     cond (ltb i recordCount && (leb (startOf ends i) (getD ends i 0) && leb (getD ends i 0) (length words)))
     (slice (startOf ends i) (getD ends i 0) words)
     []
+
+-- the ten records that stand so in a slice
+abbrev pub recordsAt : List ℕ → List ℕ → Records
+recordsAt words ends =
+    tenRecords (recordWords words ends 0) (recordWords words ends 1) (recordWords words ends 2)
+    (recordWords words ends 3) (recordWords words ends 4) (recordWords words ends 5) (recordWords words ends 6)
+    (recordWords words ends 7) (recordWords words ends 8) (recordWords words ends 9)
 
 -- an answer from the ends of the records; beside a refusal all ends are 0
 abbrev pub textAnswer : Outcome (List ℕ) → Text

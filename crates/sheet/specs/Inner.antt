@@ -1,25 +1,22 @@
 -- Predicates that only private contracts cite: what reading a line and ten lines from a place on says of reading
--- the rest; records one after another.
+-- the rest; room for the words of any sheet.
 use Prim.Native.Nat.{ℕ, _+_, _*_, _≤_, _<_}
 use mathlib.Core.Bool.{Bool, true, false}
 use mathlib.Core.Path.{_≡_}
 use mathlib.Core.Logic.{_⊎_}
-use mathlib.Core.List.{List, _∷_, _++_, flatten}
+use mathlib.Core.List.{List, flatten}
 use mathlib.Core.Option.{Option, none, some}
-use lib.ListN.{length, getD, drop}
-use lib.Seq.{sets, slice}
-use Rattle.answers.specs.declared.Verdict.{Verdict}
+use lib.ListN.{length, drop}
+use lib.Seq.{sets}
 use Rattle.answers.specs.Refusals.{NoneDue}
-use Rattle.answers.specs.Lent as answers
 use Rattle.sheet.specs.declared.lines.Read.{Read}
 use Rattle.sheet.specs.declared.lines.Read.the-variants as read
 use Rattle.sheet.specs.declared.lines.Judged.{Judged}
 use Rattle.sheet.specs.declared.lines.Judged.the-variants as judged
 use Rattle.records.specs.Reading.{mostWords}
-use Rattle.sheet.specs.Text.{recordCount, Records, lists, wordsOf, mostWord}
+use Rattle.sheet.specs.Text.{recordCount, lists, mostWord}
 use Rattle.sheet.specs.Reading.{Place, LineStart, lineBefore, readLines, ten}
 use Rattle.sheet.specs.Reading.{allShort, sheetOf, textChecks}
-use Rattle.sheet.specs.Shape.{recordsChecks}
 use Rattle.answers.specs.Lists.{endsFrom}
 
 -- reading the bytes from an index on
@@ -61,36 +58,6 @@ abbrev pub LinesRead : List ℕ → ℕ → List ℕ → List ℕ → List ℕ �
 LinesRead bytes from words words′ ends judged.Unreadable = ten (readFrom LineStart bytes from) ≡ none
 LinesRead bytes from words words′ ends judged.TooLong = TenAt bytes from words words′ ends false
 LinesRead bytes from words words′ ends judged.Good = TenAt bytes from words words′ ends true
-
--- the words of one record and of all, by where they end
-abbrev pub recordAt : List ℕ → List ℕ → ℕ → List ℕ
-recordAt words ends i = slice (getD (0 ∷ ends) i 0) (getD ends i 0) words
-
-abbrev pub recordsAt : List ℕ → List ℕ → Records
-recordsAt words ends =
-    record {
-      names = recordAt words ends 0;
-      bounds = recordAt words ends 1;
-      types = recordAt words ends 2;
-      self = recordAt words ends 3;
-      steps = recordAt words ends 4;
-      returns = recordAt words ends 5;
-      structs = recordAt words ends 6;
-      params = recordAt words ends 7;
-      output = recordAt words ends 8;
-      force = recordAt words ends 9;
-    }
-
--- the words of some records stand one record after another, and these are their ends
-pub record Laid (words ends : List ℕ) : Type 0 where
-  pub sheet : Records
-  pub rest : List ℕ
-  pub stored : words ≡ wordsOf sheet ++ rest
-  pub placed : ends ≡ endsFrom 0 (lists sheet)
-
--- the verdict of the first refusals of ten records
-abbrev pub recordsVerdict : Records → Verdict
-recordsVerdict r = answers.judged (recordsChecks r)
 
 -- an accepted text, and where its records end
 pub record Counted (bytes ends : List ℕ) : Type 0 where

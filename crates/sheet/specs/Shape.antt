@@ -3,7 +3,9 @@
 use Prim.Native.Nat.{ℕ}
 use mathlib.Core.Bool.{Bool, _&&_}
 use mathlib.Core.List.{List, _++_}
+use Rattle.answers.specs.declared.Verdict.{Verdict}
 use Rattle.answers.specs.Refusals.{Check, Outcome, unless}
+use Rattle.answers.specs.Lent.{judged}
 use Rattle.ast_lifetimes.specs.Shapes.{namesInShape, boundsInShape}
 use Rattle.ast_lifetimes.specs.Types.{typesInShape}
 use Rattle.elision.specs.Steps.{selfInShape, stepsInShape}
@@ -25,6 +27,10 @@ sheetInShape r =
 -- The first refusals of ten records: 1 over all of them, then 13
 abbrev pub recordsChecks : Records → List Check
 recordsChecks r = shapeChecks (sheetInShape r) (r .force)
+
+-- the verdict of these alone
+abbrev pub recordsVerdict : Records → Verdict
+recordsVerdict r = judged (recordsChecks r)
 
 -- The checks of the reader, in the papers' order: 10; 1 over all records, for one above 1,024 words or one that is not
 -- in shape; 13. The reader checks no further, and the refusals of a sheet begin with this list

@@ -3,6 +3,7 @@
 -- record is an empty line") is `line` of the crate text.
 use Prim.Native.Nat.{ℕ, _≤_}
 use mathlib.Core.List.{List, [], _∷_, _++_, flatMap, flatten, List·Memᴰ}
+use Rattle.answers.specs.Lent.{Slice, held}
 use Rattle.text.specs.Decimal.{newline, space, line}
 
 -- "One line of names": names bounds types self steps returns structs params output force
@@ -27,6 +28,28 @@ pub record Records : Type 0 where
   pub params : List ℕ
   pub output : List ℕ
   pub force : List ℕ
+
+-- ten lists as the ten records, and what ten lent slices hold
+abbrev pub tenRecords : List ℕ → List ℕ → List ℕ → List ℕ → List ℕ → List ℕ → List ℕ → List ℕ → List ℕ → List ℕ
+    → Records
+tenRecords names bounds types self steps returns structs params output force =
+    record {
+      names = names;
+      bounds = bounds;
+      types = types;
+      self = self;
+      steps = steps;
+      returns = returns;
+      structs = structs;
+      params = params;
+      output = output;
+      force = force;
+    }
+
+abbrev pub recordsIn : Slice → Slice → Slice → Slice → Slice → Slice → Slice → Slice → Slice → Slice → Records
+recordsIn names bounds types self steps returns structs params output force =
+    tenRecords (held names) (held bounds) (held types) (held self) (held steps) (held returns) (held structs)
+    (held params) (held output) (held force)
 
 -- "ten lines of values in that order"
 abbrev pub lists : Records → List (List ℕ)

@@ -15,4 +15,5 @@ mod sheet;
 pub use reading::Text;
 pub use reading::read_text;
 pub use record::record_words;
+pub use shapes::sheet_shape;
 pub use sheet::read_sheet;

@@ -16,9 +16,6 @@ use records::End;
 use text::Found;
 use text::read_number;
 
-// No word is above this.
-const MAX_WORD: usize = 65535;
-
 // The place behind a line, and how many words are read so far; or none.
 enum Read {
     Words { at: usize, count: usize },
@@ -50,7 +47,7 @@ fn line(bytes: &[u8], from: usize, words: &mut [usize], to: usize) -> Read
         return Read::Words { at: i, count };
     }
     loop {
-        let found = read_number(bytes, i, MAX_WORD);
+        let found = read_number(bytes, i, Text::MAX_WORD);
         let Found::Number { value, at } = found else {
             return Read::Nothing;
         };

@@ -35,6 +35,9 @@ impl Text {
 
     pub const LARGE: usize = 4096;
 
+    // No word is above this.
+    pub const MAX_WORD: usize = 65535;
+
     // How many words its records may have together.
     pub const MAX_WORDS: usize = Text::RECORDS * End::MAX_WORDS;
 

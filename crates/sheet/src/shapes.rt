@@ -5,8 +5,9 @@ ghost use Rattle.ast_lifetimes.specs.Shapes.{namesInShape, boundsInShape};
 ghost use Rattle.ast_lifetimes.specs.Types.{typesInShape};
 ghost use Rattle.elision.specs.Steps.{selfInShape, stepsInShape};
 ghost use Rattle.answers.specs.Lent.{held, isAccepted};
-ghost use Rattle.hir_types.specs.Rows.{methodInShape, checksVerdict};
-ghost use Rattle.sheet.specs.Inner.{recordAt, recordsAt, Laid, recordsVerdict};
+ghost use Rattle.sheet.specs.Text.{recordsIn};
+ghost use Rattle.sheet.specs.Answer.{recordsAt};
+ghost use Rattle.sheet.specs.Shape.{recordsVerdict};
 use super::reading::Text;
 use super::record::record_words;
 use answers::Refusal;
@@ -18,55 +19,66 @@ use elision::self_shape;
 use elision::steps_shape;
 use hir_types::method_shape;
 
-// The first refusal of records whose words stand one record after another: 1 over all ten, then 13.
-pub(crate) fn judge_laid(words: &[usize], ends: [usize; Text::RECORDS]) -> Verdict
-    requires { ⌜ Laid (now words) ends ⌝ }
-    ensures { λ r. ⌜ r ≡ recordsVerdict (recordsAt (held words) ends) ⌝ }
+// The first refusal of ten records: 1 over all of them, for one that is not in shape (or has more than 1,024 words),
+// then 13 for 1 in `force`. Reads no word of a record that is too long, and each of the others once.
+pub fn sheet_shape(
+    names: &[usize],
+    bounds: &[usize],
+    types: &[usize],
+    own: &[usize],
+    steps: &[usize],
+    returns: &[usize],
+    structs: &[usize],
+    params: &[usize],
+    output: &[usize],
+    force: &[usize],
+) -> Verdict
+    ensures answer { λ r. ⌜ r ≡ recordsVerdict
+        (recordsIn names bounds types own steps returns structs params output force) ⌝ }
 {
-    let environment = environment_in_shape(words, ends);
-    let elision = elision_in_shape(words, ends);
+    let environment = environment_in_shape(names, bounds, types);
+    let elision = elision_in_shape(own, steps, returns);
     if !both(environment, elision) {
         return Verdict::Refused(Refusal::Malformed);
     }
-    judge_method(words, ends)
+    let shape = method_shape(structs, params, output, force);
+    shape.verdict
 }
 
-fn environment_in_shape(words: &[usize], ends: [usize; Text::RECORDS]) -> bool
-    requires { ⌜ Laid (now words) ends ⌝ }
-    ensures { λ r. ⌜ r ≡ namesInShape (recordAt (held words) ends 0)
-        && (boundsInShape (recordAt (held words) ends 1) && typesInShape (recordAt (held words) ends 2)) ⌝ }
+// The same of records whose words stand one record after another.
+pub(crate) fn judge_laid(words: &[usize], ends: [usize; Text::RECORDS]) -> Verdict
+    ensures { λ r. ⌜ r ≡ recordsVerdict (recordsAt (held words) ends) ⌝ }
 {
-    let names = accepted(names_shape(record_words(words, ends, Text::NAMES)));
-    let bounds = accepted(bounds_shape(record_words(words, ends, Text::BOUNDS)));
-    let types = accepted(types_shape(record_words(words, ends, Text::TYPES)));
-    both(names, both(bounds, types))
-}
-
-fn elision_in_shape(words: &[usize], ends: [usize; Text::RECORDS]) -> bool
-    requires { ⌜ Laid (now words) ends ⌝ }
-    ensures { λ r. ⌜ r ≡ selfInShape (recordAt (held words) ends 3)
-        && (stepsInShape (recordAt (held words) ends 4) && stepsInShape (recordAt (held words) ends 5)) ⌝ }
-{
-    let own = accepted(self_shape(record_words(words, ends, Text::SELF)));
-    let steps = accepted(steps_shape(record_words(words, ends, Text::STEPS)));
-    let returns = accepted(steps_shape(record_words(words, ends, Text::RETURNS)));
-    both(own, both(steps, returns))
-}
-
-// The first refusal of the four records of the method.
-fn judge_method(words: &[usize], ends: [usize; Text::RECORDS]) -> Verdict
-    requires { ⌜ Laid (now words) ends ⌝ }
-    ensures { λ r. ⌜ r ≡ checksVerdict
-        (methodInShape (recordAt (held words) ends 6) (recordAt (held words) ends 7)
-        (recordAt (held words) ends 8) (recordAt (held words) ends 9)) (recordAt (held words) ends 9) ⌝ }
-{
-    let shape = method_shape(
+    sheet_shape(
+        record_words(words, ends, Text::NAMES),
+        record_words(words, ends, Text::BOUNDS),
+        record_words(words, ends, Text::TYPES),
+        record_words(words, ends, Text::SELF),
+        record_words(words, ends, Text::STEPS),
+        record_words(words, ends, Text::RETURNS),
         record_words(words, ends, Text::STRUCTS),
         record_words(words, ends, Text::PARAMS),
         record_words(words, ends, Text::OUTPUT),
         record_words(words, ends, Text::FORCE),
-    );
-    shape.verdict
+    )
+}
+
+fn environment_in_shape(names: &[usize], bounds: &[usize], types: &[usize]) -> bool
+    ensures { λ r. ⌜ r ≡ namesInShape (held names) && (boundsInShape (held bounds) && typesInShape (held types)) ⌝ }
+{
+    let named = accepted(names_shape(names));
+    let bounded = accepted(bounds_shape(bounds));
+    let typed = accepted(types_shape(types));
+    both(named, both(bounded, typed))
+}
+
+fn elision_in_shape(own: &[usize], steps: &[usize], returns: &[usize]) -> bool
+    ensures { λ r. ⌜ r ≡ selfInShape (held own) && (stepsInShape (held steps) && stepsInShape (held returns)) ⌝ }
+{
+    let received = accepted(self_shape(own));
+    let given = accepted(steps_shape(steps));
+    let returned = accepted(steps_shape(returns));
+    both(received, both(given, returned))
 }
 
 fn accepted(verdict: Verdict) -> bool

@@ -3,11 +3,11 @@ use mathlib.Core.Path.{_≡_, sym, ap, subst, _∙_}
 use mathlib.Core.List.{[]}
 use Rattle.answers.specs.Refusals.{NoneDue}
 use Rattle.lifetimes.specs.Env.{envOf, made}
-use Rattle.sheet.specs.Text.{Records}
+use Rattle.sheet.specs.Text.{Records, tenRecords}
 use Rattle.sheet.specs.Shape.{recordsChecks}
-use Rattle.sheet.specs.Inner.{recordsAt}
-use Rattle.borrowing_param.specs.InnerSheet.{tenRecords, loweredEnv}
-use Rattle.borrowing_param.proofs.SheetLaws.{ten-found}
+use Rattle.sheet.specs.Answer.{recordsAt}
+use Rattle.borrowing_param.specs.InnerSheet.{loweredEnv}
+use Rattle.sheet.proofs.LaidLaws.{ten-found}
 use borrow.Author.Needs.{needs}
 use Rattle.borrowing_param.proofs.method.lower_laid.Statement.{statement}
 use Rattle.borrowing_param.proofs.method.lower_laid.Tie as tie
@@ -27,7 +27,7 @@ found : (c : tie.After-record-words10)
     (c .before .record-words9 .result .now) (c .record-words10 .result .now)
     ≡ recordsAt (start c .args .words .now) (start c .args .ends)
 found c =
-    ten-found (start c .pre .0)
+    ten-found (start c .args .words .now) (start c .args .ends)
     (c .before .before .before .before .before .before .before .before .before .record-words .ensures)
     (c .before .before .before .before .before .before .before .before .record-words2 .ensures)
     (c .before .before .before .before .before .before .before .record-words3 .ensures)
@@ -37,7 +37,7 @@ found c =
     (c .before .before .record-words8 .ensures) (c .before .record-words9 .ensures) (c .record-words10 .ensures)
 
 lower-records-requires : tie.Need-lower-records-requires
-lower-records-requires c κs = subst (λ (r : Records). NoneDue (recordsChecks r)) (sym (found c)) (start c .pre .1)
+lower-records-requires c κs = subst (λ (r : Records). NoneDue (recordsChecks r)) (sym (found c)) (start c .pre)
 
 returns : tie.Need-returns
 returns c = c .lower-records .ensures ∙ ap (λ (r : Records). made (envOf 0 0 []) (loweredEnv r)) (found (c .before))

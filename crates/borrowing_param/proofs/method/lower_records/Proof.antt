@@ -1,6 +1,5 @@
 -- `lower_records` meets its contract: each way out is one law of proofs/MethodLaws.antt.
-use Rattle.sheet.specs.Text.{Records}
-use Rattle.borrowing_param.specs.InnerSheet.{tenRecords}
+use Rattle.sheet.specs.Text.{Records, tenRecords}
 use Rattle.borrowing_param.proofs.MethodLaws.{names-refused, steps-refused, method-refused, method-given}
 use borrow.Author.Needs.{needs}
 use Rattle.borrowing_param.proofs.method.lower_records.Statement.{statement}

@@ -1,12 +1,11 @@
 -- `list_laid` meets its contract: the ten slices are the records.
 use mathlib.Core.Path.{_≡_, sym, subst}
 use lib.ListN.{length}
-use Rattle.sheet.specs.Text.{Records}
+use Rattle.sheet.specs.Text.{Records, tenRecords}
 use Rattle.answers.specs.Refusals.{NoneDue}
 use Rattle.sheet.specs.Shape.{recordsChecks}
-use Rattle.sheet.specs.Inner.{recordsAt}
-use Rattle.borrowing_param.specs.InnerSheet.{tenRecords}
-use Rattle.borrowing_param.proofs.SheetLaws.{ten-found}
+use Rattle.sheet.specs.Answer.{recordsAt}
+use Rattle.sheet.proofs.LaidLaws.{ten-found}
 use Rattle.listing.specs.InnerListing.{listedRecords, ListsWithin, Ample}
 use borrow.Author.Needs.{needs}
 use Rattle.listing.proofs.within.list_laid.Statement.{statement}
@@ -30,7 +29,7 @@ sheetIn c =
 
 found : (c : tie.After-record-words10) → sheetIn c ≡ recordsAt (start c .args .words .now) (start c .args .ends)
 found c =
-    ten-found (start c .pre .0)
+    ten-found (start c .args .words .now) (start c .args .ends)
     (c .before .before .before .before .before .before .before .before .before .record-words .ensures)
     (c .before .before .before .before .before .before .before .before .record-words2 .ensures)
     (c .before .before .before .before .before .before .before .record-words3 .ensures)
@@ -42,7 +41,7 @@ found c =
 list-records-requires : tie.Need-list-records-requires
 list-records-requires c κs =
     let ten = c .before .before .before .before .before in
-    (subst (λ (r : Records). NoneDue (recordsChecks r)) (sym (found ten)) (start ten .pre .1), start ten .pre .2)
+    (subst (λ (r : Records). NoneDue (recordsChecks r)) (sym (found ten)) (start ten .pre .0), start ten .pre .1)
 
 returns : tie.Need-returns
 returns c =

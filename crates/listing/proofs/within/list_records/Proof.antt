@@ -1,7 +1,6 @@
 -- `list_records` meets its contract: each way out is one law of proofs/WithinRecordsLaws.antt.
 use lib.ListN.{length, replicate}
-use Rattle.sheet.specs.Text.{Records}
-use Rattle.borrowing_param.specs.InnerSheet.{tenRecords}
+use Rattle.sheet.specs.Text.{Records, tenRecords}
 use Rattle.listing.proofs.WithinRecordsLaws.{steps-short, returns-short, names-listed, steps-listed, Elided}
 use Rattle.listing.proofs.WithinRecordsLaws.{own-stands, steps-stand, returns-stand, used-listed, listable}
 use Rattle.listing.proofs.WithinRecordsLaws.{records-listed}

@@ -10,7 +10,10 @@ list-laid-requires c κs =
     let at-enum-told = c .before .before .before .before .before .before .before in
     let at-read-sheet = at-enum-told .before .before .before .before in
     let s = at-read-sheet .before .before .before .before .before .before .before .before .before in
-    (judge-shape (s .args .sheet .now) (s .args .words .now) (s .pre .0) (at-read-sheet .read-sheet .ensures .0) (at-read-sheet .read-sheet .ensures .1) (at-enum-told .enum-told .given .1) .0, judge-shape (s .args .sheet .now) (s .args .words .now) (s .pre .0) (at-read-sheet .read-sheet .ensures .0) (at-read-sheet .read-sheet .ensures .1) (at-enum-told .enum-told .given .1) .1, s .pre .1)
+    let shape =
+    judge-shape (s .args .sheet .now) (s .args .words .now) (s .pre .0) (at-read-sheet .read-sheet .ensures .0)
+    (at-read-sheet .read-sheet .ensures .1) (at-enum-told .enum-told .given .1) in
+    (shape, s .pre .1)
 
 pub list-within-spec : {M : Type 1} → statement M
 list-within-spec =

@@ -2,7 +2,7 @@
 use mathlib.Core.Path.{_∙_}
 use borrow.Author.Needs.{needs}
 use Rattle.sheet.proofs.ReadingLaws.{sheet-refused, sheet-unshaped}
-use Rattle.sheet.proofs.LaidLaws.{scanned-laid, scanned-shape, scanned-short, scanned-wrote}
+use Rattle.sheet.proofs.LaidLaws.{scanned-shape, scanned-short, scanned-wrote}
 use Rattle.sheet.proofs.sheet.read_within.Statement.{statement}
 use Rattle.sheet.proofs.sheet.read_within.Tie as tie
 
@@ -63,7 +63,7 @@ read-within-spec =
     (tie.spec
     (λ c κs. search needs) (λ c. search needs) (λ c. search needs) (λ c. search needs)
     returns
-    (λ c κs. search (scanned-laid, needs))
+    (λ c κs. search needs)
     (λ c. search needs) (λ c κs. search needs) (λ c. search needs)
     returns-2
     (λ c. search needs) (λ c. search needs) (λ c κs. search needs) (λ c. search needs) (λ c. search needs)
