@@ -1,20 +1,22 @@
 /*
- * borrows.h: which arguments a method's result has to keep alive, from a method sheet.
+ * borrows.h: which arguments a method's result has to keep alive, from a method sheet; and the sheet's text, from its
+ * records.
  *
  * Link target/staticlib/libexports.a, which `rt staticlib exports` writes (x86-64, System V calling convention; besides
  * itself it needs memcpy and memset). Every function in it is proved to meet its contract: crates/exports/src says what
  * each call answers and what each slice holds afterwards, crates/exports/specs what that means.
  *
  * What the caller owes, and nothing checks:
- *   - each pointer is valid for its length: sheets for reading, all others for reading and writing; aligned as its type
- *     wants; and not NULL, also where the length is 0;
- *   - the pieces of memory of one call do not overlap, and nobody else writes to any of them meanwhile;
+ *   - each pointer is valid for its length: those that are const (a sheet; the words and ends of its records) for
+ *     reading, all others for reading and writing; aligned as its type wants; and not NULL, also where the length is 0;
+ *   - of the pieces of memory of one call those that are not const overlap no other, and nobody else writes to any of
+ *     them meanwhile;
  *   - BORROWS_STACK bytes of stack are left. How many a call takes depends on the sheet: borrows_listing was seen to
- *     take 16 kilobytes (a sheet of at most 256 bytes with few lifetimes and edges) to 499, borrows_sheet 90 to 170;
- *     the rest is to spare.
+ *     take 16 kilobytes (a sheet of at most 256 bytes with few lifetimes and edges) to 499, borrows_sheet 90 to 170,
+ *     borrows_write_sheet less than 3; the rest is to spare.
  * Apart from that no argument is wrong: any bytes, any lengths.
  *
- * Both calls answer BORROWS_OK or the number of a refusal. The refusals that there are today stand below; a later
+ * Every call answers BORROWS_OK or the number of a refusal. The refusals that there are today stand below; a later
  * version may have further numbers. So every status but BORROWS_OK is to be treated as a refusal, also one that the
  * caller does not know. After a refusal, whatever its number, every byte and word that was lent is as it was before.
  * After BORROWS_OK only the words and bytes named below are written; what lies behind them is as it was. No call
@@ -51,7 +53,7 @@ typedef size_t borrows_status;
 
 enum {
     BORROWS_OK = 0,
-    BORROWS_MALFORMED = 1,    /* a record that is not in its shape */
+    BORROWS_MALFORMED = 1,    /* a record that is not in its shape; ends that are not those of ten records */
     BORROWS_DUPLICATE = 2,    /* a name declared again */
     BORROWS_UNDECLARED = 3,   /* an undeclared name where one is looked up */
     BORROWS_FULL = 4,         /* a 33rd name, 65th lifetime, 257th bound, 33rd row or 17th parameter */
@@ -60,8 +62,23 @@ enum {
     BORROWS_MISMATCH = 7,     /* not as many lifetimes as the struct has */
     BORROWS_OUT_OF_RANGE = 8, /* a lifetime past those that there are */
     BORROWS_NO_ROOM = 9,      /* lent memory too short, or, for a listing, more than 4,096 edges */
-    BORROWS_UNREADABLE = 10,  /* bytes that are not the text of a sheet */
+    BORROWS_UNREADABLE = 10,  /* bytes that are not the text of a sheet; a word above 65535, which no text can have */
     BORROWS_RETIRED = 13      /* 1 in `force`, which is no longer taken */
+};
+
+/* The records of a sheet: the number of each, which is its place among them, and how many there are. */
+enum {
+    BORROWS_RECORD_NAMES = 0,
+    BORROWS_RECORD_BOUNDS = 1,
+    BORROWS_RECORD_TYPES = 2,
+    BORROWS_RECORD_SELF = 3,
+    BORROWS_RECORD_STEPS = 4,
+    BORROWS_RECORD_RETURNS = 5,
+    BORROWS_RECORD_STRUCTS = 6,
+    BORROWS_RECORD_PARAMS = 7,
+    BORROWS_RECORD_OUTPUT = 8,
+    BORROWS_RECORD_FORCE = 9,
+    BORROWS_RECORDS = 10
 };
 
 /* An edge's words: the place of each, and how many there are. Edge e begins at word e * BORROWS_WORDS_PER_EDGE. */
@@ -89,6 +106,13 @@ enum {
     BORROWS_EDGES = 8704,
     BORROWS_EDGE_WORDS = BORROWS_EDGES * BORROWS_WORDS_PER_EDGE, /* 43,520 */
     BORROWS_COUNTS = 3,
+
+    /*
+     * And so much takes the text of every sheet that is written (WrittenEnough there): the first line, 66 bytes, and
+     * ten records of at most 1,024 words, each word at most five digits and a byte behind them.
+     */
+    BORROWS_WRITTEN_BYTES = 61506,
+    BORROWS_WRITTEN_WORDS = 1,
 
     /* Stack for a call, in bytes: measured, not proved, with room to spare. */
     BORROWS_STACK = 655360
@@ -127,6 +151,32 @@ borrows_status borrows_sheet(const uint8_t *sheet, size_t sheet_len,
                              size_t *answers, size_t answers_len,
                              size_t *edges, size_t edges_len,
                              size_t *counts, size_t counts_len);
+
+/*
+ * The text of a sheet, from its records: for an editor that holds the records and wants the file.
+ *
+ * words, words_len      the words of the ten records, one record after another, in the order of their numbers
+ * ends, ends_len        where each record ends: ends[i] is the place behind the last word of record i, and record i + 1
+ *                       begins there; record 0 begins at 0. An empty record ends where it begins.
+ * out, out_len          takes the text's bytes, from the front
+ * written, written_len  written[0] takes how many they are
+ *
+ * Refused by the first of these that is so:
+ *   BORROWS_MALFORMED   the ends are not exactly BORROWS_RECORDS many, one is below the one before, or one is past
+ *                       words_len: there are no records to look at then
+ *   BORROWS_UNREADABLE  a word of some record is above 65535, however long the record is
+ *   BORROWS_MALFORMED   some record has more than 1,024 words or is not in its shape
+ *   BORROWS_RETIRED     `force` is 1
+ *   BORROWS_NO_ROOM     out is too short for the text, or written has no word
+ * Words behind the last end are not looked at. What a sheet is refused by later, when its listing is asked, does not
+ * prevent writing: a name declared again, for instance. The text read again is the same records, and the records of a
+ * sheet that was not refused by 10, 1 or 13 are written as that very sheet, byte for byte. With less than
+ * BORROWS_WRITTEN_BYTES in out the text is measured before it is written.
+ */
+borrows_status borrows_write_sheet(const size_t *words, size_t words_len,
+                                   const size_t *ends, size_t ends_len,
+                                   uint8_t *out, size_t out_len,
+                                   size_t *written, size_t written_len);
 
 #ifdef __cplusplus
 }

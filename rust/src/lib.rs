@@ -1,4 +1,5 @@
-//! Which arguments a method's result has to keep alive, from a method sheet.
+//! Which arguments a method's result has to keep alive, from a method sheet; and the sheet's text, from its records
+//! ([`Sheet`]).
 //!
 //! The work is done by a static library every function of which is proved to meet its contract
 //! (`crates/exports` of the repository); here it gets Rust types and memory. What is unproved is this file: it lends
@@ -16,8 +17,8 @@
 //! ```
 //!
 //! How much stack a call takes depends on the sheet, and is measured, not proved: `listing` was seen to take 16
-//! kilobytes for a short sheet and up to 499 for a long one, `borrows` 90 to 170. `STACK` bytes are enough for both; a
-//! thread that Rust starts has two megabytes, unless its maker says otherwise.
+//! kilobytes for a short sheet and up to 499 for a long one, `borrows` 90 to 170, writing a sheet less than 3. `STACK`
+//! bytes are enough for each; a thread that Rust starts has two megabytes, unless its maker says otherwise.
 
 use std::fmt;
 
@@ -36,6 +37,11 @@ pub const WORDS_PER_EDGE: usize = 5;
 pub const EDGE_WORDS: usize = EDGES * WORDS_PER_EDGE;
 /// Used lifetimes, parameters, edges.
 pub const COUNTS: usize = 3;
+/// A sheet has so many records.
+pub const RECORDS: usize = 10;
+/// So many bytes take the text of any sheet that is written, and so many words its length.
+pub const WRITTEN_BYTES: usize = 61_506;
+pub const WRITTEN_WORDS: usize = 1;
 /// So many bytes of stack take any call: measured, with room to spare.
 pub const STACK: usize = 655_360;
 
@@ -61,13 +67,23 @@ extern "C" {
         counts: *mut usize,
         counts_len: usize,
     ) -> usize;
+    fn borrows_write_sheet(
+        words: *const usize,
+        words_len: usize,
+        ends: *const usize,
+        ends_len: usize,
+        out: *mut u8,
+        out_len: usize,
+        written: *mut usize,
+        written_len: usize,
+    ) -> usize;
 }
 
 /// Why a sheet is refused. The numbers are those of the papers; there may be further ones some day.
 #[derive(Clone, Copy, Debug, PartialEq, Eq, Hash, PartialOrd, Ord)]
 #[non_exhaustive]
 pub enum Refusal {
-    /// 1: a record that is not in its shape
+    /// 1: a record that is not in its shape, or, in `write_sheet_into`, ends that are not those of ten records
     Malformed,
     /// 2: a name declared again
     Duplicate,
@@ -85,7 +101,7 @@ pub enum Refusal {
     OutOfRange,
     /// 9: more answers than fit: lent memory too short, or more than 4,096 edges in a listing
     NoRoom,
-    /// 10: bytes that are not the text of a sheet
+    /// 10: bytes that are not the text of a sheet, or a word above 65535, which no text can have
     Unreadable,
     /// 13: 1 in `force`, which is no longer taken
     Retired,
@@ -141,7 +157,7 @@ impl fmt::Display for Refusal {
     fn fmt(&self, f: &mut fmt::Formatter<'_>) -> fmt::Result {
         write!(f, "refusal {}: ", self.number())?;
         f.write_str(match self {
-            Refusal::Malformed => "a record is not in its shape",
+            Refusal::Malformed => "a record is not there, or not in its shape",
             Refusal::Duplicate => "a name is declared again",
             Refusal::Undeclared => "an undeclared name is looked up",
             Refusal::Full => "a limit is exceeded",
@@ -150,7 +166,7 @@ impl fmt::Display for Refusal {
             Refusal::Mismatch => "a struct is given another number of lifetimes than it has",
             Refusal::OutOfRange => "a lifetime is past those that there are",
             Refusal::NoRoom => "more answers than fit",
-            Refusal::Unreadable => "not the text of a sheet",
+            Refusal::Unreadable => "not the text of a sheet, or a word above 65535",
             Refusal::Retired => "force is 1, which is no longer taken",
             Refusal::Unknown(_) => "a number that has no name here",
         })
@@ -272,6 +288,136 @@ pub fn borrows_into(
         )
     };
     Refusal::of(status)
+}
+
+/// A sheet by its ten records, each a list of words. What the words mean is said in docs/SHEET.md of the repository,
+/// record by record.
+///
+/// The example of the scope paper, filled record by record, written, and its listing asked:
+///
+/// ```
+/// let mut sheet = dovrelka::Sheet::new();
+/// sheet.names = vec![0, 7, 9];
+/// sheet.types = vec![2, 7, 1, 1, 9];
+/// sheet.steps = vec![0, 7, 0, 9, 0, 1];
+/// sheet.returns = vec![0, 7];
+/// sheet.params = vec![1, 0, 1, 2, 1, 1, 3, 1, 3];
+/// sheet.output = vec![1, 0, 1, 1, 0];
+///
+/// let text = sheet.write()?; // the bytes of a file
+/// assert!(text.ends_with(b"\n1 0 1 2 1 1 3 1 3\n1 0 1 1 0\n0\n"));
+/// let listing = dovrelka::listing(&text)?;
+/// assert!(listing.starts_with(b"lifetimes used params edges\n3 1 2 1\n"));
+/// # Ok::<(), dovrelka::Refusal>(())
+/// ```
+#[derive(Clone, Debug, PartialEq, Eq, Hash)]
+pub struct Sheet {
+    /// how many of the names are the impl's; then all names
+    pub names: Vec<usize>,
+    /// how many of the pairs are the impl's; then the pairs, the longer lifetime first
+    pub bounds: Vec<usize>,
+    /// the types of self, parameters and result, from which bounds come that nobody wrote
+    pub types: Vec<usize>,
+    /// the record `self`, which cannot be a field's name: the lifetime of `&self`; empty where there is none
+    pub self_ref: Vec<usize>,
+    /// the lifetimes of the inputs, in order
+    pub steps: Vec<usize>,
+    /// the lifetimes of the result
+    pub returns: Vec<usize>,
+    /// a row for each struct that is passed by its fields
+    pub structs: Vec<usize>,
+    /// the types of the parameters, self first
+    pub params: Vec<usize>,
+    /// the type of the result: none, one, or two
+    pub output: Vec<usize>,
+    /// one word, 0; 1 is retired
+    pub force: Vec<usize>,
+}
+
+impl Sheet {
+    /// The smallest sheet that is accepted: no names, no bounds, nothing passed and nothing returned. `names` and
+    /// `bounds` have their count of 0, `force` is 0, all other records are empty.
+    pub fn new() -> Sheet {
+        Sheet {
+            names: vec![0],
+            bounds: vec![0],
+            types: Vec::new(),
+            self_ref: Vec::new(),
+            steps: Vec::new(),
+            returns: Vec::new(),
+            structs: Vec::new(),
+            params: Vec::new(),
+            output: Vec::new(),
+            force: vec![0],
+        }
+    }
+
+    /// The records in the order of their lines.
+    fn records(&self) -> [&[usize]; RECORDS] {
+        [
+            &self.names,
+            &self.bounds,
+            &self.types,
+            &self.self_ref,
+            &self.steps,
+            &self.returns,
+            &self.structs,
+            &self.params,
+            &self.output,
+            &self.force,
+        ]
+    }
+
+    /// The sheet's text. Read again it is the same records, and the records of a sheet that was read are written as
+    /// that very sheet.
+    ///
+    /// Refused by 10 for a word above 65535 in any record, then by 1 where a record is not in its shape or has more
+    /// than 1,024 words, then by 13 where `force` is 1. Nothing else prevents writing: a name declared again, for
+    /// instance, is refused only when the listing is asked.
+    pub fn write(&self) -> Result<Vec<u8>, Refusal> {
+        let mut words = Vec::new();
+        let mut ends = [0; RECORDS];
+        for (end, record) in ends.iter_mut().zip(self.records()) {
+            words.extend_from_slice(record);
+            *end = words.len();
+        }
+        let mut out = vec![0; WRITTEN_BYTES];
+        let length = write_sheet_into(&words, &ends, &mut out)?;
+        out.truncate(length);
+        Ok(out)
+    }
+}
+
+impl Default for Sheet {
+    /// The smallest sheet, as `new`: with ten empty records it would not be one.
+    fn default() -> Sheet {
+        Sheet::new()
+    }
+}
+
+/// The text of a sheet, to the front of a slice; the answer is its length. Refused, the slice is as it was. `words` are
+/// those of the ten records, one record after another; `ends` are the ten places behind the last word of each. Words
+/// behind the last end are not looked at.
+///
+/// Refused as `Sheet::write` is, then by 9 where `out` is too short; and by 1 before all else where the ends are not
+/// ten, not ascending, or past the words. With fewer than `WRITTEN_BYTES` the text is measured first.
+pub fn write_sheet_into(words: &[usize], ends: &[usize], out: &mut [u8]) -> Result<usize, Refusal> {
+    let mut written = [0; WRITTEN_WORDS];
+    // SAFETY: as in `listing_into`. `words` and `ends` may share memory: neither is written.
+    let status = unsafe {
+        borrows_write_sheet(
+            words.as_ptr(),
+            words.len(),
+            ends.as_ptr(),
+            ends.len(),
+            out.as_mut_ptr(),
+            out.len(),
+            written.as_mut_ptr(),
+            written.len(),
+        )
+    };
+    Refusal::of(status)?;
+    Ok(written[0])
 }
 
 fn answer(word: usize) -> Answer {

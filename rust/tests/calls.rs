@@ -1,4 +1,4 @@
-//! Both calls on sheets: 01's example, the README's, a refusal of each number, and what a refusal leaves.
+//! `listing` and `borrows` on sheets: 01's example, the README's, a refusal of each number, and what a refusal leaves.
 
 use dovrelka::{
     borrows, borrows_into, listing, listing_into, Answer, Edge, Kind, Refusal, EDGES, STACK, USED,

@@ -44,11 +44,28 @@ fn sizes_and_version_are_those_of_the_header() {
         ("WORDS_PER_EDGE", dovrelka::WORDS_PER_EDGE),
         ("EDGE_WORDS", dovrelka::EDGE_WORDS),
         ("COUNTS", dovrelka::COUNTS),
+        ("RECORDS", dovrelka::RECORDS),
+        ("WRITTEN_BYTES", dovrelka::WRITTEN_BYTES),
+        ("WRITTEN_WORDS", dovrelka::WRITTEN_WORDS),
         ("STACK", dovrelka::STACK),
     ] {
         assert_eq!(header[&format!("BORROWS_{name}")], value, "{name}");
     }
     assert_eq!(header["BORROWS_EDGE_WORDS"], 43_520);
+}
+
+/// The header numbers the records as the first line of a sheet names them.
+#[test]
+fn records_are_those_of_a_sheet() {
+    let header = constants();
+    let text = dovrelka::Sheet::new().write().unwrap();
+    let text = String::from_utf8(text).unwrap();
+    let names: Vec<&str> = text.lines().next().unwrap().split(' ').collect();
+    assert_eq!(names.len(), dovrelka::RECORDS);
+    for (number, name) in names.iter().enumerate() {
+        let name = format!("BORROWS_RECORD_{}", name.to_uppercase());
+        assert_eq!(header[&name], number, "{name}");
+    }
 }
 
 #[test]

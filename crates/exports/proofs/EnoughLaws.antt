@@ -1,13 +1,11 @@
 -- Slices that are always long enough: no further check is due, since what a sheet gives is bounded.
 use Prim.Native.Nat.{ℕ, _*_, _≤_}
-use mathlib.Core.Path.{_≡_, refl, ap, _∙_}
 use mathlib.Core.List.{List, [], _∷_, _++_, flatMap}
 use native.Mathlib.Omega.{arith}
 use borrow.Author.Tests.{le-ltb}
 use lib.ListN.{length}
-use Rattle.answers.specs.Refusals.{Check, Outcome, Gives, Refuses, unless, NoneDue, next, end}
+use Rattle.answers.specs.Refusals.{NoneDue, next, end}
 use Rattle.answers.specs.Lent.{roomCheck}
-use Rattle.answers.proofs.RefusalLaws.{due-given, due-refused, given-due, refused-due, first-more, none-more}
 use Rattle.sheet.specs.Text.{Records}
 use Rattle.sheet.specs.Reading.{sheetOf}
 use Rattle.methods.specs.Method.{mostParams}
@@ -22,15 +20,6 @@ use Rattle.borrowing_param.proofs.JoinLaws.{words-many}
 use Rattle.borrowing_param.proofs.Condition3Laws.{params-none}
 use Rattle.borrowing_param.proofs.Theorems.{listing-in-order, methods-are-small, sheets-give-methods}
 use Rattle.exports.specs.Calls.{countWords}
-
--- further checks of which none is due, if none of the first is
-pub further : {A : Type 0} (a : A) (checks more : List Check) → (NoneDue checks → NoneDue more)
-    → unless (checks ++ more) a ≡ unless checks a
-further {A} a checks more f = go (unless checks a) refl
-  where
-    go : (o : Outcome A) → unless checks a ≡ o → unless (checks ++ more) a ≡ o
-    go (Gives b) e = let n = given-due a b checks e in due-given a (none-more (n .0) (f (n .0))) ∙ ap (λ (x : A). Gives x) (n .1)
-    go (Refuses k) e = due-refused a (first-more more (refused-due a k checks e))
 
 module _ (bytes : List ℕ) where
   abbrev sheet : Records

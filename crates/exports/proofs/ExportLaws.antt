@@ -15,14 +15,17 @@ use Rattle.answers.specs.declared.Listed.{Listed}
 use Rattle.answers.specs.declared.Listed.the-variants as listed
 use Rattle.answers.specs.Refusals.{Check, Outcome, Gives, Refuses, unless, numberOf}
 use Rattle.answers.specs.Lent.{Slice, held, left, room, Fills, Stays, counted, roomCheck}
+use Rattle.sheet.specs.Text.{text}
 use Rattle.sheet.specs.Reading.{sheetOf}
+use Rattle.sheet.specs.Answer.{recordsAt}
+use Rattle.sheet_writer.specs.Laid.{laidChecks, writeLaid}
 use Rattle.borrowing_param.specs.declared.borrows.Borrows as answer
 use Rattle.borrowing_param.specs.Edges.{edgeWords}
 use Rattle.borrowing_param.specs.SheetMethod.{sheetRefusals}
 use Rattle.borrowing_param.specs.Borrows.{Borrows, sheetBorrows, borrowsRoomChecks, borrowSheet, borrowsAnswer, usedWords}
 use Rattle.borrowing_param.specs.Borrows.{answerWords, edgesWords}
 use Rattle.listing.specs.Listing.{listingOf, listingChecks, listing}
-use Rattle.exports.specs.Calls.{lengthWord, listingTo, ListingAnswers, countWords, sheetTo, SheetAnswers}
+use Rattle.exports.specs.Calls.{lengthWord, textTo, TextAnswers, countWords, sheetTo, SheetAnswers}
 
 module _ {A : Type 0} (a : A) where
   -- one check more, not due
@@ -83,25 +86,26 @@ three-stored x y z (a ∷ []) h = absurd (omega (arith, h))
 three-stored x y z (a ∷ b ∷ []) h = absurd (omega (arith, h))
 three-stored x y z (a ∷ b ∷ c ∷ w) h = refl
 
--- ---- `borrows_listing`
+-- ---- a text and its length, by a call that gives the text
 
-refused-listing : {o : Outcome (List ℕ)} {k : Refusal} {s : ℕ} {out w : Slice} → o ≡ Refuses k → s ≡ numberOf k
-    → Stays out → Stays w → ListingAnswers o s out w
-refused-listing e h a b = record { status-is = rw e h; out-filled = rw e a; written-filled = rw e b }
+refused-text : {o : Outcome (List ℕ)} {k : Refusal} {s : ℕ} {out w : Slice} → o ≡ Refuses k → s ≡ numberOf k
+    → Stays out → Stays w → TextAnswers o s out w
+refused-text e h a b = record { status-is = rw e h; out-filled = rw e a; written-filled = rw e b }
 
-module _ (bytes : List ℕ) where
-  abbrev text : List ℕ
-  text = listingOf (sheetOf bytes)
+module _ (checks : List Check) (text : List ℕ) where
+  -- what the call below gives, which has no word for the length
+  abbrev unworded : ℕ → Outcome (List ℕ)
+  unworded room = unless (checks ++ (roomCheck room text ∷ [])) text
 
-  -- with a place for the length it is `listing`
-  to-listing : (room words : ℕ) → 1 ≤ words → listingTo bytes room words ≡ listing bytes room
-  unfolding listingTo listing
-  to-listing room words h =
+  -- with a place for the length it is that
+  to-unworded : (room words : ℕ) → 1 ≤ words → textTo checks text room words ≡ unworded room
+  unfolding textTo
+  to-unworded room words h =
       ap (λ (cs : List Check). unless cs text)
-      (sym (append-assoc (listingChecks bytes) (roomCheck room text ∷ []) (roomCheck words (lengthWord text) ∷ [])))
-      ∙ idle text (listingChecks bytes ++ (roomCheck room text ∷ [])) (roomCheck words (lengthWord text)) (le-ltb words 1 h)
+      (sym (append-assoc checks (roomCheck room text ∷ []) (roomCheck words (lengthWord text) ∷ [])))
+      ∙ idle text (checks ++ (roomCheck room text ∷ [])) (roomCheck words (lengthWord text)) (le-ltb words 1 h)
 
-  -- without one, `listing` into no room tells the refusal
+  -- without one, the call into no room tells the refusal
   no-word : (room : ℕ) → unless (roomCheck room text ∷ roomCheck 0 (lengthWord text) ∷ []) text ≡ Refuses NoRoom
   unfolding unless
   no-word room = short-or text (ltb room (length text)) _ refl
@@ -110,71 +114,81 @@ module _ (bytes : List ℕ) where
   unfolding unless
   only-room = only-or text (ltb 0 (length text)) (Gives text) (only-none text)
 
-  given-there : (b : List ℕ) → listing bytes 0 ≡ Gives b → (room : ℕ) → listingTo bytes room 0 ≡ Refuses NoRoom
-  unfolding listingTo listing
+  given-there : (b : List ℕ) → unworded 0 ≡ Gives b → (room : ℕ) → textTo checks text room 0 ≡ Refuses NoRoom
+  unfolding textTo
   given-there b e room =
       in-place-given text (roomCheck 0 text ∷ []) (roomCheck room text ∷ roomCheck 0 (lengthWord text) ∷ [])
-      (no-word room) only-room (listingChecks bytes) b e
+      (no-word room) only-room checks b e
 
-  refused-there : (k : Refusal) → listing bytes 0 ≡ Refuses k → (room : ℕ) → listingTo bytes room 0 ≡ Refuses k
-  unfolding listingTo listing
+  refused-there : (k : Refusal) → unworded 0 ≡ Refuses k → (room : ℕ) → textTo checks text room 0 ≡ Refuses k
+  unfolding textTo
   refused-there k e room =
       in-place-refused text (roomCheck 0 text ∷ []) (roomCheck room text ∷ roomCheck 0 (lengthWord text) ∷ [])
-      (no-word room) only-room (listingChecks bytes) k e
+      (no-word room) only-room checks k e
 
-  pub unlisted-given : (l : Listed) (n : ℕ) → l ≡ counted (listing bytes 0) → l ≡ listed.Count n → (room : ℕ)
-      → listingTo bytes room 0 ≡ Refuses NoRoom
-  unlisted-given l n is e = go (listing bytes 0) refl (sym is ∙ e)
-    where
-      go : (o : Outcome (List ℕ)) → listing bytes 0 ≡ o → counted o ≡ listed.Count n → (room : ℕ)
-          → listingTo bytes room 0 ≡ Refuses NoRoom
-      go (Gives b) u v = given-there b u
-      go (Refuses k) u v = let z : _≡_ {A = ℕ} 0 1 = cc in absurd (omega arith)
+  module _ (o : Outcome (List ℕ)) (is-unworded : o ≡ unworded 0) (l : Listed) (is : l ≡ counted o) where
+    pub untold-given : (n : ℕ) → l ≡ listed.Count n → (room : ℕ) → textTo checks text room 0 ≡ Refuses NoRoom
+    untold-given n e = go o refl (sym is ∙ e)
+      where
+        go : (x : Outcome (List ℕ)) → o ≡ x → counted x ≡ listed.Count n → (room : ℕ)
+            → textTo checks text room 0 ≡ Refuses NoRoom
+        go (Gives b) u v = given-there b (sym is-unworded ∙ u)
+        go (Refuses k) u v = let z : _≡_ {A = ℕ} 0 1 = cc in absurd (omega arith)
 
-  pub unlisted-refused : (l : Listed) (k : Refusal) → l ≡ counted (listing bytes 0) → l ≡ listed.Refused k → (room : ℕ)
-      → listingTo bytes room 0 ≡ Refuses k
-  unlisted-refused l k is e = go (listing bytes 0) refl (sym is ∙ e)
-    where
-      go : (o : Outcome (List ℕ)) → listing bytes 0 ≡ o → counted o ≡ listed.Refused k → (room : ℕ)
-          → listingTo bytes room 0 ≡ Refuses k
-      go (Gives b) u v = let z : _≡_ {A = ℕ} 0 1 = cc in absurd (omega arith)
-      go (Refuses m) u v = let z : m ≡ k = cc in refused-there k (rw z at u)
+    pub untold-refused : (k : Refusal) → l ≡ listed.Refused k → (room : ℕ) → textTo checks text room 0 ≡ Refuses k
+    untold-refused k e = go o refl (sym is ∙ e)
+      where
+        go : (x : Outcome (List ℕ)) → o ≡ x → counted x ≡ listed.Refused k → (room : ℕ)
+            → textTo checks text room 0 ≡ Refuses k
+        go (Gives b) u v = let z : _≡_ {A = ℕ} 0 1 = cc in absurd (omega arith)
+        go (Refuses m) u v = let z : m ≡ k = cc in refused-there k (sym is-unworded ∙ (rw z at u))
 
-  -- the ways out of the call
+  -- the ways out of the exported call
   module _ (out w : Slice) where
     abbrev there : Outcome (List ℕ)
-    there = listingTo bytes (room out) (room w)
+    there = textTo checks text (room out) (room w)
 
-    pub no-place : {k : Refusal} {s : ℕ} → ((room : ℕ) → listingTo bytes room 0 ≡ Refuses k) → room w < 1 → s ≡ numberOf k
-        → Stays out → Stays w → ListingAnswers there s out w
-    no-place {k} f h e =
+    pub text-unplaced : {k : Refusal} {s : ℕ} → ((room : ℕ) → textTo checks text room 0 ≡ Refuses k) → room w < 1
+        → s ≡ numberOf k → Stays out → Stays w → TextAnswers there s out w
+    text-unplaced {k} f h e =
         let z : room w ≡ 0 = omega (arith, h) in
         let r : there ≡ Refuses k = rw z (f (room out)) in
-        refused-listing r e
+        refused-text r e
 
-    module _ (place : 1 ≤ room w) {l : Listed} (is : l ≡ counted (listing bytes (room out)))
-        (stands : Fills (listing bytes (room out)) out) where
-      same : there ≡ listing bytes (room out)
-      same = to-listing (room out) (room w) place
+    module _ (place : 1 ≤ room w) {o : Outcome (List ℕ)} (is-unworded : o ≡ unworded (room out)) {l : Listed} (is : l ≡ counted o)
+        (stands : Fills o out) where
+      same : there ≡ o
+      same = to-unworded (room out) (room w) place ∙ sym is-unworded
 
-      pub listed-refused : {k : Refusal} {s : ℕ} → l ≡ listed.Refused k → s ≡ numberOf k → Stays w → ListingAnswers there s out w
-      listed-refused {k} {s} e h c = go (listing bytes (room out)) refl (sym is ∙ e) stands
+      pub text-refused : {k : Refusal} {s : ℕ} → l ≡ listed.Refused k → s ≡ numberOf k → Stays w → TextAnswers there s out w
+      text-refused {k} {s} e h c = go o refl (sym is ∙ e) stands
         where
-          go : (o : Outcome (List ℕ)) → listing bytes (room out) ≡ o → counted o ≡ listed.Refused k → Fills o out
-              → ListingAnswers there s out w
+          go : (x : Outcome (List ℕ)) → o ≡ x → counted x ≡ listed.Refused k → Fills x out → TextAnswers there s out w
           go (Gives b) u v x = let z : _≡_ {A = ℕ} 0 1 = cc in absurd (omega arith)
-          go (Refuses m) u v x = let z : m ≡ k = cc in refused-listing (same ∙ u) (rw z h) x c
+          go (Refuses m) u v x = let z : m ≡ k = cc in refused-text (same ∙ u) (rw z h) x c
 
-      pub listed-given : {n : ℕ} → l ≡ listed.Count n → left w ≡ set (held w) 0 n → ListingAnswers there 0 out w
-      listed-given {n} e c = go (listing bytes (room out)) refl (sym is ∙ e) stands
+      pub text-given : {n : ℕ} → l ≡ listed.Count n → left w ≡ set (held w) 0 n → TextAnswers there 0 out w
+      text-given {n} e c = go o refl (sym is ∙ e) stands
         where
-          go : (o : Outcome (List ℕ)) → listing bytes (room out) ≡ o → counted o ≡ listed.Count n → Fills o out
-              → ListingAnswers there 0 out w
+          go : (x : Outcome (List ℕ)) → o ≡ x → counted x ≡ listed.Count n → Fills x out → TextAnswers there 0 out w
           go (Gives b) u v x =
               let z : length b ≡ n = cc in
               let g : there ≡ Gives b = same ∙ u in
               record { status-is = rw g; out-filled = rw g x; written-filled = rw (g, z) (c ∙ one-stored n (held w) place) }
           go (Refuses m) u v x = let z : _≡_ {A = ℕ} 0 1 = cc in absurd (omega arith)
+
+-- the two calls that give a text
+pub is-listing : (bytes : List ℕ) (room : ℕ)
+    → listing bytes room
+    ≡ unless (listingChecks bytes ++ (roomCheck room (listingOf (sheetOf bytes)) ∷ [])) (listingOf (sheetOf bytes))
+unfolding listing
+is-listing bytes room = refl
+
+pub is-writing : (words ends : List ℕ) (room : ℕ)
+    → writeLaid words ends room
+    ≡ unless (laidChecks words ends ++ (roomCheck room (text (recordsAt words ends)) ∷ [])) (text (recordsAt words ends))
+unfolding writeLaid
+is-writing words ends room = refl
 
 -- ---- `borrows_sheet`
 

@@ -9,17 +9,22 @@ use Rattle.answers.specs.declared.Refusal.the-variants.{Malformed, Duplicate, U
 use Rattle.answers.specs.declared.Refusal.the-variants.{Ambiguous, Mismatch, OutOfRange, NoRoom, Unreadable, Retired}
 use Rattle.answers.specs.Refusals.{next, end}
 use Rattle.answers.specs.Lent.{roomCheck}
+use Rattle.answers.proofs.RefusalLaws.{further, none-rest}
+use Rattle.sheet.specs.Text.{text}
 use Rattle.sheet.specs.Reading.{sheetOf}
+use Rattle.sheet.specs.Answer.{recordsAt}
+use Rattle.sheet_writer.specs.Laid.{laidChecks}
+use Rattle.sheet_writer.proofs.WriteLaws.{text-short}
 use Rattle.borrowing_param.specs.SheetMethod.{sheetRefusals}
 use Rattle.borrowing_param.specs.Borrows.{sheetBorrows, borrowsRoomChecks}
 use Rattle.listing.specs.Listing.{roomBytes, listingOf, listingChecks}
 use Rattle.listing.proofs.Theorems.{program-answers}
-use Rattle.exports.specs.Calls.{lengthWord, listingTo, countWords, sheetTo}
-use Rattle.exports.specs.Theorems.{BytesEnough, WordsEnough, StatusTells}
-use Rattle.exports.proofs.EnoughLaws.{further, room}
+use Rattle.exports.specs.Calls.{lengthWord, textTo, countWords, sheetTo}
+use Rattle.exports.specs.Theorems.{BytesEnough, WordsEnough, WrittenEnough, StatusTells}
+use Rattle.exports.proofs.EnoughLaws.{room}
 
 pub bytes-enough : BytesEnough
-unfolding listingTo
+unfolding textTo
 bytes-enough bytes room words h g =
     let text = listingOf (sheetOf bytes) in
     further text (listingChecks bytes) (roomCheck room text ∷ roomCheck words (lengthWord text) ∷ [])
@@ -35,6 +40,14 @@ words-enough bytes used answers edges counts a b c d =
     (borrowsRoomChecks (sheetBorrows (sheetOf bytes)) used answers edges
     ++ (roomCheck counts (countWords (sheetBorrows (sheetOf bytes))) ∷ []))
     (room bytes used answers edges counts a b c d)
+
+pub written-enough : WrittenEnough
+unfolding textTo
+written-enough words ends room written h g =
+    let r = recordsAt words ends in
+    further (text r) (laidChecks words ends) (roomCheck room (text r) ∷ roomCheck written (lengthWord (text r)) ∷ [])
+    (λ n.
+    next (le-ltb room (length (text r)) (omega (arith, h, text-short r (none-rest n)))) (next (le-ltb written 1 g) end))
 
 pub status-tells : StatusTells
 status-tells Malformed = (omega arith, omega arith)

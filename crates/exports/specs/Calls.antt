@@ -5,9 +5,12 @@ use Prim.Native.Nat.{ℕ}
 use mathlib.Core.Path.{_≡_}
 use mathlib.Core.List.{List, [], _∷_, _++_}
 use lib.ListN.{length}
-use Rattle.answers.specs.Refusals.{Outcome, Gives, Refuses, unless, numberOf, over}
+use Rattle.answers.specs.Refusals.{Check, Outcome, Gives, Refuses, unless, numberOf, over}
 use Rattle.answers.specs.Lent.{Slice, Fills, roomCheck}
+use Rattle.sheet.specs.Text.{text}
 use Rattle.sheet.specs.Reading.{sheetOf}
+use Rattle.sheet.specs.Answer.{recordsAt}
+use Rattle.sheet_writer.specs.Laid.{laidChecks}
 use Rattle.borrowing_param.specs.SheetMethod.{sheetRefusals}
 use Rattle.borrowing_param.specs.Borrows.{Borrows, sheetBorrows, borrowsRoomChecks, usedWords, answerWords, edgesWords}
 use Rattle.listing.specs.Listing.{listingOf, listingChecks}
@@ -17,27 +20,33 @@ abbrev pub statusOf : {A : Type 0} → Outcome A → ℕ
 statusOf (Gives a) = 0
 statusOf (Refuses r) = numberOf r
 
--- ---- `borrows_listing`
+-- ---- a text, and how many bytes it has in a word beside it: `borrows_listing`, `borrows_write_sheet`
 
--- the word beside a listing: how many bytes it has
 abbrev pub lengthWord : List ℕ → List ℕ
 lengthWord text = length text ∷ []
 
--- refused as the sheet is, then by too many edges (9), then where one of the two slices is too short (9)
-unfoldable pub listingTo : List ℕ → ℕ → ℕ → Outcome (List ℕ)
-listingTo bytes room words =
-    unless (listingChecks bytes
-    ++ (roomCheck room (listingOf (sheetOf bytes)) ∷ roomCheck words (lengthWord (listingOf (sheetOf bytes))) ∷ []))
-    (listingOf (sheetOf bytes))
+-- refused by some checks, then where one of the two slices is too short (9)
+unfoldable pub textTo : List Check → List ℕ → ℕ → ℕ → Outcome (List ℕ)
+textTo checks text room words =
+    unless (checks ++ (roomCheck room text ∷ roomCheck words (lengthWord text) ∷ [])) text
 
 abbrev pub lengthOf : Outcome (List ℕ) → Outcome (List ℕ)
 lengthOf o = over lengthWord o
 
 -- what the call answers and writes
-pub record ListingAnswers (o : Outcome (List ℕ)) (status : ℕ) (out written : Slice) : Type 0 where
+pub record TextAnswers (o : Outcome (List ℕ)) (status : ℕ) (out written : Slice) : Type 0 where
   pub status-is : status ≡ statusOf o
   pub out-filled : Fills o out
   pub written-filled : Fills (lengthOf o) written
+
+-- a listing: refused as the sheet is, then by too many edges (9)
+abbrev pub listingTo : List ℕ → ℕ → ℕ → Outcome (List ℕ)
+listingTo bytes = textTo (listingChecks bytes) (listingOf (sheetOf bytes))
+
+-- a sheet written from words and the ends of ten records in them: refused where these are no such ends (1), then as the
+-- records are
+abbrev pub writingTo : List ℕ → List ℕ → ℕ → ℕ → Outcome (List ℕ)
+writingTo words ends = textTo (laidChecks words ends) (text (recordsAt words ends))
 
 -- ---- `borrows_sheet`
 

@@ -3,7 +3,7 @@ ghost use Prim.Native.Nat.{ℕ};
 ghost use mathlib.Core.Path.{_≡_};
 ghost use Rattle.answers.specs.Lent.{held, room};
 ghost use Rattle.answers.specs.Refusals.{Refuses};
-ghost use Rattle.exports.specs.Calls.{listingTo, ListingAnswers};
+ghost use Rattle.exports.specs.Calls.{listingTo, TextAnswers};
 use answers::Listed;
 use answers::Refusal;
 use listing::listing;
@@ -13,7 +13,7 @@ use listing::listing;
 // where the first slice is too short, or where the second has no word. 131,072 bytes and one word are always enough.
 #[no_mangle]
 pub extern "C" fn borrows_listing(sheet: &[u8], out: &mut [u8], written: &mut [usize]) -> usize
-    ensures answer { λ r. ⌜ ListingAnswers (listingTo (held sheet) (room out) (room written)) r out written ⌝ }
+    ensures answer { λ r. ⌜ TextAnswers (listingTo (held sheet) (room out) (room written)) r out written ⌝ }
 {
     if written.len() < 1 {
         let refusal = unlisted(sheet);

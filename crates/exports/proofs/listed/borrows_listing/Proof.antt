@@ -1,5 +1,5 @@
 -- `borrows_listing` meets its contract: each way out is one law of proofs/ExportLaws.antt.
-use Rattle.exports.proofs.ExportLaws.{no-place, listed-given, listed-refused}
+use Rattle.exports.proofs.ExportLaws.{text-unplaced, text-given, text-refused, is-listing}
 use borrow.Author.Needs.{needs}
 use Rattle.exports.proofs.listed.borrows_listing.Statement.{statement}
 use Rattle.exports.proofs.listed.borrows_listing.Tie as tie
@@ -9,9 +9,9 @@ borrows-listing-spec =
     tie.close
     (tie.spec
     (λ c κs. search needs) (λ c κs. search needs)
-    (λ c. search (no-place, needs))
+    (λ c. search (text-unplaced, needs))
     (λ c κs. search needs) (λ c. search needs) (λ c. search needs) (λ c. search needs) (λ c κs. search needs)
     (λ c. search needs) (λ c. search needs)
-    (λ c. search (listed-given, needs))
+    (λ c. search (text-given, is-listing, needs))
     (λ c. search needs)
-    (λ c. search (listed-refused, needs)))
+    (λ c. search (text-refused, is-listing, needs)))
