@@ -3,7 +3,7 @@
  *
  *     fuzz SEEDS SECONDS SEED REPORT
  *
- * SEEDS is a file of sheets, each behind a line with its length. A sheet is drawn, changed (bytes, words, records, splices) and given to both calls of include/borrows.h. Each piece of memory that is lent
+ * SEEDS is a file of sheets, each behind a line with its length. A sheet is drawn, changed (bytes, words, records, splices) and given to the calls of include/borrows.h. Each piece of memory that is lent
  * lies between two guarded regions and touches one of them, with its end or with its start as chance has it, so that a byte read or written on that side is a fault. A call has a little less than
  * BORROWS_STACK bytes of stack, with a guard below.
  *
@@ -14,8 +14,22 @@
  *   - accepted: the first n bytes are written and no others; with room for exactly n the same bytes; with a byte less, or no word for n, 9 and nothing written;
  *   - borrows_sheet (every fourth sheet): refused as the listing is, but for a listing's 9, which only edges can be; what it gives is what the listing ends with; exact room does, a word less anywhere is 9.
  *
+ * Held of its records, of each sheet to begin with and of every fourth behind them. A text that is lines of decimal
+ * numbers is taken apart here, words of any size too; the records are now and then changed (a word that is too large,
+ * `force`, a record above 1,024 words, ends that are those of no ten records, words behind the last end):
+ *   - no fault and so on, as above; words and ends stay as they are; a status of 0, 1, 9, 10 or 13;
+ *   - 1 for ends that are not ten, descend, or lie past the words; else 10 where a word of a record is above 65535;
+ *     else 1 where a record has more than 1,024 words; else 1 or 13 where the listing of their text, put together here,
+ *     is refused so (it is never refused by 10), and otherwise they are written as that very text. So what was written
+ *     reads again, and records that were not changed are written as the bytes that they came from, of which the listing
+ *     says the same as before;
+ *   - refused: nothing is written, and the same refusal comes with any room;
+ *   - written: the first n bytes and no others; the same with room for exactly n, and with some to spare; with a byte
+ *     less, or no word for n, 9 and nothing written.
+ *
  * What is lent is filled with a byte that no answer holds (FILL), so that what is written shows.
- * The first fault or difference ends the run with status 1; the sheet is then in the file REPORT. Otherwise the figures are printed.
+ * The first fault or difference ends the run with status 1; the sheet is then in the file REPORT, and behind it the ends
+ * and words if it came while records were written. Otherwise the figures are printed.
  */
 #define _GNU_SOURCE
 #include <pthread.h>
@@ -37,7 +51,13 @@ enum {
     LONGEST = 70000,  /* more than a sheet may have */
     KEPT = 30000,     /* sheets to draw from, at most */
     KEPT_BYTES = 6000,
-    RECORDS = 10
+    RECORDS = 10,
+    HEADING = 66,        /* bytes of the first line */
+    RECORD_WORDS = 1024, /* the most that a record may have */
+    LARGEST_WORD = 65535,
+    FEW = 2048,          /* words for which there is a small room, which is looked through sooner */
+    MANY = LONGEST / 2 + 70000, /* words of any text, and as many more as are added at most */
+    ENDS = RECORDS + 2
 };
 
 /* ---- random numbers: splitmix64 */
@@ -62,8 +82,16 @@ static const char *report;
 static volatile uint64_t runs, calls;
 static volatile sig_atomic_t stopped;
 
+/* The records that are written: their words, one record after another, and what is lent as their ends. */
+static struct {
+    size_t words[MANY], words_len, ends[ENDS], ends_len;
+} records;
+static volatile sig_atomic_t writing;
+
 static uint64_t by_status[BORROWS_RETIRED + 1], accepted_inputs, accepted_listings, listed_bytes, sheet_calls, many_edges, longest_ns;
 static size_t stack_left, largest_listing, most_edges;
+static uint64_t records_by_status[BORROWS_RETIRED + 1], records_held, records_changed, bad_ends, write_calls;
+static size_t largest_text;
 
 static int named(size_t status) { return status <= BORROWS_UNREADABLE || status == BORROWS_RETIRED; }
 
@@ -77,6 +105,15 @@ static void fail(const char *what)
     FILE *file = fopen(report, "w");
     if (file) {
         fwrite(input, 1, length, file);
+        if (writing) {
+            fprintf(file, "ends:");
+            for (size_t k = 0; k < records.ends_len; k++)
+                fprintf(file, " %zu", records.ends[k]);
+            fprintf(file, "\nwords:");
+            for (size_t k = 0; k < records.words_len; k++)
+                fprintf(file, " %zu", records.words[k]);
+            fprintf(file, "\n");
+        }
         fclose(file);
     }
     _exit(1);
@@ -128,7 +165,7 @@ struct room {
     size_t size;
 };
 
-static struct room sheets, outs, writtens, useds, answerss, edgess, countss;
+static struct room sheets, outs, writtens, useds, answerss, edgess, countss, few_words, many_words, endss;
 
 static struct room room_of(size_t bytes)
 {
@@ -162,7 +199,7 @@ static void only_written(const struct room *room, void *from, size_t bytes)
     memset(from, FILL, bytes);
 }
 
-/* ---- the two calls, with all that is held of a single one */
+/* ---- the three calls, with all that is held of a single one */
 
 static uint8_t listing[BORROWS_LISTING_BYTES], again[BORROWS_LISTING_BYTES];
 
@@ -189,6 +226,22 @@ static void told(size_t status)
         fail("refused by 13, and `force` is not 1");
 }
 
+/* What a call left of a text of at most so many bytes, into `to`; how many there are into `count`. */
+static void take_text(size_t status, uint8_t *out, size_t bytes, size_t *written, size_t words, uint8_t *to,
+                      size_t *count)
+{
+    if (status == 0 && words == 0)
+        fail("accepted without a word for the length");
+    *count = status ? 0 : written[0];
+    if (*count > bytes)
+        fail("more bytes than there is room");
+    if (memchr(out, FILL, *count))
+        fail("a byte of the text is not written");
+    memcpy(to, out, *count);
+    only_written(&outs, out, *count);
+    only_written(&writtens, written, status ? 0 : sizeof *written);
+}
+
 /* The listing into `to`, with so much room; how many bytes it has into `count`. */
 static size_t ask_listing(size_t bytes, size_t words, uint8_t *to, size_t *count)
 {
@@ -201,16 +254,7 @@ static size_t ask_listing(size_t bytes, size_t words, uint8_t *to, size_t *count
     if (memcmp(sheet, input, length))
         fail("the sheet was written");
     told(status);
-    if (status == 0 && words == 0)
-        fail("accepted without a word for the length");
-    *count = status ? 0 : written[0];
-    if (*count > bytes)
-        fail("more bytes than there is room");
-    if (memchr(out, FILL, *count))
-        fail("a byte of the listing is not written");
-    memcpy(to, out, *count);
-    only_written(&outs, out, *count);
-    only_written(&writtens, written, status ? 0 : sizeof *written);
+    take_text(status, out, bytes, written, words, to, count);
     return status;
 }
 
@@ -252,6 +296,33 @@ static size_t ask_sheet(size_t used_len, size_t answers_len, size_t edges_len, s
     take(&useds, used, to->used, to->counts[0]);
     take(&answerss, answers, to->answers, to->counts[1]);
     take(&edgess, edges, to->edges, BORROWS_WORDS_PER_EDGE * to->counts[2]);
+    return status;
+}
+
+/* The text of the records into `to`, with so much room; how many bytes it has into `count`. */
+static size_t ask_write(size_t bytes, size_t counted, uint8_t *to, size_t *count)
+{
+    unsigned places = draw() >> 40;
+    const struct room *room = records.words_len <= FEW ? &few_words : &many_words;
+    size_t words_bytes = records.words_len * sizeof(size_t), ends_bytes = records.ends_len * sizeof(size_t);
+    size_t *words = piece(room, words_bytes, places), *ends = piece(&endss, ends_bytes, places >> 1);
+    uint8_t *out = piece(&outs, bytes, places >> 2);
+    size_t *written = piece(&writtens, counted * sizeof *written, places >> 3);
+    memcpy(words, records.words, words_bytes);
+    memcpy(ends, records.ends, ends_bytes);
+    uint64_t start = now();
+    size_t status =
+        borrows_write_sheet(words, records.words_len, ends, records.ends_len, out, bytes, written, counted);
+    called(start);
+    write_calls++;
+    if (memcmp(words, records.words, words_bytes) || memcmp(ends, records.ends, ends_bytes))
+        fail("words or ends were written");
+    only_written(room, words, words_bytes);
+    only_written(&endss, ends, ends_bytes);
+    if (status != BORROWS_OK && status != BORROWS_MALFORMED && status != BORROWS_NO_ROOM
+        && status != BORROWS_UNREADABLE && status != BORROWS_RETIRED)
+        fail("a status that writing does not have");
+    take_text(status, out, bytes, written, counted, to, count);
     return status;
 }
 
@@ -339,6 +410,9 @@ static int unseen(uint8_t *table, const uint8_t *bytes, size_t n)
     return new;
 }
 
+/* How the listing of the sheet was refused, or 0. */
+static size_t sheet_status;
+
 /* What has to hold of the sheet. Answers 0 for a refused one, 1 for an accepted one, 2 for an accepted one with numbers in its listing's second line that none had before. */
 static int hold(void)
 {
@@ -346,6 +420,7 @@ static int hold(void)
     size_t n, same;
     size_t status = ask_listing(BORROWS_LISTING_BYTES, 1 + below(2), listing, &n);
     by_status[status]++;
+    sheet_status = status;
     if (status) {
         if (ask_listing(below(3) ? below(300) : 0, below(2), again, &same) != status)
             fail("another refusal with less room");
@@ -641,6 +716,242 @@ static void change(void)
         }
 }
 
+/* ---- the records of a sheet, taken apart and changed */
+
+static const char heading[] = "names bounds types self steps returns structs params output force\n";
+
+/* A number without zeros in front, from a place on, which is then behind it. Whether there is one. */
+static int read_number(size_t *at, size_t *value)
+{
+    size_t from = *at;
+    for (*value = 0; *at < length && is_digit(input[*at]); ++*at) {
+        size_t digit = input[*at] - '0';
+        if (*value > (SIZE_MAX - digit) / 10)
+            return 0;
+        *value = 10 * *value + digit;
+    }
+    return *at == from + 1 || (*at > from && input[from] != '0');
+}
+
+/* The words of a line, behind those that are there already. Whether they are numbers with a blank between. */
+static int read_line(size_t *at)
+{
+    if (*at < length && input[*at] == '\n') {
+        ++*at;
+        return 1;
+    }
+    uint8_t behind;
+    do {
+        if (!read_number(at, records.words + records.words_len) || *at == length)
+            return 0;
+        records.words_len++;
+        behind = input[(*at)++];
+    } while (behind == ' ');
+    return behind == '\n';
+}
+
+/* The records of the sheet. Whether it is the first line and then ten lines of numbers, whatever these are. */
+static int take_apart(void)
+{
+    size_t at = HEADING;
+    if (length < at || memcmp(input, heading, at))
+        return 0;
+    records.words_len = 0;
+    for (records.ends_len = 0; records.ends_len < RECORDS; records.ends[records.ends_len++] = records.words_len)
+        if (!read_line(&at))
+            return 0;
+    return at == length;
+}
+
+/* The records' text in place of the sheet. They have at most 1,024 words of at most five digits each. */
+static void spell(void)
+{
+    uint8_t *at = input + HEADING;
+    memcpy(input, heading, HEADING);
+    for (size_t k = 0, w = 0; k < RECORDS; k++) {
+        if (w == records.ends[k])
+            *at++ = '\n';
+        for (; w < records.ends[k]; w++)
+            at = put_number(at, records.words[w], w + 1 < records.ends[k] ? ' ' : '\n');
+    }
+    length = at - input;
+}
+
+/* So many times a word into a record, at a place among all words; the ends from there on move along. */
+static void add_words(size_t record, size_t at, size_t word, size_t times)
+{
+    size_t *place = records.words + at;
+    if (times > MANY - records.words_len)
+        return;
+    memmove(place + times, place, (records.words_len - at) * sizeof *place);
+    for (size_t k = 0; k < times; k++)
+        place[k] = word;
+    records.words_len += times;
+    for (; record < RECORDS; record++)
+        records.ends[record] += times;
+}
+
+/* A word that no record may have: one that would be small in 16 or 32 bits, or the largest that there are. */
+static size_t large_word(void)
+{
+    return below(3) ? ((size_t)1 << (16 + below(48))) + below(10) : SIZE_MAX - below(3);
+}
+
+static void change_a_record(void)
+{
+    size_t record = below(RECORDS), from = record ? records.ends[record - 1] : 0, to = records.ends[record];
+    size_t at = from + below(to - from + 1), many;
+    switch (below(8)) {
+    case 0: /* a word that is too large, for another or beside it */
+        if (at < to && below(2))
+            records.words[at] = large_word();
+        else
+            add_words(record, at, large_word(), 1);
+        break;
+    case 1: /* `force`, where it is there */
+        if (records.ends[RECORDS - 2] < records.ends[RECORDS - 1])
+            records.words[records.ends[RECORDS - 2]] = below(3);
+        break;
+    case 2: /* about as many words as a record may have, or so many that no sheet could have them */
+        many = below(8) ? RECORD_WORDS - 1 + below(4) : BORROWS_SHEET_BYTES / 2 + below(3);
+        if (to - from < many)
+            add_words(record, at, at < to ? records.words[at] : 0, many - (to - from));
+        if (below(4) == 0 && from < records.ends[record]) /* the last of them too large */
+            records.words[records.ends[record] - 1] = large_word();
+        break;
+    case 3: /* a word left out */
+        if (at < to) {
+            memmove(records.words + at, records.words + at + 1, (records.words_len - at - 1) * sizeof(size_t));
+            records.words_len--;
+            for (; record < RECORDS; record++)
+                records.ends[record]--;
+        }
+        break;
+    case 4:
+        add_words(record, at, number(), 1);
+        break;
+    default:
+        if (at < to)
+            records.words[at] = number();
+    }
+}
+
+/* Ends that are too few or too many, or one of them another: often those of no ten records, else of other ones. */
+static void change_ends(void)
+{
+    size_t k = below(RECORDS), n = records.words_len;
+    size_t anything[] = {0, n, n + 1, below(n + 1), SIZE_MAX, SIZE_MAX - n, (size_t)1 << 32};
+    switch (below(5)) {
+    case 0:
+        records.ends_len = below(RECORDS);
+        break;
+    case 1:
+        while (records.ends_len < ENDS && (records.ends_len == RECORDS || below(2)))
+            records.ends[records.ends_len++] = n;
+        break;
+    case 2:
+        records.ends[k] = anything[below(sizeof anything / sizeof *anything)];
+        break;
+    case 3:
+        records.ends[k]++;
+        break;
+    case 4:
+        records.ends[k]--;
+        break;
+    }
+}
+
+static void change_records(void)
+{
+    do
+        change_a_record();
+    while (below(3) == 0);
+    if (below(4) == 0)
+        for (size_t times = 1 + below(4); times && records.words_len < MANY; times--) /* behind the last end */
+            records.words[records.words_len++] = below(2) ? large_word() : number();
+    if (below(4) == 0)
+        change_ends();
+}
+
+/* ---- what is held of records */
+
+static int good_ends(void)
+{
+    size_t before = 0;
+    for (size_t k = 0; k < records.ends_len; k++) {
+        if (records.ends[k] < before)
+            return 0;
+        before = records.ends[k];
+    }
+    return records.ends_len == RECORDS && before <= records.words_len;
+}
+
+/* How the records are to be refused whatever the room, or 0. Where they have a text, that is then in place of the
+   sheet, and how its listing is refused, or 0, goes to `read`, which is otherwise left alone. */
+static size_t refusal_due(size_t *read)
+{
+    size_t n;
+    if (!good_ends()) {
+        bad_ends++;
+        return BORROWS_MALFORMED;
+    }
+    for (size_t w = 0; w < records.ends[RECORDS - 1]; w++)
+        if (records.words[w] > LARGEST_WORD)
+            return BORROWS_UNREADABLE;
+    for (size_t k = 0; k < RECORDS; k++)
+        if (records.ends[k] - (k ? records.ends[k - 1] : 0) > RECORD_WORDS)
+            return BORROWS_MALFORMED;
+    spell();
+    *read = ask_listing(BORROWS_LISTING_BYTES, 1, again, &n);
+    if (*read == BORROWS_UNREADABLE)
+        fail("a sheet of words up to 65535 in records up to 1,024 words is refused by 10");
+    return *read == BORROWS_MALFORMED || *read == BORROWS_RETIRED ? *read : BORROWS_OK;
+}
+
+static void written_as_spelt(size_t room, size_t counted)
+{
+    size_t n;
+    if (ask_write(room, counted, again, &n) || n != length || memcmp(again, input, n))
+        fail("records are not written as their text");
+}
+
+/* What has to hold of the sheet's records, or of changed ones. The sheet is another afterwards. */
+static void hold_records(void)
+{
+    static uint8_t before[LONGEST];
+    size_t n = length, unread = SIZE_MAX, read = unread, none;
+    if (!take_apart())
+        return;
+    memcpy(before, input, n);
+    int changed = below(2);
+    if (changed)
+        change_records();
+    writing = 1;
+    records_held++;
+    records_changed += changed;
+    size_t status = refusal_due(&read);
+    if (!changed && read != unread && (read != sheet_status || length != n || memcmp(before, input, n)))
+        fail("the text of a sheet's records is another than the sheet, or its listing is");
+    records_by_status[status]++;
+    if (status) {
+        if (ask_write(BORROWS_WRITTEN_BYTES, 1, again, &none) != status)
+            fail("records are refused otherwise than they are to be");
+        if (ask_write(below(3) ? below(300) : 0, below(2), again, &none) != status)
+            fail("another refusal of records with less room");
+    } else {
+        if (length > largest_text)
+            largest_text = length;
+        written_as_spelt(BORROWS_WRITTEN_BYTES + below(2), 1 + below(2));
+        written_as_spelt(length, 1);
+        written_as_spelt(length + below(BORROWS_WRITTEN_BYTES - length), 1);
+        if (ask_write(length - 1, 1, again, &none) != BORROWS_NO_ROOM)
+            fail("a byte less for records, and no 9");
+        if (ask_write(below(2) ? BORROWS_WRITTEN_BYTES : length, 0, again, &none) != BORROWS_NO_ROOM)
+            fail("no word for the length of a text, and no 9");
+    }
+    writing = 0;
+}
+
 /* ---- the run */
 
 static uint64_t seconds, begun;
@@ -665,6 +976,8 @@ static void *run(void *stack)
             accepted_ones[accepted_count++] = kept_count;
             keep(input, length);
         }
+        if (runs < seed_count || runs % 4 == 2)
+            hold_records();
     }
     return NULL;
 }
@@ -686,6 +999,9 @@ int main(int argc, char **argv)
     answerss = room_of(BORROWS_ANSWERS * sizeof(size_t));
     edgess = room_of(BORROWS_EDGE_WORDS * sizeof(size_t));
     countss = room_of(PAGE);
+    few_words = room_of(FEW * sizeof(size_t));
+    many_words = room_of(MANY * sizeof(size_t));
+    endss = room_of(ENDS * sizeof(size_t));
     inputs_seen = calloc(TABLE, 1);
     listings_seen = calloc(TABLE, 1);
     struct room stack = room_of(BORROWS_STACK + OWN_STACK);
@@ -717,7 +1033,9 @@ int main(int argc, char **argv)
     while (untouched < stack.size && stack.base[untouched] == FILL)
         untouched++;
     printf("%llu seconds, seed %s, %zu sheets to begin with, %zu drawn from at the end\n", (unsigned long long)((now() - begun) / 1000000000), argv[3], seed_count, kept_count);
-    printf("%14llu sheets\n%14llu calls, %llu of them of borrows_sheet\n", (unsigned long long)runs, (unsigned long long)calls, (unsigned long long)sheet_calls);
+    printf("%14llu sheets\n%14llu calls, %llu of them of borrows_sheet, %llu of borrows_write_sheet\n",
+           (unsigned long long)runs, (unsigned long long)calls, (unsigned long long)sheet_calls,
+           (unsigned long long)write_calls);
     printf("%14llu accepted\n", (unsigned long long)by_status[0]);
     for (int k = 1; k <= BORROWS_RETIRED; k++)
         if (named(k))
@@ -725,6 +1043,13 @@ int main(int argc, char **argv)
     printf("%14llu different sheets accepted, at least\n%14llu different listings, at least\n", (unsigned long long)accepted_inputs, (unsigned long long)accepted_listings);
     printf("%14llu bytes listed, %zu in the longest listing\n", (unsigned long long)listed_bytes, largest_listing);
     printf("%14zu edges at most; %llu sheets with more than 4,096 were given by borrows_sheet\n", most_edges, (unsigned long long)many_edges);
+    printf("%14llu times ten records, %llu of them changed\n%14llu written, %zu bytes in the longest text\n",
+           (unsigned long long)records_held, (unsigned long long)records_changed,
+           (unsigned long long)records_by_status[0], largest_text);
+    printf("%14llu refused by 1, %llu of them for their ends\n%14llu refused by 10\n%14llu refused by 13\n",
+           (unsigned long long)records_by_status[BORROWS_MALFORMED], (unsigned long long)bad_ends,
+           (unsigned long long)records_by_status[BORROWS_UNREADABLE],
+           (unsigned long long)records_by_status[BORROWS_RETIRED]);
     printf("%14.1f milliseconds for the longest call\n", longest_ns / 1e6);
     printf("%14zu bytes of stack taken at most, of %zu left to the loop\n", stack_left - untouched, stack_left);
     puts("no fault, no difference");

@@ -1,7 +1,7 @@
 """The model of the scope paper ("01"): what it says of every input, written down once, for tests/ and for compare/.
 
     base         refusals; words as text; the ten records of a sheet
-    text         bytes to ten records, and whether these are in shape
+    text         bytes to ten records, whether these are in shape, and ten records to bytes
     printing     numbers and lines as bytes: what the crate `text` prints and reads
     environment  names, bounds, types: the AST's environment, and a method's
     elision      self, steps, returns: the lowerer, step by step

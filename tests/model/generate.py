@@ -9,9 +9,10 @@ import random
 
 from . import printing
 from .base import LARGEST, RECORDS, flat, paired, written
-from .environment import MAX_BOUNDS, MAX_LIFETIMES, MAX_NAMES, AstEnv, Env
+from .environment import MAX_BOUNDS, MAX_LIFETIMES, MAX_NAMES, MAX_WORDS, AstEnv, Env
 from .listing import Answer
 from .methods import read_rows
+from .text import LARGEST_WORD, ends_of
 
 
 def text(sheet):
@@ -841,3 +842,104 @@ def pushed_bounds(rng):
         bounds[rng.choice([0, rng.randrange(len(bounds)), -1])] = rng.choice([(min(past, LARGEST), 0), (0, min(past, LARGEST))])
     pushed = rng.choice([len(bounds)] * 6 + [len(bounds) + 1, max(0, len(bounds) - 1), 0, MAX_BOUNDS, MAX_BOUNDS + 1, LARGEST])
     return lifetimes, pushed, bounds
+
+
+# ---- records to be written (02, W-214)
+
+LARGE_WORDS = [LARGEST_WORD + 1] * 3 + [LARGEST_WORD + 2, 2**17, 2**31, 2**32 - 1, 2**32, 2**32 + 7, 2**63, LARGEST]
+
+
+def sheet_records(rng):
+    """The ten records of a random sheet, accepted or not: an ordinary one, one with a fault or at a limit, or one with words changed."""
+    sheet = ordinary(rng)
+    form = rng.random()
+    if form < 0.08:
+        made = other_words(rng, sheet)
+    elif form < 0.28:
+        _, make, _ = rng.choice(FAULTS)
+        made = make(rng, sheet, len(sheet["names"]) + 1)
+    elif form < 0.42:
+        _, make, *_ = rng.choice(LIMITS)
+        made = make(rng, sheet, rng.choice(list(PAST)))
+    else:
+        made = sheet
+    made = made if isinstance(made, dict) else sheet  # no sheet of the kind, or one only as bytes
+    return [list(made[name]) for name in RECORDS]
+
+
+def large_word(rng, rs):
+    """A word that no sheet has, anywhere; now and then one with the same last 16 bits as what stood there."""
+    at = rng.randrange(len(rs))
+    k = rng.randrange(len(rs[at]) + 1)
+    same = [min(rs[at][k] + more, LARGEST) for more in (2**16, 2**32)] if k < len(rs[at]) else []
+    return rs[:at] + [rs[at][:k] + [rng.choice(LARGE_WORDS + 3 * same)] + rs[at][k + 1 :]] + rs[at + 1 :]
+
+
+def largest_words(rng, rs):
+    """The largest word of a sheet, in place of some words or behind a record."""
+    at = rng.randrange(len(rs))
+    return rs[:at] + [[rng.choice([word, word, LARGEST_WORD]) for word in rs[at]] + rng.choice([[], [LARGEST_WORD]])] + rs[at + 1 :]
+
+
+def long_words(rng, rs):
+    """A record at the limit of its words or past it, now and then with a large word behind the limit."""
+    at = rng.randrange(len(rs))
+    n = MAX_WORDS + rng.choice([-1, 0, 0, 1, 1, 2, 70])
+    name = RECORDS[at]
+    words = LONG[name](n) if name in LONG and n <= MAX_WORDS + 1 else [0] * n
+    if n > MAX_WORDS and rng.random() < 0.4:
+        words[rng.randrange(MAX_WORDS, n)] = rng.choice(LARGE_WORDS)
+    return rs[:at] + [words] + rs[at + 1 :]
+
+
+def torn_words(rng, rs):
+    """A record with a word less, a word more, or none."""
+    at = rng.randrange(len(rs))
+    return rs[:at] + [rng.choice([rs[at][:-1], rs[at] + [rng.randrange(6)], []])] + rs[at + 1 :]
+
+
+def other_force(rng, rs):
+    return rs[:-1] + [rng.choice([[1], [1], [1], [0], [2], [], [1, 1], [1, 0], [LARGEST_WORD + 1], [LARGEST_WORD + 2], [LARGEST]])]
+
+
+WORSE = [large_word, large_word, largest_words, long_words, torn_words, other_force, other_force]
+
+
+def writing(rng):
+    """Ten records to be written: those of a random sheet, of which half are changed: a large word, a long record, a torn one, another `force`, and now and then two of these."""
+    rs = sheet_records(rng)
+    for change in rng.sample(WORSE, rng.choice([0, 0, 0, 0, 1, 1, 1, 2])):
+        rs = change(rng, rs)
+    return rs
+
+
+def laid_out(rng, rs):
+    """Records as words and ends: now and then with words behind the last end, with ends that are too few, too many, not ascending or past the words, or with an end that stands elsewhere."""
+    ws, ends = flat(rs), ends_of(rs)
+    if rng.random() < 0.3:
+        ws = ws + [rng.choice([0, 7, LARGEST_WORD] + LARGE_WORDS) for _ in range(rng.choice([1, 1, 2, 5]))]
+    if rng.random() < 0.3:
+        at = rng.randrange(len(ends))
+        ends = rng.choice(
+            [
+                ends[:at] + ends[at + 1 :],
+                ends[:at] + [ends[at]] + ends[at:],
+                ends + [rng.choice([ends[-1], len(ws), 0, LARGEST])],
+                [],
+                ends[:at] + [max(0, ends[at] - 1)] + ends[at + 1 :],
+                ends[:at] + [ends[at] + 1] + ends[at + 1 :],
+                ends[:at] + [rng.choice([0, len(ws), len(ws) + 1, 2**32, LARGEST])] + ends[at + 1 :],
+                ends[:-1] + [len(ws)],
+                ends[:-1] + [rng.choice([len(ws) + 1, LARGEST])],
+                ends[::-1],
+            ]
+        )
+    return ws, ends
+
+
+def text_room(rng, rs):
+    """How many bytes are lent for the text of records: just so many, one more or less, ample, none, or any number; a few where it would be longer than what is lent."""
+    size = len(written(rs))
+    if size > printing.MOST_ROOM - 50:
+        return rng.choice([0, 1, 70])
+    return rng.choice([size, size, size, size + 1, size - 1, size - 1, size + rng.randrange(40), 0, rng.randrange(size)])

@@ -12,7 +12,8 @@ from .visits import EDGE, answer_number, edges_of, in_listing_order
 SECTIONS = ["lifetimes used params edges", "lowered", "lifetime longer", "param answer", "used param kind def option"]
 MAX_EDGES = 4096
 
-# 01's own sheet, its records parted by "|", and the paper's own listing of it
+# The smallest accepted sheet, its records parted by "|"; 01's own, and the paper's own listing of it
+SMALLEST = "0 | 0 | | | | | | | | 0"
 EXAMPLE = "0 7 9 | 0 | 2 7 1 1 9 | | 0 7 0 9 0 1 | 0 7 | | 1 0 1 2 1 1 3 1 3 | 1 0 1 1 0 | 0"
 EXAMPLE_LISTING = """\
 lifetimes used params edges

@@ -15,6 +15,7 @@ crates/vectors/src, in the module of its crate:
     borrows.rt       23 borrow_method
     sheets.rt        24 lower_sheet; 25 borrow_sheet, borrows_sheet; 26 listing, borrows_listing
     texts.rt         28 put_text, put_number, put_padded, put_following, put_line; 29 read_number
+    writes.rt        33 sheet_shape, write_sheet; 34 write_laid, borrows_write_sheet
 """
 from . import elision, environment, methods, printing, text
 from .base import LARGEST, Refusal, flat, number_of, record, refuse, words
@@ -457,11 +458,15 @@ def listing_answer(data, rooms):
 
 def sheet_listed(found, rooms):
     """`found` is a refusal's number, or the listing."""
-    found = found if isinstance(found, int) else list(found.encode())
-    called = listed(found, rooms[0], DOT)
-    if called[0] == 0 and rooms[1] >= 1:
-        return called + [0] + called[2:] + lent([called[1]], rooms[1])
-    return called + [called[0] or 9] + lent([], rooms[0], DOT) + lent([], rooms[1])
+    return exported(found if isinstance(found, int) else list(found.encode()), *rooms)
+
+
+def exported(found, room, counted):
+    """Bytes written to one slice, by the library's call and by the exported one, which wants room for their number besides: what the first answers and the whole slice; the second's status and both slices."""
+    called = listed(found, room, DOT)
+    if called[0] == 0 and counted >= 1:
+        return called + [0] + called[2:] + lent([called[1]], counted)
+    return called + [called[0] or 9] + lent([], room, DOT) + lent([], counted)
 
 
 # ---- kind 27: an edge by its place
@@ -511,3 +516,22 @@ def sets_answer(lifetimes, sets):
     while drawn and drawn[-1] == 0:
         drawn.pop()
     return [sum(2**k for k in used_ones), 0] + record(drawn)
+
+
+# ---- kinds 33 and 34: records written as a sheet
+
+
+def write_question(rs, room):
+    return [33] + records_of(*rs) + [room]
+
+
+def write_answer(rs, room, wrong=""):
+    return [number_of(text.sheet_shape, rs)] + listed(answered(text.write_sheet, rs, wrong), room, DOT)
+
+
+def laid_question(ws, ends, room, counted):
+    return [34] + records_of(ws, ends) + [room, counted]
+
+
+def laid_answer(ws, ends, room, counted, wrong=""):
+    return exported(answered(text.write_laid, ws, ends, wrong), room, counted)

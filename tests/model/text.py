@@ -1,11 +1,19 @@
-"""Bytes to the ten records of a sheet, and whether these are in shape.
+"""Bytes to the ten records of a sheet, whether these are in shape, and ten records to bytes (02, W-214).
 
-`wrong` is the wrong reading of 01 that is followed, if any: one of WRONG. tests/readings.py shows that each of them contradicts an answer.
+`wrong` is the wrong reading of 01 or 02 that is followed, if any: one of WRONG, or where records are written one of WRONG_WRITTEN. tests/readings.py shows that each of the first contradicts an answer,
+tests/vectors.py that each of the second does.
 """
 import re
 
 from . import elision, environment, methods
-from .base import HEADING, Refusal, flat, record, refuse
+from .base import HEADING, RECORDS, Refusal, flat, record, refuse, written
+
+LARGEST_WORD = 65535  # of a sheet
+
+
+def most_word(wrong):
+    return LARGEST_WORD + (wrong == "65536 is a word")
+
 
 def word_of(part, wrong):
     if wrong == "a leading zero passes":
@@ -17,7 +25,7 @@ def word_of(part, wrong):
     if wrong == "hexadecimal passes" and re.fullmatch(rb"0x[0-9a-f]+", part):
         part = b"%d" % int(part, 16)
     refuse(not re.fullmatch(rb"0|[1-9][0-9]*", part), 10)
-    refuse(len(part) > 5 or int(part) > (65536 if wrong == "65536 is a word" else 65535), 10)
+    refuse(len(part) > 5 or int(part) > most_word(wrong), 10)
     return int(part)
 
 
@@ -112,13 +120,19 @@ def in_shape(rs, wrong=""):
     methods.force_shape(force)
 
 
-def read_sheet(data, wrong=""):
-    rs = read_text(data, wrong)
+def sheet_shape(rs, wrong=""):
+    """1 over all ten records, then 13; nothing else."""
     if wrong == "13 is given before 1":
         methods.retired(rs[-1])
     in_shape(rs, wrong)
     if wrong != "force 1 passes":
         methods.retired(rs[-1])
+
+
+def read_sheet(data, wrong=""):
+    """The ten records; refused by 10, by 1, by 13, and checked no further."""
+    rs = read_text(data, wrong)
+    sheet_shape(rs, wrong)
     return rs
 
 
@@ -150,6 +164,57 @@ def read(rs):
 
 def not_read(number, left=()):
     return [number] + [0] * 10 + record(list(left))
+
+
+# ---- writing
+
+
+def write_sheet(rs, wrong=""):
+    """The bytes of the sheet of ten records, as numbers; refused by 10 for a word above 65535, however long its record is, then by 1, then by 13. Whether there is room for them is the caller's."""
+    if wrong == "1 is given before 10":
+        in_shape(rs)
+    if wrong == "13 is given before 10":
+        methods.retired(rs[-1])
+    if wrong == "words wrap at 2^16":
+        rs = [[word % 2**16 for word in r] for r in rs]
+    if wrong == "a text that is too long to be read is unreadable":
+        refuse(len(written(rs)) > 65536, 10)
+    looked_at = flat(r[:1024] if wrong == "words behind the 1,024th are not looked at" else r for r in rs)
+    if wrong == "words are looked at by 32 bits":
+        looked_at = [word % 2**32 for word in looked_at]
+    refuse(any(word > most_word(wrong) for word in looked_at), 10)
+    sheet_shape(rs, wrong)
+    if wrong == "later refusals prevent writing":
+        elision.lower_records(environment.from_method_item(*rs[:3]).names, *rs[3:6])
+    return list(written(rs))
+
+
+def laid(ws, ends, wrong=""):
+    """The ten records that stand in some words one behind another, each up to its end; 1 where the ends are not ten, not ascending, or past the words. Words behind the last end are not looked at."""
+    if wrong == "ends behind the tenth are left out":
+        ends = ends[:10]
+    if wrong == "where ends are missing the records are empty":
+        ends = ends + (ends[-1:] or [0]) * (len(RECORDS) - len(ends))
+    if wrong == "a last end past the words is their end":
+        ends = [min(end, len(ws)) for end in ends]
+    if wrong == "ends may go down":
+        ends = [max(ends[: k + 1]) for k in range(len(ends))]
+    bad = len(ends) != len(RECORDS) or ends != sorted(ends) or ends[-1] > len(ws)
+    if wrong == "no record is empty":
+        bad = bad or 0 in map(len, laid(ws, ends))
+    if wrong == "no words stand behind the last end":
+        bad = bad or ends[-1] < len(ws)
+    if wrong == "10 is given before the 1 of bad ends":
+        refuse(bad and any(word > LARGEST_WORD for word in ws), 10)
+    if wrong == "words behind the last end are looked at":
+        refuse(not bad and any(word > LARGEST_WORD for word in ws), 10)
+    refuse(bad, 1)
+    return [ws[a:b] for a, b in zip([0] + ends, ends)]
+
+
+def write_laid(ws, ends, wrong=""):
+    """The same of records that are laid: 1 of the ends before all else."""
+    return write_sheet(laid(ws, ends, wrong), wrong)
 
 
 WRONG = [
@@ -198,4 +263,25 @@ WRONG = [
     "9 is given before 13",
     "words are stored before a refusal",
     "9 although the words just fit",
+]
+
+WRONG_WRITTEN = [
+    "1 is given before 10",
+    "13 is given before 10",
+    "13 is given before 1",
+    "force 1 passes",
+    "65536 is a word",
+    "words wrap at 2^16",
+    "words are looked at by 32 bits",
+    "words behind the 1,024th are not looked at",
+    "a text that is too long to be read is unreadable",
+    "later refusals prevent writing",
+    "ends behind the tenth are left out",
+    "where ends are missing the records are empty",
+    "a last end past the words is their end",
+    "ends may go down",
+    "no record is empty",
+    "no words stand behind the last end",
+    "10 is given before the 1 of bad ends",
+    "words behind the last end are looked at",
 ]

@@ -24,6 +24,7 @@ mod sheets;
 mod texts;
 mod visits;
 mod words;
+mod writes;
 
 ghost use mathlib.Core.Path.{_≡_};
 ghost use Prim.Native.Nat.{_≤_};
@@ -66,6 +67,8 @@ fn answer(kind: usize, words: &[usize], at: usize) -> usize
         30 => visits::from_sets(words, at),
         31 => bounds::check(words, at),
         32 => environments::none(at),
+        33 => writes::ten(words, at),
+        34 => writes::laid(words, at),
         _ => words.len(),
     }
 }

@@ -118,6 +118,20 @@ pub(crate) fn behind_record(words: &[usize], at: usize) -> usize
     from + count
 }
 
+// The place behind so many records.
+pub(crate) fn behind_records(words: &[usize], from: usize, count: usize) -> usize
+    requires { ⌜ from ≤ length (now words) ⌝ }
+    ensures { λ r. ⌜ (from ≤ r) × (r ≤ length (now (words .entry))) ⌝ }
+{
+    let mut at = from;
+    let mut i = 0;
+    while i < count {
+        at = behind_record(words, at);
+        i += 1;
+    }
+    at
+}
+
 // The words of the record at a place.
 pub(crate) fn record(words: &[usize], at: usize) -> &[usize]
     requires { ⌜ at ≤ length (now words) ⌝ }
