@@ -90,14 +90,14 @@ def collect():
     return own, fields
 
 
-def turned_tokens(text, theirs, own, fields, camel_too=True):
+def turned_tokens(text, theirs, own, fields, camel_too=True, laws=True):
     """The text with each of the repository's own tokens in its new spelling."""
     def turn(it):
         name, start = it[0], it.start()
         tail = ""
         while name.endswith("-"):
             name, tail = name[:-1], "-" + tail
-        if not name or not is_turned(name) or name in theirs:
+        if not name or not is_turned(name) or name in theirs or (name in LAWS and not laws):
             return it[0]
         if start and text[start - 1] in ".+" and not path_of_import(text, start):
             if name not in fields:
@@ -137,12 +137,12 @@ def source(text, own, fields):
     for line in text.splitlines(keepends=True):
         it = IMPORT.match(line.rstrip("\n"))
         if it and line.startswith("ghost use"):
-            lines.append(turned_tokens(line, theirs - mine, own, fields) if is_own(it[1]) else line)
+            lines.append(turned_tokens(line, theirs - mine, own, fields, True, False) if is_own(it[1]) else line)
         elif '"' in line and not line.lstrip().startswith("//"):
             parts = re.split(r'("(?:[^"\\]|\\.)*")', line)
-            lines.append("".join(p if i % 2 else turned_tokens(p, theirs, own, fields, False) for i, p in enumerate(parts)))
+            lines.append("".join(p if i % 2 else turned_tokens(p, theirs, own, fields, False, False) for i, p in enumerate(parts)))
         else:
-            lines.append(turned_tokens(line, theirs, own, fields, False))
+            lines.append(turned_tokens(line, theirs, own, fields, False, False))
     return "".join(lines)
 
 
@@ -169,9 +169,9 @@ def main(argv):
     for path in files("crates/*/src/**/*.rt"):
         write(path, lambda t: source(t, own, fields))
     for path in files("crates/*/must-fail/*.edit"):
-        write(path, lambda t: turned_tokens(t, set(), own, fields))
+        write(path, lambda t: turned_tokens(t, set(), own, fields, True, False))
     for path in files("README.md", "CONTRIBUTING.md", "docs/*.md", "docs/landings/*.md"):
-        write(path, lambda t: re.sub(r"`[^`\n]+`", lambda it: turned_tokens(it[0], set(), {n for n in own if CAMEL.search(n)}, fields, False), t))
+        write(path, lambda t: re.sub(r"`[^`\n]+`", lambda it: turned_tokens(it[0], set(), {n for n in own if CAMEL.search(n)}, fields, False, False), t))
     return 0
 
 

@@ -2,7 +2,7 @@
 -- words stand in the slice's first places, what follows stays, and the answer is how many they are. Refused, the answer
 -- is the refusal and the slice stays as it was.
 use Rattle.std.specs.Prelude.{ℕ, Bool, true, false, ◌≡◌, List, ◌++◌, ltb, length, drop}
-use Rattle.std.specs.Borrow.{Bor}
+use Rattle.std.specs.Borrow.{MutBor}
 use denote.Triple.Both.{Both}
 use Rattle.answers.specs.declared.Refusal.TheVariants.{NoRoom}
 use Rattle.answers.specs.declared.Verdict.{Verdict}
@@ -13,7 +13,7 @@ use Rattle.answers.specs.Refusals.{Check, check, Outcome, Gives, Refuses, unless
 
 -- what a call borrows, at its entry and at its exit; a slice of words or of bytes
 abbrev pub Lent : Type 0 → Type 0
-Lent A = Both (Bor A) (Bor A)
+Lent A = Both (MutBor A) (MutBor A)
 
 abbrev pub Slice : Type 0
 Slice = Lent (List ℕ)

@@ -3,6 +3,8 @@
 // For every crate here; nothing of lifetimes or sheets is in it. The specs have how a call's answer is said: the first
 // refusal due in one ordered list of checks (`Refusals`), the convention for lent slices (`Lent`), and the list
 // functions that all definitions share (`Lists`).
+#![tactic(auto)]
+
 ghost use Rattle.std.specs.Prelude.{◌≡◌};
 ghost use Rattle.answers.specs.Refusals.{number_of};
 

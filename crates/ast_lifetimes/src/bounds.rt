@@ -16,7 +16,7 @@ use records::End;
 
 // Whether the record `bounds` is in shape: how many pairs are the impl's, then pairs. Refused by 1.
 pub fn bounds_shape(bounds: &[usize]) -> Verdict
-    ensures answer { result ≡ shape_verdict (bounds_in_shape (held bounds)) }
+    ensures answer { result ≡ shape_verdict (bounds_in_shape bounds.now) }
 {
     let n = bounds.len();
     if n == 0 {

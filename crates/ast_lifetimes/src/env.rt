@@ -65,7 +65,7 @@ impl LifetimeEnv {
     // the types imply. Refused by 1 over all three records, then by 2, 3, 4 at the first bad place, with an environment
     // without names beside the refusal.
     pub fn from_method_item(names: &[usize], bounds: &[usize], types: &[usize]) -> Made
-        ensures answer { result ≡ made (named_env [] []) (from_method_item (held names) (held bounds) (held types)) }
+        ensures answer { result ≡ made (named_env [] []) (from_method_item names.now bounds.now types.now) }
     {
         let shape = shape_of(names, bounds, types);
         let Verdict::Accepted = shape else {
@@ -90,7 +90,7 @@ impl LifetimeEnv {
     // The environment with what some types imply pushed behind its bounds. Refused by 1 (the types' shape), by 4 and 8
     // as the environment is, then by 3 and 4 at the first bad place, with the environment as it was beside the refusal.
     pub fn extend_implicit_lifetime_bounds(self, types: &[usize]) -> Made
-        ensures answer { result ≡ made self (extend_implied self (held types)) }
+        ensures answer { result ≡ made self (extend_implied self types.now) }
     {
         let shape = types_shape(types);
         let Verdict::Accepted = shape else {
@@ -167,8 +167,8 @@ fn extended(env: LifetimeEnv, types: &[usize]) -> Made
     requires { NoneDue (env_checks env) × (types_in_shape types.now ≡ true) }
     ensures { result
         ≡ made env
-        (unless (all_pair_checks (names_of env) env.bounds.pushed (implied_on env (held types)))
-        (extended_with env (held types))) }
+        (unless (all_pair_checks (names_of env) env.bounds.pushed (implied_on env types.now))
+        (extended_with env types.now)) }
 {
     let names = env.names;
     let named = env.named;
@@ -218,7 +218,7 @@ fn split(bounds: Bounds, longs: &mut [u8; Bounds::MAX], shorts: &mut [u8; Bounds
 // The shape of the three records.
 fn shape_of(names: &[usize], bounds: &[usize], types: &[usize]) -> Verdict
     ensures { result
-        ≡ shape_verdict (names_in_shape (held names) && (bounds_in_shape (held bounds) && types_in_shape (held types))) }
+        ≡ shape_verdict (names_in_shape names.now && (bounds_in_shape bounds.now && types_in_shape types.now)) }
 {
     let first = names_shape(names);
     let Verdict::Accepted = first else {
@@ -244,7 +244,7 @@ fn build(
         × (types_in_shape types.now ≡ true) }
     requires declared_len { (length declared.old ≡ most_names) × (length longs.old ≡ most_bounds)
         × (length shorts.old ≡ most_bounds) }
-    ensures { Built (held names) (held bounds) (held types) (left declared) (left longs) (left shorts) result }
+    ensures { Built names.now bounds.now types.now (left declared) (left longs) (left shorts) result }
 {
     let impls = names[0];
     let all = names.len() - 1;
@@ -325,7 +325,7 @@ fn assembled(
     requires declared_len { (length declared.now ≡ most_names) × (length longs.now ≡ most_bounds)
         × (length shorts.now ≡ most_bounds) }
     requires shorts_value { all_below 255 (sides_of pushed longs.now shorts.now) ≡ true }
-    ensures { result ≡ named_env (take named (held declared)) (sides_of pushed (held longs) (held shorts)) }
+    ensures { result ≡ named_env (take named declared.now) (sides_of pushed longs.now shorts.now) }
 {
     let bounds = joined(longs, shorts, pushed);
     let mut names = [0usize; LifetimeEnv::MAX_NAMES];
@@ -341,7 +341,7 @@ fn assembled(
 fn joined(longs: &[u8; Bounds::MAX], shorts: &[u8; Bounds::MAX], pushed: usize) -> Bounds
     requires pushed_le_most_bounds { (pushed ≤ most_bounds) × (length longs.now ≡ most_bounds) × (length shorts.now ≡ most_bounds) }
     requires shorts_value { all_below 255 (sides_of pushed longs.now shorts.now) ≡ true }
-    ensures { result ≡ bounds_from (sides_of pushed (held longs) (held shorts)) }
+    ensures { result ≡ bounds_from (sides_of pushed longs.now shorts.now) }
 {
     let none = Bound {
         longer: 0,
@@ -366,7 +366,7 @@ fn copy_names(
     names: &mut [usize; LifetimeEnv::MAX_NAMES],
 )
     requires { (named ≤ most_names) × (length declared.now ≡ most_names) × (length names.old ≡ most_names) }
-    ensures { left names ≡ sets (held names) 0 (take named (held declared)) }
+    ensures { left names ≡ sets (held names) 0 (take named declared.now) }
 {
     let mut i = 0;
     while i < named {

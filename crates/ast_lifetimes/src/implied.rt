@@ -85,7 +85,7 @@ fn outlived(
     reach: &[u64; LifetimeEnv::MAX_NAMES],
 ) -> u64
     requires { (named ≤ most_names) × (length names.now ≡ most_names) × (length reach.now ≡ most_names) }
-    ensures { result ≡ outlived_by (take named (held names)) (held reach) name }
+    ensures { result ≡ outlived_by (take named names.now) reach.now name }
 {
     let at = position(names, named, name);
     if at < named {
@@ -102,7 +102,7 @@ fn is_implied(
     word: usize,
 ) -> bool
     requires { (named ≤ most_names) × (length names.now ≡ most_names) }
-    ensures { result ≡ is_implied (take named (held names)) taken word }
+    ensures { result ≡ is_implied (take named names.now) taken word }
 {
     if word < 2 {
         return false;
@@ -133,9 +133,9 @@ fn push_path(
     requires pushed_le_most_bounds { (pushed ≤ most_bounds) × (length longs.old ≡ most_bounds) × (length shorts.old ≡ most_bounds) }
     requires reach_len { (length reach.old ≡ most_names)
         × OutliveSets (sides_of pushed longs.old shorts.old) named reach.old }
-    ensures { Extends (take named (held names))
-        (path_pairs (take named (held names)) (sides_of pushed (held longs) (held shorts)) behind
-        (slice from to (held words))) (held longs) (held shorts) (left longs) (left shorts) (left reach) pushed result }
+    ensures { Extends (take named names.now)
+        (path_pairs (take named names.now) (sides_of pushed (held longs) (held shorts)) behind
+        (slice from to words.now)) (held longs) (held shorts) (left longs) (left shorts) (left reach) pushed result }
 {
     let taken = outlived(names, named, behind, reach);
     let short = position(names, named, behind);

@@ -8,6 +8,8 @@
 //
 // What is here: the shape of the three records (`names`, `bounds`, `types`), declaring a name and pushing a pair
 // (`names`, `bounds`), what types imply (`implied`), and the environment (`env`).
+#![tactic(auto)]
+
 mod bounds;
 mod env;
 mod implied;

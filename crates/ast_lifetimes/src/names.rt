@@ -15,7 +15,7 @@ use records::End;
 // Whether the record `names` is in shape: how many names are the impl's, then all names, each 2 or more. Refused by 1.
 // Reads each word once.
 pub fn names_shape(names: &[usize]) -> Verdict
-    ensures answer { result ≡ shape_verdict (names_in_shape (held names)) }
+    ensures answer { result ≡ shape_verdict (names_in_shape names.now) }
 {
     let n = names.len();
     if n == 0 {
@@ -35,7 +35,7 @@ pub fn names_shape(names: &[usize]) -> Verdict
 
 // Whether all words but the first are names.
 fn all_names(words: &[usize]) -> bool
-    ensures { result ≡ all is_name (drop 1 (held words)) }
+    ensures { result ≡ all is_name (drop 1 words.now) }
 {
     let mut i = 1;
     while i < words.len() {

@@ -11,7 +11,7 @@ use records::{End, lifetimes_end};
 
 // Whether the record `types` is in shape: types one after another to its end. Refused by 1. Reads each word once.
 pub fn types_shape(types: &[usize]) -> Verdict
-    ensures answer { result ≡ shape_verdict (types_in_shape (held types)) }
+    ensures answer { result ≡ shape_verdict (types_in_shape types.now) }
 {
     if End::MAX_WORDS < types.len() {
         return Verdict::Refused(Refusal::Malformed);
@@ -30,7 +30,7 @@ pub fn types_shape(types: &[usize]) -> Verdict
 // Where the type ends that stands at a place, with nesting at most this.
 fn type_end(words: &[usize], at: usize, nesting: usize) -> End
     requires { at ≤ length words.now }
-    ensures { EndsAt (held words) at (read_type nesting (drop at (held words))) result }
+    ensures { EndsAt words.now at (read_type nesting (drop at words.now)) result }
 {
     if nesting == 0 {
         return End::Missing;

@@ -36,7 +36,7 @@ pub fn borrow_sheet(
     answers: &mut [usize],
     edges: &mut [usize],
 ) -> Borrows
-    ensures answer { BorrowsTo (borrow_sheet (held sheet) (room used) (room answers) (room edges))
+    ensures answer { BorrowsTo (borrow_sheet sheet.now (room used) (room answers) (room edges))
         result used answers edges }
     ensures consistent { result.verdict ≡ Verdict.Accepted → Consistent (take result.used (left used))
         (take result.params (left answers)) (edges_in result.edges (left edges)) }
@@ -56,7 +56,7 @@ fn borrow_small(
     edges: &mut [usize],
 ) -> Borrows
     requires { length sheet.now ≤ small_bytes }
-    ensures { BorrowsTo (borrow_sheet (held sheet) (room used) (room answers) (room edges))
+    ensures { BorrowsTo (borrow_sheet sheet.now (room used) (room answers) (room edges))
         result used answers edges }
 {
     let mut scratch = [0usize; Text::MIDDLE / 2];
@@ -69,7 +69,7 @@ fn borrow_large(
     answers: &mut [usize],
     edges: &mut [usize],
 ) -> Borrows
-    ensures { BorrowsTo (borrow_sheet (held sheet) (room used) (room answers) (room edges))
+    ensures { BorrowsTo (borrow_sheet sheet.now (room used) (room answers) (room edges))
         result used answers edges }
 {
     let mut scratch = [0usize; Text::MAX_WORDS];
@@ -85,7 +85,7 @@ fn borrow_within(
     edges: &mut [usize],
 ) -> Borrows
     requires { Roomy sheet.now (length scratch.old) }
-    ensures { BorrowsTo (borrow_sheet (held sheet) (room used) (room answers) (room edges))
+    ensures { BorrowsTo (borrow_sheet sheet.now (room used) (room answers) (room edges))
         result used answers edges }
 {
     let method = judge_sheet(sheet, scratch);
@@ -120,7 +120,7 @@ pub fn borrow_method(
     edges: &mut [usize],
 ) -> Borrows
     ensures answer { BorrowsTo
-        (borrow_method env (held structs) (held params) (held output) (held force)
+        (borrow_method env structs.now params.now output.now force.now
         (room used) (room answers) (room edges)) result used answers edges }
 {
     let created = BorrowingParamVisitor::new(env, structs, params, output, force);
@@ -142,7 +142,7 @@ fn borrow_by(
     edges: &mut [usize],
 ) -> Borrows
     requires { OfMethod structs.now params.now }
-    ensures { BorrowsTo (borrow_by visitor (held structs) (held params) (room used) (room answers) (room edges))
+    ensures { BorrowsTo (borrow_by visitor structs.now params.now (room used) (room answers) (room edges))
         result used answers edges }
 {
     let members = visitor.used;

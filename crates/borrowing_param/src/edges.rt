@@ -26,7 +26,7 @@ pub enum EdgeAt {
 
 // The edge with a number, from 0, of those that a slice has room for: how a call's edges are read again.
 pub fn edge_at(edges: &[usize], place: usize) -> EdgeAt
-    ensures answer { result ≡ edge_in (held edges) place }
+    ensures answer { result ≡ edge_in edges.now place }
 {
     let room = edges.len() / BorrowingParamVisitor::EDGE_WORDS;
     if room <= place {
@@ -77,7 +77,7 @@ fn is_in(set: u64, lifetime: Lifetime) -> bool
 // The first of some lowered words that draws.
 fn first_word(set: u64, words: &[usize], from: usize, count: usize) -> First
     requires { Inside words.now from count }
-    ensures { result ≡ first_from (draws_in set) 0 (map from_word (take count (drop from (held words)))) }
+    ensures { result ≡ first_from (draws_in set) 0 (map from_word (take count (drop from words.now))) }
 {
     let mut i = 0;
     while i < count {
@@ -92,7 +92,7 @@ fn first_word(set: u64, words: &[usize], from: usize, count: usize) -> First
 // The first lifetime of a type that draws: among its path words, then its own.
 fn first_drawn(set: u64, words: &[usize], parts: Parts) -> First
     requires { Inside words.now parts.from parts.count }
-    ensures { FirstDrawn (draws_in set) (held words) parts result }
+    ensures { FirstDrawn (draws_in set) words.now parts result }
 {
     let count = parts.count;
     let first = first_word(set, words, parts.from, count);
@@ -122,7 +122,7 @@ fn first_own(set: u64, lifetime: MaybeStatic, index: usize) -> First
 // that a visit does not look the row up.
 fn linked_lifetime(path: &[usize], count: usize, def: usize) -> MaybeStatic
     requires { (length path.now ≡ count) × (def < count) }
-    ensures { result ≡ from_word (get_or (held path) def 0) }
+    ensures { result ≡ from_word (get_or path.now def 0) }
 {
     let linked = linked_word(path, count, DefLifetime::new(def));
     let LinkedWord::Word(word) = linked else {
@@ -134,7 +134,7 @@ fn linked_lifetime(path: &[usize], count: usize, def: usize) -> MaybeStatic
 // How many of a struct's lowered words draw.
 fn count_words(set: u64, words: &[usize], from: usize, count: usize) -> usize
     requires { Inside words.now from count }
-    ensures { result ≡ count_drawn (draws_in set) (map from_word (take count (drop from (held words)))) }
+    ensures { result ≡ count_drawn (draws_in set) (map from_word (take count (drop from words.now))) }
 {
     let path = path_words(words, from, count);
     let mut n = 0;
@@ -151,7 +151,7 @@ fn count_words(set: u64, words: &[usize], from: usize, count: usize) -> usize
 // How many edges a parameter brings to one used lifetime.
 fn count_for(set: u64, words: &[usize], parts: Parts) -> usize
     requires { Inside words.now parts.from parts.count }
-    ensures { CountsFor (draws_in set) (type_in (held words) parts) result }
+    ensures { CountsFor (draws_in set) (type_in words.now parts) result }
 {
     let kind = parts.kind;
     match kind {
@@ -165,7 +165,7 @@ fn count_for(set: u64, words: &[usize], parts: Parts) -> usize
 // One edge if a lifetime draws.
 fn count_one(set: u64, words: &[usize], parts: Parts) -> usize
     requires { Inside words.now parts.from parts.count }
-    ensures { result ≡ one_if (any_drawn (draws_in set) (lifetimes_of (type_in (held words) parts))) }
+    ensures { result ≡ one_if (any_drawn (draws_in set) (lifetimes_of (type_in words.now parts))) }
 {
     let first = first_drawn(set, words, parts);
     match first {
@@ -232,7 +232,7 @@ fn store_struct(
         × (length pairs.old ≡ most_defs) }
     requires parts_in_bounds { width * (at + length (struct_of (draws_in set) used param (type_in words.now parts)))
         ≤ length edges.old }
-    ensures { Stores (struct_of (draws_in set) used param (type_in (held words) parts)) at (held pairs) (held edges)
+    ensures { Stores (struct_of (draws_in set) used param (type_in words.now parts)) at (held pairs) (held edges)
         result (left pairs) (left edges) }
 {
     let from = parts.from;
@@ -302,7 +302,7 @@ fn store_one(
     requires { Inside words.now parts.from parts.count
         × (width * (at + length (one_edge (draws_in set) used param kind (lifetimes_of (type_in words.now parts))))
         ≤ length edges.old) }
-    ensures { StoresWords (one_edge (draws_in set) used param kind (lifetimes_of (type_in (held words) parts)))
+    ensures { StoresWords (one_edge (draws_in set) used param kind (lifetimes_of (type_in words.now parts)))
         at (held edges) result (left edges) }
 {
     let first = first_drawn(set, words, parts);

@@ -10,6 +10,8 @@
 //
 // What is here, bottom up: the edges of one parameter (`edges`), the visitor and its visits (`visitor`), all parameters
 // in listing order (`listed`), the method of a sheet (`method`), and a whole method or sheet in one call (`borrows`).
+#![tactic(auto)]
+
 mod borrows;
 mod edges;
 mod listed;

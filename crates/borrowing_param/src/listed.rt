@@ -46,7 +46,7 @@ impl BorrowingParamVisitor {
         answers: &mut [usize],
         edges: &mut [usize],
     ) -> BorrowMap
-        ensures answer { MapsTo (borrow_map self (held structs) (held params) (room answers) (room edges))
+        ensures answer { MapsTo (borrow_map self structs.now params.now (room answers) (room edges))
             result answers edges }
     {
         let verdict = check_structs_and_params(structs, params);
@@ -76,7 +76,7 @@ fn map_params(
     edges: &mut [usize],
 ) -> BorrowMap
     requires { Params params.now }
-    ensures { MapsTo (map_of visitor (param_types (held params)) (room answers) (room edges)) result answers edges }
+    ensures { MapsTo (map_of visitor (param_types params.now) (room answers) (room edges)) result answers edges }
 {
     let used = visitor.used;
     let draws = visitor.draws;
@@ -107,7 +107,7 @@ fn count_params(
     numbers: &mut [usize; MAX_PARAMS],
 ) -> Counted
     requires { Params params.now × (length drawn.now ≡ most_lifetimes) × (length numbers.old ≡ most_params) }
-    ensures { CountsParams used (held drawn) (param_types (held params)) (held numbers) result (left numbers) }
+    ensures { CountsParams used drawn.now (param_types params.now) (held numbers) result (left numbers) }
 {
     let mut total = 0;
     let mut param = 0;
@@ -141,7 +141,7 @@ fn store_listed(
 ) -> usize
     requires { Params params.now × (length drawn.now ≡ most_lifetimes)
         × (width * length (listed_edges (visitor_in used drawn.now) (param_types params.now)) ≤ length edges.old) }
-    ensures { StoresWords (listed_edges (visitor_in used (held drawn)) (param_types (held params))) 0 (held edges) result
+    ensures { StoresWords (listed_edges (visitor_in used drawn.now) (param_types params.now)) 0 (held edges) result
         (left edges) }
 {
     let limit = past_last(used);
@@ -172,7 +172,7 @@ fn store_to(
     requires params { Params params.now × (used < most_lifetimes) × (length pairs.old ≡ most_defs) }
     requires params_in_bounds { width * (stored + length (bring_from (draws_in set) used 0 (param_types params.now)))
         ≤ length edges.old }
-    ensures { Stores (bring_from (draws_in set) used 0 (param_types (held params))) stored (held pairs) (held edges)
+    ensures { Stores (bring_from (draws_in set) used 0 (param_types params.now)) stored (held pairs) (held edges)
         result (left pairs) (left edges) }
 {
     let mut next = stored;

@@ -33,8 +33,8 @@ pub struct SheetMethod {
 // record after another (`sheet::record_words` finds each). Refused in the papers' order: 10; 1 over all records; 13 for
 // 1 in `force`; 2 to 7 at the first bad place; 8; then 9 where the slice is too short. 10,240 words are always enough.
 pub fn lower_sheet(sheet: &[u8], words: &mut [usize]) -> SheetMethod
-    ensures answer { result ≡ method_answer (lower_sheet (held sheet) (room words)) }
-    ensures stored { Fills (method_words (lower_sheet (held sheet) (room words))) words }
+    ensures answer { result ≡ method_answer (lower_sheet sheet.now (room words)) }
+    ensures stored { Fills (method_words (lower_sheet sheet.now (room words))) words }
 {
     if sheet.len() <= Text::MIDDLE {
         return lower_small(sheet, words);
@@ -45,16 +45,16 @@ pub fn lower_sheet(sheet: &[u8], words: &mut [usize]) -> SheetMethod
 // The same with scratch of one size.
 fn lower_small(sheet: &[u8], words: &mut [usize]) -> SheetMethod
     requires { length sheet.now ≤ small_bytes }
-    ensures value { result ≡ method_answer (lower_sheet (held sheet) (room words)) }
-    ensures fills { Fills (method_words (lower_sheet (held sheet) (room words))) words }
+    ensures value { result ≡ method_answer (lower_sheet sheet.now (room words)) }
+    ensures fills { Fills (method_words (lower_sheet sheet.now (room words))) words }
 {
     let mut scratch = [0usize; Text::MIDDLE / 2];
     lower_within(sheet, &mut scratch, words)
 }
 
 fn lower_large(sheet: &[u8], words: &mut [usize]) -> SheetMethod
-    ensures value { result ≡ method_answer (lower_sheet (held sheet) (room words)) }
-    ensures fills { Fills (method_words (lower_sheet (held sheet) (room words))) words }
+    ensures value { result ≡ method_answer (lower_sheet sheet.now (room words)) }
+    ensures fills { Fills (method_words (lower_sheet sheet.now (room words))) words }
 {
     let mut scratch = [0usize; Text::MAX_WORDS];
     lower_within(sheet, &mut scratch, words)
@@ -63,8 +63,8 @@ fn lower_large(sheet: &[u8], words: &mut [usize]) -> SheetMethod
 // The same with scratch that takes the words of any sheet of so many bytes.
 fn lower_within(sheet: &[u8], scratch: &mut [usize], words: &mut [usize]) -> SheetMethod
     requires { Roomy sheet.now (length scratch.old) }
-    ensures value { result ≡ method_answer (lower_sheet (held sheet) (room words)) }
-    ensures fills { Fills (method_words (lower_sheet (held sheet) (room words))) words }
+    ensures value { result ≡ method_answer (lower_sheet sheet.now (room words)) }
+    ensures fills { Fills (method_words (lower_sheet sheet.now (room words))) words }
 {
     let method = judge_sheet(sheet, scratch);
     let verdict = method.verdict;
@@ -106,7 +106,7 @@ pub(crate) fn judge_sheet(sheet: &[u8], scratch: &mut [usize]) -> SheetMethod
 // them.
 fn lower_laid(words: &[usize], ends: [usize; Text::RECORDS]) -> Made
     requires { NoneDue (records_checks (records_at words.now ends)) }
-    ensures { result ≡ made (env_of 0 0 []) (lowered_env (records_at (held words) ends)) }
+    ensures { result ≡ made (env_of 0 0 []) (lowered_env (records_at words.now ends)) }
 {
     lower_records(
         record_words(words, ends, Text::NAMES),
@@ -141,8 +141,8 @@ fn lower_records(
     ensures { result
         ≡ made (env_of 0 0 [])
         (lowered_env
-        (ten_records (held names) (held bounds) (held types) (held receiver) (held steps) (held returns) (held structs)
-        (held params) (held output) (held force))) }
+        (ten_records names.now bounds.now types.now receiver.now steps.now returns.now structs.now
+        params.now output.now force.now)) }
 {
     let ast = ast_lifetimes::LifetimeEnv::from_method_item(names, bounds, types);
     let declared = ast.verdict;

@@ -77,7 +77,7 @@ impl BorrowingParamVisitor {
         output: &[usize],
         force: &[usize],
     ) -> Created
-        ensures answer { result ≡ created env (held structs) (held params) (held output) (held force) }
+        ensures answer { result ≡ created env structs.now params.now output.now force.now }
     {
         let lifetimes = used_method_lifetimes(env, structs, params, output, force);
         match lifetimes {
@@ -101,7 +101,7 @@ impl BorrowingParamVisitor {
     // A visitor without edges, from the used lifetimes and, for each lifetime, the set of those that outlive it
     // (`LifetimeEnv::reach_sets`): at each used lifetime its set, at the others none.
     pub fn from_sets(used: u64, sets: &[u64; LifetimeEnv::MAX_LIFETIMES]) -> BorrowingParamVisitor
-        ensures answer { result ≡ visitor_from used (held sets) }
+        ensures answer { result ≡ visitor_from used sets.now }
     {
         let limit = past_last(used);
         let mut draws = [set::EMPTY; LifetimeEnv::MAX_LIFETIMES];
@@ -132,7 +132,7 @@ impl BorrowingParamVisitor {
         edges: &mut [usize],
     ) -> Visited
         ensures answer { outcome result.info (state result.visitor (left edges))
-            ≡ visit_param (held structs) (held params) (state self (held edges)) param }
+            ≡ visit_param structs.now params.now (state self (held edges)) param }
     {
         let found = param_at(params, param);
         let Located::At(parts) = found else {
@@ -163,7 +163,7 @@ fn refused(visitor: BorrowingParamVisitor, refusal: Refusal) -> Visited
 
 // The parameter with a number, where it stands.
 fn param_at(params: &[usize], param: usize) -> Located
-    ensures { FoundAt (held params) param result }
+    ensures { FoundAt params.now param result }
 {
     let mut at = 0;
     let mut i = 0;
@@ -189,7 +189,7 @@ fn visit_parts(
     requires { Inside params.now parts.from parts.count × (parts.count ≤ most_defs)
         × Coded params.now parts }
     ensures { outcome result.info (state result.visitor (left edges))
-        ≡ visit (state visitor (held edges)) (type_in (held params) parts) param }
+        ≡ visit (state visitor (held edges)) (type_in params.now parts) param }
 {
     let used = visitor.used;
     let draws = visitor.draws;

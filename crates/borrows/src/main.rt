@@ -3,6 +3,8 @@
 // It reads to the end of the input, in however many pieces it comes, or until it has a byte more than any sheet may
 // have. What cannot be read counts as not there. Nothing is written to standard output before the whole answer stands.
 // A read that fails, and an answer that cannot be written whole, are each told by a line on standard error.
+#![tactic(auto)]
+
 ghost use Rattle.std.specs.Prelude.{◌≡◌, length};
 ghost use Rattle.io.specs.Counts.{IsPrefixLen};
 

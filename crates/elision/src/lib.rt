@@ -13,6 +13,8 @@
 // What is here: the source of elision (`source`), the shape of the records (`steps`), the lowerer and its steps, by
 // value (`lowerer`), one step by its words, by value or on a lowerer that is lent (`step`), the whole records word by
 // word (`put`), and the calls over them (`method`).
+#![tactic(auto)]
+
 mod lowerer;
 mod method;
 mod put;

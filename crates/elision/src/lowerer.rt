@@ -81,7 +81,7 @@ struct Run {
 impl Lowerer {
     // The lowerer of a method without `&self`.
     pub fn no_self_ref(names: &[usize]) -> Lowerer
-        ensures answer { result ≡ unused (held names) }
+        ensures answer { result ≡ unused names.now }
     {
         Lowerer {
             seen: Seen {
@@ -96,7 +96,7 @@ impl Lowerer {
     // The lowerer of a method with `&self`, whose lifetime is the source of elision; it is the one answered. Refused by
     // 3 for a name that is not declared, by 4 for a 65th lifetime.
     pub fn lower_self_ref(names: &[usize], word: usize) -> Stepped
-        ensures answer { result ≡ stepped (unused (held names)) (self_ref (held names) word) }
+        ensures answer { result ≡ stepped (unused names.now) (self_ref names.now word) }
     {
         let fresh = Lowerer::no_self_ref(names);
         let seen = fresh.seen;
@@ -125,7 +125,7 @@ impl Lowerer {
 
     // One lifetime (kind 0), of a parameter or of the output. Refused by 3, 4, 5, 6.
     pub fn lower_lifetime(self, names: &[usize], word: usize, output: bool) -> Stepped
-        ensures answer { result ≡ stepped self (one_step (held names) output (steps.Lifetime word) self) }
+        ensures answer { result ≡ stepped self (one_step names.now output (steps.Lifetime word) self) }
     {
         let one = [word];
         self.lower_generics(names, 0, &one, output)
@@ -142,7 +142,7 @@ impl Lowerer {
         output: bool,
     ) -> Stepped
         ensures answer { result
-            ≡ stepped self (one_step (held names) output (steps.Generics generics (held words)) self) }
+            ≡ stepped self (one_step names.now output (steps.Generics generics words.now) self) }
     {
         if End::MAX_LIST < generics {
             return refused(self, Refusal::Malformed);
@@ -174,7 +174,7 @@ impl Lowerer {
     // The lifetimes of the `Self` type (kind 2), wherever it stands: at its first use those given, later the same
     // again, whatever is given. Refused by 1 for more than 16, at the first use by 3 and 4 at the first bad place.
     pub fn is_self(self, names: &[usize], words: &[usize], output: bool) -> Stepped
-        ensures answer { result ≡ stepped self (one_step (held names) output (steps.SelfType (held words)) self) }
+        ensures answer { result ≡ stepped self (one_step names.now output (steps.SelfType words.now) self) }
     {
         if End::MAX_LIST < words.len() {
             return refused(self, Refusal::Malformed);
@@ -288,7 +288,7 @@ fn lower_words(
     seen: Seen,
 ) -> Run
     requires { (length words.now ≤ most_list) × (generics ≤ most_list) }
-    ensures { result ≡ ran seen (lower_words (held names) standing (appended generics (held words)) seen) }
+    ensures { result ≡ ran seen (lower_words names.now standing (appended generics words.now) seen) }
 {
     let total = larger(words.len(), generics);
     let none = Lowered {
@@ -450,7 +450,7 @@ fn visited(standing: Standing, lifetime: MaybeStatic, source: ElisionSource, cou
 
 // The number of a name: its place, or how many names there are where it is not declared.
 fn position(names: &[usize], name: usize) -> usize
-    ensures { result ≡ place (held names) name }
+    ensures { result ≡ place names.now name }
 {
     let mut i = 0;
     while i < names.len() {

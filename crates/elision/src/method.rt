@@ -48,7 +48,7 @@ pub fn measure(
     steps: &[usize],
     returns: &[usize],
 ) -> Lowering
-    ensures answer { result ≡ answered env (measure_records env (held receiver) (held steps) (held returns)) }
+    ensures answer { result ≡ answered env (measure_records env receiver.now steps.now returns.now) }
 {
     let shape = shape_of(receiver, steps, returns);
     if let Verdict::Refused(refusal) = shape {
@@ -88,7 +88,7 @@ pub fn lower(
     taken: &mut [usize],
 ) -> Lowering
     ensures answer { LowersTo env
-        (lower_records env (held receiver) (held steps) (held returns) (room own) (room given) (room taken))
+        (lower_records env receiver.now steps.now returns.now (room own) (room given) (room taken))
         result own given taken }
 {
     let measured = measure(env, receiver, steps, returns);
@@ -156,7 +156,7 @@ fn judge(names: &[usize], receiver: &[usize], steps: &[usize], returns: &[usize]
     requires { (steps_in_shape steps.now ≡ true) × (steps_in_shape returns.now ≡ true) }
     ensures { result
         ≡ totals
-        (run_method (held names) (receiver_of (held receiver)) (steps_of (held steps)) (steps_of (held returns))) }
+        (run_method names.now (receiver_of receiver.now) (steps_of steps.now) (steps_of returns.now)) }
 {
     let mut own = [0usize; 1];
     let mut given = [0usize; 1];
@@ -178,7 +178,7 @@ fn run(
 ) -> Totals
     requires { (steps_in_shape steps.now ≡ true) × (steps_in_shape returns.now ≡ true) }
     ensures { RunsAll
-        (run_method (held names) (receiver_of (held receiver)) (steps_of (held steps)) (steps_of (held returns))) (held own)
+        (run_method names.now (receiver_of receiver.now) (steps_of steps.now) (steps_of returns.now)) (held own)
         (held given) (held taken) (left own) (left given) (left taken) result }
 {
     let first = put_receiver(names, receiver, own);
@@ -250,7 +250,7 @@ fn refused_lowering(refusal: Refusal) -> Lowering
 
 // The shape of the three records.
 fn shape_of(receiver: &[usize], steps: &[usize], returns: &[usize]) -> Verdict
-    ensures { result ≡ shape_verdict (in_shape_all (held receiver) (held steps) (held returns)) }
+    ensures { result ≡ shape_verdict (in_shape_all receiver.now steps.now returns.now) }
 {
     let first = self_shape(receiver);
     let Verdict::Accepted = first else {

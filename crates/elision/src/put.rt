@@ -134,7 +134,7 @@ fn put_steps(
     requires { (steps_in_shape words.now ≡ true) × (had ≤ most_list) }
     ensures own_le_most_list { result.own ≤ most_list }
     ensures lowers { (s : Lowerer) → Shows s before was had (held list)
-        → Lowers (run_steps (held names) output (steps_of (held words)) s) 0 (left list) (held out) (left out) result }
+        → Lowers (run_steps names.now output (steps_of words.now) s) 0 (left list) (held out) (left out) result }
 {
     let mut seen = before;
     let mut kept = was;
@@ -177,7 +177,7 @@ fn put_step(
     out: &mut [usize],
 ) -> Took
     requires { (own ≤ most_list) × (n ≤ 65536) }
-    ensures { PutsStep (held names) (held words) output at seen kept own n (held list) (left list) (held out)
+    ensures { PutsStep names.now words.now output at seen kept own n (held list) (left list) (held out)
         (left out) result }
 {
     let step = read_step(words, at);
@@ -245,7 +245,7 @@ fn put_given(
     out: &mut [usize],
 ) -> Took
     requires { (length words.now ≤ most_list) × (generics ≤ most_list) × (own ≤ most_list) × (n ≤ 65536) }
-    ensures { (list : List ℕ) → PutsOne (words_step (held names) (standing_in output) (appended generics (held words))) seen
+    ensures { (list : List ℕ) → PutsOne (words_step names.now (standing_in output) (appended generics words.now)) seen
         kept own n to list list (held out) (left out) result }
 {
     let put = put_words(names, standing_in(output), words, generics, seen, n, out);
@@ -275,7 +275,7 @@ fn put_self(
     out: &mut [usize],
 ) -> Took
     requires { (length words.now ≤ most_list) × (own ≤ most_list) × (n ≤ 65536) }
-    ensures { PutsOne (self_step (held names) (held words)) seen kept own n to (held list) (left list) (held out)
+    ensures { PutsOne (self_step names.now words.now) seen kept own n to (held list) (left list) (held out)
         (left out) result }
 {
     if kept {
@@ -317,7 +317,7 @@ fn put_self(
 // Store the first words of a list from a place on, as far as the slice takes them.
 fn put_list(list: &[usize; End::MAX_LIST], count: usize, at: usize, out: &mut [usize])
     requires { (count ≤ most_list) × (at ≤ 65536) }
-    ensures { length (held list) ≡ most_list → left out ≡ sets (held out) at (take count (held list)) }
+    ensures { length list.now ≡ most_list → left out ≡ sets (held out) at (take count list.now) }
 {
     let mut i = 0;
     while i < count {
@@ -338,7 +338,7 @@ fn put_words(
     out: &mut [usize],
 ) -> Put
     requires { (length words.now ≤ most_list) × (generics ≤ most_list) × (at ≤ 65536) }
-    ensures { Puts seen (lower_words (held names) standing (appended generics (held words)) seen) at (held out)
+    ensures { Puts seen (lower_words names.now standing (appended generics words.now) seen) at (held out)
         (left out) result }
 {
     let total = larger(words.len(), generics);

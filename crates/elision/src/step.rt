@@ -31,7 +31,7 @@ impl Lowerer {
     // One step of `steps`, or of `returns` for an output, by its words: `0 l`, `1 g n` and n lifetimes, or `2 n` and n
     // lifetimes. Refused by 1 where the words are not exactly one step, then as the step is.
     pub fn lower_step(self, names: &[usize], words: &[usize], output: bool) -> Stepped
-        ensures answer { result ≡ stepped self (worded_step (held names) output (held words) self) }
+        ensures answer { result ≡ stepped self (worded_step names.now output words.now self) }
     {
         let end = step_end(words, 0);
         let End::At(to) = end else {
@@ -47,7 +47,7 @@ impl Lowerer {
     // the step had made lifetimes before the place that is refused.
     pub fn step(&mut self, names: &[usize], words: &[usize], output: bool) -> StepAnswer
         ensures answer { record { verdict = result.verdict; lowerer = left self; lifetimes = result.lifetimes }
-            ≡ stepped (held self) (worded_step (held names) output (held words) (held self)) }
+            ≡ stepped (held self) (worded_step names.now output words.now (held self)) }
     {
         let before = *self;
         let done = next_step(before, names, words, output);
@@ -59,7 +59,7 @@ impl Lowerer {
 // A step by value, as the step on a lent lowerer takes it up.
 fn next_step(lowerer: Lowerer, names: &[usize], words: &[usize], output: bool) -> Next
     ensures { record { verdict = result.answer.verdict; lowerer = result.lowerer; lifetimes = result.answer.lifetimes }
-        ≡ stepped lowerer (worded_step (held names) output (held words) lowerer) }
+        ≡ stepped lowerer (worded_step names.now output words.now lowerer) }
 {
     let done = lowerer.lower_step(names, words, output);
     let verdict = done.verdict;
@@ -80,7 +80,7 @@ pub fn input_then_output(
     input: &[usize],
     output: &[usize],
 ) -> StepAnswer
-    ensures answer { result ≡ step_answer (input_then_output (held names) (held input) (held output) lowerer) }
+    ensures answer { result ≡ step_answer (input_then_output names.now input.now output.now lowerer) }
 {
     let mut own = lowerer;
     own.step(names, input, false);
@@ -95,7 +95,7 @@ fn lower_step_at(
     at: usize,
     output: bool,
 ) -> Stepped
-    ensures { result ≡ takes (held names) output lowerer (read_step (drop at (held words))) }
+    ensures { result ≡ takes names.now output lowerer (read_step (drop at words.now)) }
 {
     let step = read_step(words, at);
     match step {

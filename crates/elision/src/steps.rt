@@ -31,7 +31,7 @@ pub(crate) enum StepAt {
 
 // Whether the record `self` is in shape: empty, or one lifetime. Refused by 1.
 pub fn self_shape(receiver: &[usize]) -> Verdict
-    ensures answer { result ≡ shape_verdict (self_in_shape (held receiver)) }
+    ensures answer { result ≡ shape_verdict (self_in_shape receiver.now) }
 {
     if 1 < receiver.len() {
         return Verdict::Refused(Refusal::Malformed);
@@ -42,7 +42,7 @@ pub fn self_shape(receiver: &[usize]) -> Verdict
 // Whether a record `steps` or `returns` is in shape: steps one after another to its end. Refused by 1. Reads each
 // step's head once.
 pub fn steps_shape(steps: &[usize]) -> Verdict
-    ensures answer { result ≡ shape_verdict (steps_in_shape (held steps)) }
+    ensures answer { result ≡ shape_verdict (steps_in_shape steps.now) }
 {
     if End::MAX_WORDS < steps.len() {
         return Verdict::Refused(Refusal::Malformed);

@@ -6,6 +6,8 @@
 // every lent slice as it was.
 //
 // The scratch is local: no call allocates, keeps anything for the next one, or looks at anything but its arguments.
+#![tactic(auto)]
+
 mod listed;
 mod sheets;
 mod written;

@@ -12,7 +12,7 @@ use listing::listing;
 // where the first slice is too short, or where the second has no word. 131,072 bytes and one word are always enough.
 #[unsafe(no_mangle)]
 pub extern "C" fn borrows_listing(sheet: &[u8], out: &mut [u8], written: &mut [usize]) -> usize
-    ensures answer { TextAnswers (listing_to (held sheet) (room out) (room written)) result out written }
+    ensures answer { TextAnswers (listing_to sheet.now (room out) (room written)) result out written }
 {
     if written.len() < 1 {
         let refusal = unlisted(sheet);
@@ -30,7 +30,7 @@ pub extern "C" fn borrows_listing(sheet: &[u8], out: &mut [u8], written: &mut [u
 
 // Why a sheet is refused whose listing's length has no place.
 fn unlisted(sheet: &[u8]) -> Refusal
-    ensures { (room : ℕ) → listing_to (held sheet) room 0 ≡ Refuses result }
+    ensures { (room : ℕ) → listing_to sheet.now room 0 ≡ Refuses result }
 {
     let mut none = [0u8; 0];
     let answer = listing(sheet, &mut none);

@@ -19,7 +19,7 @@ pub extern "C" fn borrows_sheet(
     edges: &mut [usize],
     counts: &mut [usize],
 ) -> usize
-    ensures answer { SheetAnswers (sheet_to (held sheet) (room used) (room answers) (room edges) (room counts)) result
+    ensures answer { SheetAnswers (sheet_to sheet.now (room used) (room answers) (room edges) (room counts)) result
         used answers edges counts }
 {
     if counts.len() < 3 {
@@ -47,7 +47,7 @@ fn store_counts(counts: &mut [usize], used: usize, params: usize, edges: usize)
 
 // Why a sheet is refused where `counts` has fewer than three words.
 fn unborrowed(sheet: &[u8]) -> Refusal
-    ensures { (used answers edges counts : ℕ) → counts < 3 → sheet_to (held sheet) used answers edges counts
+    ensures { (used answers edges counts : ℕ) → counts < 3 → sheet_to sheet.now used answers edges counts
         ≡ Refuses result }
 {
     let mut no_used = [0usize; 0];

@@ -19,7 +19,7 @@ pub extern "C" fn borrows_write_sheet(
     out: &mut [u8],
     written: &mut [usize],
 ) -> usize
-    ensures answer { TextAnswers (writing_to (held words) (held ends) (room out) (room written)) result
+    ensures answer { TextAnswers (writing_to words.now ends.now (room out) (room written)) result
         out written }
 {
     if written.len() < 1 {
@@ -38,7 +38,7 @@ pub extern "C" fn borrows_write_sheet(
 
 // Why records are refused whose text's length has no place.
 fn unwritten(words: &[usize], ends: &[usize]) -> Refusal
-    ensures { (room : ℕ) → writing_to (held words) (held ends) room 0 ≡ Refuses result }
+    ensures { (room : ℕ) → writing_to words.now ends.now room 0 ≡ Refuses result }
 {
     let mut none = [0u8; 0];
     let answer = write_laid(words, ends, &mut none);

@@ -6,6 +6,8 @@
 // decide what is right; a refused call answers one of their numbers.
 //
 // What is here: one type and its lifetimes (`types`), and the shape of the four records (`shapes`).
+#![tactic(auto)]
+
 mod shapes;
 mod types;
 

@@ -20,7 +20,7 @@ const RETIRED: usize = 1;
 // Whether `structs` is in shape, and how many rows it has: all that stand there, also past the 32nd. Refused by 1.
 // Reads each type once.
 pub fn structs_shape(structs: &[usize]) -> Listed
-    ensures answer { result ≡ how_many (structs_in_shape (held structs)) (rows_of (held structs)) }
+    ensures answer { result ≡ how_many (structs_in_shape structs.now) (rows_of structs.now) }
 {
     if End::MAX_WORDS < structs.len() {
         return Listed::Refused(Refusal::Malformed);
@@ -41,7 +41,7 @@ pub fn structs_shape(structs: &[usize]) -> Listed
 // Whether `params` is in shape beside so many rows, and how many parameters there are, also past the 16th. Refused by
 // 1. Reads each type once.
 pub fn params_shape(params: &[usize], rows: usize) -> Listed
-    ensures answer { result ≡ how_many (params_in_shape rows (held params)) (types_of rows (held params)) }
+    ensures answer { result ≡ how_many (params_in_shape rows params.now) (types_of rows params.now) }
 {
     if End::MAX_WORDS < params.len() {
         return Listed::Refused(Refusal::Malformed);
@@ -61,7 +61,7 @@ pub fn params_shape(params: &[usize], rows: usize) -> Listed
 
 // Whether `output` is in shape beside so many rows, and how many types it has: at most two. Refused by 1.
 pub fn output_shape(output: &[usize], rows: usize) -> Listed
-    ensures answer { result ≡ how_many (output_in_shape rows (held output)) (types_of rows (held output)) }
+    ensures answer { result ≡ how_many (output_in_shape rows output.now) (types_of rows output.now) }
 {
     let types = params_shape(output, rows);
     let Listed::Count(count) = types else {
@@ -75,7 +75,7 @@ pub fn output_shape(output: &[usize], rows: usize) -> Listed
 
 // Whether `force` is one word, 0. Refused by 1 where it is not in shape (one word, 0 or 1), then by 13 for 1.
 pub fn force_shape(force: &[usize]) -> Verdict
-    ensures answer { result ≡ checks_verdict (force_in_shape (held force)) (held force) }
+    ensures answer { result ≡ checks_verdict (force_in_shape force.now) force.now }
 {
     if force.len() != 1 {
         return Verdict::Refused(Refusal::Malformed);
@@ -102,7 +102,7 @@ pub struct Shape {
 // Whether the four records of a method are in shape, and how much stands in them. Refused by 1 over all four, then by
 // 13 for 1 in `force`.
 pub fn method_shape(structs: &[usize], params: &[usize], output: &[usize], force: &[usize]) -> Shape
-    ensures answer { result ≡ method_shape (held structs) (held params) (held output) (held force) }
+    ensures answer { result ≡ method_shape structs.now params.now output.now force.now }
 {
     let first = structs_shape(structs);
     let Listed::Count(rows) = first else {
@@ -142,7 +142,7 @@ fn no_shape(refusal: Refusal) -> Shape
 
 // Where the row ends that stands at a place and has a number: its fields name earlier rows only.
 fn row_end(structs: &[usize], at: usize, number: usize) -> End
-    ensures { EndsAt (held structs) at (read_row number (drop at (held structs))) result }
+    ensures { EndsAt structs.now at (read_row number (drop at structs.now)) result }
 {
     let n = structs.len();
     if n <= at {
@@ -164,7 +164,7 @@ fn row_end(structs: &[usize], at: usize, number: usize) -> End
 // Where so many types end that stand one after another from a place on.
 fn types_end(words: &[usize], from: usize, count: usize, rows: usize) -> End
     requires { from ≤ length words.now }
-    ensures { EndsFrom (held words) from (read_types rows count (drop from (held words))) result }
+    ensures { EndsFrom words.now from (read_types rows count (drop from words.now)) result }
 {
     let mut at = from;
     let mut i = 0;
@@ -181,7 +181,7 @@ fn types_end(words: &[usize], from: usize, count: usize, rows: usize) -> End
 
 // Where the type ends that stands at a place, its row among so many.
 fn type_end(words: &[usize], at: usize, rows: usize) -> End
-    ensures { EndsAt (held words) at (read_known rows (drop at (held words))) result }
+    ensures { EndsAt words.now at (read_known rows (drop at words.now)) result }
 {
     let found = type_at(words, at);
     let Located::At(parts) = found else {

@@ -113,7 +113,7 @@ pub enum LifetimeAt {
 // in order, then the borrow; an option has its inner type's. Refused by 1 where the words are no lowered type, or more
 // than one. The row of a struct is not looked up.
 pub fn type_lifetimes(words: &[usize], index: usize) -> LifetimeAt
-    ensures answer { result ≡ lifetime_answer (type_lifetimes (held words)) index }
+    ensures answer { result ≡ lifetime_answer (type_lifetimes words.now) index }
 {
     let found = type_at(words, 0);
     let Located::At(parts) = found else {
@@ -150,7 +150,7 @@ fn own_at(own: Own) -> LifetimeAt
 // Some words in a row, lent on: those of a type's path, by where they start and how many they are. A type without path
 // words may say a place past the end; whatever is not there is left out.
 pub fn path_words(words: &[usize], from: usize, count: usize) -> &[usize]
-    ensures answer { result.now ≡ take count (drop from (held words)) }
+    ensures answer { result.now ≡ take count (drop from words.now) }
 {
     let n = words.len();
     if n <= from {
@@ -165,7 +165,7 @@ pub fn path_words(words: &[usize], from: usize, count: usize) -> &[usize]
 
 // The type that stands at a place, its row not looked up. Reads only the words that say where its parts are.
 pub fn type_at(words: &[usize], at: usize) -> Located
-    ensures answer { result ≡ located at (length (held words)) (read_lowered (drop at (held words))) }
+    ensures answer { result ≡ located at (length words.now) (read_lowered (drop at words.now)) }
 {
     if words.len() <= at {
         return Located::Missing;
@@ -178,7 +178,7 @@ pub fn type_at(words: &[usize], at: usize) -> Located
 
 // The type that stands at a place and is no option; whether it is under one is handed on.
 fn bare_at(words: &[usize], at: usize, option: bool) -> Located
-    ensures { LocatesBare (held words) at option (read_bare option (drop at (held words))) result }
+    ensures { LocatesBare words.now at option (read_bare option (drop at words.now)) result }
 {
     if words.len() <= at {
         return Located::Missing;
@@ -211,7 +211,7 @@ fn bare_at(words: &[usize], at: usize, option: bool) -> Located
 // The opaque whose code stands at a place.
 fn opaque_at(words: &[usize], at: usize, option: bool) -> Located
     requires { at < length words.now }
-    ensures { LocatesBare (held words) at option (read_opaque option (drop (at + 1) (held words))) result }
+    ensures { LocatesBare words.now at option (read_opaque option (drop (at + 1) words.now)) result }
 {
     let n = words.len();
     if n <= at + 1 {
@@ -262,7 +262,7 @@ fn opaque_at(words: &[usize], at: usize, option: bool) -> Located
 // The struct whose code stands at a place.
 fn struct_at(words: &[usize], at: usize, option: bool) -> Located
     requires { at < length words.now }
-    ensures { LocatesBare (held words) at option (read_struct option (drop (at + 1) (held words))) result }
+    ensures { LocatesBare words.now at option (read_struct option (drop (at + 1) words.now)) result }
 {
     let n = words.len();
     if n <= at + 1 {
@@ -288,7 +288,7 @@ fn struct_at(words: &[usize], at: usize, option: bool) -> Located
 // The slice whose code stands at a place.
 fn slice_at(words: &[usize], at: usize, option: bool) -> Located
     requires { at < length words.now }
-    ensures { LocatesBare (held words) at option (read_slice option (drop (at + 1) (held words))) result }
+    ensures { LocatesBare words.now at option (read_slice option (drop (at + 1) words.now)) result }
 {
     let n = words.len();
     if n <= at + 1 {

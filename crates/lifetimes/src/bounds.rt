@@ -25,7 +25,7 @@ impl Bound {
     }
 
     // Whether both sides are numbered below a limit.
-    fn both_below_lem(self, limit: usize) -> bool
+    fn both_below(self, limit: usize) -> bool
         ensures { result ≡ both_below limit self }
     {
         numbers_below(self.longer as usize, self.shorter as usize, limit)

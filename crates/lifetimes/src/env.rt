@@ -53,7 +53,7 @@ impl LifetimeEnv {
     // 257th bound), 8 (more declared than there are, a side past the declared), with an environment without lifetimes
     // beside the refusal. Reads the list twice.
     pub fn new(declared: usize, count: usize, pairs: &[usize]) -> Made
-        ensures answer { result ≡ made (env_of 0 0 []) (new_env declared count (held pairs)) }
+        ensures answer { result ≡ made (env_of 0 0 []) (new_env declared count pairs.now) }
     {
         if pairs.len() % 2 == 1 {
             return refused(Refusal::Malformed);
@@ -163,7 +163,7 @@ fn refused(refusal: Refusal) -> Made
 // Whether all sides of some pairs are numbered below a limit.
 fn pairs_below(pairs: &[usize], limit: usize) -> bool
     requires { length pairs.now % 2 ≡ 0 }
-    ensures { result ≡ all_below limit (bounds_of_pairs (held pairs)) }
+    ensures { result ≡ all_below limit (bounds_of_pairs pairs.now) }
 {
     let mut i = 0;
     while i < pairs.len() {
@@ -179,7 +179,7 @@ fn pairs_below(pairs: &[usize], limit: usize) -> bool
 fn filled(pairs: &[usize]) -> Bounds
     requires { (length pairs.now % 2 ≡ 0) × (length pairs.now ≤ 2 * most_bounds)
         × (all_below 256 (bounds_of_pairs pairs.now) ≡ true) }
-    ensures { result ≡ bounds_from (bounds_of_pairs (held pairs)) }
+    ensures { result ≡ bounds_from (bounds_of_pairs pairs.now) }
 {
     let mut list = [bound_of(0, 0); Bounds::MAX];
     let mut pushed = 0;

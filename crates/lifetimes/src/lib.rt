@@ -8,6 +8,8 @@
 // lowered word (`maybe_static`); sets of lifetimes (`set`); bounds (`bounds`); the environment (`env`); the index and
 // the traversals over it (`index`, `walk`, `reach`); the lifetimes of a definition paired with those of its use
 // (`linked`).
+#![tactic(auto)]
+
 mod bounds;
 mod def_lifetime;
 mod env;

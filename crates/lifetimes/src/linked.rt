@@ -60,21 +60,21 @@ impl<'a> LinkedLifetimes<'a> {
 
 // The word for a lifetime of a definition that declares `count` of them, of the words at its use.
 pub fn linked_word(words: &[usize], count: usize, def: DefLifetime) -> LinkedWord
-    ensures answer { result ≡ linked_answer (linked_word (held words) count def) }
+    ensures answer { result ≡ linked_answer (linked_word words.now count def) }
 {
     LinkedLifetimes::new(words, count).def_to_use(def)
 }
 
 // The pair at a place of the words at a use, for a definition that declares `count` lifetimes.
 pub fn linked_pair(words: &[usize], count: usize, place: usize) -> LinkedPair
-    ensures answer { result ≡ pair_answer (linked_pair (held words) count place) }
+    ensures answer { result ≡ pair_answer (linked_pair words.now count place) }
 {
     LinkedLifetimes::new(words, count).lifetimes_def_only(place)
 }
 
 // What `def_to_use` answers, of a view's two parts.
 fn word_of(words: &[usize], count: usize, def: DefLifetime) -> LinkedWord
-    ensures { result ≡ linked_answer (linked_word (held words) count def) }
+    ensures { result ≡ linked_answer (linked_word words.now count def) }
 {
     if words.len() != count {
         return LinkedWord::Refused(Refusal::Mismatch);
@@ -88,7 +88,7 @@ fn word_of(words: &[usize], count: usize, def: DefLifetime) -> LinkedWord
 
 // What `lifetimes_def_only` answers, of a view's two parts.
 fn pair_of(words: &[usize], count: usize, place: usize) -> LinkedPair
-    ensures { result ≡ pair_answer (linked_pair (held words) count place) }
+    ensures { result ≡ pair_answer (linked_pair words.now count place) }
 {
     if words.len() != count {
         return LinkedPair::Refused(Refusal::Mismatch);

@@ -197,7 +197,7 @@ fn limit_of(declared: usize, count: usize, start: usize) -> usize
 // Copy the first n items to a place of a slice.
 fn copy_to(items: &[usize; LifetimeEnv::MAX_LIFETIMES], n: usize, out: &mut [usize], at: usize)
     requires { (n ≤ most_lifetimes) × (length items.now ≡ most_lifetimes) × (at + n ≤ length out.old) }
-    ensures { left out ≡ sets (held out) at (take n (held items)) }
+    ensures { left out ≡ sets (held out) at (take n items.now) }
 {
     let mut i = 0;
     while i < n {
@@ -217,7 +217,7 @@ fn all_fit(
     room: usize,
 ) -> bool
     requires { Measurable far.now before.now last.now declared count }
-    ensures { (g : Graph) → Indexed g (held far) (held before) (held last) → Within g declared
+    ensures { (g : Graph) → Indexed g far.now before.now last.now → Within g declared
         → Fits g count room result }
 {
     if count * count <= room {
@@ -238,7 +238,7 @@ fn measure(
 ) -> usize
     requires measurable { Measurable far.now before.now last.now declared count }
     requires reach_len { length reach.old ≡ most_lifetimes }
-    ensures { (g : Graph) → Indexed g (held far) (held before) (held last) → Within g declared
+    ensures { (g : Graph) → Indexed g far.now before.now last.now → Within g declared
         → Measures g count (held reach) (left reach) result }
 {
     let mut items = [0usize; LifetimeEnv::MAX_LIFETIMES];
@@ -267,7 +267,7 @@ fn lay(
 ) -> usize
     requires layable { Layable far.now before.now last.now declared count (length words.old) }
     requires count_in_bounds { (count ≤ length ends.old) × (length reach.old ≡ most_lifetimes) }
-    ensures { (g : Graph) → Indexed g (held far) (held before) (held last) → Within g declared
+    ensures { (g : Graph) → Indexed g far.now before.now last.now → Within g declared
         → Lays g count (held words) (held ends) (held reach) (left words) (left ends) (left reach) result }
 {
     let mut items = [0usize; LifetimeEnv::MAX_LIFETIMES];

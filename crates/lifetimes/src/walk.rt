@@ -43,8 +43,8 @@ fn advance(
     deep: usize,
 ) -> Stepped
     requires { Standing far.now before.now stack.now from deep }
-    ensures { (g : Graph) → Chained g (held far) (held before) → Ready g (held stack) from deep
-        → Steps g (held stack) seen from deep result }
+    ensures { (g : Graph) → Chained g far.now before.now → Ready g stack.now from deep
+        → Steps g stack.now seen from deep result }
 {
     let mut at = from;
     let mut depth = deep;

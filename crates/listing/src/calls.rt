@@ -21,8 +21,8 @@ pub const ROOM: usize = 2 * Text::MAX_BYTES;
 // Write the listing of a sheet to a slice. The answer is how many bytes it has. Refused as the sheet is (10; 1 over all
 // records; 13; 2 to 7 at the first bad place; 8), then by 9 for more than 4,096 edges or where the slice is too short.
 pub fn listing(sheet: &[u8], out: &mut [u8]) -> Listed
-    ensures answer { result ≡ counted (spec.listing (held sheet) (room out)) }
-    ensures stored { Fills (spec.listing (held sheet) (room out)) out }
+    ensures answer { result ≡ counted (spec.listing sheet.now (room out)) }
+    ensures stored { Fills (spec.listing sheet.now (room out)) out }
 {
     if out.len() < ROOM {
         return list_tight(sheet, out);
@@ -32,8 +32,8 @@ pub fn listing(sheet: &[u8], out: &mut [u8]) -> Listed
 
 // The same where the slice may be too short: the listing is measured first.
 fn list_tight(sheet: &[u8], out: &mut [u8]) -> Listed
-    ensures value { result ≡ counted (spec.listing (held sheet) (room out)) }
-    ensures fills { Fills (spec.listing (held sheet) (room out)) out }
+    ensures value { result ≡ counted (spec.listing sheet.now (room out)) }
+    ensures fills { Fills (spec.listing sheet.now (room out)) out }
 {
     let mut none = [0u8; 0];
     let measured = list_sheet(sheet, &mut none);
@@ -49,8 +49,8 @@ fn list_tight(sheet: &[u8], out: &mut [u8]) -> Listed
 // What the program answers: the listing, or the line `refusal` and a line with the number. It is never refused; what
 // stands behind the answer stays.
 pub fn respond(sheet: &[u8], out: &mut [u8; ROOM]) -> usize
-    ensures answer { result ≡ length (spec.response (held sheet)) }
-    ensures stored { Fills (Gives (spec.response (held sheet))) out }
+    ensures answer { result ≡ length (spec.response sheet.now) }
+    ensures stored { Fills (Gives (spec.response sheet.now)) out }
 {
     let answer = list_sheet(sheet, out);
     match answer {
@@ -64,7 +64,7 @@ pub fn respond(sheet: &[u8], out: &mut [u8; ROOM]) -> usize
 
 // List a sheet, as far as the slice goes.
 fn list_sheet(sheet: &[u8], out: &mut [u8]) -> Listed
-    ensures { ListsTo (listed_sheet (held sheet)) (held out) result (left out) }
+    ensures { ListsTo (listed_sheet sheet.now) (held out) result (left out) }
 {
     list_sized(sheet, out, Text::SMALL)
 }
@@ -72,7 +72,7 @@ fn list_sheet(sheet: &[u8], out: &mut [u8]) -> Listed
 // The same in scratch for sheets of so many bytes, and where that is too short, in the next larger. That it calls
 // itself keeps the arrays of the larger sizes out of the frame of the smaller ones.
 fn list_sized(sheet: &[u8], out: &mut [u8], bytes: usize) -> Listed
-    ensures { ListsTo (listed_sheet (held sheet)) (held out) result (left out) }
+    ensures { ListsTo (listed_sheet sheet.now) (held out) result (left out) }
 {
     if bytes <= Text::SMALL {
         let tried = list_256(sheet, out);
@@ -101,7 +101,7 @@ fn list_sized(sheet: &[u8], out: &mut [u8], bytes: usize) -> Listed
 // In scratch of one size: for the words of any sheet of at most so many bytes, a word to two bytes; for what 24 words
 // of steps and 12 of returns give; for 12 lifetimes; for 20 edges.
 fn list_256(sheet: &[u8], out: &mut [u8]) -> Within
-    ensures { ListsWithin (listed_sheet (held sheet)) ⊥ (held out) result (left out) }
+    ensures { ListsWithin (listed_sheet sheet.now) ⊥ (held out) result (left out) }
 {
     if Text::SMALL < sheet.len() {
         return Within::Short;
@@ -118,7 +118,7 @@ fn list_256(sheet: &[u8], out: &mut [u8]) -> Within
 
 // The same for 64 words of steps, 32 of returns, 32 lifetimes, 128 edges.
 fn list_1024(sheet: &[u8], out: &mut [u8]) -> Within
-    ensures { ListsWithin (listed_sheet (held sheet)) ⊥ (held out) result (left out) }
+    ensures { ListsWithin (listed_sheet sheet.now) ⊥ (held out) result (left out) }
 {
     if Text::MIDDLE < sheet.len() {
         return Within::Short;
@@ -135,7 +135,7 @@ fn list_1024(sheet: &[u8], out: &mut [u8]) -> Within
 
 // The same for 128 words of steps, 64 of returns, 64 lifetimes, 512 edges.
 fn list_4096(sheet: &[u8], out: &mut [u8]) -> Within
-    ensures { ListsWithin (listed_sheet (held sheet)) ⊥ (held out) result (left out) }
+    ensures { ListsWithin (listed_sheet sheet.now) ⊥ (held out) result (left out) }
 {
     if Text::LARGE < sheet.len() {
         return Within::Short;
@@ -152,7 +152,7 @@ fn list_4096(sheet: &[u8], out: &mut [u8]) -> Within
 
 // In scratch for any sheet.
 fn list_any(sheet: &[u8], out: &mut [u8]) -> Listed
-    ensures { ListsTo (listed_sheet (held sheet)) (held out) result (left out) }
+    ensures { ListsTo (listed_sheet sheet.now) (held out) result (left out) }
 {
     let mut words = [0usize; Text::MAX_WORDS];
     let mut given = [0usize; LOWERED_ROOM];

@@ -6,6 +6,8 @@
 //
 // What is here, bottom up: the five sections and a refusal (`sections`), a whole listing from what stands in slices
 // (`whole`), a sheet listed in lent scratch (`within`), and the two calls (`calls`).
+#![tactic(auto)]
+
 mod calls;
 mod sections;
 mod whole;

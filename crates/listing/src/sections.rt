@@ -69,7 +69,7 @@ pub(crate) fn put_longer(
 // The lines of numbered lists.
 fn put_numbered(out: &mut [u8], at: usize, words: &[usize], ends: &[usize], count: usize) -> usize
     requires { Ascend 0 (length words.now) ends.now count }
-    ensures { Prints (list_lines 0 (cut_from 0 (held words) (held ends) count)) at (held out) result (left out) }
+    ensures { Prints (list_lines 0 (cut_from 0 words.now ends.now count)) at (held out) result (left out) }
 {
     let mut next = at;
     let mut from = 0;
@@ -94,7 +94,7 @@ pub(crate) fn put_answers(out: &mut [u8], at: usize, answers: &[usize]) -> usize
 }
 
 fn put_each_answer(out: &mut [u8], at: usize, answers: &[usize]) -> usize
-    ensures { Prints (answer_lines_from 0 (held answers)) at (held out) result (left out) }
+    ensures { Prints (answer_lines_from 0 answers.now) at (held out) result (left out) }
 {
     let count = answers.len();
     let mut next = at;
@@ -119,7 +119,7 @@ pub(crate) fn put_edges(out: &mut [u8], at: usize, edges: &[usize], count: usize
 
 fn put_each_edge(out: &mut [u8], at: usize, edges: &[usize], count: usize) -> usize
     requires { width * count ≤ length edges.now }
-    ensures { Prints (flat_map edge_line (edges_in count (held edges))) at (held out) result (left out) }
+    ensures { Prints (flat_map edge_line (edges_in count edges.now)) at (held out) result (left out) }
 {
     let mut next = at;
     let mut i = 0;

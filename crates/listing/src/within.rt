@@ -75,7 +75,7 @@ fn list_laid(
     out: &mut [u8],
 ) -> Within
     requires { NoneDue (records_checks (records_at words.now ends)) × (length edges.old ≤ edges_room) }
-    ensures { ListsWithin (listed_records (records_at (held words) ends))
+    ensures { ListsWithin (listed_records (records_at words.now ends))
         (Ample (room given) (room taken) (room lists) (room edges)) (held out) result (left out) }
 {
     list_records(
@@ -120,8 +120,8 @@ fn list_records(
         params.now output.now force.now)) × (length edges.old ≤ edges_room) }
     ensures { ListsWithin
         (listed_records
-        (ten_records (held names) (held bounds) (held types) (held receiver) (held steps) (held returns) (held structs)
-        (held params) (held output) (held force))) (Ample (room given) (room taken) (room lists) (room edges))
+        (ten_records names.now bounds.now types.now receiver.now steps.now returns.now structs.now
+        params.now output.now force.now)) (Ample (room given) (room taken) (room lists) (room edges))
         (held out) result (left out) }
 {
     if given.len() / PER_WORD < steps.len() {
@@ -178,7 +178,7 @@ fn list_method(
     requires { Listable env used structs.now params.now own.now given.now taken.now
         × (length edges.old ≤ edges_room) }
     ensures { ListsWithin
-        (listed_method env used (held structs) (held params) (held own) (held given) (held taken))
+        (listed_method env used structs.now params.now own.now given.now taken.now)
         ((lists_room ≤ room lists) × (edges_room ≤ room edges)) (held out) result (left out) }
 {
     let count = env.count;

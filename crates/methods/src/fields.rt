@@ -50,7 +50,7 @@ enum Field {
 // field that is not there and for a field of another type; then by 4 and 7 as the rows are. Reads the record three
 // times. In the Rust it is of `StructBorrowInfo`, in methods/borrowing_param.rs.
 pub fn compute_for_struct_field(structs: &[usize], row: usize, field: usize) -> FieldLifetimes
-    ensures answer { result ≡ field_answer (field_pairs (held structs) row field) }
+    ensures answer { result ≡ field_answer (field_pairs structs.now row field) }
 {
     let shape = structs_shape(structs);
     let Listed::Count(rows) = shape else {
@@ -81,7 +81,7 @@ pub fn compute_for_struct_field(structs: &[usize], row: usize, field: usize) -> 
 // The pairs of a field's path words, which are as many as the lifetimes of the field's own definition: so they link.
 fn pairs_of(path: &[usize], count: usize, declared: usize) -> FieldLifetimes
     requires { (length path.now ≡ count) × (count ≤ most_list) }
-    ensures { result ≡ given_pairs (pairs_from declared 0 (held path)) }
+    ensures { result ≡ given_pairs (pairs_from declared 0 path.now) }
 {
     let none = FieldPair {
         def: DefLifetime::new(0),
@@ -137,7 +137,7 @@ fn refused(refusal: Refusal) -> FieldLifetimes
 // The field with a number of the row with a number, if it is there and is a struct.
 fn field_at(structs: &[usize], rows: usize, row: usize, field: usize) -> Field
     requires { (structs_in_shape structs.now ≡ true) × (length (rows_of structs.now) ≡ rows) }
-    ensures { FieldIs (held structs) row field result }
+    ensures { FieldIs structs.now row field result }
 {
     if rows <= row {
         return Field::Missing;
@@ -168,7 +168,7 @@ fn field_at(structs: &[usize], rows: usize, row: usize, field: usize) -> Field
 // Where the row with a number stands.
 fn row_place(structs: &[usize], row: usize) -> usize
     requires { (structs_in_shape structs.now ≡ true) × (row < length (rows_of structs.now)) }
-    ensures { RowStands (held structs) row result }
+    ensures { RowStands structs.now row result }
 {
     let mut at = 0;
     let mut number = 0;
@@ -182,7 +182,7 @@ fn row_place(structs: &[usize], row: usize) -> usize
 
 // The place behind so many types.
 fn skip_types(words: &[usize], from: usize, count: usize) -> usize
-    ensures { TypesSkip (held words) from count result }
+    ensures { TypesSkip words.now from count result }
 {
     let mut at = from;
     let mut i = 0;

@@ -97,7 +97,7 @@ pub(crate) fn types_fit(
 // Whether the type at a place fits.
 fn type_fits(words: &[usize], at: usize, lifetimes: &[usize; MAX_ROWS]) -> Fit
     requires { length lifetimes.now ≡ most_rows }
-    ensures { TypeFits (held words) at (held lifetimes) result }
+    ensures { TypeFits words.now at lifetimes.now result }
 {
     let found = type_at(words, at);
     let Located::At(parts) = found else {
@@ -115,7 +115,7 @@ fn type_fits(words: &[usize], at: usize, lifetimes: &[usize; MAX_ROWS]) -> Fit
 // Whether a type with so many path words is a struct whose row has not as many lifetimes.
 fn is_misfit(kind: Kind, count: usize, lifetimes: &[usize; MAX_ROWS]) -> bool
     requires { length lifetimes.now ≡ most_rows }
-    ensures { result ≡ misfit_in (held lifetimes) kind count }
+    ensures { result ≡ misfit_in lifetimes.now kind count }
 {
     match kind {
         Kind::Plain => false,
@@ -128,7 +128,7 @@ fn is_misfit(kind: Kind, count: usize, lifetimes: &[usize; MAX_ROWS]) -> bool
 // The lifetimes of a row.
 fn lifetimes_of(lifetimes: &[usize; MAX_ROWS], row: usize) -> usize
     requires { length lifetimes.now ≡ most_rows }
-    ensures { result ≡ row_lifetimes (held lifetimes) row }
+    ensures { result ≡ row_lifetimes lifetimes.now row }
 {
     if row < MAX_ROWS {
         return lifetimes[row];

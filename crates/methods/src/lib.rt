@@ -8,6 +8,8 @@
 //
 // What is here: struct types that fit their rows (`fits`); the lifetimes of the output (`output`); the refusal of a
 // method (`method`); the lifetimes that a method uses (`used`); the lifetimes of a struct-typed field (`fields`).
+#![tactic(auto)]
+
 mod fields;
 mod fits;
 mod method;

@@ -28,7 +28,7 @@ pub fn check_method(
     output: &[usize],
     force: &[usize],
 ) -> Verdict
-    ensures answer { result ≡ method_verdict env (held structs) (held params) (held output) (held force) }
+    ensures answer { result ≡ method_verdict env structs.now params.now output.now force.now }
 {
     let judged = judge(env, structs, params, output, force);
     judged.verdict
@@ -37,7 +37,7 @@ pub fn check_method(
 // Whether two records can be those of a method, whatever else it has. Refused by 1, then by 4 and 7 at the first bad
 // place. No environment is looked at, so none is passed.
 pub fn check_structs_and_params(structs: &[usize], params: &[usize]) -> Verdict
-    ensures answer { result ≡ structs_and_params_verdict (held structs) (held params) }
+    ensures answer { result ≡ structs_and_params_verdict structs.now params.now }
 {
     let counted = structs_shape(structs);
     let Listed::Count(rows) = counted else {
@@ -116,7 +116,7 @@ fn judge_places(
     outputs: usize,
 ) -> Verdict
     requires { InShape structs.now params.now output.now rows inputs outputs }
-    ensures { result ≡ judged (place_checks (held structs) (held params) (held output)) }
+    ensures { result ≡ judged (place_checks structs.now params.now output.now) }
 {
     let mut lifetimes = [0usize; MAX_ROWS];
     let first = index_rows(structs, rows, &mut lifetimes);

@@ -51,7 +51,7 @@ pub(crate) fn collect_types(words: &[usize], types: usize, count: usize) -> Coll
 // Put the lifetimes of so many words, from a place on, into a set.
 fn collect_path(words: &[usize], from: usize, n: usize, count: usize, before: u64) -> Collected
     requires { (count ≤ most_lifetimes) × (PathThere (length words.now) from n) }
-    ensures { CollectIs count before (map from_word (take n (drop from (held words)))) result }
+    ensures { CollectIs count before (map from_word (take n (drop from words.now))) result }
 {
     let mut used = before;
     let mut i = 0;

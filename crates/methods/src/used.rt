@@ -23,7 +23,7 @@ pub fn used_method_lifetimes(
     output: &[usize],
     force: &[usize],
 ) -> UsedLifetimes
-    ensures answer { result ≡ used_answer (used_set env (held structs) (held params) (held output) (held force)) }
+    ensures answer { result ≡ used_answer (used_set env structs.now params.now output.now force.now) }
 {
     let judged = judge(env, structs, params, output, force);
     let verdict = judged.verdict;

@@ -7,6 +7,8 @@
 // Kind 0 asks `read_text` and `read_sheet`; its answer is a line of numbers on standard output. Kind 1 asks `respond`,
 // whose slice has one length only; its answer is a line with the number of the response's bytes, then these bytes. The
 // files stdin and stdout beside src/ are made by tests/readings.py.
+#![tactic(auto)]
+
 mod ask;
 mod pieces;
 mod print;

@@ -3,6 +3,8 @@
 // A record is a lent slice of words. What is read from it are items, one after another to its end; most of them hold
 // lifetimes, as many as a word in front says. The scope paper ("01") decides what is right. Where the words do not make
 // an item the answer is `Missing`; which refusal that is, the caller says.
+#![tactic(auto)]
+
 ghost use Rattle.std.specs.Prelude.{min, ◌≡◌, length, drop};
 ghost use Rattle.answers.specs.Lent.{counted, held, room, Fills};
 ghost use Rattle.records.specs.Copied.{copied};
@@ -27,7 +29,7 @@ impl End {
 
 // Where a list of lifetimes ends: how many they are, at most 16, then they.
 pub fn lifetimes_end(words: &[usize], at: usize) -> End
-    ensures answer { result ≡ end_of (length (held words)) (read_lifetimes (drop at (held words))) }
+    ensures answer { result ≡ end_of (length words.now) (read_lifetimes (drop at words.now)) }
 {
     let n = words.len();
     if n <= at {
@@ -47,8 +49,8 @@ pub fn lifetimes_end(words: &[usize], at: usize) -> End
 // Copy the first words of a record, so many, to the front of a slice; where the record has fewer, all of them. Refused
 // by 9 where the slice is too short for them.
 pub fn copy_words(words: &[usize], count: usize, out: &mut [usize]) -> Listed
-    ensures answer { result ≡ counted (copied (held words) count (room out)) }
-    ensures stored { Fills (copied (held words) count (room out)) out }
+    ensures answer { result ≡ counted (copied words.now count (room out)) }
+    ensures stored { Fills (copied words.now count (room out)) out }
 {
     let n = least(count, words.len());
     if out.len() < n {

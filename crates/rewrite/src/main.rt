@@ -2,6 +2,8 @@
 //
 // What the reader takes, checking no further than 13, comes out byte for byte; anything else prints the line `refusal`
 // and a line with the number, as the program `borrows` does.
+#![tactic(auto)]
+
 ghost use Rattle.std.specs.Prelude.{◌≤◌, ◌≡◌, length};
 
 use answers::{Listed, Refusal, Verdict};

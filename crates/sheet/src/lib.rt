@@ -6,6 +6,8 @@
 // What is here, bottom up: the words of a line and the lines (`lines`), the call that reads ten records of any words
 // (`reading`), one record of ten (`record`), the shape of the records and 1 in `force` (`shapes`), and the call that
 // reads a sheet, refused by these (`sheet`).
+#![tactic(auto)]
+
 mod lines;
 mod reading;
 mod record;

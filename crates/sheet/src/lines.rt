@@ -31,7 +31,7 @@ fn put(words: &mut [usize], at: usize, word: usize)
 // The words of the line that starts at a place, stored from `to` on; none at the end of the bytes.
 fn line(bytes: &[u8], from: usize, words: &mut [usize], to: usize) -> Read
     requires { to ≤ from }
-    ensures { LineRead (held bytes) from (held words) (left words) to result }
+    ensures { LineRead bytes.now from (held words) (left words) to result }
 {
     let n = bytes.len();
     if n <= from {

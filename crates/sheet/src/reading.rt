@@ -70,8 +70,8 @@ impl Text {
 // then by 1 for a record above 1,024 words, then by 9 where the slice is too short. 10,240 words are always enough.
 // Reads each byte twice: once to judge and to count, once to write.
 pub fn read_text(sheet: &[u8], words: &mut [usize]) -> Text
-    ensures answer { result ≡ read_answer (held sheet) (room words) }
-    ensures stored { Fills (read_words (held sheet) (room words)) words }
+    ensures answer { result ≡ read_answer sheet.now (room words) }
+    ensures stored { Fills (read_words sheet.now (room words)) words }
 {
     let judged = measure(sheet);
     let verdict = judged.verdict;
@@ -97,7 +97,7 @@ pub(crate) fn refused(refusal: Refusal) -> Text
 
 // Judge a text and count its words, without writing any. Refused by 10, then by 1.
 fn measure(sheet: &[u8]) -> Text
-    ensures { result ≡ measured (held sheet) }
+    ensures { result ≡ measured sheet.now }
 {
     let mut unused = [0usize; 1];
     scan(sheet, &mut unused)
@@ -131,7 +131,7 @@ pub(crate) fn scan(sheet: &[u8], scratch: &mut [usize]) -> Text
 fn write_all(sheet: &[u8], count: usize, words: &mut [usize]) -> bool
     requires { NoneDue (text_checks sheet.now) }
     ensures value { result ≡ leb count (room words) }
-    ensures words_value { left words ≡ cond result (sets (held words) 0 (words_of (sheet_of (held sheet)))) (held words) }
+    ensures words_value { left words ≡ cond result (sets (held words) 0 (words_of (sheet_of sheet.now))) (held words) }
 {
     let fits = count <= words.len();
     if fits {
@@ -143,7 +143,7 @@ fn write_all(sheet: &[u8], count: usize, words: &mut [usize]) -> bool
 // Write the words of an accepted text, one record after another, as far as the slice goes.
 fn write(sheet: &[u8], words: &mut [usize])
     requires { NoneDue (text_checks sheet.now) }
-    ensures { left words ≡ sets (held words) 0 (words_of (sheet_of (held sheet))) }
+    ensures { left words ≡ sets (held words) 0 (words_of (sheet_of sheet.now)) }
 {
     let mut ends = [0usize; Text::RECORDS];
     lines(sheet, Text::HEADING, words, &mut ends);
@@ -152,7 +152,7 @@ fn write(sheet: &[u8], words: &mut [usize])
 // Whether the first line is the heading. All its bytes are compared: without an early end the compiler compares many at
 // a time.
 fn headed(bytes: &[u8]) -> bool
-    ensures { strip_prefix heading (held bytes) ≡ cond result (some (drop 66 (held bytes))) none }
+    ensures { strip_prefix heading bytes.now ≡ cond result (some (drop 66 bytes.now)) none }
 {
     let line = b"names bounds types self steps returns structs params output force\n";
     if bytes.len() < Text::HEADING {

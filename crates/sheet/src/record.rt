@@ -9,7 +9,7 @@ use super::reading::Text;
 // The words of the record with a number, 0 to 9, in a slice where ten records end at these places: as `read_text` and
 // `read_sheet` write and answer them. None where there is no such record, or where records in this slice cannot end so.
 pub fn record_words(words: &[usize], ends: [usize; Text::RECORDS], i: usize) -> &[usize]
-    ensures answer { result.now ≡ record_words (held words) ends i }
+    ensures answer { result.now ≡ record_words words.now ends i }
 {
     if Text::RECORDS <= i {
         return &words[0..0];

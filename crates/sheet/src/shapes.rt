@@ -60,7 +60,7 @@ pub(crate) fn judge_laid(words: &[usize], ends: [usize; Text::RECORDS]) -> Verdi
 }
 
 fn environment_in_shape(names: &[usize], bounds: &[usize], types: &[usize]) -> bool
-    ensures { result ≡ names_in_shape (held names) && (bounds_in_shape (held bounds) && types_in_shape (held types)) }
+    ensures { result ≡ names_in_shape names.now && (bounds_in_shape bounds.now && types_in_shape types.now) }
 {
     let named = accepted(names_shape(names));
     let bounded = accepted(bounds_shape(bounds));
@@ -69,7 +69,7 @@ fn environment_in_shape(names: &[usize], bounds: &[usize], types: &[usize]) -> b
 }
 
 fn elision_in_shape(own: &[usize], steps: &[usize], returns: &[usize]) -> bool
-    ensures { result ≡ self_in_shape (held own) && (steps_in_shape (held steps) && steps_in_shape (held returns)) }
+    ensures { result ≡ self_in_shape own.now && (steps_in_shape steps.now && steps_in_shape returns.now) }
 {
     let received = accepted(self_shape(own));
     let given = accepted(steps_shape(steps));

@@ -17,8 +17,8 @@ use records::copy_words;
 // a record has more than 1,024 words or is not in shape, then by 13 for 1 in `force`, then by 9 where the slice is too
 // short. 10,240 words are always enough. Reads each byte once.
 pub fn read_sheet(sheet: &[u8], words: &mut [usize]) -> Text
-    ensures answer { result ≡ sheet_answer (held sheet) (room words) }
-    ensures stored { Fills (sheet_words (held sheet) (room words)) words }
+    ensures answer { result ≡ sheet_answer sheet.now (room words) }
+    ensures stored { Fills (sheet_words sheet.now (room words)) words }
 {
     read_sized(sheet, words, Text::SMALL)
 }
@@ -27,8 +27,8 @@ pub fn read_sheet(sheet: &[u8], words: &mut [usize]) -> Text
 // the arrays of the larger sizes out of the frame of the smaller ones: the compiler puts no large frame into that of a
 // function that calls itself.
 fn read_sized(sheet: &[u8], words: &mut [usize], bytes: usize) -> Text
-    ensures value { result ≡ sheet_answer (held sheet) (room words) }
-    ensures fills { Fills (sheet_words (held sheet) (room words)) words }
+    ensures value { result ≡ sheet_answer sheet.now (room words) }
+    ensures fills { Fills (sheet_words sheet.now (room words)) words }
 {
     if bytes <= Text::SMALL {
         if sheet.len() <= Text::SMALL {
@@ -51,8 +51,8 @@ fn read_sized(sheet: &[u8], words: &mut [usize], bytes: usize) -> Text
 // The same in scratch of one size: a word takes two bytes at least.
 fn read_256(sheet: &[u8], words: &mut [usize]) -> Text
     requires { length sheet.now ≤ 256 }
-    ensures value { result ≡ sheet_answer (held sheet) (room words) }
-    ensures fills { Fills (sheet_words (held sheet) (room words)) words }
+    ensures value { result ≡ sheet_answer sheet.now (room words) }
+    ensures fills { Fills (sheet_words sheet.now (room words)) words }
 {
     let mut scratch = [0usize; Text::SMALL / 2];
     read_within(sheet, &mut scratch, words)
@@ -60,8 +60,8 @@ fn read_256(sheet: &[u8], words: &mut [usize]) -> Text
 
 fn read_1024(sheet: &[u8], words: &mut [usize]) -> Text
     requires { length sheet.now ≤ 1024 }
-    ensures value { result ≡ sheet_answer (held sheet) (room words) }
-    ensures fills { Fills (sheet_words (held sheet) (room words)) words }
+    ensures value { result ≡ sheet_answer sheet.now (room words) }
+    ensures fills { Fills (sheet_words sheet.now (room words)) words }
 {
     let mut scratch = [0usize; Text::MIDDLE / 2];
     read_within(sheet, &mut scratch, words)
@@ -69,16 +69,16 @@ fn read_1024(sheet: &[u8], words: &mut [usize]) -> Text
 
 fn read_4096(sheet: &[u8], words: &mut [usize]) -> Text
     requires { length sheet.now ≤ 4096 }
-    ensures value { result ≡ sheet_answer (held sheet) (room words) }
-    ensures fills { Fills (sheet_words (held sheet) (room words)) words }
+    ensures value { result ≡ sheet_answer sheet.now (room words) }
+    ensures fills { Fills (sheet_words sheet.now (room words)) words }
 {
     let mut scratch = [0usize; Text::LARGE / 2];
     read_within(sheet, &mut scratch, words)
 }
 
 fn read_any(sheet: &[u8], words: &mut [usize]) -> Text
-    ensures value { result ≡ sheet_answer (held sheet) (room words) }
-    ensures fills { Fills (sheet_words (held sheet) (room words)) words }
+    ensures value { result ≡ sheet_answer sheet.now (room words) }
+    ensures fills { Fills (sheet_words sheet.now (room words)) words }
 {
     let mut scratch = [0usize; Text::MAX_WORDS];
     read_within(sheet, &mut scratch, words)
@@ -87,8 +87,8 @@ fn read_any(sheet: &[u8], words: &mut [usize]) -> Text
 // The same with scratch that takes the words of any sheet of so many bytes.
 fn read_within(sheet: &[u8], scratch: &mut [usize], words: &mut [usize]) -> Text
     requires { Roomy sheet.now (length scratch.old) }
-    ensures value { result ≡ sheet_answer (held sheet) (room words) }
-    ensures fills { Fills (sheet_words (held sheet) (room words)) words }
+    ensures value { result ≡ sheet_answer sheet.now (room words) }
+    ensures fills { Fills (sheet_words sheet.now (room words)) words }
 {
     let text = scan(sheet, scratch);
     let verdict = text.verdict;

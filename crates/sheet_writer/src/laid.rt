@@ -13,8 +13,8 @@ use sheet::{Text, record_words};
 // where these are not ten ends, where they do not ascend, or where one is past the words: there are no ten records
 // then. Else as `write_sheet` writes the ten. Words behind the last end are not looked at.
 pub fn write_laid(words: &[usize], ends: &[usize], out: &mut [u8]) -> Listed
-    ensures answer { result ≡ counted (write_laid (held words) (held ends) (room out)) }
-    ensures stored { Fills (write_laid (held words) (held ends) (room out)) out }
+    ensures answer { result ≡ counted (write_laid words.now ends.now (room out)) }
+    ensures stored { Fills (write_laid words.now ends.now (room out)) out }
 {
     if !are_ends(words.len(), ends) {
         return Listed::Refused(Refusal::Malformed);
@@ -25,8 +25,8 @@ pub fn write_laid(words: &[usize], ends: &[usize], out: &mut [u8]) -> Listed
 // The same with ten ends that are known to be such.
 fn write_ten(words: &[usize], ends: [usize; Text::RECORDS], out: &mut [u8]) -> Listed
     requires { are_ends (length words.now) ends ≡ true }
-    ensures value { result ≡ counted (write_laid (held words) ends (room out)) }
-    ensures fills { Fills (write_laid (held words) ends (room out)) out }
+    ensures value { result ≡ counted (write_laid words.now ends (room out)) }
+    ensures fills { Fills (write_laid words.now ends (room out)) out }
 {
     write_sheet(
         record_words(words, ends, Text::NAMES),
@@ -45,7 +45,7 @@ fn write_ten(words: &[usize], ends: [usize; Text::RECORDS], out: &mut [u8]) -> L
 
 // Whether these are ten ends of records in so many words.
 fn are_ends(count: usize, ends: &[usize]) -> bool
-    ensures { result ≡ are_ends count (held ends) }
+    ensures { result ≡ are_ends count ends.now }
 {
     if ends.len() != Text::RECORDS {
         return false;
@@ -55,7 +55,7 @@ fn are_ends(count: usize, ends: &[usize]) -> bool
 
 // Whether ends ascend, to so many words at most.
 fn ascend(count: usize, ends: &[usize]) -> bool
-    ensures { result ≡ ascend_to count 0 (held ends) }
+    ensures { result ≡ ascend_to count 0 ends.now }
 {
     let mut from = 0;
     let mut i = 0;
@@ -72,7 +72,7 @@ fn ascend(count: usize, ends: &[usize]) -> bool
 // Ten ends as an array.
 fn ten_of(ends: &[usize]) -> [usize; Text::RECORDS]
     requires { length ends.now ≡ record_count }
-    ensures { result ≡ held ends }
+    ensures { result ≡ ends.now }
 {
     let mut ten = [0usize; Text::RECORDS];
     copy_words(ends, Text::RECORDS, &mut ten);

@@ -30,7 +30,7 @@ pub(crate) fn any_large(
 
 // Whether one of three records has.
 fn three_large(first: &[usize], second: &[usize], third: &[usize]) -> bool
-    ensures { result ≡ has_large (held first) || (has_large (held second) || has_large (held third)) }
+    ensures { result ≡ has_large first.now || (has_large second.now || has_large third.now) }
 {
     let other = either(has_large(second), has_large(third));
     either(has_large(first), other)
@@ -38,7 +38,7 @@ fn three_large(first: &[usize], second: &[usize], third: &[usize]) -> bool
 
 // Whether a record has. Its words are looked at up to the first such word, however many they are.
 fn has_large(words: &[usize]) -> bool
-    ensures { result ≡ has_large (held words) }
+    ensures { result ≡ has_large words.now }
 {
     let mut i = 0;
     while i < words.len() {

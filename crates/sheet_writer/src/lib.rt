@@ -7,6 +7,8 @@
 // What is here, bottom up: whether a record has a word that no sheet has (`large`), printing ten records (`print`), the
 // call that writes ten lent records (`write`), and the one for records that stand one after another, as reading a
 // sheet gives them (`laid`).
+#![tactic(auto)]
+
 mod laid;
 mod large;
 mod print;

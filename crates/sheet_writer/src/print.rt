@@ -34,7 +34,7 @@ pub(crate) fn put_sheet(
 
 // Three lines.
 fn put_three(out: &mut [u8], at: usize, first: &[usize], second: &[usize], third: &[usize]) -> usize
-    ensures { Prints (line (held first) ++ (line (held second) ++ line (held third))) at (held out) result
+    ensures { Prints (line first.now ++ (line second.now ++ line third.now)) at (held out) result
         (left out) }
 {
     let next = put_line(out, at, first);

@@ -3,6 +3,8 @@
 // For every crate that prints or reads. A printer is lent a slice and told a place; it stores its text from there on as
 // far as the slice goes and answers the place behind it, so that the next one goes on there. The reader is told a place
 // and finds the number that stands there.
+#![tactic(auto)]
+
 mod number;
 mod print;
 

@@ -17,7 +17,7 @@ fn wide(b: u8) -> usize
 }
 
 // Whether a byte is a digit.
-fn is_digit_lem(b: usize) -> bool
+fn is_digit(b: usize) -> bool
     ensures { result ≡ is_digit b }
 {
     if b < 48 {
@@ -43,14 +43,14 @@ fn fits(value: usize, digit: usize, limit: usize, tenth: usize) -> bool
 // The number that starts at a place: decimal, no leading nought, at most a limit, as many digits as there are. Reads
 // its digits and one byte more.
 pub fn read_number(bytes: &[u8], from: usize, limit: usize) -> Found
-    ensures answer { result ≡ found_at limit (held bytes) from }
+    ensures answer { result ≡ found_at limit bytes.now from }
 {
     let n = bytes.len();
     if n <= from {
         return Found::Nothing;
     }
     let first = wide(bytes[from]);
-    if !is_digit_lem(first) {
+    if !is_digit(first) {
         return Found::Nothing;
     }
     let mut value = first - 48;
@@ -61,7 +61,7 @@ pub fn read_number(bytes: &[u8], from: usize, limit: usize) -> Found
     let tenth = limit / 10;
     while at < n {
         let b = wide(bytes[at]);
-        if !is_digit_lem(b) {
+        if !is_digit(b) {
             return Found::Number { value, at };
         }
         if value == 0 {

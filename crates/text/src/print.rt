@@ -54,8 +54,8 @@ fn put(out: &mut [u8], at: usize, byte: u8) -> usize
 
 // A text.
 pub fn put_text(out: &mut [u8], at: usize, text: &[u8]) -> usize
-    ensures answer { result ≡ behind at (held text) }
-    ensures stored { left out ≡ sets (held out) at (held text) }
+    ensures answer { result ≡ behind at text.now }
+    ensures stored { left out ≡ sets (held out) at text.now }
 {
     let n = room(out.len(), at, text.len());
     let mut i = 0;
@@ -140,8 +140,8 @@ fn put_word(out: &mut [u8], at: usize, word: usize, safe: usize) -> usize
 
 // The words that follow in a line, each behind a space, and the line's end.
 pub fn put_following(out: &mut [u8], at: usize, words: &[usize]) -> usize
-    ensures answer { result ≡ behind at (following (held words)) }
-    ensures stored { left out ≡ sets (held out) at (following (held words)) }
+    ensures answer { result ≡ behind at (following words.now) }
+    ensures stored { left out ≡ sets (held out) at (following words.now) }
 {
     let safe = less(out.len(), 2);
     let mut to = at;
@@ -155,8 +155,8 @@ pub fn put_following(out: &mut [u8], at: usize, words: &[usize]) -> usize
 
 // A line of words; an empty one is a line's end alone.
 pub fn put_line(out: &mut [u8], at: usize, words: &[usize]) -> usize
-    ensures answer { result ≡ behind at (line (held words)) }
-    ensures stored { left out ≡ sets (held out) at (line (held words)) }
+    ensures answer { result ≡ behind at (line words.now) }
+    ensures stored { left out ≡ sets (held out) at (line words.now) }
 {
     if words.len() == 0 {
         return put(out, at, b'\n');

@@ -9,6 +9,8 @@
 // To add a kind: a function in the module of its crate that reads the question at a place, prints one line, and answers
 // the place behind the question; a line in `answer` below; question and answer in tests/model/questions.py; cases in
 // tests/vectors.py.
+#![tactic(auto)]
+
 mod ast;
 mod borrows;
 mod bounds;
