@@ -10,7 +10,7 @@ ghost use Rattle.answers.specs.Refusals.{number_of};
 
 // Why a call is refused. `number` is 01's number, or from 11 on that of the change requests ("02"); the comments give
 // the papers' words.
-#[derive(Drop)]
+#[derive(Clone, Copy)]
 pub enum Refusal {
     // 1, torn: a record that is not in its shape, or a row, field or parameter asked for that is not there.
     Malformed,
@@ -58,14 +58,14 @@ impl Refusal {
 }
 
 // Whether a call is refused.
-#[derive(Drop)]
+#[derive(Clone, Copy)]
 pub enum Verdict {
     Accepted,
     Refused(Refusal),
 }
 
 // How many words or bytes a call wrote to a lent slice, or how many items it counted; or why it is refused.
-#[derive(Drop)]
+#[derive(Clone, Copy)]
 pub enum Listed {
     Count(usize),
     Refused(Refusal),

@@ -21,7 +21,7 @@ use lifetimes::{Bound, Bounds, Lifetime};
 
 // The names of a method in order of declaration, the first `named` of the array: a name's number is its place. And the
 // bounds between them.
-#[derive(Drop)]
+#[derive(Clone, Copy)]
 pub struct LifetimeEnv {
     pub names: [usize; LifetimeEnv::MAX_NAMES],
     pub named: usize,
@@ -29,14 +29,14 @@ pub struct LifetimeEnv {
 }
 
 // An environment; beside a refusal, the one that the call says.
-#[derive(Drop)]
+#[derive(Clone, Copy)]
 pub struct Made {
     pub verdict: Verdict,
     pub env: LifetimeEnv,
 }
 
 // How far building came: the verdict, and how many names and bounds there are.
-#[derive(Drop)]
+#[derive(Clone, Copy)]
 struct Counts {
     verdict: Verdict,
     named: usize,

@@ -19,7 +19,7 @@ use answers::Verdict;
 use lifetimes::{Bounds, Lifetime, set};
 
 // How far pushing came: the verdict, and how many bounds there are.
-#[derive(Drop)]
+#[derive(Clone, Copy)]
 pub(crate) struct Implied {
     pub(crate) verdict: Verdict,
     pub(crate) pushed: usize,

@@ -18,7 +18,7 @@ use lifetimes::{LifetimeEnv, set};
 use sheet::{Text, record_words};
 
 // How many used lifetimes, parameters and edges there are, or why the call is refused; beside a refusal none.
-#[derive(Drop)]
+#[derive(Clone, Copy)]
 pub struct Borrows {
     pub verdict: Verdict,
     pub used: usize,

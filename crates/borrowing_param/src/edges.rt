@@ -18,7 +18,7 @@ use hir_types::{Kind, OwnLifetime, Parts, path_words};
 use lifetimes::{DefLifetime, Lifetime, LifetimeEnv, LinkedWord, MaybeStatic, linked_word, set};
 
 // The edge at a place of a slice of edges. Absent past its last whole edge.
-#[derive(Drop)]
+#[derive(Clone, Copy)]
 pub enum EdgeAt {
     Edge(LifetimeEdge),
     Absent,
@@ -48,7 +48,7 @@ pub fn edge_at(edges: &[usize], place: usize) -> EdgeAt
 }
 
 // The first lifetime of a type that draws, by its index.
-#[derive(Drop)]
+#[derive(Clone, Copy)]
 enum First {
     At(usize),
     Absent,

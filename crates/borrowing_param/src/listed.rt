@@ -19,7 +19,7 @@ use methods::{MAX_PARAMS, check_structs_and_params};
 use records::copy_words;
 
 // How many parameters and edges there are, or why the call is refused; beside a refusal none.
-#[derive(Drop)]
+#[derive(Clone, Copy)]
 pub struct BorrowMap {
     pub verdict: Verdict,
     pub params: usize,
@@ -27,7 +27,7 @@ pub struct BorrowMap {
 }
 
 // How many parameters there are, and how many edges they bring.
-#[derive(Drop)]
+#[derive(Clone, Copy)]
 struct Counted {
     params: usize,
     edges: usize,

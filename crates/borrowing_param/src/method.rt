@@ -22,7 +22,7 @@ use sheet::{Text, read_sheet, record_words};
 
 // A sheet's method: where each of its ten records ends in the words that were written, and its environment. Beside a
 // refusal all ends are 0, and the environment has no lifetimes.
-#[derive(Drop)]
+#[derive(Clone, Copy)]
 pub struct SheetMethod {
     pub verdict: Verdict,
     pub ends: [usize; Text::RECORDS],

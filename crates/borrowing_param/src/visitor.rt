@@ -18,7 +18,7 @@ use records::End;
 
 // One edge: the values of its line in the listing. Kind 1 is the Rust's `OpaqueParam`, 2 `SliceParam`, 3
 // `StructLifetime`; the used lifetime is the key of its map.
-#[derive(Drop)]
+#[derive(Clone, Copy)]
 pub struct LifetimeEdge {
     pub used: usize,
     pub param: usize,
@@ -29,7 +29,7 @@ pub struct LifetimeEdge {
 
 // What a visit answers: whether it is refused; 01's number of the answer, 0 to 4; and for each lifetime of a struct's
 // definition the set of the used lifetimes that it has an edge to (the map in the Rust's `StructBorrowInfo`).
-#[derive(Drop)]
+#[derive(Clone, Copy)]
 pub struct ParamBorrowInfo {
     pub verdict: Verdict,
     pub number: usize,
@@ -38,7 +38,7 @@ pub struct ParamBorrowInfo {
 
 // The used lifetimes as a set; for each of them the set of the lifetimes that draw an edge to it, which are those that
 // outlive it (the Rust's `all_longer_lifetimes`); and how many edges are stored.
-#[derive(Drop)]
+#[derive(Clone, Copy)]
 pub struct BorrowingParamVisitor {
     pub used: u64,
     pub draws: [u64; LifetimeEnv::MAX_LIFETIMES],
@@ -46,14 +46,14 @@ pub struct BorrowingParamVisitor {
 }
 
 // A new visitor, or why there is none; beside a refusal a visitor that uses nothing.
-#[derive(Drop)]
+#[derive(Clone, Copy)]
 pub struct Created {
     pub verdict: Verdict,
     pub visitor: BorrowingParamVisitor,
 }
 
 // What a visit answers, and the visitor afterwards.
-#[derive(Drop)]
+#[derive(Clone, Copy)]
 pub struct Visited {
     pub info: ParamBorrowInfo,
     pub visitor: BorrowingParamVisitor,

@@ -11,7 +11,7 @@ ghost use Rattle.io.specs.Counts.{IsPrefixLen};
 use listing::respond;
 
 // How many bytes were read, and whether the read behind them failed.
-#[derive(Drop)]
+#[derive(Clone, Copy)]
 struct Input {
     count: usize,
     failed: bool,

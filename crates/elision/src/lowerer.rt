@@ -15,7 +15,7 @@ use lifetimes::{Lifetime, MaybeStatic};
 use records::End;
 
 // How a lifetime stands in a method.
-#[derive(Drop)]
+#[derive(Clone, Copy)]
 pub enum Standing {
     // An input position (kinds 0 and 1 in `steps`).
     Input,
@@ -26,20 +26,20 @@ pub enum Standing {
 }
 
 // A lowered lifetime, as it stands in a list.
-#[derive(Drop)]
+#[derive(Clone, Copy)]
 pub struct Lowered {
     pub lifetime: MaybeStatic,
 }
 
 // The lowered lifetimes of one type: the first n of the array. In the Rust it is in hir/lifetimes.rs.
-#[derive(Drop)]
+#[derive(Clone, Copy)]
 pub struct Lifetimes {
     pub n: usize,
     pub list: [Lowered; End::MAX_LIST],
 }
 
 // What the lifetimes so far have brought: the source of elision, and how many lifetimes there are, declared and new.
-#[derive(Drop)]
+#[derive(Clone, Copy)]
 pub struct Seen {
     pub source: ElisionSource,
     pub count: usize,
@@ -47,7 +47,7 @@ pub struct Seen {
 
 // What a lowerer knows between two steps. `kept` says whether the `Self` type was there already; `own` are its
 // lifetimes then (in the Rust `self_lifetimes`, and what is seen `elision_source` and `num_lifetimes`).
-#[derive(Drop)]
+#[derive(Clone, Copy)]
 pub struct Lowerer {
     pub seen: Seen,
     pub kept: bool,
@@ -55,7 +55,7 @@ pub struct Lowerer {
 }
 
 // What a step answers: the lifetimes and the next lowerer; refused, no lifetimes and the lowerer as it was.
-#[derive(Drop)]
+#[derive(Clone, Copy)]
 pub struct Stepped {
     pub verdict: Verdict,
     pub lowerer: Lowerer,
@@ -63,7 +63,7 @@ pub struct Stepped {
 }
 
 // One lifetime lowered; refused, a static one and what was seen before.
-#[derive(Drop)]
+#[derive(Clone, Copy)]
 pub(crate) struct Worded {
     pub(crate) verdict: Verdict,
     pub(crate) lifetime: MaybeStatic,
@@ -71,7 +71,7 @@ pub(crate) struct Worded {
 }
 
 // Some lifetimes lowered; refused, none and what was seen before.
-#[derive(Drop)]
+#[derive(Clone, Copy)]
 struct Run {
     verdict: Verdict,
     seen: Seen,

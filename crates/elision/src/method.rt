@@ -20,7 +20,7 @@ use records::End;
 
 // What `lower` answers: how many words each slice was written, and the method's environment. Refused, none, and an
 // environment without lifetimes.
-#[derive(Drop)]
+#[derive(Clone, Copy)]
 pub struct Lowering {
     pub verdict: Verdict,
     pub selves: usize,
@@ -30,7 +30,7 @@ pub struct Lowering {
 }
 
 // Three records lowered: how many words each gave, and how many lifetimes there are; refused, none.
-#[derive(Drop)]
+#[derive(Clone, Copy)]
 struct Totals {
     verdict: Verdict,
     selves: usize,

@@ -20,7 +20,7 @@ use records::End;
 
 // Some words lowered and stored: what is seen then, and the place behind them; refused, what was seen before and the
 // place before.
-#[derive(Drop)]
+#[derive(Clone, Copy)]
 struct Put {
     verdict: Verdict,
     seen: Seen,
@@ -30,7 +30,7 @@ struct Put {
 // Steps lowered and stored: what is seen then, whether the `Self` type was there and how many lifetimes it has, the
 // place behind their words in the slice, and the place behind them in their record. Refused, only the verdict says
 // something.
-#[derive(Drop)]
+#[derive(Clone, Copy)]
 pub(crate) struct Took {
     pub(crate) verdict: Verdict,
     pub(crate) seen: Seen,

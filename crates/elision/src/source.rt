@@ -5,7 +5,7 @@ ghost use Rattle.elision.specs.Machine.{visit_lifetime};
 use lifetimes::MaybeStatic;
 
 // Where an elided lifetime of the output comes from, by the inputs so far.
-#[derive(Drop)]
+#[derive(Clone, Copy)]
 pub enum ElisionSource {
     // No input position: nothing to take.
     NoBorrows,

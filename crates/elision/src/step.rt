@@ -14,14 +14,14 @@ use answers::{Refusal, Verdict};
 use records::End;
 
 // What a step on a lent lowerer answers: the lifetimes; refused, none.
-#[derive(Drop)]
+#[derive(Clone, Copy)]
 pub struct StepAnswer {
     pub verdict: Verdict,
     pub lifetimes: Lifetimes,
 }
 
 // What a step makes of a lowerer: the next one, and the answer.
-#[derive(Drop)]
+#[derive(Clone, Copy)]
 struct Next {
     lowerer: Lowerer,
     answer: StepAnswer,

@@ -11,7 +11,7 @@ use records::{End, lifetimes_end};
 
 // A step as it stands in a record: its words are read where they are, from `from` to `to`, and `to` is the place behind
 // it.
-#[derive(Drop)]
+#[derive(Clone, Copy)]
 pub(crate) enum StepAt {
     Lifetime {
         word: usize,

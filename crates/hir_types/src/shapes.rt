@@ -91,7 +91,7 @@ pub fn force_shape(force: &[usize]) -> Verdict
 
 // The shape of a method's four records: accepted, and how many rows, parameters and output types there are; or refused,
 // and 0 for each.
-#[derive(Drop)]
+#[derive(Clone, Copy)]
 pub struct Shape {
     pub verdict: Verdict,
     pub rows: usize,

@@ -12,7 +12,7 @@ use lifetimes::{Lifetime, MaybeStatic};
 use records::{End, lifetimes_end};
 
 // What a type is, under an option or not: 01's codes 0 to 3. A struct is the number of its row.
-#[derive(Drop)]
+#[derive(Clone, Copy)]
 pub enum Kind {
     Plain,
     Opaque,
@@ -48,7 +48,7 @@ impl Kind {
 
 // The lifetime behind a type's path words: an opaque's borrow, or a slice's own lifetime. `Strs` has one that no word
 // stands for.
-#[derive(Drop)]
+#[derive(Clone, Copy)]
 pub enum Own {
     Absent,
     Word(usize),
@@ -56,7 +56,7 @@ pub enum Own {
 }
 
 // That lifetime, if there is one.
-#[derive(Drop)]
+#[derive(Clone, Copy)]
 pub enum OwnLifetime {
     Lifetime(MaybeStatic),
     Absent,
@@ -79,7 +79,7 @@ impl Own {
 
 // A type that stands in some words: whether it is under an option, its kind, where its path words start and how many
 // they are, its own lifetime, and the place behind it.
-#[derive(Drop)]
+#[derive(Clone, Copy)]
 pub struct Parts {
     pub option: bool,
     pub kind: Kind,
@@ -95,14 +95,14 @@ impl Parts {
 }
 
 // The type at a place. Missing where the words do not make one.
-#[derive(Drop)]
+#[derive(Clone, Copy)]
 pub enum Located {
     At(Parts),
     Missing,
 }
 
 // One of a type's lifetimes: it, none past the last, or why the call is refused.
-#[derive(Drop)]
+#[derive(Clone, Copy)]
 pub enum LifetimeAt {
     Lifetime(MaybeStatic),
     Absent,

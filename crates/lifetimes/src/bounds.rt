@@ -9,7 +9,7 @@ use answers::{Refusal, Verdict};
 
 // One bound: the first lifetime lasts at least as long as the second. They are here by their numbers, a byte each: 256
 // bounds are then few enough bytes for an environment to be handed from call to call by value.
-#[derive(Drop)]
+#[derive(Clone, Copy)]
 pub struct Bound {
     pub longer: u8,
     pub shorter: u8,
@@ -53,7 +53,7 @@ impl Bound {
 }
 
 // Bounds in push order: the first `pushed` of the array. The environment of a method holds them, and that of the AST.
-#[derive(Drop)]
+#[derive(Clone, Copy)]
 pub struct Bounds {
     pub pushed: usize,
     pub list: [Bound; Bounds::MAX],

@@ -12,7 +12,7 @@ use answers::{Refusal, Verdict};
 
 // How many lifetimes are declared, how many there are in all, and the bounds. The declared ones come first; the others
 // are elided. The Rust has two lists at each lifetime instead of the one.
-#[derive(Drop)]
+#[derive(Clone, Copy)]
 pub struct LifetimeEnv {
     pub declared: usize,
     pub count: usize,
@@ -20,7 +20,7 @@ pub struct LifetimeEnv {
 }
 
 // An environment; beside a refusal, the one that the call says.
-#[derive(Drop)]
+#[derive(Clone, Copy)]
 pub struct Made {
     pub verdict: Verdict,
     pub env: LifetimeEnv,

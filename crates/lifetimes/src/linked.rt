@@ -13,7 +13,7 @@ use super::def_lifetime::DefLifetime;
 use answers::Refusal;
 
 // The lowered word that stands at the use for a lifetime of the definition; none for one that the definition has not.
-#[derive(Drop)]
+#[derive(Clone, Copy)]
 pub enum LinkedWord {
     Word(usize),
     Absent,
@@ -21,7 +21,7 @@ pub enum LinkedWord {
 }
 
 // The use's lowered word at a place, and the definition's lifetime there; none from the definition's count on.
-#[derive(Drop)]
+#[derive(Clone, Copy)]
 pub enum LinkedPair {
     Pair(usize, DefLifetime),
     Absent,
@@ -29,7 +29,7 @@ pub enum LinkedPair {
 }
 
 // The words at the use, lent, beside the number of lifetimes that the definition declares.
-#[derive(Drop)]
+#[derive(Clone, Copy)]
 pub struct LinkedLifetimes<'a> {
     words: &'a [usize],
     count: usize,

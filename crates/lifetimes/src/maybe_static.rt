@@ -6,14 +6,14 @@ use super::def_lifetime::DefLifetime;
 use super::lifetime::Lifetime;
 
 // The word of a lifetime, where it has one: the word of the lifetime numbered 2^64 - 1 (that of `Strs`) does not fit.
-#[derive(Drop)]
+#[derive(Clone, Copy)]
 pub enum LoweredWord {
     Word(usize),
     Absent,
 }
 
 // A method's lifetime, or 'static.
-#[derive(Drop)]
+#[derive(Clone, Copy)]
 pub enum MaybeStatic {
     Static,
     NonStatic(Lifetime),
@@ -42,7 +42,7 @@ impl MaybeStatic {
 }
 
 // A definition's lifetime, or 'static.
-#[derive(Drop)]
+#[derive(Clone, Copy)]
 pub enum MaybeStaticDef {
     Static,
     NonStatic(DefLifetime),

@@ -21,14 +21,14 @@ use answers::{Listed, Refusal, Verdict};
 
 // The reach of all lifetimes: the set of the lifetime x at place x. Places past the count hold 0, and all do beside a
 // refusal.
-#[derive(Drop)]
+#[derive(Clone, Copy)]
 pub struct ReachSets {
     pub verdict: Verdict,
     pub sets: [u64; LifetimeEnv::MAX_LIFETIMES],
 }
 
 // How many words all lists have together, and the sets as in `ReachSets`.
-#[derive(Drop)]
+#[derive(Clone, Copy)]
 pub struct Lists {
     pub listed: Listed,
     pub sets: [u64; LifetimeEnv::MAX_LIFETIMES],

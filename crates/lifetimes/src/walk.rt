@@ -11,14 +11,14 @@ use super::lifetime::Lifetime;
 use super::set;
 
 // What a step yields: the next unseen lifetime, or none.
-#[derive(Drop)]
+#[derive(Clone, Copy)]
 enum Next {
     Yield(Lifetime),
     Nothing,
 }
 
 // What a step yields, and where the traversal stands after it: the chain that it is in, and how many the stack holds.
-#[derive(Drop)]
+#[derive(Clone, Copy)]
 struct Stepped {
     next: Next,
     at: usize,
@@ -26,7 +26,7 @@ struct Stepped {
 }
 
 // A traversal that is complete: how many lifetimes it lists, and their set.
-#[derive(Drop)]
+#[derive(Clone, Copy)]
 pub(crate) struct Walked {
     pub(crate) count: usize,
     pub(crate) seen: u64,

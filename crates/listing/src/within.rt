@@ -34,7 +34,7 @@ const MAX_EDGES: usize = 4096;
 pub(crate) const EDGES_ROOM: usize = BorrowingParamVisitor::EDGE_WORDS * MAX_EDGES;
 
 // The answer, or that the scratch is too short.
-#[derive(Drop)]
+#[derive(Clone, Copy)]
 pub(crate) enum Within {
     Done(Listed),
     Short,

@@ -13,14 +13,14 @@ use lifetimes::{DefLifetime, LinkedPair, MaybeStaticDef, linked_pair};
 use records::End;
 
 // A lifetime of a field's definition, and the lifetime of the outer definition that fills it.
-#[derive(Drop)]
+#[derive(Clone, Copy)]
 pub struct FieldPair {
     pub def: DefLifetime,
     pub outer: DefLifetime,
 }
 
 // How many pairs there are, that there is none, or why the call is refused.
-#[derive(Drop)]
+#[derive(Clone, Copy)]
 pub enum FieldAnswer {
     Pairs(usize),
     Absent,
@@ -28,7 +28,7 @@ pub enum FieldAnswer {
 }
 
 // The answer, and the pairs in the first places, ascending by the field's lifetime.
-#[derive(Drop)]
+#[derive(Clone, Copy)]
 pub struct FieldLifetimes {
     pub answer: FieldAnswer,
     pub pairs: [FieldPair; End::MAX_LIST],
@@ -36,7 +36,7 @@ pub struct FieldLifetimes {
 
 // A struct-typed field: the row that it names, and where its path words start and how many they are. Missing where
 // there is no such field.
-#[derive(Drop)]
+#[derive(Clone, Copy)]
 enum Field {
     Struct {
         row: usize,

@@ -15,7 +15,7 @@ pub(crate) const MAX_ROWS: usize = 32;
 pub const MAX_PARAMS: usize = 16;
 
 // Where types end that fit; or that one does not.
-#[derive(Drop)]
+#[derive(Clone, Copy)]
 pub(crate) enum Fit {
     To(usize),
     Misfit,

@@ -12,7 +12,7 @@ use hir_types::{method_shape, params_shape, structs_shape};
 use lifetimes::{Bounds, LifetimeEnv};
 
 // A method that was judged, and the lifetimes of its output; beside a refusal none.
-#[derive(Drop)]
+#[derive(Clone, Copy)]
 pub(crate) struct Judged {
     pub(crate) verdict: Verdict,
     pub(crate) used: u64,

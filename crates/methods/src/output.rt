@@ -10,7 +10,7 @@ use hir_types::{Located, Own, OwnLifetime, type_at};
 use lifetimes::{MaybeStatic, set};
 
 // The set so far, or that a lifetime is past the count.
-#[derive(Drop)]
+#[derive(Clone, Copy)]
 pub(crate) enum Collected {
     Set(u64),
     Past,

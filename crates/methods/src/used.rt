@@ -8,7 +8,7 @@ use answers::{Refusal, Verdict};
 use lifetimes::LifetimeEnv;
 
 // A set of lifetimes, or why the call is refused.
-#[derive(Drop)]
+#[derive(Clone, Copy)]
 pub enum UsedLifetimes {
     Set(u64),
     Refused(Refusal),

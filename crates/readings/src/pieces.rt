@@ -4,7 +4,7 @@ ghost use Rattle.std.specs.Prelude.{◌≤◌, length};
 use super::scan;
 
 // A text that was put together: its size, and the place behind its pieces.
-#[derive(Drop)]
+#[derive(Clone, Copy)]
 pub(crate) struct Laid {
     pub(crate) size: usize,
     pub(crate) at: usize,

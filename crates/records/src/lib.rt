@@ -13,7 +13,7 @@ ghost use Rattle.records.specs.Reading.{read_lifetimes, end_of};
 use answers::{Listed, Refusal};
 
 // Where an item of a record ends: the place behind its last word. Missing where the words do not make one.
-#[derive(Drop)]
+#[derive(Clone, Copy)]
 pub enum End {
     At(usize),
     Missing,

@@ -13,7 +13,7 @@ use records::End;
 use text::{Found, read_number};
 
 // The place behind a line, and how many words are read so far; or none.
-#[derive(Drop)]
+#[derive(Clone, Copy)]
 enum Read {
     Words { at: usize, count: usize },
     Nothing,
@@ -65,7 +65,7 @@ fn line(bytes: &[u8], from: usize, words: &mut [usize], to: usize) -> Read
 }
 
 // What ten lines are: not readable; with a record above 1,024 words; or good.
-#[derive(Drop)]
+#[derive(Clone, Copy)]
 pub(crate) enum Judged {
     Unreadable,
     TooLong,

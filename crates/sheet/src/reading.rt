@@ -15,7 +15,7 @@ use records::End;
 
 // Whether a text is refused, and where the words of each of its ten records end, one record after another. Beside a
 // refusal all ends are 0.
-#[derive(Drop)]
+#[derive(Clone, Copy)]
 pub struct Text {
     pub verdict: Verdict,
     pub ends: [usize; Text::RECORDS],

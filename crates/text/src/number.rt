@@ -4,7 +4,7 @@ ghost use Rattle.answers.specs.Lent.{held};
 ghost use Rattle.text.specs.Number.{is_digit, found_at};
 
 // A number that stands at a place, and the place behind its digits; or none.
-#[derive(Drop)]
+#[derive(Clone, Copy)]
 pub enum Found {
     Number { value: usize, at: usize },
     Nothing,
