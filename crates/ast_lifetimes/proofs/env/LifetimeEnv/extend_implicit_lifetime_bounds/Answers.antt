@@ -1,0 +1,21 @@
+-- `LifetimeEnv::extend_implicit_lifetime_bounds` meets its contract: each way out is a law of proofs/ExtendLaws.antt.
+use mathlib.Core.Path.{◌∙◌}
+use borrow.Author.Rules.{rules}
+use Rattle.ast_lifetimes.proofs.ExtendLaws.{valid, extend_malformed, extend_shaped, extend_invalid, extend_given}
+use Rattle.ast_lifetimes.proofs.env.LifetimeEnv.extend_implicit_lifetime_bounds.Goals as goal
+
+pub returns-in_default : goal.returns-in_default
+returns-in_default c = search (extend_malformed, rules)
+
+pub returns-in_default-valid : goal.returns-in_default-valid
+returns-in_default-valid c = search (extend_invalid, rules)
+
+pub extended-requires : goal.extended-requires
+extended-requires c = search (valid, extend_shaped, rules)
+
+pub returns : goal.returns
+returns c = let it = let s = s.argsin
+    c.extended.ensures ∙ extend_given s.self s.types.now c.types_shape-shape.ensures
+    c.in-Accepted.is
+    (valid s.self c.check-valid.ensures c.in-Accepted-valid.is) in
+    record { answer = it }

@@ -1,0 +1,8 @@
+-- `LifetimeEnv::none` meets its contract: every place of the array holds what stands past the names.
+use Rattle.ast_lifetimes.specs.Env.{named_env}
+use Rattle.ast_lifetimes.proofs.env.LifetimeEnv.none.Goals as goal
+
+pub returns : goal.returns
+unfolding named_env
+returns c = let it = rw c.none.ensures in
+    record { answer = it }

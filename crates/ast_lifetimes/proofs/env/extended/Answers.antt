@@ -1,0 +1,51 @@
+-- `extended` meets its contract: its answers are laws of proofs/ExtendLaws.antt.
+use mathlib.Core.Path.{◌≡◌}
+use lib.ListN.{length, length-map}
+use borrow.Author.Rules.{rules}
+use Rattle.ast_lifetimes.specs.Types.{type_names_of}
+use Rattle.ast_lifetimes.proofs.ReadingLaws.{types_encoded}
+use Rattle.ast_lifetimes.proofs.ExtendLaws.{valid_named, valid_pushed, split_below, extended_few, extended_small}
+use Rattle.ast_lifetimes.proofs.ExtendLaws.{extended_refused, extended_given}
+use Rattle.ast_lifetimes.proofs.env.extended.Goals as goal
+
+pub split-requires : goal.split-requires
+split-requires c = search (valid_pushed, rules)
+
+pub close-requires : goal.close-requires
+close-requires c = search (valid_named, valid_pushed, split_below, rules)
+
+pub push_types-implied-requires : goal.push_types-implied-requires
+push_types-implied-requires c =
+    let full : length c.args.env.names ≡ 32 = simp length-map at c.well_formed.0.1.1.0.1.0.1 in
+    let it = let e = c.args.env in
+    let splits = c.split.ensures in (
+      (type_names_of c.args.types.now, types_encoded c.args.types.now c.requires.1),
+      (
+        (valid_named e c.requires.0, full),
+        ((valid_pushed e c.requires.0, splits.size_longs, splits.size_shorts), c.close.ensures),
+      ),
+    ) in
+    record { ts_value = it.0; named_le_most_names = it.1.0; pushed_le_most_bounds = it.1.1.0; reach_len = it.1.1.1 }
+
+pub returns-in_default : goal.returns-in_default
+returns-in_default c = extended_refused c.args.env c.args.types.now c.split.ensures
+    (c.push_types-implied.ensures _ (types_encoded _ c.requires.1)) c.in_default.is
+
+pub assembled-requires : goal.assembled-requires
+assembled-requires c =
+    let full : length c.args.env.names ≡ 32 = simp length-map at c.well_formed.0.1.1.0.1.0.1 in
+    let it = let all =
+    extended_few c.args.env c.args.types.now c.split.ensures
+    (c.push_types-implied.ensures _ (types_encoded _ c.requires.1))
+    c.in-Accepted.is in
+    let small =
+    extended_small c.args.env c.args.types.now c.split.ensures
+    (c.push_types-implied.ensures _ (types_encoded _ c.requires.1))
+    c.in-Accepted.is c.requires.0 in
+    ((valid_named c.args.env c.requires.0, all.0), ((full, all.1, all.2), small)) in
+    record { named_le_most_names = it.0; declared_len = it.1.0; shorts_value = it.1.1 }
+
+pub returns : goal.returns
+returns c = extended_given c.args.env c.args.types.now c.split.ensures
+    (c.push_types-implied.ensures _ (types_encoded _ c.requires.1)) c.in-Accepted.is
+    c.assembled.ensures

@@ -1,0 +1,19 @@
+-- `each_itself` meets its contract: each turn makes one set more.
+use Prim.Native.Nat.{◌-◌}
+use mathlib.Core.Path.{◌∙◌}
+use native.Mathlib.Omega.{arith}
+use borrow.Author.Tests.{lt-ltb}
+use Rattle.ast_lifetimes.proofs.OutlivedLaws.{starting_more, reaches_none}
+use Rattle.ast_lifetimes.proofs.implied.each_itself.Goals as goal
+
+pub loop-x-preserved : goal.loop-x-preserved
+loop-x-preserved c = let l = c.loop-x in
+    let e = c.new.ensures in
+    (omega arith, starting_more l.invariant.1 (omega arith) _ (c.insert.ensures ∙ rw (e, lt-ltb l.x 64 (omega arith))))
+
+pub returns : goal.returns
+returns c = (
+  c.loop-x.invariant.1.size,
+  reaches_none c.args.named c.loop-x.reach
+      (λ x h. c.loop-x.invariant.1.done x (omega arith)),
+)

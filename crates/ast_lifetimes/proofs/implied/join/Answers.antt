@@ -1,0 +1,30 @@
+-- `join` meets its contract: each turn joins one set more.
+use Prim.Native.Nat.{◌-◌}
+use mathlib.Core.Path.{sym, ap, ◌∙◌}
+use native.Mathlib.Omega.{arith}
+use borrow.Author.Rules.{rules}
+use lib.ListN.{get_or}
+use Rattle.lifetimes.specs.declared.lifetime.Lifetime.{Lifetime}
+use Rattle.lifetimes.specs.Sets.{member}
+use Rattle.ast_lifetimes.proofs.OutlivedLaws.{joining_start, joining_stays, joining_joins, joining_end}
+use Rattle.ast_lifetimes.proofs.implied.join.Goals as goal
+
+pub loop-x-init : goal.loop-x-init
+loop-x-init c = search (joining_start, rules)
+
+pub loop-x-preserved : goal.loop-x-preserved
+loop-x-preserved c = let l = c.loop-x in
+    let told =
+    sym
+    (c.contains.ensures ∙ ap (λ (k : Lifetime). member (get_or l.reach l.x 0) k.0)
+    c.new.ensures) in (
+      omega arith,
+      l.invariant.1,
+      ⊎_elim
+          (λ w. rw (w.2, w.1.ensures) (joining_joins l.invariant.2 (omega arith) (told ∙ w.0.taken) _ l.invariant.1))
+          (λ w. rw w.1 (joining_stays l.invariant.2 (told ∙ w.0.left)))
+          c.if-contains.branch,
+    )
+
+pub returns : goal.returns
+returns c = search (joining_end, rules)

@@ -1,0 +1,14 @@
+-- `borrow_within` meets its contract: each way out is one law of proofs/BorrowLaws.antt.
+use Rattle.borrowing_param.proofs.BorrowLaws.{sheet_unborrowed, sheet_borrowed}
+use borrow.Author.Rules.{rules}
+use Rattle.borrowing_param.proofs.borrows.borrow_within.Goals as goal
+
+pub returns-in-Refused : goal.returns-in-Refused
+returns-in-Refused c = search (sheet_unborrowed, rules)
+
+pub returns : goal.returns
+returns c = let b = c.borrow_method.ensures in
+    sheet_borrowed _ _ _ _ c.judge_sheet-method.ensures c.in_default.is
+    c.record_words.ensures c.record_words-2.ensures
+    c.record_words-3.ensures c.record_words-4.ensures
+    b.counts b.used_filled b.answers_filled b.edges_filled

@@ -1,0 +1,48 @@
+-- `count_all` meets its contract. The loop's invariant is `CountingAll` of proofs/EdgesLoops.antt; the measure is how many
+-- lifetimes are to be looked at.
+use Prim.Native.Nat.{◌-◌}
+use mathlib.Core.Path.{◌≡◌, sym, ap, ◌∙◌}
+use native.Mathlib.Omega.{arith}
+use Rattle.lifetimes.specs.declared.lifetime.Lifetime.{Lifetime}
+use Rattle.lifetimes.specs.Sets.{member}
+use Rattle.borrowing_param.proofs.EdgesLaws.{path_few}
+use Rattle.borrowing_param.proofs.EdgesLoops.{below_64, counting_all, counted_few, counting_all_more}
+use Rattle.borrowing_param.proofs.EdgesLoops.{counting_all_not, counting_all_end}
+use borrow.Author.Rules.{rules}
+use Rattle.borrowing_param.proofs.edges.count_all.Goals as goal
+
+pub loop-l-init : goal.loop-l-init
+loop-l-init c = search (counting_all, rules)
+
+pub overflow_add-n : goal.overflow_add-n
+overflow_add-n c = let i = c.loop-l.invariant in
+    omega (
+      arith,
+      i.1.few,
+      i.0.0,
+      c.loop-l-test.true,
+      counted_few i.1 (path_few c.args.words.now c.args.parts c.requires.0 c.requires.1)
+          c.count_for-n.ensures,
+    )
+
+pub loop-l-preserved : goal.loop-l-preserved
+loop-l-preserved c = let l = c.loop-l in
+    let few = path_few c.args.words.now c.args.parts c.requires.0 c.requires.1 in
+    let test : c.contains.result ≡ member c.args.used l.l =
+    c.contains.ensures ∙ ap (λ (x : Lifetime). member c.args.used x.0)
+    c.new.ensures in
+    ⊎_elim
+    (λ t. rw t.3 (
+      l.invariant.0,
+      counting_all_more l.invariant.1 few t.2.ensures
+          (below_64 l.invariant.0 c.loop-l-test.true) (sym t.0.taken ∙ test),
+    ))
+    (λ t. rw t.1 (
+      l.invariant.0,
+      counting_all_not l.invariant.1 (below_64 l.invariant.0 c.loop-l-test.true)
+          (sym t.0.left ∙ test),
+    ))
+    c.if-contains.branch
+
+pub returns : goal.returns
+returns c = search (counting_all_end, rules)

@@ -1,0 +1,36 @@
+-- `count_words` meets its contract. The loop's invariant is `Counting` of proofs/EdgesLaws.antt; the measure is how many
+-- words are to be read.
+use Prim.Native.Nat.{◌-◌}
+use mathlib.Core.Path.{sym, ◌∙◌}
+use Rattle.borrowing_param.proofs.EdgesLaws.{part_many, part_word, counting_start, counting_one}
+use Rattle.borrowing_param.proofs.EdgesLaws.{counting_none, counting_end}
+use borrow.Author.Rules.{rules}
+use Rattle.borrowing_param.proofs.edges.count_words.Goals as goal
+
+pub loop-i-init : goal.loop-i-init
+loop-i-init c = search (counting_start, rules)
+
+pub linked_lifetime-requires : goal.linked_lifetime-requires
+linked_lifetime-requires c = search (part_many, rules)
+
+pub loop-i-preserved : goal.loop-i-preserved
+loop-i-preserved c = let l = c.loop-i in
+    let test = c.draws.ensures in
+    let word =
+    part_word c.args.words.now
+    c.path_words-path.result.now
+    c.args.from
+    c.args.count
+    c.path_words-path.ensures c.loop-i-test.true
+    c.linked_lifetime.ensures in
+    ⊎_elim
+    (λ h. rw h.1
+    (counting_one l.invariant c.requires
+    c.loop-i-test.true word (sym h.0.taken ∙ test)))
+    (λ h. rw h.1
+    (counting_none l.invariant c.requires
+    c.loop-i-test.true word (sym h.0.left ∙ test)))
+    c.if-draws.branch
+
+pub returns : goal.returns
+returns c = search (counting_end, rules)

@@ -1,0 +1,13 @@
+-- `first_drawn` meets its contract: each way out is a law of proofs/EdgesLaws.antt.
+use Rattle.borrowing_param.proofs.EdgesLaws.{drawn_path, drawn_own, drawn_absent}
+use borrow.Author.Rules.{rules}
+use Rattle.borrowing_param.proofs.edges.first_drawn.Goals as goal
+
+pub returns-in-At : goal.returns-in-At
+returns-in-At c = search (drawn_path, rules)
+
+pub returns-in-Lifetime : goal.returns-in-Lifetime
+returns-in-Lifetime c = search (drawn_own, rules)
+
+pub returns-in-Absent : goal.returns-in-Absent
+returns-in-Absent c = search (drawn_absent, rules)

@@ -1,0 +1,65 @@
+-- `count_params` meets its contract. The loop's invariant is `CountingParams` of proofs/ListedLaws.antt; the measure is
+-- how many words are to be read.
+use Prim.Native.Nat.{◌-◌}
+use native.Mathlib.Omega.{arith}
+use Rattle.hir_types.proofs.LocatedLaws.{type_coded}
+use Rattle.hir_types.proofs.FoundLaws.{code_told}
+use Rattle.borrowing_param.proofs.ListedLaws.{params_start, params_end, params_more, one_more}
+use Rattle.borrowing_param.proofs.ListedLaws.{brought_few, passing_missing, passing_next}
+use borrow.Author.Rules.{rules}
+use Rattle.borrowing_param.proofs.listed.count_params.Goals as goal
+
+pub loop-at-init : goal.loop-at-init
+loop-at-init c = search (params_start, rules)
+
+pub returns-in_default : goal.returns-in_default
+returns-in_default c = search (passing_missing, rules)
+
+pub count_all-brought-requires : goal.count_all-brought-requires
+count_all-brought-requires c = let o = passing_next c.loop-at.invariant.passing
+    c.loop-at-test.true c.type_at-found.ensures
+    c.in-At.is in
+    (o.inside, o.few, c.requires.1)
+
+pub number_of-requires : goal.number_of-requires
+number_of-requires c = search (code_told, type_coded, rules)
+
+pub offset_bounds-numbers-param : goal.offset_bounds-numbers-param
+offset_bounds-numbers-param c = search (one_more, passing_next, rules)
+
+pub bounds-numbers-param : goal.bounds-numbers-param
+bounds-numbers-param c = let o = passing_next c.loop-at.invariant.passing
+    c.loop-at-test.true
+    c.type_at-found.ensures c.in-At.is in
+    one_more c.loop-at.invariant o
+
+pub overflow_add-total : goal.overflow_add-total
+overflow_add-total c = let o = passing_next c.loop-at.invariant.passing
+    c.loop-at-test.true
+    c.type_at-found.ensures c.in-At.is in
+    omega (
+      arith,
+      one_more c.loop-at.invariant o,
+      c.loop-at.invariant.small,
+      brought_few c.loop-at.invariant o
+          c.count_all-brought.ensures,
+    )
+
+pub overflow_add-param : goal.overflow_add-param
+overflow_add-param c = search (one_more, passing_next, rules)
+
+pub loop-at-smaller : goal.loop-at-smaller
+loop-at-smaller c = let o = passing_next c.loop-at.invariant.passing
+    c.loop-at-test.true
+    c.type_at-found.ensures c.in-At.is in
+    omega (arith, o.past, o.within)
+
+pub loop-at-preserved : goal.loop-at-preserved
+loop-at-preserved c = let o = passing_next c.loop-at.invariant.passing
+    c.loop-at-test.true
+    c.type_at-found.ensures c.in-At.is in
+    params_more c.loop-at.invariant o c.count_all-brought.ensures
+    c.number_of.ensures
+
+pub returns : goal.returns
+returns c = search (params_end, rules)

@@ -1,0 +1,13 @@
+-- `lower_self_ref` meets its contract: each way out is one law of proofs/LowererLaws.antt.
+use Rattle.elision.proofs.LowererLaws.{self_refused, self_given}
+use borrow.Author.Rules.{rules}
+use Rattle.elision.proofs.lowerer.Lowerer.lower_self_ref.Goals as goal
+
+pub returns-in-Refused : goal.returns-in-Refused
+returns-in-Refused c = let it = rw c.refused.ensures
+    (self_refused _ _ c.no_self_ref-fresh.ensures
+    c.lower_word-done.ensures c.in-Refused.is) in
+    record { answer = it }
+
+pub returns : goal.returns
+returns c = search (self_given, rules)

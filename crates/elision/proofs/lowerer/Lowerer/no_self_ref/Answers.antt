@@ -1,0 +1,8 @@
+-- `no_self_ref` meets its contract.
+use Rattle.elision.specs.Machine.{unused}
+use Rattle.elision.proofs.lowerer.Lowerer.no_self_ref.Goals as goal
+
+pub returns : goal.returns
+unfolding unused
+returns c = let it = rw c.no_lifetimes.ensures in
+    record { answer = it }

@@ -1,0 +1,59 @@
+-- `measure` meets its contract: each way out is one law of proofs/EntryLaws.antt.
+use native.Mathlib.Omega.{arith}
+use mathlib.Core.Path.{◌≡◌, sym, ◌∙◌}
+use lib.ListN.{length, length-map}
+use Rattle.answers.proofs.RefusalLaws.{refused_first, accepted_none}
+use Rattle.ast_lifetimes.proofs.ThanLaws.{few_names}
+use Rattle.elision.proofs.EntryLaws.{measure_shape, Shaped, shape_told, measure_shaped, measure_env, Valid}
+use Rattle.elision.proofs.EntryLaws.{measure_refused, measure_all}
+use borrow.Author.Rules.{rules}
+use Rattle.elision.proofs.method.measure.Goals as goal
+
+pub returns-in-Refused : goal.returns-in-Refused
+returns-in-Refused c = search (measure_shape, rules)
+
+pub returns-in-Refused-valid : goal.returns-in-Refused-valid
+returns-in-Refused-valid c =
+    let shaped : Shaped c.args.env c.args.receiver.now c.args.steps.now c.args.returns.now = shape_told _ _ _ _ c.shape_of-shape.ensures c.in_default.is in
+    let it = measure_env shaped
+    (refused_first _ _ _ (sym c.check-valid.ensures ∙ c.in-Refused-valid.is))
+    c.refused_lowering-in-Refused-valid.ensures in
+    record { answer = it }
+
+pub slice_bounds-judge-end : goal.slice_bounds-judge-end
+slice_bounds-judge-end c =
+    let full : length c.args.env.names ≡ 32 = simp length-map at c.well_formed.0.1.1.0.1.0.1 in
+    let shaped : Shaped c.args.env c.args.receiver.now c.args.steps.now c.args.returns.now = shape_told _ _ _ _ c.shape_of-shape.ensures c.in_default.is in
+    let valid : Valid c.args.env c.args.receiver.now c.args.steps.now c.args.returns.now = record {
+      shaped = shaped;
+      none = accepted_none _ _ (sym c.check-valid.ensures
+          ∙ c.in_default-valid.is);
+    } in
+    omega (arith, full, few_names c.args.env valid.none)
+
+pub judge-totals-requires : goal.judge-totals-requires
+judge-totals-requires c =
+    let shaped : Shaped c.args.env c.args.receiver.now c.args.steps.now c.args.returns.now = shape_told _ _ _ _ c.shape_of-shape.ensures c.in_default.is in
+    measure_shaped shaped
+
+pub returns-in-Refused-verdict : goal.returns-in-Refused-verdict
+returns-in-Refused-verdict c =
+    let shaped : Shaped c.args.env c.args.receiver.now c.args.steps.now c.args.returns.now = shape_told _ _ _ _ c.shape_of-shape.ensures c.in_default.is in
+    let valid : Valid c.args.env c.args.receiver.now c.args.steps.now c.args.returns.now = record {
+      shaped = shaped;
+      none = accepted_none _ _ (sym c.check-valid.ensures
+          ∙ c.in_default-valid.is);
+    } in
+    let it = measure_refused valid c.judge-totals.ensures c.in-Refused-verdict.is c.refused_lowering-in-Refused-verdict.ensures in
+    record { answer = it }
+
+pub returns : goal.returns
+returns c =
+    let shaped : Shaped c.args.env c.args.receiver.now c.args.steps.now c.args.returns.now = shape_told _ _ _ _ c.shape_of-shape.ensures c.in_default.is in
+    let valid : Valid c.args.env c.args.receiver.now c.args.steps.now c.args.returns.now = record {
+      shaped = shaped;
+      none = accepted_none _ _ (sym c.check-valid.ensures
+          ∙ c.in_default-valid.is);
+    } in
+    let it = measure_all valid c.judge-totals.ensures c.in_default-verdict.is c.from_bounds.ensures in
+    record { answer = it }

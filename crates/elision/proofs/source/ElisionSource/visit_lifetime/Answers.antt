@@ -1,0 +1,13 @@
+-- `visit_lifetime` meets its contract: each arm knows which source there was.
+use mathlib.Core.Path.{sym, ap}
+use Rattle.elision.specs.declared.source.ElisionSource.{ElisionSource}
+use Rattle.elision.specs.Machine.{visit_lifetime}
+use Rattle.elision.proofs.source.ElisionSource.visit_lifetime.Goals as goal
+
+pub returns-in-NoBorrows : goal.returns-in-NoBorrows
+returns-in-NoBorrows c = let it = sym (ap (λ (s : ElisionSource). visit_lifetime s c.args.lifetime) c.in-NoBorrows.is) in
+    record { answer = it }
+
+pub returns-in-SelfParam : goal.returns-in-SelfParam
+returns-in-SelfParam c = let it = sym (ap (λ (s : ElisionSource). visit_lifetime s c.args.lifetime) c.in-SelfParam.is) in
+    record { answer = it }

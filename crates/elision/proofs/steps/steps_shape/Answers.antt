@@ -1,0 +1,32 @@
+-- `steps_shape` meets its contract. The loop's invariant is `Shaping` of the crate `records`; the measure is how many
+-- words are to be read.
+use Prim.Native.Nat.{◌-◌}
+use native.Mathlib.Omega.{arith}
+use borrow.Author.Rules.{rules}
+use Rattle.records.proofs.EndLaws.{ends_told, ends_past}
+use Rattle.records.proofs.ShapeLoops.{shaping_long, shaping_start, shaping_missing, shaping_more, shaping_end}
+use Rattle.elision.specs.Steps.{read_step}
+use Rattle.elision.proofs.steps.steps_shape.Goals as goal
+
+pub returns-then-steps-gt-MAX_WORDS : goal.returns-then-steps-gt-MAX_WORDS
+returns-then-steps-gt-MAX_WORDS c = search (shaping_long, rules)
+
+pub loop-at-init : goal.loop-at-init
+loop-at-init c = (0, shaping_start (λ n. read_step) _ c.if-steps-gt-MAX_WORDS.false)
+
+pub returns-in_default : goal.returns-in_default
+returns-in_default c = search (ends_told, shaping_missing, rules)
+
+pub loop-at-smaller : goal.loop-at-smaller
+loop-at-smaller c = omega (arith, ends_past (ends_told c.step_end-end.ensures c.in-At.is))
+
+pub loop-at-preserved : goal.loop-at-preserved
+loop-at-preserved c = (
+  _,
+  shaping_more c.loop-at.invariant.1
+      c.loop-at-test.true
+      (ends_told c.step_end-end.ensures c.in-At.is),
+)
+
+pub returns : goal.returns
+returns c = search (shaping_end, rules)

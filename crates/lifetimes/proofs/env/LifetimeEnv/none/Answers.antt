@@ -1,0 +1,8 @@
+-- `LifetimeEnv::none` meets its contract.
+use Rattle.lifetimes.specs.Env.{env_of}
+use Rattle.lifetimes.proofs.env.LifetimeEnv.none.Goals as goal
+
+pub returns : goal.returns
+unfolding env_of
+returns c = let it = rw (c.from_bounds.ensures, c.none.ensures) in
+    record { answer = it }

@@ -1,0 +1,56 @@
+-- `reach_sets` meets its contract: refused as the environment is, or all sets as `measure` gives them.
+use mathlib.Core.Path.{◌≡◌, refl, sym, ◌∙◌}
+use native.Mathlib.Omega.{arith}
+use lib.ListN.{length, length-map}
+use Rattle.answers.specs.Refusals.{NoneDue}
+use Rattle.lifetimes.specs.Env.{env_checks}
+use Rattle.lifetimes.specs.Walk.{LastFirst}
+use Rattle.lifetimes.specs.Index.{graph_of}
+use Rattle.answers.proofs.RefusalLaws.{refused_first, accepted_none}
+use Rattle.lifetimes.proofs.EnvLaws.{Valid, valid}
+use Rattle.lifetimes.proofs.IndexLaws.{bounds_length, bounds_fine, bounds_within, zeros}
+use Rattle.lifetimes.proofs.ReachAnswers.{sets_refused, sets_given}
+use Rattle.lifetimes.proofs.env.LifetimeEnv.reach_sets.Goals as goal
+
+pub returns-in_default : goal.returns-in_default
+returns-in_default c = let it = let told = c.in_default.is in
+    rw told (sets_refused c.args.longer c.args.self
+    (refused_first (tt {0}) _ (env_checks c.args.self) (sym c.check-verdict.ensures ∙ told))) in
+    record { answer = it }
+
+pub link-requires : goal.link-requires
+link-requires c =
+    let none : NoneDue (env_checks c.args.self) = accepted_none (tt {0}) (env_checks c.args.self)
+    (sym c.check-verdict.ensures ∙ c.in-Accepted.is) in
+    let holds : Valid c.args.self = valid c.args.self none in
+    let full : length c.args.self.bounds.list ≡ 256 = simp length-map at c.well_formed.0.1.1.1.1.0.1.1.1.0.1.0.1 in
+    let it = let v = holds in
+    ((bounds_fine v full, bounds_length v full), (zeros 64, (refl, refl, refl))) in
+    record { fine = it.0; zeros = it.1.0; far_len = it.1.1 }
+
+pub measure-requires : goal.measure-requires
+measure-requires c =
+    let none : NoneDue (env_checks c.args.self) = accepted_none (tt {0}) (env_checks c.args.self)
+    (sym c.check-verdict.ensures ∙ c.in-Accepted.is) in
+    let holds : Valid c.args.self = valid c.args.self none in
+    let it = let s = c.args in
+    let v = holds in (
+      (
+        (graph_of s.longer s.self, c.link.ensures, bounds_within v LastFirst s.longer _ (omega arith)),
+        v.declares,
+        v.counted,
+      ),
+      refl,
+    ) in
+    record { measurable = it.0; reach_len = it.1 }
+
+pub returns : goal.returns
+returns c =
+    let none : NoneDue (env_checks c.args.self) = accepted_none (tt {0}) (env_checks c.args.self)
+    (sym c.check-verdict.ensures ∙ c.in-Accepted.is) in
+    let holds : Valid c.args.self = valid c.args.self none in
+    let it = let s = c.args in
+    sets_given s.longer s.self none
+    (c.measure.ensures (graph_of s.longer s.self) c.link.ensures
+    (bounds_within holds LastFirst s.longer _ (omega arith))) in
+    record { answer = it }

@@ -1,0 +1,25 @@
+-- `word_of` meets its contract: the code's tests are the definition's.
+use native.Mathlib.Omega.{arith}
+use borrow.Author.Tests.{eq-eqb, ne_eqb, lt-ltb, le-ltb}
+use lib.ListN.{length}
+use Rattle.answers.specs.Refusals.{unless}
+use Rattle.lifetimes.specs.Linked.{linked_word}
+use Rattle.lifetimes.proofs.linked.word_of.Goals as goal
+
+pub returns-then-words-count : goal.returns-then-words-count
+unfolding linked_word unless
+returns-then-words-count c = rw (ne_eqb (length c.args.words.now) c.args.count c.if-words-count.true)
+
+pub returns-then-at-count : goal.returns-then-at-count
+unfolding linked_word unless
+returns-then-at-count c = let a = c.args in
+    let same = c.if-words-count.false in
+    let at = c.index-at.ensures in
+    rw (eq-eqb (length a.words.now) a.count same, at, lt-ltb a.def.0 (length a.words.now) (omega arith))
+
+pub returns : goal.returns
+unfolding linked_word unless
+returns c = let a = c.args in
+    let same = c.if-words-count.false in
+    let at = c.index-at.ensures in
+    rw (eq-eqb (length a.words.now) a.count same, le-ltb a.def.0 (length a.words.now) (omega arith))

@@ -1,0 +1,14 @@
+-- `lay` meets its contract: each turn walks from one lifetime more and lays its list behind the others.
+use Prim.Native.Nat.{◌-◌, ◌≤◌}
+use mathlib.Core.Path.{◌≡◌}
+use lib.ListN.{length}
+use Rattle.lifetimes.specs.Index.{Graph, Indexed, Within}
+use Rattle.lifetimes.proofs.ReachLoops.{Laying}
+use Rattle.lifetimes.proofs.reach.lay.Given as goal
+
+abbrev pub invariant-loop-x : goal.invariant-loop-x
+invariant-loop-x l = (length l.items ≡ 64) × (length l.words ≡ length l.initial.words) × (length l.ends ≡ length l.initial.ends) × (length l.reach ≡ 64) × (l.x ≤ l.count)
+    × ((g : Graph) → Indexed g l.far l.before l.last → Within g l.declared → Laying g l.count l.initial.words l.initial.ends l.initial.reach l.words l.ends l.reach l.x l.at)
+
+abbrev pub decreases-loop-x : goal.decreases-loop-x
+decreases-loop-x l = l.count - l.x

@@ -1,0 +1,17 @@
+-- `set::contains` meets its contract: a lifetime of 64 or more is in no set of 64 bits.
+use mathlib.Core.Path.{sym, ap, ◌∙◌}
+use Prim.Native.Nat.{ℕ}
+use native.Mathlib.Omega.{arith}
+use Rattle.lifetimes.specs.Sets.{member}
+use Rattle.lifetimes.proofs.SetLaws.{member_past}
+use Rattle.lifetimes.proofs.set.contains.Goals as goal
+
+pub returns-then-number-lt-CAPACITY : goal.returns-then-number-lt-CAPACITY
+returns-then-number-lt-CAPACITY c = let it = c.holds.ensures ∙ ap (λ (n : ℕ). member c.args.set n) c.index-number.ensures in
+    record { answer = it }
+
+pub returns : goal.returns
+returns c = let it = sym
+    (member_past 64 c.args.set c.args.lifetime.0 (omega arith)
+    (omega (arith, c.index-number.ensures))) in
+    record { answer = it }

@@ -1,0 +1,32 @@
+-- `set::members` meets its contract. The loop's invariant is `Listing` of proofs/SetLoops.antt; the measure is how
+-- many lifetimes are to be looked at.
+use Prim.Native.Nat.{◌-◌}
+use mathlib.Core.Path.{sym, ◌∙◌}
+use borrow.Author.Rules.{rules}
+use Rattle.lifetimes.proofs.SetLoops.{too_short, listing_start, listing_room, listing_member}
+use Rattle.lifetimes.proofs.SetLoops.{listing_other, listing_end}
+use Rattle.lifetimes.proofs.set.members.Goals as goal
+
+pub returns-then-out-n : goal.returns-then-out-n
+returns-then-out-n c = let it = too_short c.args.set c.args.out.now c.count-n.ensures c.if-out-n.true in
+    record { answer = it.0; stored = it.1 }
+
+pub loop-x-init : goal.loop-x-init
+loop-x-init c = search (listing_start, rules)
+
+pub bounds-out-at : goal.bounds-out-at
+bounds-out-at c = listing_room c.loop-x.invariant c.loop-x-test.true
+    (sym c.holds.ensures ∙ c.if-holds.true)
+
+pub loop-x-preserved : goal.loop-x-preserved
+loop-x-preserved c = let l = c.loop-x in
+    let below = c.loop-x-test.true in
+    let told = sym c.holds.ensures in
+    ⊎_elim
+    (λ w. rw (w.1, w.2) (listing_member l.invariant below (told ∙ w.0.taken)))
+    (λ w. rw (w.1, w.2) (listing_other l.invariant below (told ∙ w.0.left)))
+    c.if-holds.branch
+
+pub returns : goal.returns
+returns c = let it = listing_end c.loop-x.invariant c.count-n.ensures c.loop-x-test.false in
+    record { answer = it.0; stored = it.1 }

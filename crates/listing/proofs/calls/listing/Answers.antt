@@ -1,0 +1,9 @@
+-- `listing` meets its contract: where the slice takes any listing, all of it fits.
+use Rattle.listing.proofs.CallsLaws.{listed_so, wide_enough}
+use Rattle.listing.proofs.calls.listing.Goals as goal
+
+pub returns : goal.returns
+returns c = let it = let l = c.list_sheet in
+    listed_so c.args.sheet.now c.args.out.now l.result l.new.1.0 l.ensures
+    (wide_enough c.args.sheet.now c.args.out.now c.if-out-lt-ROOM.false) in
+    record { answer = it.0; stored = it.1 }

@@ -1,0 +1,24 @@
+-- `respond` meets its contract: a listing or a refusal, and both fit.
+use mathlib.Core.Path.{◌≡◌}
+use lib.ListN.{length}
+use Rattle.listing.proofs.CallsLaws.{respond_listed, respond_refused}
+use Rattle.listing.specs.Listing.{room_bytes}
+use borrow.Author.Rules.{rules}
+use Rattle.listing.proofs.calls.respond.Goals as goal
+
+pub returns-in-Count : goal.returns-in-Count
+returns-in-Count c =
+    let full : length c.args.out.now ≡ room_bytes = search rules in
+    let it = let l = c.list_sheet-answer in
+    respond_listed c.args.sheet.now c.args.out.now l.result l.new.1.0
+    full l.ensures c.in-Count.is in
+    record { answer = it.0; stored = it.1 }
+
+pub returns-in-Refused : goal.returns-in-Refused
+returns-in-Refused c =
+    let full : length c.args.out.now ≡ room_bytes = search rules in
+    let it = let l = c.list_sheet-answer in
+    respond_refused c.in-Refused.refusal c.number.ensures
+    c.args.sheet.now c.args.out.now l.result l.new.1.0 full
+    l.ensures c.in-Refused.is c.put_refusal.ensures in
+    record { answer = it.0; stored = it.1 }

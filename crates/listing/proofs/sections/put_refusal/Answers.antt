@@ -1,0 +1,9 @@
+-- `put_refusal` meets its contract: the heading, then the line.
+use Rattle.listing.specs.Listing.{refusal_heading}
+use Rattle.text.proofs.PrintLaws.{prints, prints_more}
+use borrow.Author.Rules.{rules}
+use Rattle.listing.proofs.sections.put_refusal.Goals as goal
+
+pub returns : goal.returns
+returns c = prints_more {s = refusal_heading} (search rules) (prints c.put_text-next.ensures)
+    (prints c.put_line.ensures)

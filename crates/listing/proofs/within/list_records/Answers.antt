@@ -1,0 +1,178 @@
+-- `list_records` meets its contract: each way out is one law of proofs/WithinRecordsLaws.antt.
+use lib.ListN.{length, replicate}
+use Rattle.sheet.specs.Text.{Records, ten_records}
+use Rattle.listing.proofs.WithinRecordsLaws.{steps_short, returns_short, names_listed, steps_listed, Elided}
+use Rattle.listing.proofs.WithinRecordsLaws.{own_stands, steps_stand, returns_stand, used_listed, listable}
+use Rattle.listing.proofs.WithinRecordsLaws.{records_listed}
+use borrow.Author.Rules.{rules}
+use Rattle.listing.proofs.within.list_records.Goals as goal
+
+pub returns-then-given-steps : goal.returns-then-given-steps
+returns-then-given-steps c = search (steps_short, rules)
+
+pub returns-then-taken-returns : goal.returns-then-taken-returns
+returns-then-taken-returns c = search (returns_short, rules)
+
+pub returns-in-Refused : goal.returns-in-Refused
+returns-in-Refused c = search (names_listed, rules)
+
+pub returns-in-Refused-elided : goal.returns-in-Refused-elided
+returns-in-Refused-elided c =
+    let sheet_in : Records = ten_records c.args.names.now c.args.bounds.now c.args.types.now c.args.receiver.now
+    c.args.steps.now c.args.returns.now c.args.structs.now c.args.params.now
+    c.args.output.now c.args.force.now in
+    steps_listed sheet_in c.requires.0 (length c.args.given.now) (length c.args.taken.now)
+    c.if-given-steps.false c.if-taken-returns.false
+    c.from_method_item-ast.ensures c.in_default.is
+    c.lower-lowered.ensures.answer
+    c.in-Refused-elided.is
+
+pub slice_bounds-list_method-end : goal.slice_bounds-list_method-end
+slice_bounds-list_method-end c =
+    let sheet_in : Records = ten_records c.args.names.now c.args.bounds.now c.args.types.now c.args.receiver.now
+    c.args.steps.now c.args.returns.now c.args.structs.now c.args.params.now
+    c.args.output.now c.args.force.now in
+    let elided : Elided sheet_in (replicate 1 0) c.args.given.now
+    c.args.taken.now
+    c.from_method_item-ast.result c.lower-lowered.result
+    c.lower-lowered.new.own c.lower-lowered.new.given
+    c.lower-lowered.new.taken = let l = c.lower-lowered.ensures in
+    record {
+      first = c.requires.0;
+      steps_room = c.if-given-steps.left;
+      returns_room = c.if-taken-returns.left;
+      names = c.from_method_item-ast.ensures;
+      fine = c.in_default.is;
+      lowers = l.answer;
+      own_written = l.own_filled;
+      steps_written = l.given_filled;
+      returns_written = l.taken_filled;
+      elides = c.in_default-elided.is;
+    } in
+    (own_stands elided).0
+
+pub slice_bounds-list_method-end-in-Set : goal.slice_bounds-list_method-end-in-Set
+slice_bounds-list_method-end-in-Set c =
+    let sheet_in : Records = ten_records c.args.names.now c.args.bounds.now c.args.types.now c.args.receiver.now
+    c.args.steps.now c.args.returns.now c.args.structs.now c.args.params.now
+    c.args.output.now c.args.force.now in
+    let elided : Elided sheet_in (replicate 1 0) c.args.given.now
+    c.args.taken.now
+    c.from_method_item-ast.result c.lower-lowered.result
+    c.lower-lowered.new.own c.lower-lowered.new.given
+    c.lower-lowered.new.taken = let l = c.lower-lowered.ensures in
+    record {
+      first = c.requires.0;
+      steps_room = c.if-given-steps.left;
+      returns_room = c.if-taken-returns.left;
+      names = c.from_method_item-ast.ensures;
+      fine = c.in_default.is;
+      lowers = l.answer;
+      own_written = l.own_filled;
+      steps_written = l.given_filled;
+      returns_written = l.taken_filled;
+      elides = c.in_default-elided.is;
+    } in
+    (steps_stand elided).0
+
+pub slice_bounds-list_method-end-in-Set-2 : goal.slice_bounds-list_method-end-in-Set-2
+slice_bounds-list_method-end-in-Set-2 c =
+    let sheet_in : Records = ten_records c.args.names.now c.args.bounds.now c.args.types.now c.args.receiver.now
+    c.args.steps.now c.args.returns.now c.args.structs.now c.args.params.now
+    c.args.output.now c.args.force.now in
+    let elided : Elided sheet_in (replicate 1 0) c.args.given.now
+    c.args.taken.now
+    c.from_method_item-ast.result c.lower-lowered.result
+    c.lower-lowered.new.own c.lower-lowered.new.given
+    c.lower-lowered.new.taken = let l = c.lower-lowered.ensures in
+    record {
+      first = c.requires.0;
+      steps_room = c.if-given-steps.left;
+      returns_room = c.if-taken-returns.left;
+      names = c.from_method_item-ast.ensures;
+      fine = c.in_default.is;
+      lowers = l.answer;
+      own_written = l.own_filled;
+      steps_written = l.given_filled;
+      returns_written = l.taken_filled;
+      elides = c.in_default-elided.is;
+    } in
+    (returns_stand elided).0
+
+pub list_method-requires : goal.list_method-requires
+list_method-requires c =
+    let sheet_in : Records = ten_records c.args.names.now c.args.bounds.now c.args.types.now c.args.receiver.now
+    c.args.steps.now c.args.returns.now c.args.structs.now c.args.params.now
+    c.args.output.now c.args.force.now in
+    let elided : Elided sheet_in (replicate 1 0) c.args.given.now
+    c.args.taken.now
+    c.from_method_item-ast.result c.lower-lowered.result
+    c.lower-lowered.new.own c.lower-lowered.new.given
+    c.lower-lowered.new.taken = let l = c.lower-lowered.ensures in
+    record {
+      first = c.requires.0;
+      steps_room = c.if-given-steps.left;
+      returns_room = c.if-taken-returns.left;
+      names = c.from_method_item-ast.ensures;
+      fine = c.in_default.is;
+      lowers = l.answer;
+      own_written = l.own_filled;
+      steps_written = l.given_filled;
+      returns_written = l.taken_filled;
+      elides = c.in_default-elided.is;
+    } in (
+      listable elided c.used_method_lifetimes-used.ensures c.in-Set.is,
+      c.requires.1,
+    )
+
+pub returns-in-Refused-used : goal.returns-in-Refused-used
+returns-in-Refused-used c =
+    let sheet_in : Records = ten_records c.args.names.now c.args.bounds.now c.args.types.now c.args.receiver.now
+    c.args.steps.now c.args.returns.now c.args.structs.now c.args.params.now
+    c.args.output.now c.args.force.now in
+    let elided : Elided sheet_in (replicate 1 0) c.args.given.now
+    c.args.taken.now
+    c.from_method_item-ast.result c.lower-lowered.result
+    c.lower-lowered.new.own c.lower-lowered.new.given
+    c.lower-lowered.new.taken = let l = c.lower-lowered.ensures in
+    record {
+      first = c.requires.0;
+      steps_room = c.if-given-steps.left;
+      returns_room = c.if-taken-returns.left;
+      names = c.from_method_item-ast.ensures;
+      fine = c.in_default.is;
+      lowers = l.answer;
+      own_written = l.own_filled;
+      steps_written = l.given_filled;
+      returns_written = l.taken_filled;
+      elides = c.in_default-elided.is;
+    } in
+    used_listed elided
+    c.used_method_lifetimes-used.ensures c.in-Refused-used.is
+
+pub returns-in-Set : goal.returns-in-Set
+returns-in-Set c =
+    let sheet_in : Records = ten_records c.args.names.now c.args.bounds.now c.args.types.now c.args.receiver.now
+    c.args.steps.now c.args.returns.now c.args.structs.now c.args.params.now
+    c.args.output.now c.args.force.now in
+    let elided : Elided sheet_in (replicate 1 0) c.args.given.now
+    c.args.taken.now
+    c.from_method_item-ast.result c.lower-lowered.result
+    c.lower-lowered.new.own c.lower-lowered.new.given
+    c.lower-lowered.new.taken = let l = c.lower-lowered.ensures in
+    record {
+      first = c.requires.0;
+      steps_room = c.if-given-steps.left;
+      returns_room = c.if-taken-returns.left;
+      names = c.from_method_item-ast.ensures;
+      fine = c.in_default.is;
+      lowers = l.answer;
+      own_written = l.own_filled;
+      steps_written = l.given_filled;
+      returns_written = l.taken_filled;
+      elides = c.in_default-elided.is;
+    } in
+    records_listed elided c.used_method_lifetimes-used.ensures c.in-Set.is
+    (length c.args.lists.now) (length c.args.edges.now)
+    c.list_method.result c.args.out.now
+    c.list_method.new.out c.list_method.ensures

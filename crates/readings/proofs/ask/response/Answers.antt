@@ -1,0 +1,12 @@
+-- `response` is safe: the response stands at the front of the array, so it is no longer than that.
+use mathlib.Core.Path.{sym, ap}
+use native.Mathlib.Omega.{arith}
+use lib.ListN.{length, length-append}
+use lib.Seq.{length-take-le}
+use Rattle.readings.proofs.ask.response.Goals as goal
+
+pub slice_bounds-out-end : goal.slice_bounds-out-end
+slice_bounds-out-end c = rw (c.respond-n.ensures.1, length-append) (omega (arith, c.respond-n.ensures.0))
+
+pub slice_bounds-counted-end : goal.slice_bounds-counted-end
+slice_bounds-counted-end c = sym (length-take-le _ _ (omega (arith, c.respond-n.ensures.0, rw length-append at (ap length c.respond-n.ensures.1))))

@@ -1,0 +1,9 @@
+-- `lay` meets its contract: the place stays within the text, which stays as long as it was.
+use Prim.Native.Nat.{◌-◌}
+use native.Mathlib.Omega.{arith}
+use lib.ListN.{length-set}
+use Rattle.readings.proofs.pieces.lay.Goals as goal
+
+pub loop-i-preserved : goal.loop-i-preserved
+loop-i-preserved c = let l = c.loop-i in
+    (simp length-set (omega (arith, c.if-text-at.false)), simp length-set l.invariant.1)

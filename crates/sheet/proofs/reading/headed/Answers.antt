@@ -1,0 +1,28 @@
+-- `headed` meets its contract: the heading is compared byte by byte.
+use Prim.Native.Nat.{◌-◌}
+use mathlib.Core.Path.{◌≡◌, refl, ◌∙◌}
+use native.Mathlib.Omega.{arith}
+use borrow.Author.Rules.{rules}
+use Rattle.sheet.specs.Text.{heading}
+use Rattle.sheet.proofs.HeadingLaws.{behind_short, matching_start, comparing_here, comparing_more}
+use Rattle.sheet.proofs.HeadingLaws.{comparing_end}
+use Rattle.sheet.proofs.reading.headed.Goals as goal
+
+pub returns-then-bytes-lt-HEADING : goal.returns-then-bytes-lt-HEADING
+returns-then-bytes-lt-HEADING c = search (behind_short, rules)
+
+pub loop-i-init : goal.loop-i-init
+loop-i-init c = search (matching_start, rules)
+
+pub bounds-bytes-i : goal.bounds-bytes-i
+bounds-bytes-i c = search (comparing_here, rules)
+
+pub loop-i-preserved : goal.loop-i-preserved
+loop-i-preserved c = let l = c.loop-i in
+    (comparing_more heading c.args.bytes.now l.i l.same l.invariant.0 c.loop-i-test.true c.both-same.result c.both-same.ensures, refl)
+
+pub returns : goal.returns
+returns c = let l = c.loop-i in
+    let b = c.args.bytes.now in
+    let e : l.i ≡ 66 = omega (arith, (comparing_here heading b l.i l.same l.invariant.0).0, c.loop-i-test.false) in
+    comparing_end heading b l.i l.same l.invariant.0 c.loop-i-test.false ∙ rw e

@@ -1,0 +1,17 @@
+-- `judge_laid` meets its contract: the ten slices are the records.
+use mathlib.Core.Path.{ap, ◌∙◌}
+use Rattle.sheet.specs.Shape.{records_verdict}
+use Rattle.sheet.proofs.LaidLaws.{ten_found}
+use Rattle.sheet.proofs.shapes.judge_laid.Goals as goal
+
+pub returns : goal.returns
+returns c = c.sheet_shape.ensures
+    ∙ ap records_verdict
+    (ten_found c.args.words.now c.args.ends c.record_words.ensures
+    c.record_words-2.ensures
+    c.record_words-3.ensures
+    c.record_words-4.ensures
+    c.record_words-5.ensures
+    c.record_words-6.ensures
+    c.record_words-7.ensures c.record_words-8.ensures
+    c.record_words-9.ensures c.record_words-10.ensures)
