@@ -22,6 +22,7 @@ IMPORT = re.compile(r"^(?:ghost )?use ([^\s;{]+?)(?:\.\{([^}]*)\})?(?: as (\S+?)
 MADE = re.compile(r"\.(Tie|Statement|Goals|Given|Code|Reads|Kinds|Symbol|Met|Lts-\w+|declared|contracts)\b")
 
 # A law that would have its definition's name gets `_lem`, as in the kit; found by collect(). Those here had the new spelling already.
+ALIASES = {}
 LAWS = ["both_below", "digits_in", "is_digit", "line_before", "words_step"]
 APART = {name: name + "_lem" for name in LAWS}
 APART["noPairs"] = "empty_pairs"  # beside the field `no_pairs` of a record about it
@@ -100,12 +101,26 @@ def turned_tokens(text, theirs, own, fields, camel_too=True, laws=True):
         if not name or not is_turned(name) or name in theirs or (name in LAWS and not laws):
             return it[0]
         if start and text[start - 1] in ".+" and not path_of_import(text, start):
-            if name not in fields:
+            if name not in fields and qualifier(text, start) not in own_aliases(text):
                 return it[0]
         if name in own or (camel_too and CAMEL.fullmatch(name)):
             return APART.get(name, snake(name)) + tail
         return it[0]
     return TOKEN.sub(turn, text)
+
+
+def qualifier(text, start):
+    """The word before the dot before a place."""
+    it = re.search(r"([^\W\d][\w'\-]*)\.$", text[max(0, start - 80) : start], re.U)
+    return it[1] if it else ""
+
+
+def own_aliases(text):
+    """The names under which a file has this repository's own modules, as a line `use .. as NAME` or `use ..NAME` gives them."""
+    if text not in ALIASES:
+        found = [it for it in IMPORT.finditer(text) if not it[2] and is_own(it[1])]
+        ALIASES[text] = {it[3] or it[1].split(".")[-1] for it in found}
+    return ALIASES[text]
 
 
 def path_of_import(text, start):

@@ -28,13 +28,13 @@ use Rattle.answers.proofs.VerdictLaws.{unless_after}
 
 -- an environment whose names are all its lifetimes, with the same bounds
 abbrev pub hir_of : LifetimeEnv → hir.LifetimeEnv
-hir_of e = lifetimes.envWith e.named e.named e.bounds
+hir_of e = lifetimes.env_with e.named e.named e.bounds
 
 module _ (e : LifetimeEnv) (none : NoneDue (env_checks e)) where
   pub few_names : e.named ≤ 32
   few_names = ltb-false 32 e.named (none_first none)
 
-  hir_none : NoneDue (lifetimes.envChecks (hir_of e))
+  hir_none : NoneDue (lifetimes.env_checks (hir_of e))
   hir_none =
       none_due (hir_of e) (omega (arith, few_names)) (ltb-false 256 e.bounds.pushed (none_first (none_rest none))) (omega arith)
       (not-false _ (none_first (none_rest (none_rest none))))

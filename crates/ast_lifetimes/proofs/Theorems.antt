@@ -23,25 +23,25 @@ use Rattle.ast_lifetimes.proofs.EntryLaws as entry-laws
 use Rattle.ast_lifetimes.proofs.DepthFirstLaws.{found, found_only}
 
 pub built_in_order : BuiltInOrder
-unfolding env.fromMethodItem env.namedEnv
+unfolding env.from_method_item env.named_env
 built_in_order names bounds types = record {
-  folded = entry-laws.built-in-order names bounds types;
-  names_first = λ e h. sym (ap (λ (d : LifetimeEnv). env.names_of d) (given e h)) ∙ take-append_seam (env.allNamesOf names) _;
+  folded = entry-laws.built_in_order names bounds types;
+  names_first = λ e h. sym (ap (λ (d : LifetimeEnv). env.names_of d) (given e h)) ∙ take-append_seam (env.all_names_of names) _;
   bounds_then = λ e h. sym (ap (λ (d : LifetimeEnv). env.bounds_of d) (given e h))
-      ∙ bounds_made (env.methodBounds names bounds types);
+      ∙ bounds_made (env.method_bounds names bounds types);
 }
   where
-    given : (e : LifetimeEnv) → env.fromMethodItem names bounds types ≡ refusals.Gives e
-        → env.namedEnv (env.allNamesOf names) (env.methodBounds names bounds types) ≡ e
+    given : (e : LifetimeEnv) → env.from_method_item names bounds types ≡ refusals.Gives e
+        → env.named_env (env.all_names_of names) (env.method_bounds names bounds types) ≡ e
     given e h =
-        (given_due (env.namedEnv (env.allNamesOf names) (env.methodBounds names bounds types)) e
-        (env.itemChecks names bounds types) h).1
+        (given_due (env.named_env (env.all_names_of names) (env.method_bounds names bounds types)) e
+        (env.item_checks names bounds types) h).1
 
 pub accepted_is_valid : AcceptedIsValid
-unfolding env.fromMethodItem
+unfolding env.from_method_item
 accepted_is_valid names bounds types e h =
-    let g = given_due (env.namedEnv (env.allNamesOf names) (env.methodBounds names bounds types)) e
-    (env.itemChecks names bounds types) h in
+    let g = given_due (env.named_env (env.all_names_of names) (env.method_bounds names bounds types)) e
+    (env.item_checks names bounds types) h in
     rw (sym g.1) (accepted_valid names bounds types (none_rest g.0))
 
 pub ast_reach_is_outlives : AstReachIsOutlives
@@ -54,7 +54,7 @@ ast_reach_is_outlives longer names bs word = record {
     λ m. (listed_toward walk.FirstFirst longer bs (env.place names word) b).1
         ((listed_toward walk.LastFirst longer bs (env.place names word) b).0 m),
   );
-  once = once (env.isDeclared names word);
+  once = once (env.is_declared names word);
 }
   where
     once : (t : Bool) → Nodup (cond t (walk.traversal walk.FirstFirst longer bs (env.place names word)) [])
@@ -68,8 +68,8 @@ listed_depth_first longer names bs word h = record {
 }
 
 pub examples_hold : ExamplesHold
-unfolding env.fromMethodItem env.namedEnv env.listThan env.place env.nameChecks env.allPairChecks env.implied
-    env.allImplied shapes.namesInShape shapes.boundsInShape shapes.pairsOf types.readType
-    reading.read_all reading.inShape reading.items_of refusals.unless lists.all lists.any lists.count bounds.boundsFrom lists.filter walk.traversal walk.walk
-    walk.walkFor walk.unpushed walk.neighbours sets.member sets.insert
+unfolding env.from_method_item env.named_env env.list_than env.place env.name_checks env.all_pair_checks env.implied
+    env.all_implied shapes.names_in_shape shapes.bounds_in_shape shapes.pairs_of types.read_type
+    reading.read_all reading.in_shape reading.items_of refusals.unless lists.all lists.any lists.count bounds.bounds_from lists.filter walk.traversal walk.walk
+    walk.walk_for walk.unpushed walk.neighbours sets.member sets.insert
 examples_hold = (refl, (refl, (refl, (refl, tt))))

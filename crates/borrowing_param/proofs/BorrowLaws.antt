@@ -85,11 +85,11 @@ module _ (v : BorrowingParamVisitor) (structs params : List ℕ) (used answers e
   by_used l h = left_alone (refuses (here (lt-ltb (room used) (length all.used) (omega (arith, how_many_lem))) refl)) h
 
   module _ (enough : count ≤ room used) {m : BorrowMap}
-      (maps : m ≡ map.mapAnswer (map.borrowMap v structs params (room answers) (room edges)))
-      (answered : Fills (map.mapAnswers (map.borrowMap v structs params (room answers) (room edges))) answers)
-      (stored : Fills (map.mapEdges (map.borrowMap v structs params (room answers) (room edges))) edges) where
+      (maps : m ≡ map.map_answer (map.borrow_map v structs params (room answers) (room edges)))
+      (answered : Fills (map.map_answers (map.borrow_map v structs params (room answers) (room edges))) answers)
+      (stored : Fills (map.map_edges (map.borrow_map v structs params (room answers) (room edges))) edges) where
     abbrev mapped : Outcome map.Mapping
-    mapped = map.borrowMap v structs params (room answers) (room edges)
+    mapped = map.borrow_map v structs params (room answers) (room edges)
 
     fit_used : (room_check (room used) all.used).due ≡ false
     fit_used = le-ltb (room used) (length all.used) (omega (arith, how_many_lem))
@@ -97,31 +97,31 @@ module _ (v : BorrowingParamVisitor) (structs params : List ℕ) (used answers e
     map_verdict : m.verdict ≡ verdict_of mapped
     map_verdict = ap (λ (x : BorrowMap). x.verdict) maps ∙ go mapped
       where
-        go : (o : Outcome map.Mapping) → (map.mapAnswer o).verdict ≡ verdict_of o
+        go : (o : Outcome map.Mapping) → (map.map_answer o).verdict ≡ verdict_of o
         go (Gives x) = refl
         go (Refuses k) = refl
 
     pub by_map_refused : {k : Refusal} {r : answer.Borrows} → m.verdict ≡ verdict.Refused k
         → r ≡ borrows_answer (Refuses k) → Stays used
         → BorrowsTo given r used answers edges
-    unfolding map.borrowMap
+    unfolding map.borrow_map
     by_map_refused {k} w h u =
-        let f = refused_first (map.mappingOf v (types_in structs params)) k
-        (map.mapChecks v structs params (room answers) (room edges)) (sym map_verdict ∙ w) in
+        let f = refused_first (map.mapping_of v (types_in structs params)) k
+        (map.map_checks v structs params (room answers) (room edges)) (sym map_verdict ∙ w) in
         let g : FirstDue k rooms = later fit_used (first_behind of f) in
-        let e : mapped ≡ Refuses k = due_refused (map.mappingOf v (types_in structs params)) f in
+        let e : mapped ≡ Refuses k = due_refused (map.mapping_of v (types_in structs params)) f in
         left_alone (refuses g) h u (answered ∙ rw e) (stored ∙ rw e)
 
     module _ (fine : m.verdict ≡ verdict.Accepted) where
-      map_none : NoneDue (map.mapChecks v structs params (room answers) (room edges))
-      unfolding map.borrowMap
+      map_none : NoneDue (map.map_checks v structs params (room answers) (room edges))
+      unfolding map.borrow_map
       map_none =
-          accepted_none (map.mappingOf v (types_in structs params))
-          (map.mapChecks v structs params (room answers) (room edges)) (sym map_verdict ∙ fine)
+          accepted_none (map.mapping_of v (types_in structs params))
+          (map.map_checks v structs params (room answers) (room edges)) (sym map_verdict ∙ fine)
 
-      map_is : mapped ≡ Gives (map.mappingOf v (types_in structs params))
-      unfolding map.borrowMap
-      map_is = due_given (map.mappingOf v (types_in structs params)) map_none
+      map_is : mapped ≡ Gives (map.mapping_of v (types_in structs params))
+      unfolding map.borrow_map
+      map_is = due_given (map.mapping_of v (types_in structs params)) map_none
 
       all_is : given ≡ Gives all
       unfolding borrow_by
@@ -129,14 +129,14 @@ module _ (v : BorrowingParamVisitor) (structs params : List ℕ) (used answers e
           let n : NoneDue rooms = next fit_used (none_split (structs_and_params_checks structs params) (drop 1 rooms) map_none).1 in
           due_given all n
 
-      pub by_given : Fills (sets.listMembers v.used (room used)) used
+      pub by_given : Fills (sets.list_members v.used (room used)) used
           → BorrowsTo given (record { verdict = verdict.Accepted; used = count; params = m.params; edges = m.edges })
           used answers edges
-      unfolding sets.listMembers
+      unfolding sets.list_members
       by_given e =
           let n : NoneDue (room_check (room used) all.used ∷ []) = next fit_used end in
-          let p = ap (λ (x : BorrowMap). x.params) (maps ∙ ap map.mapAnswer map_is) in
-          let q = ap (λ (x : BorrowMap). x.edges) (maps ∙ ap map.mapAnswer map_is) in
+          let p = ap (λ (x : BorrowMap). x.params) (maps ∙ ap map.map_answer map_is) in
+          let q = ap (λ (x : BorrowMap). x.edges) (maps ∙ ap map.map_answer map_is) in
           record {
             counts = rw (all_is, how_many_lem, p, q);
             used_filled = e ∙ rw (due_given all.used n, all_is);
@@ -167,7 +167,7 @@ module _ (env : LifetimeEnv) (structs params output force : List ℕ) {c : Creat
       → BorrowsTo (outcome (room used) (room answers) (room edges)) r used answers edges
   unfolding used_set borrow_method
   method_unborrowed {k} w h =
-      let f = refused_first (sets.setOf (output_numbers structs output)) k
+      let f = refused_first (sets.set_of (output_numbers structs output)) k
       (method_checks env structs params output force) (sym created_verdict ∙ w) in
       left_alone (due_refused whole (first_more _ f)) h
 
@@ -175,7 +175,7 @@ module _ (env : LifetimeEnv) (structs params output force : List ℕ) {c : Creat
     method_none : NoneDue (method_checks env structs params output force)
     unfolding used_set
     method_none =
-        accepted_none (sets.setOf (output_numbers structs output))
+        accepted_none (sets.set_of (output_numbers structs output))
         (method_checks env structs params output force) (sym created_verdict ∙ fine)
 
     pub method_of_lem : OfMethod structs params

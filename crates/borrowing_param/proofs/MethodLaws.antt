@@ -46,13 +46,13 @@ first_without (c ∷ cs) more n (later d f) = later d (first_without cs more n f
 
 module _ (r : Records) where
   abbrev names : List ℕ
-  names = ast.allNamesOf r.names
+  names = ast.all_names_of r.names
 
   abbrev ast_places : List Check
-  ast_places = ast.itemPlaceChecks r.names r.bounds r.types
+  ast_places = ast.item_place_checks r.names r.bounds r.types
 
   abbrev elision_checks : List Check
-  elision_checks = rfc.elisionChecks names (receiver_of r.self) (steps_of r.steps) (steps_of r.returns)
+  elision_checks = rfc.elision_checks names (receiver_of r.self) (steps_of r.steps) (steps_of r.returns)
 
   abbrev hir_places : List Check
   hir_places = place_checks r.structs r.params r.output
@@ -66,14 +66,14 @@ module _ (r : Records) where
   -- the environment is one on which nothing is due
   module _ (placed : NoneDue ast_places) (elided : NoneDue elision_checks) where
     named : (ast_env_of r).named ≡ length names
-    unfolding ast.namedEnv
+    unfolding ast.named_env
     named = refl
 
     few : (lowered_of r).count ≤ 64
     few = (rfc141_says names (receiver_of r.self) (steps_of r.steps) (steps_of r.returns)).few
         (omega (arith, accepted_names r.names r.bounds r.types placed)) elided
 
-    valid : NoneDue (ast.envChecks (ast_env_of r))
+    valid : NoneDue (ast.env_checks (ast_env_of r))
     valid = accepted_valid r.names r.bounds r.types placed
 
     pub env_valid : NoneDue (env_checks (env_of_sheet r))
@@ -106,11 +106,11 @@ module _ (r : Records) where
     refuses f h = rw (due_refused (env_of_sheet r) f) h
 
     -- names, bounds and types
-    module _ {a : ast-made.Made} (is : a ≡ ast.made (ast.namedEnv [] []) (ast.fromMethodItem r.names r.bounds r.types)) where
+    module _ {a : ast-made.Made} (is : a ≡ ast.made (ast.named_env [] []) (ast.from_method_item r.names r.bounds r.types)) where
       pub names_first : {k : Refusal} → a.verdict ≡ verdict.Refused k → FirstDue k (lowering_checks r)
-      unfolding lowering_checks ast.fromMethodItem
+      unfolding lowering_checks ast.from_method_item
       names_first {k} v =
-          let d = refused_first (ast_env_of r) k (ast.itemChecks r.names r.bounds r.types)
+          let d = refused_first (ast_env_of r) k (ast.item_checks r.names r.bounds r.types)
           (sym (ap (λ (x : ast-made.Made). x.verdict) is) ∙ v) in
           let s : not (names_in_shape r.names && (bounds_in_shape r.bounds && types_in_shape r.types)) ≡ false = rw shapes.0 in
           first_more _ (first_behind (next s end) d)
@@ -120,15 +120,15 @@ module _ (r : Records) where
       names_refused v h = refuses (names_first v) h
 
       module _ (fine : a.verdict ≡ verdict.Accepted) where
-        ast_none : NoneDue (ast.itemChecks r.names r.bounds r.types)
-        unfolding ast.fromMethodItem
+        ast_none : NoneDue (ast.item_checks r.names r.bounds r.types)
+        unfolding ast.from_method_item
         ast_none =
-            accepted_none (ast_env_of r) (ast.itemChecks r.names r.bounds r.types)
+            accepted_none (ast_env_of r) (ast.item_checks r.names r.bounds r.types)
             (sym (ap (λ (x : ast-made.Made). x.verdict) is) ∙ fine)
 
         pub ast_is : a.env ≡ ast_env_of r
-        unfolding ast.fromMethodItem
-        ast_is = ap (λ (x : ast-made.Made). x.env) is ∙ ap (result_or (ast.namedEnv [] [])) (due_given (ast_env_of r) ast_none)
+        unfolding ast.from_method_item
+        ast_is = ap (λ (x : ast-made.Made). x.env) is ∙ ap (result_or (ast.named_env [] [])) (due_given (ast_env_of r) ast_none)
 
         pub placed : NoneDue ast_places
         placed = none_rest ast_none
@@ -175,7 +175,7 @@ module _ (r : Records) where
 
             pub elided : NoneDue elision_checks
             elided =
-                let p = none_split (ast.envChecks (ast_env_of r)) _ (none_rest measure_none) in
+                let p = none_split (ast.env_checks (ast_env_of r)) _ (none_rest measure_none) in
                 rw names_are at p.1
 
             pub env_is : l.env ≡ env_of_sheet r

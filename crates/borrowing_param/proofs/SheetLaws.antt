@@ -55,13 +55,13 @@ module _ (bytes : List ℕ) where
   sheet = sheet_of bytes
 
   -- what the reader's checks are of: the text, and the ten records
-  pub read_parts : NoneDue (shape.sheetChecks bytes) → NoneDue (text_checks bytes) × NoneDue (shape.recordsChecks sheet)
-  unfolding shape.sheetChecks
-  read_parts n = none_split (text_checks bytes) (shape.recordsChecks sheet) n
+  pub read_parts : NoneDue (shape.sheet_checks bytes) → NoneDue (text_checks bytes) × NoneDue (shape.records_checks sheet)
+  unfolding shape.sheet_checks
+  read_parts n = none_split (text_checks bytes) (shape.records_checks sheet) n
 
   module _ (scratch : List ℕ) (roomy : Roomy bytes (length scratch)) {t : Text}
       (read : t ≡ sheet_answer bytes (length scratch)) {scratch₁ : List ℕ}
-      (wrote : scratch₁ ≡ written (shape.sheetWords bytes (length scratch)) scratch) where
+      (wrote : scratch₁ ≡ written (shape.sheet_words bytes (length scratch)) scratch) where
     abbrev Ends : Outcome (List ℕ)
     Ends = sheet_ends bytes (length scratch)
 
@@ -73,15 +73,15 @@ module _ (bytes : List ℕ) where
     unfolding sheet_ends sheet_refusals
     text_first {k} v =
         go
-        (first_either (shape.sheetChecks bytes) (room_check (length scratch) (words_of sheet) ∷ [])
+        (first_either (shape.sheet_checks bytes) (room_check (length scratch) (words_of sheet) ∷ [])
         (refused_first _ k (call_checks bytes (length scratch)) (sym verdict_is ∙ v)))
       where
         none_of : FirstDue k (room_check (length scratch) (words_of sheet) ∷ [])
             → (room_check (length scratch) (words_of sheet)).due ≡ false → ⊥
         none_of (here d e) z = let y : ◌≡◌ {A = ℕ} 0 1 = cc in omega arith
 
-        go : FirstDue k (shape.sheetChecks bytes)
-            ⊎ (NoneDue (shape.sheetChecks bytes) × FirstDue k (room_check (length scratch) (words_of sheet) ∷ []))
+        go : FirstDue k (shape.sheet_checks bytes)
+            ⊎ (NoneDue (shape.sheet_checks bytes) × FirstDue k (room_check (length scratch) (words_of sheet) ∷ []))
             → FirstDue k (sheet_refusals bytes)
         go (inl f) = first_more _ f
         go (inr (n, f)) =
@@ -100,15 +100,15 @@ module _ (bytes : List ℕ) where
       unfolding sheet_ends
       call_none = accepted_none _ (call_checks bytes (length scratch)) (sym verdict_is ∙ fine)
 
-      pub read_none : NoneDue (shape.sheetChecks bytes)
-      read_none = (none_split (shape.sheetChecks bytes) _ call_none).0
+      pub read_none : NoneDue (shape.sheet_checks bytes)
+      read_none = (none_split (shape.sheet_checks bytes) _ call_none).0
 
       ends_are : t.ends ≡ ends_from 0 (lists sheet)
       unfolding sheet_answer sheet_ends
       ends_are = ap (λ (x : Text). x.ends) read ∙ ap (result_or _) (due_given (ends_from 0 (lists sheet)) call_none)
 
       read_laid : Laid scratch₁ t.ends
-      unfolding shape.sheetWords
+      unfolding shape.sheet_words
       read_laid = record {
         sheet = sheet;
         rest = drop (length (words_of sheet)) scratch;
@@ -120,8 +120,8 @@ module _ (bytes : List ℕ) where
       unfolding read_laid
       found = laid_records read_laid
 
-      pub judge_shape : NoneDue (shape.recordsChecks (records_at scratch₁ t.ends))
-      judge_shape = subst (λ (r : Records). NoneDue (shape.recordsChecks r)) (sym found) (read_parts read_none).1
+      pub judge_shape : NoneDue (shape.records_checks (records_at scratch₁ t.ends))
+      judge_shape = subst (λ (r : Records). NoneDue (shape.records_checks r)) (sym found) (read_parts read_none).1
 
       module _ {a : Made} (judged : a ≡ made (env_of 0 0 []) (lowered_env (records_at scratch₁ t.ends))) where
         at_sheet : a ≡ made (env_of 0 0 []) (lowered_env sheet)

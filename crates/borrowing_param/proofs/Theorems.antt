@@ -56,17 +56,17 @@ pub sheets_give_methods : SheetsGiveMethods
 sheets_give_methods bytes none = sheet_method bytes none
 
 pub examples_hold : ExamplesHold
-unfolding new.created new.visitorFrom lists.numbered lists.any lists.all lists.count lists.range lists.filter filter_map
-    flat_map flatten map.listedEdges map.borrowMap visit-param.visitParam
-    visit.visit visit.afterVisits brings.bring brings.notes used.usedSet
-    rows.readKnown rows.readTypes rows.readRow rows.methodInShape types.readOpaque types.readStruct types.readSlice
-    types.readBare types.readLowered reading.read_all reading.inShape reading.items_of refusals.unless env.envOf
-    bounds.boundsFrom reach.reachSet reach.reachList reach.allSets walk.traversal walk.walk
-    walk.walkFor walk.unpushed walk.neighbours sets.member sets.insert sets.insertAll sets.members
-    sheets.lowerSheet sheets.sheetRefusals sheets.loweringChecks shape.sheetChecks read.textChecks read.sheetOf read.sheetIn
-    read.linesBehind read.ten read.readLines read.stripPrefix text.text decimal.line decimal.following
-    decimal.digits decimal.digitsFor
-    shape.sheetInShape shapes.namesInShape shapes.boundsInShape shapes.pairsOf ast-types.readType
-    steps.read_step ast.nameChecks ast.allPairChecks ast.implied ast.allImplied ast.namedEnv ast.place
-    rfc.throughout rfc.ownFrom
+unfolding new.created new.visitor_from lists.numbered lists.any lists.all lists.count lists.range lists.filter filter_map
+    flat_map flatten map.listed_edges map.borrow_map visit-param.visit_param
+    visit.visit visit.after_visits brings.bring brings.notes used.used_set
+    rows.read_known rows.read_types rows.read_row rows.method_in_shape types.read_opaque types.read_struct types.read_slice
+    types.read_bare types.read_lowered reading.read_all reading.in_shape reading.items_of refusals.unless env.env_of
+    bounds.bounds_from reach.reach_set reach.reach_list reach.all_sets walk.traversal walk.walk
+    walk.walk_for walk.unpushed walk.neighbours sets.member sets.insert sets.insert_all sets.members
+    sheets.lower_sheet sheets.sheet_refusals sheets.lowering_checks shape.sheet_checks read.text_checks read.sheet_of read.sheet_in
+    read.lines_behind read.ten read.read_lines read.strip_prefix text.text decimal.line decimal.following
+    decimal.digits decimal.digits_for
+    shape.sheet_in_shape shapes.names_in_shape shapes.bounds_in_shape shapes.pairs_of ast-types.read_type
+    steps.read_step ast.name_checks ast.all_pair_checks ast.implied ast.all_implied ast.named_env ast.place
+    rfc.throughout rfc.own_from
 examples_hold = ((refl, (refl, tt)), (refl, (refl, (refl, (refl, (refl, (refl, (refl, (refl, (refl, (refl, (refl, (refl, (refl, (refl, (refl, (refl, (refl, (refl, (refl, (refl, (refl, (refl, (refl, (refl, (refl, (refl, (refl, (refl, (refl, (refl, (refl, tt))))))))))))))))))))))))))))))))

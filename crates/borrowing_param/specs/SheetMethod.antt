@@ -22,11 +22,11 @@ use Rattle.borrowing_param.specs.declared.method.SheetMethod.{SheetMethod}
 -- what RFC 141 says of the records self, steps and returns
 abbrev pub lowered_of : Records → rfc.Method
 lowered_of r =
-    rfc.methodOf (ast.allNamesOf r.names) (receiver_of r.self) (steps_of r.steps) (steps_of r.returns)
+    rfc.method_of (ast.all_names_of r.names) (receiver_of r.self) (steps_of r.steps) (steps_of r.returns)
 
 -- the AST's environment, of names, bounds and types; and the method's
 abbrev pub ast_env_of : Records → ast-env.LifetimeEnv
-ast_env_of r = ast.namedEnv (ast.allNamesOf r.names) (ast.methodBounds r.names r.bounds r.types)
+ast_env_of r = ast.named_env (ast.all_names_of r.names) (ast.method_bounds r.names r.bounds r.types)
 
 abbrev pub env_of_sheet : Records → LifetimeEnv
 env_of_sheet r = finished (ast_env_of r) (lowered_of r).count
@@ -35,8 +35,8 @@ env_of_sheet r = finished (ast_env_of r) (lowered_of r).count
 -- structs, params and output (4, 7); then a lifetime of the output that there is not (8)
 unfoldable pub lowering_checks : Records → List Check
 lowering_checks r =
-    ast.itemPlaceChecks r.names r.bounds r.types
-    ++ (rfc.elisionChecks (ast.allNamesOf r.names) (receiver_of r.self) (steps_of r.steps) (steps_of r.returns)
+    ast.item_place_checks r.names r.bounds r.types
+    ++ (rfc.elision_checks (ast.all_names_of r.names) (receiver_of r.self) (steps_of r.steps) (steps_of r.returns)
     ++ (place_checks r.structs r.params r.output
     ++ (check (any_past (lowered_of r).count (output_lifetimes r.structs r.output)) OutOfRange ∷ [])))
 

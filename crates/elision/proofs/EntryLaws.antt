@@ -315,33 +315,33 @@ module _ (e : ast.LifetimeEnv) (count : ℕ) where
       → x ≡ hirenv.made (env_of 0 0 []) (finish_env e count)
   unfolding finish_env
   finish_env_lem {v} {r} a b h =
-      let f : FirstDue r (env_checks e ++ hirenv.envChecks (finished e count)) =
+      let f : FirstDue r (env_checks e ++ hirenv.env_checks (finished e count)) =
       first_more _ (refused_first (tt {0}) r (env_checks e) (sym a ∙ b)) in
       rw (due_refused (finished e count) f) h
 
   module _ {v : Verdict} (valid : v ≡ judged (env_checks e)) (fine : v ≡ verdict.Accepted)
-      {made : environment.LifetimeEnv} (is : made ≡ finished e count) {w : Verdict} (checked : w ≡ judged (hirenv.envChecks made)) where
+      {made : environment.LifetimeEnv} (is : made ≡ finished e count) {w : Verdict} (checked : w ≡ judged (hirenv.env_checks made)) where
     checks_none : NoneDue (env_checks e)
     checks_none = accepted_none (tt {0}) (env_checks e) (sym valid ∙ fine)
 
-    judges : w ≡ judged (hirenv.envChecks (finished e count))
-    judges = checked ∙ ap (λ (x : environment.LifetimeEnv). judged (hirenv.envChecks x)) is
+    judges : w ≡ judged (hirenv.env_checks (finished e count))
+    judges = checked ∙ ap (λ (x : environment.LifetimeEnv). judged (hirenv.env_checks x)) is
 
     pub finish_refused : {r : Refusal} {x : hir.Made} → w ≡ verdict.Refused r
         → x ≡ record { verdict = verdict.Refused r; env = env_of 0 0 [] }
         → x ≡ hirenv.made (env_of 0 0 []) (finish_env e count)
     unfolding finish_env
     finish_refused {r} b h =
-        let f : FirstDue r (env_checks e ++ hirenv.envChecks (finished e count)) =
+        let f : FirstDue r (env_checks e ++ hirenv.env_checks (finished e count)) =
         first_after checks_none
-        (refused_first (tt {0}) r (hirenv.envChecks (finished e count)) (sym judges ∙ b)) in
+        (refused_first (tt {0}) r (hirenv.env_checks (finished e count)) (sym judges ∙ b)) in
         rw (due_refused (finished e count) f) h
 
     pub finish_given : w ≡ verdict.Accepted → record { verdict = verdict.Accepted; env = made }
         ≡ hirenv.made (env_of 0 0 []) (finish_env e count)
     unfolding finish_env
     finish_given b =
-        let f : NoneDue (env_checks e ++ hirenv.envChecks (finished e count)) =
+        let f : NoneDue (env_checks e ++ hirenv.env_checks (finished e count)) =
         none_more checks_none
-        (accepted_none (tt {0}) (hirenv.envChecks (finished e count)) (sym judges ∙ b)) in
+        (accepted_none (tt {0}) (hirenv.env_checks (finished e count)) (sym judges ∙ b)) in
         rw (is, due_given (finished e count) f)

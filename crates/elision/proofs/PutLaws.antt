@@ -224,7 +224,7 @@ same_self : (names : List ℕ) (out : Bool) {words : List ℕ} {at : ℕ} {readi
     → (step : Step) (rest : List ℕ) → reading ≡ Read step rest → (s : Lowerer)
     → self_step names (take (to - from) (drop from words)) s ≡ lower_step names out step s
 unfolding lower_step
-same_self names out (inner.selfType l d b m x) step rest e s = rw (← same_step e, l)
+same_self names out (inner.self_type l d b m x) step rest e s = rw (← same_step e, l)
 
 missing_fails : {words : List ℕ} {at : ℕ} {reading : Reading Step} → StandsAt words at reading standing.Missing → reading ≡ Fails
 missing_fails inner.missing = refl

@@ -36,7 +36,7 @@ self_there : {words : List ℕ} {at p to : ℕ} {reading : Reading (List ℕ)} �
     → Holds (LifetimesIn (drop p words)) reading
     → StandsAt words at (onward reading (λ ls rest. Read (SelfType ls) rest)) (standing.SelfType (p + 1) to)
 self_there {words} {at} {p} {to} l (ends {a} {rest} d b e) h =
-    inner.selfType {from = p + 1} {to = to}
+    inner.self_type {from = p + 1} {to = to}
     (lifetimes_slice words p to a rest (holds_read (LifetimesIn (drop p words)) a rest h) d b e) d (omega arith)
     (omega arith) e
 
@@ -166,7 +166,7 @@ generics_end (inner.generics l d b m e) = ends d b e
 
 self_end : {words : List ℕ} {at : ℕ} {reading : Reading Step} {from to : ℕ}
     → StandsAt words at reading (standing.SelfType from to) → EndsAt words at reading (end.At to)
-self_end (inner.selfType l d b m e) = ends d b e
+self_end (inner.self_type l d b m e) = ends d b e
 
 missing_end : {words : List ℕ} {at : ℕ} {reading : Reading Step} → StandsAt words at reading standing.Missing
     → EndsAt words at reading end.Missing

@@ -24,31 +24,31 @@ elision_is_rfc141 = method_said
 pub rfc141_says : Rfc141Says
 unfolding rfc.rfc141
 rfc141_says names self steps returns = record {
-  elided = laws.elided-is names self;
+  elided = laws.elided_is names self;
   undeclared = λ before. omega arith;
-  another = laws.another-is names;
-  static = laws.static-is names self;
-  named = laws.named-is names self;
+  another = laws.another_is names;
+  static = laws.static_is names self;
+  named = laws.named_is names self;
   returned = λ before l e. rw e;
   source = laws.source_is names self;
-  again = laws.again-is names self;
+  again = laws.again_is names self;
   count = λ m e. sym
       (ap (λ (x : rfc.Method). x.count)
-      (given_due (rfc.methodOf names self steps returns) m (rfc.elisionChecks names self steps returns) e).1);
-  few = laws.method-few names self steps returns;
+      (given_due (rfc.method_of names self steps returns) m (rfc.elision_checks names self steps returns) e).1);
+  few = laws.method_few names self steps returns;
   given = λ m. (
-    given_due (rfc.methodOf names self steps returns) m (rfc.elisionChecks names self steps returns),
-    λ h. due_given (rfc.methodOf names self steps returns) h.0 ∙ rw h.1,
+    given_due (rfc.method_of names self steps returns) m (rfc.elision_checks names self steps returns),
+    λ h. due_given (rfc.method_of names self steps returns) h.0 ∙ rw h.1,
   );
   refused =
       λ r. (
-        refused_due (rfc.methodOf names self steps returns) r (rfc.elisionChecks names self steps returns),
-        due_refused (rfc.methodOf names self steps returns),
+        refused_due (rfc.method_of names self steps returns) r (rfc.elision_checks names self steps returns),
+        due_refused (rfc.method_of names self steps returns),
       );
 }
 
 pub steps_one_by_one : StepsOneByOne
-steps_one_by_one = laws.steps-one-by-one
+steps_one_by_one = laws.steps_one_by_one
 
 pub lent_steps : LentSteps
 lent_steps names out words s = record {
@@ -65,7 +65,7 @@ step_refused_if_first_due names out s = record {
 }
 
 pub examples_hold : ExamplesHold
-unfolding lowering.lowerRecords env.namedEnv env.place lists.all hir.boundsFrom refusals.unless rfc.throughout lists.count
-    lists.any rfc.ownFrom steps.read_step reading.read_all reading.inShape reading.items_of
-    machine.in_turn machine.lowerWord machine.lowerStep machine.oneStep machine.wordedStep machine.unused
+unfolding lowering.lower_records env.named_env env.place lists.all hir.bounds_from refusals.unless rfc.throughout lists.count
+    lists.any rfc.own_from steps.read_step reading.read_all reading.in_shape reading.items_of
+    machine.in_turn machine.lower_word machine.lower_step machine.one_step machine.worded_step machine.unused
 examples_hold = ((refl, (refl, (refl, (refl, (refl, tt))))), (refl, (refl, (refl, tt))))

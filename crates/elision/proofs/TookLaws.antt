@@ -35,7 +35,7 @@ module _ (names : List ℕ) (out : Bool) (s : Lowerer) {d : Stepped} where
   self_takes : {words : List ℕ} {at : ℕ} {reading : Reading Step} {from to : ℕ}
       → StandsAt words at reading (standing.SelfType from to)
       → d ≡ stepped s (one_step names out (SelfType (take (to - from) (drop from words))) s) → d ≡ takes names out s reading
-  self_takes (inner.selfType l x b m e) h = rw l at h
+  self_takes (inner.self_type l x b m e) h = rw l at h
 
   missing_takes : {words : List ℕ} {at : ℕ} {reading : Reading Step} → StandsAt words at reading standing.Missing
       → d ≡ record { verdict = verdict.Refused Malformed; lowerer = s; lifetimes = laid [] } → d ≡ takes names out s reading
@@ -117,7 +117,7 @@ generics_part {g = g} (inner.generics {ls = ls} {rest = rest} l d b m x) h =
 self_part : {words : List ℕ} {at : ℕ} {reading : Reading Step} {from to : ℕ}
     → StandsAt words at reading (standing.SelfType from to) → Holds (λ step rest. fits step ≡ true) reading
     → Part words from to
-self_part (inner.selfType {ls = ls} {rest = rest} l d b m x) h = record {
+self_part (inner.self_type {ls = ls} {rest = rest} l d b m x) h = record {
   starts = m;
   ends = x;
   few = rw l (leb-true (length ls) 16 (holds_read (λ step rest. fits step ≡ true) (SelfType ls) rest h));

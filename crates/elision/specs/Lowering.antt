@@ -51,7 +51,7 @@ finished e count = env_with e.named count e.bounds
 -- by hand: the AST environment's refusals, then those of the environment itself (a 65th lifetime 4, more names than
 -- lifetimes 8)
 unfoldable pub finish_env : ast.LifetimeEnv → ℕ → Outcome hir.LifetimeEnv
-finish_env e count = unless (env_checks e ++ hirenv.envChecks (finished e count)) (finished e count)
+finish_env e count = unless (env_checks e ++ hirenv.env_checks (finished e count)) (finished e count)
 
 unfoldable pub measure_records : ast.LifetimeEnv → List ℕ → List ℕ → List ℕ → Outcome Method
 measure_records e self steps returns = unless (measure_checks e self steps returns) (lowered_records e self steps returns)

@@ -117,6 +117,7 @@ module _ (e : LifetimeEnv) where
         go : FirstDue r (bounds_checks e.declared e.bounds) → FirstDue r (env_checks e)
         go (here h q) = later (le-ltb 64 e.count lifetimes) (here h q)
         go (later d (here h q)) = rw (← q) (outside_due e lifetimes (ltb-false 256 e.bounds.pushed d) (not-true _ h))
+        go (later d (later _ x9)) = elim x9 [ ]
 
     none : v ≡ Accepted → NoneDue (bounds_checks e.declared e.bounds)
     none k = accepted_none (tt {0}) (bounds_checks e.declared e.bounds) (sym checked ∙ k)
@@ -156,6 +157,7 @@ module _ (e : LifetimeEnv) (b : Bound) where
         go (later c (later d (later l (here h q)))) =
             let past : all_below e.declared (bounds_of (with_bound e b)) ≡ false = sides ∙ rw (not-true (all_below e.declared (bounds_of e)) h) in
             later c (later (le-ltb 256 (e.bounds.pushed + 1) (omega arith)) (later l (here (ap not past) q)))
+        go (later c (later d (later l (later _ x15)))) = elim x15 [ ]
 
     none_before : v ≡ Accepted → NoneDue (env_checks e)
     none_before k = accepted_none (tt {0}) (env_checks e) (sym checked ∙ k)

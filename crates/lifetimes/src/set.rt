@@ -54,8 +54,8 @@ pub fn count(set: u64) -> usize
 // Write a set's lifetimes to a slice, ascending. Refused by 9 where the slice is too short. Looks at each of the 64
 // bits once.
 pub fn members(set: u64, out: &mut [usize]) -> Listed
-    ensures answer { result ≡ counted (sets.listMembers set (room out)) }
-    ensures stored { Fills (sets.listMembers set (room out)) out }
+    ensures answer { result ≡ counted (sets.list_members set (room out)) }
+    ensures stored { Fills (sets.list_members set (room out)) out }
 {
     let n = count(set);
     if out.len() < n {

@@ -51,7 +51,7 @@ module _ (bytes : List ℕ) where
 
   module _ (scratch : List ℕ) (roomy : Roomy bytes (length scratch)) {t : Text}
       (read : t ≡ sheet_answer bytes (length scratch)) {scratch₁ : List ℕ}
-      (wrote : scratch₁ ≡ written (shape.sheetWords bytes (length scratch)) scratch) where
+      (wrote : scratch₁ ≡ written (shape.sheet_words bytes (length scratch)) scratch) where
     pub text_refused : {k : Refusal} {out : List ℕ} → t.verdict ≡ verdict.Refused k
         → ListsTo (listed_sheet bytes) out (listed.Refused k) out
     unfolding listing_checks
@@ -69,7 +69,7 @@ module _ (bytes : List ℕ) where
           ∙ sym (unless_after (listing_of sheet) (lowering_checks sheet ++ (edges_check sheet ∷ []))
           (read_none bytes scratch roomy read wrote fine))
           ∙ ap (λ (cs : List Check). unless cs (listing_of sheet))
-          (sym (append_assoc (shape.sheetChecks bytes) (lowering_checks sheet) (edges_check sheet ∷ [])))
+          (sym (append_assoc (shape.sheet_checks bytes) (lowering_checks sheet) (edges_check sheet ∷ [])))
 
       pub text_listed : (A : Type 0) (w : Within) (out out₁ : List ℕ)
           → ListsWithin (listed_records (records_at scratch₁ t.ends)) A out w out₁
@@ -117,7 +117,7 @@ module _ (bytes : List ℕ) where
   unfolding listing_checks sheet_refusals
   fits_room n =
       let p = none_split (sheet_refusals bytes) (edges_check sheet ∷ []) n in
-      let q = none_split (shape.sheetChecks bytes) (lowering_checks sheet) p.0 in
+      let q = none_split (shape.sheet_checks bytes) (lowering_checks sheet) p.0 in
       listing_short sheet (read_parts bytes q.0).1 q.1 (ltb-false most_edges (length (sheet_borrows sheet).edges) (none_first p.1))
 
   module _ (out : List ℕ) where

@@ -55,18 +55,18 @@ visits_right [] p = tt
 visits_right (x ∷ xs) p = (ap Visited p.0, visits_right xs p.1)
 
 pub program_right : Right program_examples
-unfolding response unless listing_of listing_checks sheets.sheetRefusals sheets.loweringChecks shape.sheetChecks read.textChecks
-    read.sheetOf read.sheetIn read.linesBehind read.ten read.readLines read.stripPrefix flatten flat_map filter_map decimal.line
-    decimal.following decimal.digits decimal.digitsFor
-    shape.sheetInShape rows.methodInShape shapes.namesInShape shapes.boundsInShape shapes.pairsOf
-    ast-types.readType steps.read_step reading.read_all reading.inShape reading.items_of
-    declared.nameChecks declared.allPairChecks declared.implied declared.allImplied declared.namedEnv
-    declared.place rfc.throughout rfc.ownFrom
-    rows.readKnown rows.readTypes rows.readRow types.readOpaque types.readStruct types.readSlice types.readBare
-    types.readLowered lists.numbered lists.any lists.all lists.count lists.range lists.filter
-    used.usedSet new.created new.visitorFrom map_of.listedEdges brings.bring
-    env.envOf bounds.boundsFrom reaching.reachSet reaching.reachList reaching.allSets walk.traversal
-    walk.walk walk.walkFor walk.unpushed walk.neighbours sets.member sets.insert sets.insertAll sets.members
+unfolding response unless listing_of listing_checks sheets.sheet_refusals sheets.lowering_checks shape.sheet_checks read.text_checks
+    read.sheet_of read.sheet_in read.lines_behind read.ten read.read_lines read.strip_prefix flatten flat_map filter_map decimal.line
+    decimal.following decimal.digits decimal.digits_for
+    shape.sheet_in_shape rows.method_in_shape shapes.names_in_shape shapes.bounds_in_shape shapes.pairs_of
+    ast-types.read_type steps.read_step reading.read_all reading.in_shape reading.items_of
+    declared.name_checks declared.all_pair_checks declared.implied declared.all_implied declared.named_env
+    declared.place rfc.throughout rfc.own_from
+    rows.read_known rows.read_types rows.read_row types.read_opaque types.read_struct types.read_slice types.read_bare
+    types.read_lowered lists.numbered lists.any lists.all lists.count lists.range lists.filter
+    used.used_set new.created new.visitor_from map_of.listed_edges brings.bring
+    env.env_of bounds.bounds_from reaching.reach_set reaching.reach_list reaching.all_sets walk.traversal
+    walk.walk walk.walk_for walk.unpushed walk.neighbours sets.member sets.insert sets.insert_all sets.members
 program_right = (refl, (refl, tt))
 
 -- the lists one behind another, last first

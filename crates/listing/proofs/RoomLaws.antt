@@ -190,18 +190,18 @@ five_short a b c d e h i j k l =
 
 module _ (r : Records) (first : NoneDue (records_checks r)) (none : NoneDue (lowering_checks r)) where
   abbrev names : List ℕ
-  names = ast.allNamesOf r.names
+  names = ast.all_names_of r.names
 
   abbrev elided : rfc.Method
   elided = lowered_of r
 
   parts : (sheet_in_shape r ≡ true)
-      × NoneDue (ast.itemPlaceChecks r.names r.bounds r.types)
-      × NoneDue (rfc.elisionChecks names (receiver_of r.self) (steps_of r.steps) (steps_of r.returns))
+      × NoneDue (ast.item_place_checks r.names r.bounds r.types)
+      × NoneDue (rfc.elision_checks names (receiver_of r.self) (steps_of r.steps) (steps_of r.returns))
   unfolding lowering_checks
   parts =
-      let p = none_split (ast.itemPlaceChecks r.names r.bounds r.types) _ none in
-      let q = none_split (rfc.elisionChecks names (receiver_of r.self) (steps_of r.steps) (steps_of r.returns)) _ p.1 in
+      let p = none_split (ast.item_place_checks r.names r.bounds r.types) _ none in
+      let q = none_split (rfc.elision_checks names (receiver_of r.self) (steps_of r.steps) (steps_of r.returns)) _ p.1 in
       (not-false (sheet_in_shape r) (none_first first), p.0, q.0)
 
   lowered_short : length (lowered_lines elided) ≤ lowered_bytes

@@ -45,8 +45,8 @@ visits_as_listed bytes edges fine lent = as_listed bytes edges fine lent (progra
 
 pub examples_hold : ExamplesHold
 examples_hold =
-    right_more (map reach_example reach.starred) from_ast (reach_right reach.starred reach-proofs.examples-hold)
-    (right_more (map ast_example ast.starred) from_elision (ast_right ast.starred ast-proofs.examples-hold)
-    (right_more (map elision_example elision.starred) from_visits (elision_right elision.starred (elision-proofs.examples-hold).0)
-    (right_more (map visits_example visits.starred) program_examples (visits_right visits.starred (visits-proofs.examples-hold).0)
+    right_more (map reach_example reach.starred) from_ast (reach_right reach.starred reach-proofs.examples_hold)
+    (right_more (map ast_example ast.starred) from_elision (ast_right ast.starred ast-proofs.examples_hold)
+    (right_more (map elision_example elision.starred) from_visits (elision_right elision.starred (elision-proofs.examples_hold).0)
+    (right_more (map visits_example visits.starred) program_examples (visits_right visits.starred (visits-proofs.examples_hold).0)
     program_right)))

@@ -79,7 +79,7 @@ pub record Mapped (v : BorrowingParamVisitor) (structs params answers edges : Li
   pub most : length edges ≤ edges_room
   pub maps : m ≡ map_answer (borrow_map v structs params (length answers) (length edges))
   pub noted : answers₁ ≡ written (map_answers (borrow_map v structs params (length answers) (length edges))) answers
-  pub stored : edges₁ ≡ written (spec.mapEdges (borrow_map v structs params (length answers) (length edges))) edges
+  pub stored : edges₁ ≡ written (spec.map_edges (borrow_map v structs params (length answers) (length edges))) edges
 
 module _ {env : LifetimeEnv} {used : ℕ} {structs params own given taken : List ℕ}
     (can : Listable env used structs params own given taken) where
@@ -238,7 +238,7 @@ module _ {env : LifetimeEnv} {used : ℕ} {structs params own given taken : List
                 (map_checks visitor structs params (length answers) (length edges)) (sym verdict_is ∙ v))
 
             same : edges₁ ≡ edges
-            same = stored ∙ ap (λ (o : Outcome Mapping). written (spec.mapEdges o) edges) refuses
+            same = stored ∙ ap (λ (o : Outcome Mapping). written (spec.map_edges o) edges) refuses
 
             go : (t : Bool) → ltb (length edges) edges_room ≡ t
                 → ListsWithin listing ((lists_room ≤ length lists) × (edges_room ≤ length edges)) out
@@ -279,7 +279,7 @@ module _ {env : LifetimeEnv} {used : ℕ} {structs params own given taken : List
           answers_stand = noted ∙ ap (λ (o : Outcome Mapping). written (map_answers o) answers) map_given
 
           edges_stand : edges₁ ≡ flat_map edge_words borrows.edges ++ drop (length (flat_map edge_words borrows.edges)) edges
-          edges_stand = stored ∙ ap (λ (o : Outcome Mapping). written (spec.mapEdges o) edges) map_given
+          edges_stand = stored ∙ ap (λ (o : Outcome Mapping). written (spec.map_edges o) edges) map_given
 
           pub params_inside : m.params ≤ length answers₁
           params_inside = rw (map_is, answers_stand, length-append) (omega arith)

@@ -99,7 +99,7 @@ module _ (r : Records) (first : NoneDue (records_checks r)) (given taken : ℕ) 
   returns_short h = (λ a. eighth h returns_long a.1, refl)
 
   module _ (steps_room : length r.steps ≤ given / per_word) (returns_room : length r.returns ≤ taken / per_word)
-      {a : ast-made.Made} (is : a ≡ ast.made (ast.namedEnv [] []) (ast.fromMethodItem r.names r.bounds r.types)) where
+      {a : ast-made.Made} (is : a ≡ ast.made (ast.named_env [] []) (ast.from_method_item r.names r.bounds r.types)) where
     pub names_listed : {k : Refusal} {out : List ℕ} → a.verdict ≡ verdict.Refused k
         → ListsTo (listed_records r) out (listed.Refused k) out
     names_listed v = refuses r (names_first r first is v)
@@ -152,7 +152,7 @@ pub record Elided (r : Records) (own given taken : List ℕ) (a : ast-made.Made)
   pub first : NoneDue (records_checks r)
   pub steps_room : length r.steps ≤ length given / per_word
   pub returns_room : length r.returns ≤ length taken / per_word
-  pub names : a ≡ ast.made (ast.namedEnv [] []) (ast.fromMethodItem r.names r.bounds r.types)
+  pub names : a ≡ ast.made (ast.named_env [] []) (ast.from_method_item r.names r.bounds r.types)
   pub fine : a.verdict ≡ verdict.Accepted
   pub lowers : l ≡ answered a.env (lower_records a.env r.self r.steps r.returns 1 (length given) (length taken))
   pub own_written : own₁

@@ -25,7 +25,7 @@ pub field_pairs_are : FieldPairsAre
 field_pairs_are = pairs_are
 
 pub examples_hold : ExamplesHold
-unfolding used.usedSet list.filter_map fields.fieldPairs lists.numbered lists.any lists.all rows.readKnown rows.readTypes rows.readRow rows.methodInShape
-    types.readOpaque types.readStruct types.readSlice types.readBare types.readLowered reading.read_all reading.inShape
-    reading.items_of refusals.unless sets.insert sets.insertAll bounds.boundsFrom env.envOf list.flat_map
+unfolding used.used_set list.filter_map fields.field_pairs lists.numbered lists.any lists.all rows.read_known rows.read_types rows.read_row rows.method_in_shape
+    types.read_opaque types.read_struct types.read_slice types.read_bare types.read_lowered reading.read_all reading.in_shape
+    reading.items_of refusals.unless sets.insert sets.insert_all bounds.bounds_from env.env_of list.flat_map
 examples_hold = (refl, (refl, (refl, (refl, (refl, (refl, (refl, (refl, (refl, (refl, (refl, (refl, (refl, tt)))))))))))))

@@ -55,6 +55,7 @@ module _ (count : ℕ) (words : List ℕ) where
 -- one check alone that is refused is due
 first_here : {r : Refusal} {c : Check} → FirstDue r (c ∷ []) → c.due ≡ true
 first_here (here h e) = h
+first_here {r = r} {c = c} (later _ x6) = elim x6 [ ]
 
 -- what a caller has of it, who asks for no more words than there are
 module _ (words : List ℕ) (count : ℕ) (out : List ℕ) (most : count ≤ length words) {out' : List ℕ}

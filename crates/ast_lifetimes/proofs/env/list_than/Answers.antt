@@ -10,20 +10,20 @@ use Rattle.ast_lifetimes.proofs.env.list_than.Goals as goal
 pub returns-in-Refused : goal.returns-in-Refused
 returns-in-Refused c = let it = let s = c.args in
     than_refused s.longer s.env s.name s.out.now
-    (refused_first (tt {0}) _ (env_checks s.env) (sym c.check-verdict.ensures ∙ c.in-Refused.is)) in
+    (refused_first (tt {0}) _ (env_checks s.env) (sym c.check-verdict.ensures.answer ∙ c.in-Refused.is)) in
     record { value = it.0; fills = it.1 }
 
 pub position-at-requires : goal.position-at-requires
 position-at-requires c =
     let none : NoneDue (env_checks c.args.env) = let e = c.args.env in
-    accepted_none (tt {0}) (env_checks e) (sym c.check-verdict.ensures ∙ c.in_default.is) in
+    accepted_none (tt {0}) (env_checks e) (sym c.check-verdict.ensures.answer ∙ c.in_default.is) in
     let full : length c.args.env.names ≡ 32 = simp length-map at c.well_formed.0.1.1.0.1.0.1 in
     (few_names c.args.env none, full)
 
 pub returns-then-named-at : goal.returns-then-named-at
 returns-then-named-at c =
     let none : NoneDue (env_checks c.args.env) = let e = c.args.env in
-    accepted_none (tt {0}) (env_checks e) (sym c.check-verdict.ensures ∙ c.in_default.is) in
+    accepted_none (tt {0}) (env_checks e) (sym c.check-verdict.ensures.answer ∙ c.in_default.is) in
     let full : length c.args.env.names ≡ 32 = simp length-map at c.well_formed.0.1.1.0.1.0.1 in
     let it = than_unknown c.args.longer c.args.env c.args.name c.args.out.now
     none full
@@ -33,11 +33,11 @@ returns-then-named-at c =
 pub returns : goal.returns
 returns c =
     let none : NoneDue (env_checks c.args.env) = let e = c.args.env in
-    accepted_none (tt {0}) (env_checks e) (sym c.check-verdict.ensures ∙ c.in_default.is) in
+    accepted_none (tt {0}) (env_checks e) (sym c.check-verdict.ensures.answer ∙ c.in_default.is) in
     let full : length c.args.env.names ≡ 32 = simp length-map at c.well_formed.0.1.1.0.1.0.1 in
     let it = than_traversal c.args.longer c.args.env c.args.name c.args.out.now none full
     c.position-at.ensures
     c.if-named-at.false
-    c.from_bounds-hir.ensures
-    c.new.ensures c.depth_first_lifetimes.ensures in
+    c.from_bounds-hir.ensures.answer
+    c.new.ensures.answer (c.depth_first_lifetimes.ensures.answer, c.depth_first_lifetimes.ensures.stored) in
     record { value = it.0; fills = it.1 }

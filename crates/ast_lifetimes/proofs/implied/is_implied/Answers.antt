@@ -22,6 +22,6 @@ returns c = rw (
   length-take-le c.args.named c.args.names.now
       (omega (arith, c.requires)),
   lt-ltb _ _ c.if-named-at.false,
-  c.contains.ensures,
-  c.new.ensures,
+  c.contains.ensures.answer,
+  c.new.ensures.answer,
 )

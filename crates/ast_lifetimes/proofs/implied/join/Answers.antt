@@ -1,6 +1,7 @@
 -- `join` meets its contract: each turn joins one set more.
 use Prim.Native.Nat.{◌-◌}
 use mathlib.Core.Path.{sym, ap, ◌∙◌}
+use mathlib.Core.Logic.{⊎_elim}
 use native.Mathlib.Omega.{arith}
 use borrow.Author.Rules.{rules}
 use lib.ListN.{get_or}
@@ -16,8 +17,8 @@ pub loop-x-preserved : goal.loop-x-preserved
 loop-x-preserved c = let l = c.loop-x in
     let told =
     sym
-    (c.contains.ensures ∙ ap (λ (k : Lifetime). member (get_or l.reach l.x 0) k.0)
-    c.new.ensures) in (
+    (c.contains.ensures.answer ∙ ap (λ (k : Lifetime). member (get_or l.reach l.x 0) k.0)
+    c.new.ensures.answer) in (
       omega arith,
       l.invariant.1,
       ⊎_elim

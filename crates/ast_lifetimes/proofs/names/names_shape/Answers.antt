@@ -14,19 +14,21 @@ pub returns-then-n-names : goal.returns-then-n-names
 returns-then-n-names c = search (names_over, rules)
 
 pub returns-then-all_names : goal.returns-then-all_names
-returns-then-all_names c = let it = names_decide
-    c.args.names.now
-    c.if-n-eq0.false
-    c.if-n-gt-MAX_WORDS.false
-    c.if-n-names.false
-    (sym c.all_names.ensures ∙ c.if-all_names.true) in
-    record { answer = it }
+returns-then-all_names c = record {
+  answer = names_decide
+      c.args.names.now
+      c.if-n-eq0.false
+      c.if-n-gt-MAX_WORDS.false
+      c.if-n-names.false
+      (sym c.all_names.ensures ∙ c.if-all_names.true);
+}
 
 pub returns : goal.returns
-returns c = let it = names_decide
-    c.args.names.now
-    c.if-n-eq0.false
-    c.if-n-gt-MAX_WORDS.false
-    c.if-n-names.false
-    (sym c.all_names.ensures ∙ c.if-all_names.false) in
-    record { answer = it }
+returns c = record {
+  answer = names_decide
+      c.args.names.now
+      c.if-n-eq0.false
+      c.if-n-gt-MAX_WORDS.false
+      c.if-n-names.false
+      (sym c.all_names.ensures ∙ c.if-all_names.false);
+}

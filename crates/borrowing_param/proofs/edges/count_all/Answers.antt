@@ -2,6 +2,7 @@
 -- lifetimes are to be looked at.
 use Prim.Native.Nat.{◌-◌}
 use mathlib.Core.Path.{◌≡◌, sym, ap, ◌∙◌}
+use mathlib.Core.Logic.{⊎_elim}
 use native.Mathlib.Omega.{arith}
 use Rattle.lifetimes.specs.declared.lifetime.Lifetime.{Lifetime}
 use Rattle.lifetimes.specs.Sets.{member}
@@ -29,8 +30,8 @@ pub loop-l-preserved : goal.loop-l-preserved
 loop-l-preserved c = let l = c.loop-l in
     let few = path_few c.args.words.now c.args.parts c.requires.0 c.requires.1 in
     let test : c.contains.result ≡ member c.args.used l.l =
-    c.contains.ensures ∙ ap (λ (x : Lifetime). member c.args.used x.0)
-    c.new.ensures in
+    c.contains.ensures.answer ∙ ap (λ (x : Lifetime). member c.args.used x.0)
+    c.new.ensures.answer in
     ⊎_elim
     (λ t. rw t.3 (
       l.invariant.0,

@@ -2,6 +2,7 @@
 -- words are to be read.
 use Prim.Native.Nat.{◌-◌}
 use mathlib.Core.Path.{sym, ◌∙◌}
+use mathlib.Core.Logic.{⊎_elim}
 use Rattle.borrowing_param.proofs.EdgesLaws.{part_many, part_word, counting_start, counting_one}
 use Rattle.borrowing_param.proofs.EdgesLaws.{counting_none, counting_end}
 use borrow.Author.Rules.{rules}
@@ -21,7 +22,7 @@ loop-i-preserved c = let l = c.loop-i in
     c.path_words-path.result.now
     c.args.from
     c.args.count
-    c.path_words-path.ensures c.loop-i-test.true
+    c.path_words-path.ensures.answer c.loop-i-test.true
     c.linked_lifetime.ensures in
     ⊎_elim
     (λ h. rw h.1

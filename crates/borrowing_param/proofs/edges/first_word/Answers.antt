@@ -31,13 +31,13 @@ bounds-words-from c = c.requires c.loop-i.i c.loop-i-test.true
 pub returns-then-draws : goal.returns-then-draws
 returns-then-draws c = searching_found c.loop-i.invariant
     c.requires
-    c.loop-i-test.true c.from_word.ensures
+    c.loop-i-test.true c.from_word.ensures.answer
     (sym c.if-draws.true ∙ c.draws.ensures)
 
 pub loop-i-preserved : goal.loop-i-preserved
 loop-i-preserved c = searching_more c.loop-i.invariant
     c.requires
-    c.loop-i-test.true c.from_word.ensures
+    c.loop-i-test.true c.from_word.ensures.answer
     (sym c.if-draws.false ∙ c.draws.ensures)
 
 pub returns : goal.returns

@@ -9,7 +9,7 @@ use Rattle.borrowing_param.proofs.edges.linked_lifetime.Goals as goal
 pub returns-in_default : goal.returns-in_default
 returns-in_default c = link_only c.args.path.now c.args.count
     c.requires.0 c.requires.1
-    c.new.ensures c.linked_word-linked.ensures (tag_of LinkedWord.the_type) refl
+    c.new.ensures.answer c.linked_word-linked.ensures.answer (tag_of LinkedWord.the_type) refl
     c.in_default.keys2
 
 pub returns : goal.returns

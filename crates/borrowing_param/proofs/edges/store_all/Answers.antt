@@ -23,8 +23,8 @@ used-preserved-then-not-contains c = let l = c.used in (
   storing_none l.invariant.1
       (all_not c.args.used c.args.drawn.now (type_in c.args.words.now c.args.parts) c.args.param
       l.i (below_64 l.invariant.0 c.used-test.true)
-      (sym c.if-not-contains.true ∙ c.contains.ensures
-      ∙ ap (λ (x : Lifetime). member c.args.used x.0) c.new.ensures)),
+      (sym c.if-not-contains.true ∙ c.contains.ensures.answer
+      ∙ ap (λ (x : Lifetime). member c.args.used x.0) c.new.ensures.answer)),
 )
 
 pub store_for-next-requires : goal.store_for-next-requires
@@ -32,8 +32,8 @@ store_for-next-requires c = let it = let l = c.used in
     let h = below_64 l.invariant.0 c.used-test.true in
     let split =
     all_here c.args.used c.args.drawn.now (type_in c.args.words.now c.args.parts) c.args.param
-    l.i h (sym c.if-not-contains.false ∙ c.contains.ensures
-    ∙ ap (λ (x : Lifetime). member c.args.used x.0) c.new.ensures) in (
+    l.i h (sym c.if-not-contains.false ∙ c.contains.ensures.answer
+    ∙ ap (λ (x : Lifetime). member c.args.used x.0) c.new.ensures.answer) in (
       (c.requires.0.0, c.requires.0.1, h, l.invariant.1.sets16),
       storing_fits l.invariant.1
           (bring (draws_in (get_or c.args.drawn.now l.i 0)) l.i c.args.param
@@ -48,8 +48,8 @@ used-preserved c = let l = c.used in
     let split =
     all_here c.args.used c.args.drawn.now (type_in c.args.words.now c.args.parts) c.args.param
     l.i (below_64 l.invariant.0 c.used-test.true)
-    (sym c.if-not-contains.false ∙ c.contains.ensures
-    ∙ ap (λ (x : Lifetime). member c.args.used x.0) c.new.ensures) in (
+    (sym c.if-not-contains.false ∙ c.contains.ensures.answer
+    ∙ ap (λ (x : Lifetime). member c.args.used x.0) c.new.ensures.answer) in (
       l.invariant.0,
       storing_part l.invariant.1
           (bring (draws_in (get_or c.args.drawn.now l.i 0)) l.i c.args.param

@@ -37,7 +37,7 @@ lifetimes-2-preserved-then-not-draws c =
     let linked : let a = c.args in
     c.linked_lifetime.result ≡ from_word (get_or a.words.now (a.parts.from + c.lifetimes-2.i) 0) = let a = c.args in
     part_word a.words.now c.path_words-path.result.now a.parts.from a.parts.count
-    c.path_words-path.ensures c.lifetimes-test.true c.linked_lifetime.ensures in
+    c.path_words-path.ensures.answer c.lifetimes-test.true c.linked_lifetime.ensures in
     let a = c.args in (
       omega (arith, c.lifetimes-test.true),
       storing_none c.lifetimes-2.invariant.1
@@ -55,7 +55,7 @@ store_pair-next-requires c =
     let linked : let a = c.args in
     c.linked_lifetime.result ≡ from_word (get_or a.words.now (a.parts.from + c.lifetimes-2.i) 0) = let a = c.args in
     part_word a.words.now c.path_words-path.result.now a.parts.from a.parts.count
-    c.path_words-path.ensures c.lifetimes-test.true c.linked_lifetime.ensures in
+    c.path_words-path.ensures.answer c.lifetimes-test.true c.linked_lifetime.ensures in
     let split : from c.lifetimes-2.i
     ≡ this ++ from
     (c.lifetimes-2.i + 1) = let a = c.args in
@@ -80,7 +80,7 @@ lifetimes-2-preserved c =
     let linked : let a = c.args in
     c.linked_lifetime.result ≡ from_word (get_or a.words.now (a.parts.from + c.lifetimes-2.i) 0) = let a = c.args in
     part_word a.words.now c.path_words-path.result.now a.parts.from a.parts.count
-    c.path_words-path.ensures c.lifetimes-test.true c.linked_lifetime.ensures in
+    c.path_words-path.ensures.answer c.lifetimes-test.true c.linked_lifetime.ensures in
     let split : from c.lifetimes-2.i
     ≡ this ++ from
     (c.lifetimes-2.i + 1) = let a = c.args in

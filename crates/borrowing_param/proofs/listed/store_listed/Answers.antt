@@ -30,8 +30,8 @@ used-preserved-then-not-contains c = let l = c.used in (
   storing_none l.invariant.1
       (listed_not c.args.used c.args.drawn.now (param_types c.args.params.now) l.i
       (below_64 l.invariant.0 c.used-test.true)
-      (sym c.if-not-contains.true ∙ c.contains.ensures
-      ∙ ap (λ (x : Lifetime). member c.args.used x.0) c.new.ensures)),
+      (sym c.if-not-contains.true ∙ c.contains.ensures.answer
+      ∙ ap (λ (x : Lifetime). member c.args.used x.0) c.new.ensures.answer)),
 )
 
 pub store_to-next-requires : goal.store_to-next-requires
@@ -39,8 +39,8 @@ store_to-next-requires c = let it = let l = c.used in
     let h = below_64 l.invariant.0 c.used-test.true in
     let split =
     listed_here c.args.used c.args.drawn.now (param_types c.args.params.now) l.i h
-    (sym c.if-not-contains.false ∙ c.contains.ensures
-    ∙ ap (λ (x : Lifetime). member c.args.used x.0) c.new.ensures) in (
+    (sym c.if-not-contains.false ∙ c.contains.ensures.answer
+    ∙ ap (λ (x : Lifetime). member c.args.used x.0) c.new.ensures.answer) in (
       (c.requires.0, h, l.invariant.1.sets16),
       storing_fits l.invariant.1
           (bring_from (draws_in (get_or c.args.drawn.now l.i 0)) l.i 0 (param_types c.args.params.now))
@@ -53,8 +53,8 @@ used-preserved c = let l = c.used in
     let split =
     listed_here c.args.used c.args.drawn.now (param_types c.args.params.now) l.i
     (below_64 l.invariant.0 c.used-test.true)
-    (sym c.if-not-contains.false ∙ c.contains.ensures
-    ∙ ap (λ (x : Lifetime). member c.args.used x.0) c.new.ensures) in (
+    (sym c.if-not-contains.false ∙ c.contains.ensures.answer
+    ∙ ap (λ (x : Lifetime). member c.args.used x.0) c.new.ensures.answer) in (
       l.invariant.0,
       storing_part l.invariant.1
           (bring_from (draws_in (get_or c.args.drawn.now l.i 0)) l.i 0 (param_types c.args.params.now))

@@ -21,13 +21,13 @@ lower_records-requires c =
     c.record_words-7.result.now c.record_words-8.result.now
     c.record_words-9.result.now c.record_words-10.result.now
     ≡ records_at c.args.words.now c.args.ends = ten_found c.args.words.now c.args.ends
-    c.record_words.ensures
-    c.record_words-2.ensures
-    c.record_words-3.ensures
-    c.record_words-4.ensures
-    c.record_words-5.ensures
-    c.record_words-6.ensures c.record_words-7.ensures
-    c.record_words-8.ensures c.record_words-9.ensures c.record_words-10.ensures in
+    c.record_words.ensures.answer
+    c.record_words-2.ensures.answer
+    c.record_words-3.ensures.answer
+    c.record_words-4.ensures.answer
+    c.record_words-5.ensures.answer
+    c.record_words-6.ensures.answer c.record_words-7.ensures.answer
+    c.record_words-8.ensures.answer c.record_words-9.ensures.answer c.record_words-10.ensures.answer in
     subst (λ (r : Records). NoneDue (records_checks r)) (sym found) c.requires
 
 pub returns : goal.returns
@@ -41,11 +41,11 @@ returns c =
     c.record_words-7.result.now c.record_words-8.result.now
     c.record_words-9.result.now c.record_words-10.result.now
     ≡ records_at c.args.words.now c.args.ends = ten_found c.args.words.now c.args.ends
-    c.record_words.ensures
-    c.record_words-2.ensures
-    c.record_words-3.ensures
-    c.record_words-4.ensures
-    c.record_words-5.ensures
-    c.record_words-6.ensures c.record_words-7.ensures
-    c.record_words-8.ensures c.record_words-9.ensures c.record_words-10.ensures in
+    c.record_words.ensures.answer
+    c.record_words-2.ensures.answer
+    c.record_words-3.ensures.answer
+    c.record_words-4.ensures.answer
+    c.record_words-5.ensures.answer
+    c.record_words-6.ensures.answer c.record_words-7.ensures.answer
+    c.record_words-8.ensures.answer c.record_words-9.ensures.answer c.record_words-10.ensures.answer in
     c.lower_records.ensures ∙ ap (λ (r : Records). made (env_of 0 0 []) (lowered_env r)) found

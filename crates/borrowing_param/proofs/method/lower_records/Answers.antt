@@ -12,8 +12,8 @@ returns-in-Refused-elided c =
     let sheet_in : Records = ten_records c.args.names.now c.args.bounds.now c.args.types.now c.args.receiver.now
     c.args.steps.now c.args.returns.now c.args.structs.now c.args.params.now
     c.args.output.now c.args.force.now in
-    steps_refused sheet_in c.requires c.from_method_item-ast.ensures
-    c.in_default.is c.measure-lowered.ensures c.in-Refused-elided.is
+    steps_refused sheet_in c.requires c.from_method_item-ast.ensures.answer
+    c.in_default.is c.measure-lowered.ensures.answer c.in-Refused-elided.is
     c.refused_env-in-Refused-elided.ensures
 
 pub returns-in-Refused-verdict : goal.returns-in-Refused-verdict
@@ -21,9 +21,9 @@ returns-in-Refused-verdict c =
     let sheet_in : Records = ten_records c.args.names.now c.args.bounds.now c.args.types.now c.args.receiver.now
     c.args.steps.now c.args.returns.now c.args.structs.now c.args.params.now
     c.args.output.now c.args.force.now in
-    method_refused sheet_in c.requires c.from_method_item-ast.ensures
-    c.in_default.is c.measure-lowered.ensures c.in_default-elided.is
-    c.check_method-verdict.ensures c.in-Refused-verdict.is
+    method_refused sheet_in c.requires c.from_method_item-ast.ensures.answer
+    c.in_default.is c.measure-lowered.ensures.answer c.in_default-elided.is
+    c.check_method-verdict.ensures.answer c.in-Refused-verdict.is
     c.refused_env-in-Refused-verdict.ensures
 
 pub returns : goal.returns
@@ -31,6 +31,6 @@ returns c =
     let sheet_in : Records = ten_records c.args.names.now c.args.bounds.now c.args.types.now c.args.receiver.now
     c.args.steps.now c.args.returns.now c.args.structs.now c.args.params.now
     c.args.output.now c.args.force.now in
-    method_given sheet_in c.requires c.from_method_item-ast.ensures
-    c.in_default.is c.measure-lowered.ensures c.in_default-elided.is
-    c.check_method-verdict.ensures c.in_default-verdict.is
+    method_given sheet_in c.requires c.from_method_item-ast.ensures.answer
+    c.in_default.is c.measure-lowered.ensures.answer c.in_default-elided.is
+    c.check_method-verdict.ensures.answer c.in_default-verdict.is

@@ -8,11 +8,11 @@ returns-in-Refused c = let it = within_refused c.args.sheet.now c.judge_sheet-me
 
 pub returns-in_default-copy_words : goal.returns-in_default-copy_words
 returns-in_default-copy_words c = let it = within_short c.args.sheet.now c.judge_sheet-method.ensures c.args.words.now c.in_default.is
-    c.copy_words.ensures.1 c.copy_words.ensures.0 c.in_default-copy_words.is
+    c.copy_words.ensures.stored c.copy_words.ensures.answer c.in_default-copy_words.is
     c.refused_method.ensures in
     record { value = it.0; fills = it.1 }
 
 pub returns : goal.returns
 returns c = let it = within_all c.args.sheet.now c.judge_sheet-method.ensures c.args.words.now c.in_default.is
-    c.copy_words.ensures.1 c.copy_words.ensures.0 c.in-Count.is in
+    c.copy_words.ensures.stored c.copy_words.ensures.answer c.in-Count.is in
     record { value = it.0; fills = it.1 }

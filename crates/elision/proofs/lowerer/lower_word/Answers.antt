@@ -24,7 +24,7 @@ pub returns : goal.returns
 unfolding lower_word
 returns c = rw (
   c.visited-2.ensures,
-  c.new.ensures,
+  c.new.ensures.answer,
   ne_eqb _ _ c.if-word-eq1.false,
   ne_eqb _ _ c.if-word-eq0.false,
   ← c.position-at.ensures,

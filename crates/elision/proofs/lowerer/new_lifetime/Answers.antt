@@ -6,4 +6,4 @@ pub returns-then-count-ge-MAX_LIFETIMES : goal.returns-then-count-ge-MAX_LIFETIM
 returns-then-count-ge-MAX_LIFETIMES c = rw (le-leb _ _ c.if-count-ge-MAX_LIFETIMES.true)
 
 pub returns : goal.returns
-returns c = rw (c.visited.ensures, c.new.ensures, lt-leb _ _ c.if-count-ge-MAX_LIFETIMES.false)
+returns c = rw (c.visited.ensures, c.new.ensures.answer, lt-leb _ _ c.if-count-ge-MAX_LIFETIMES.false)

@@ -2,7 +2,7 @@
 use Rattle.elision.proofs.lowerer.visited.Goals as goal
 
 pub returns-in-Input : goal.returns-in-Input
-returns-in-Input c = rw (c.visit_lifetime.ensures, c.in-Input.is)
+returns-in-Input c = rw (c.visit_lifetime.ensures.answer, c.in-Input.is)
 
 pub returns-in-Aside : goal.returns-in-Aside
 returns-in-Aside c = rw c.in-Aside.is

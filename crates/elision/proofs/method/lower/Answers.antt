@@ -7,50 +7,49 @@ use Rattle.elision.proofs.EntryLaws.{lower_given, lower_taken, lower_all}
 use Rattle.elision.proofs.method.lower.Goals as goal
 
 pub returns-in-Refused : goal.returns-in-Refused
-returns-in-Refused c = let it = lower_refused _ _ _ _ _ _ _ c.measure-measured.ensures c.in-Refused.is refl refl refl in
-    record { answer = it }
+returns-in-Refused c = record { answer = lower_refused _ _ _ _ _ _ _ c.measure-measured.ensures.answer c.in-Refused.is refl refl refl }
 
 pub returns-then-own-measured : goal.returns-then-own-measured
 returns-then-own-measured c =
     let measured : Measured c.args.env c.args.receiver.now c.args.steps.now c.args.returns.now
-    c.measure-measured.result = measures _ _ _ _ c.measure-measured.ensures c.in_default.is in
-    let it = lower_own measured c.if-own-measured.true c.refused_lowering.ensures refl refl refl in
-    record { answer = it }
+    c.measure-measured.result = measures _ _ _ _ c.measure-measured.ensures.answer c.in_default.is in
+    record { answer = lower_own measured c.if-own-measured.true c.refused_lowering.ensures refl refl refl }
 
 pub returns-then-given-measured : goal.returns-then-given-measured
 returns-then-given-measured c =
     let measured : Measured c.args.env c.args.receiver.now c.args.steps.now c.args.returns.now
-    c.measure-measured.result = measures _ _ _ _ c.measure-measured.ensures c.in_default.is in
-    let it = lower_given measured c.if-own-measured.false c.if-given-measured.true
-    c.refused_lowering-then-given-measured.ensures refl refl refl in
-    record { answer = it }
+    c.measure-measured.result = measures _ _ _ _ c.measure-measured.ensures.answer c.in_default.is in
+    record {
+      answer = lower_given measured c.if-own-measured.false c.if-given-measured.true
+          c.refused_lowering-then-given-measured.ensures refl refl refl;
+    }
 
 pub returns-then-taken-measured : goal.returns-then-taken-measured
 returns-then-taken-measured c =
     let measured : Measured c.args.env c.args.receiver.now c.args.steps.now c.args.returns.now
-    c.measure-measured.result = measures _ _ _ _ c.measure-measured.ensures c.in_default.is in
-    let it = lower_taken measured c.if-own-measured.false c.if-given-measured.false c.if-taken-measured.true
-    c.refused_lowering-then-taken-measured.ensures refl refl refl in
-    record { answer = it }
+    c.measure-measured.result = measures _ _ _ _ c.measure-measured.ensures.answer c.in_default.is in
+    record {
+      answer = lower_taken measured c.if-own-measured.false c.if-given-measured.false c.if-taken-measured.true
+          c.refused_lowering-then-taken-measured.ensures refl refl refl;
+    }
 
 pub slice_bounds-run-end : goal.slice_bounds-run-end
 slice_bounds-run-end c =
     let full : length c.args.env.names ≡ 32 = simp length-map at c.well_formed.0.1.1.0.1.0.1 in
     let measured : Measured c.args.env c.args.receiver.now c.args.steps.now c.args.returns.now
-    c.measure-measured.result = measures _ _ _ _ c.measure-measured.ensures c.in_default.is in
+    c.measure-measured.result = measures _ _ _ _ c.measure-measured.ensures.answer c.in_default.is in
     omega (arith, full, lower_named measured)
 
 pub run-requires : goal.run-requires
 run-requires c =
     let measured : Measured c.args.env c.args.receiver.now c.args.steps.now c.args.returns.now
-    c.measure-measured.result = measures _ _ _ _ c.measure-measured.ensures c.in_default.is in
+    c.measure-measured.result = measures _ _ _ _ c.measure-measured.ensures.answer c.in_default.is in
     lower_shaped
     measured
 
 pub returns : goal.returns
 returns c =
     let measured : Measured c.args.env c.args.receiver.now c.args.steps.now c.args.returns.now
-    c.measure-measured.result = measures _ _ _ _ c.measure-measured.ensures c.in_default.is in
+    c.measure-measured.result = measures _ _ _ _ c.measure-measured.ensures.answer c.in_default.is in
     let full : length c.args.env.names ≡ 32 = simp length-map at c.well_formed.0.1.1.0.1.0.1 in
-    let it = lower_all measured _ _ _ c.if-own-measured.false c.if-given-measured.false c.if-taken-measured.false full c.run.ensures in
-    record { answer = it }
+    record { answer = lower_all measured _ _ _ c.if-own-measured.false c.if-given-measured.false c.if-taken-measured.false full c.run.ensures }

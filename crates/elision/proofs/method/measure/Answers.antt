@@ -15,10 +15,11 @@ returns-in-Refused c = search (measure_shape, rules)
 pub returns-in-Refused-valid : goal.returns-in-Refused-valid
 returns-in-Refused-valid c =
     let shaped : Shaped c.args.env c.args.receiver.now c.args.steps.now c.args.returns.now = shape_told _ _ _ _ c.shape_of-shape.ensures c.in_default.is in
-    let it = measure_env shaped
-    (refused_first _ _ _ (sym c.check-valid.ensures ∙ c.in-Refused-valid.is))
-    c.refused_lowering-in-Refused-valid.ensures in
-    record { answer = it }
+    record {
+      answer = measure_env shaped
+          (refused_first _ _ _ (sym c.check-valid.ensures.answer ∙ c.in-Refused-valid.is))
+          c.refused_lowering-in-Refused-valid.ensures;
+    }
 
 pub slice_bounds-judge-end : goal.slice_bounds-judge-end
 slice_bounds-judge-end c =
@@ -26,7 +27,7 @@ slice_bounds-judge-end c =
     let shaped : Shaped c.args.env c.args.receiver.now c.args.steps.now c.args.returns.now = shape_told _ _ _ _ c.shape_of-shape.ensures c.in_default.is in
     let valid : Valid c.args.env c.args.receiver.now c.args.steps.now c.args.returns.now = record {
       shaped = shaped;
-      none = accepted_none _ _ (sym c.check-valid.ensures
+      none = accepted_none _ _ (sym c.check-valid.ensures.answer
           ∙ c.in_default-valid.is);
     } in
     omega (arith, full, few_names c.args.env valid.none)
@@ -41,19 +42,17 @@ returns-in-Refused-verdict c =
     let shaped : Shaped c.args.env c.args.receiver.now c.args.steps.now c.args.returns.now = shape_told _ _ _ _ c.shape_of-shape.ensures c.in_default.is in
     let valid : Valid c.args.env c.args.receiver.now c.args.steps.now c.args.returns.now = record {
       shaped = shaped;
-      none = accepted_none _ _ (sym c.check-valid.ensures
+      none = accepted_none _ _ (sym c.check-valid.ensures.answer
           ∙ c.in_default-valid.is);
     } in
-    let it = measure_refused valid c.judge-totals.ensures c.in-Refused-verdict.is c.refused_lowering-in-Refused-verdict.ensures in
-    record { answer = it }
+    record { answer = measure_refused valid c.judge-totals.ensures c.in-Refused-verdict.is c.refused_lowering-in-Refused-verdict.ensures }
 
 pub returns : goal.returns
 returns c =
     let shaped : Shaped c.args.env c.args.receiver.now c.args.steps.now c.args.returns.now = shape_told _ _ _ _ c.shape_of-shape.ensures c.in_default.is in
     let valid : Valid c.args.env c.args.receiver.now c.args.steps.now c.args.returns.now = record {
       shaped = shaped;
-      none = accepted_none _ _ (sym c.check-valid.ensures
+      none = accepted_none _ _ (sym c.check-valid.ensures.answer
           ∙ c.in_default-valid.is);
     } in
-    let it = measure_all valid c.judge-totals.ensures c.in_default-verdict.is c.from_bounds.ensures in
-    record { answer = it }
+    record { answer = measure_all valid c.judge-totals.ensures c.in_default-verdict.is c.from_bounds.ensures.answer }

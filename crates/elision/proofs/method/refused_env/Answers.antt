@@ -2,4 +2,4 @@
 use Rattle.elision.proofs.method.refused_env.Goals as goal
 
 pub returns : goal.returns
-returns c = rw c.none.ensures
+returns c = rw c.none.ensures.answer

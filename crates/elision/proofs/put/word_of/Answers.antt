@@ -2,7 +2,7 @@
 use Rattle.elision.proofs.put.word_of.Goals as goal
 
 pub returns-in_default : goal.returns-in_default
-returns-in_default c = rw (← c.word-word.ensures, c.in_default.is)
+returns-in_default c = rw (← c.word-word.ensures.answer, c.in_default.is)
 
 pub returns : goal.returns
-returns c = rw (← c.word-word.ensures, c.in-Word.is)
+returns c = rw (← c.word-word.ensures.answer, c.in-Word.is)

@@ -3,9 +3,7 @@ use borrow.Author.Tests.{lt-leb, le-leb}
 use Rattle.elision.proofs.steps.self_shape.Goals as goal
 
 pub returns-then-receiver-gt1 : goal.returns-then-receiver-gt1
-returns-then-receiver-gt1 c = let it = rw (lt-leb _ _ c.if-receiver-gt1.true) in
-    record { answer = it }
+returns-then-receiver-gt1 c = record { answer = rw (lt-leb _ _ c.if-receiver-gt1.true) }
 
 pub returns : goal.returns
-returns c = let it = rw (le-leb _ _ c.if-receiver-gt1.false) in
-    record { answer = it }
+returns c = record { answer = rw (le-leb _ _ c.if-receiver-gt1.false) }

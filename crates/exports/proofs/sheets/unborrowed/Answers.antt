@@ -5,8 +5,8 @@ use Rattle.exports.proofs.sheets.unborrowed.Goals as goal
 
 pub returns-in-Accepted : goal.returns-in-Accepted
 returns-in-Accepted c = unborrowed_given c.args.sheet.now c.borrow_sheet-borrows.result
-    c.borrow_sheet-borrows.ensures.0.counts c.in-Accepted.is
+    c.borrow_sheet-borrows.ensures.answer.counts c.in-Accepted.is
 
 pub returns-in-Refused : goal.returns-in-Refused
 returns-in-Refused c = unborrowed_refused c.args.sheet.now c.borrow_sheet-borrows.result c.in-Refused.refusal
-    c.borrow_sheet-borrows.ensures.0.counts c.in-Refused.is
+    c.borrow_sheet-borrows.ensures.answer.counts c.in-Refused.is

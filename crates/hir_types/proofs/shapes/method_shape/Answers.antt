@@ -6,34 +6,38 @@ use borrow.Author.Rules.{rules}
 use Rattle.hir_types.proofs.shapes.method_shape.Goals as goal
 
 pub returns-in_default : goal.returns-in_default
-returns-in_default c = let it = let s = c.args in
-    c.no_shape.ensures ∙ method_structs s.structs.now s.params.now s.output.now s.force.now
-    c.structs_shape-first.ensures c.in_default.is in
-    record { answer = it }
+returns-in_default c = record {
+  answer = let s = c.args in
+      c.no_shape.ensures ∙ method_structs s.structs.now s.params.now s.output.now s.force.now
+      c.structs_shape-first.ensures.answer c.in_default.is;
+}
 
 pub returns-in_default-second : goal.returns-in_default-second
-returns-in_default-second c = let it = let s = c.args in
-    c.no_shape-in_default-second.ensures ∙ method_params s.structs.now s.params.now s.output.now s.force.now
-    c.structs_shape-first.ensures c.in-Count.is
-    c.params_shape-second.ensures c.in_default-second.is in
-    record { answer = it }
+returns-in_default-second c = record {
+  answer = let s = c.args in
+      c.no_shape-in_default-second.ensures ∙ method_params s.structs.now s.params.now s.output.now s.force.now
+      c.structs_shape-first.ensures.answer c.in-Count.is
+      c.params_shape-second.ensures.answer c.in_default-second.is;
+}
 
 pub returns-in_default-third : goal.returns-in_default-third
-returns-in_default-third c = let it = let s = c.args in
-    c.no_shape-in_default-third.ensures ∙ method_output s.structs.now s.params.now s.output.now s.force.now
-    c.structs_shape-first.ensures c.in-Count.is
-    c.params_shape-second.ensures c.in-Count-second.is
-    c.output_shape-third.ensures c.in_default-third.is in
-    record { answer = it }
+returns-in_default-third c = record {
+  answer = let s = c.args in
+      c.no_shape-in_default-third.ensures ∙ method_output s.structs.now s.params.now s.output.now s.force.now
+      c.structs_shape-first.ensures.answer c.in-Count.is
+      c.params_shape-second.ensures.answer c.in-Count-second.is
+      c.output_shape-third.ensures.answer c.in_default-third.is;
+}
 
 pub returns-in-Refused : goal.returns-in-Refused
-returns-in-Refused c = let it = let s = c.args in
-    c.no_shape-in-Refused.ensures ∙ method_force s.structs.now s.params.now s.output.now s.force.now
-    c.structs_shape-first.ensures c.in-Count.is
-    c.params_shape-second.ensures c.in-Count-second.is
-    c.output_shape-third.ensures c.in-Count-third.is
-    c.force_shape-last.ensures c.in-Refused.is in
-    record { answer = it }
+returns-in-Refused c = record {
+  answer = let s = c.args in
+      c.no_shape-in-Refused.ensures ∙ method_force s.structs.now s.params.now s.output.now s.force.now
+      c.structs_shape-first.ensures.answer c.in-Count.is
+      c.params_shape-second.ensures.answer c.in-Count-second.is
+      c.output_shape-third.ensures.answer c.in-Count-third.is
+      c.force_shape-last.ensures.answer c.in-Refused.is;
+}
 
 pub returns : goal.returns
 returns c = search (method_whole, rules)

@@ -19,11 +19,11 @@ bounds-pairs-i-in-loop-i c = search (pair_second, rules)
 pub bound_of-requires : goal.bound_of-requires
 bound_of-requires c = filling_small c.loop-i.invariant c.loop-i-test.true
 
-pub offset_bounds-list-pushed : goal.offset_bounds-list-pushed
-offset_bounds-list-pushed c = omega (arith, bounds-list-pushed c)
-
 pub bounds-list-pushed : goal.bounds-list-pushed
 bounds-list-pushed c = search (filling_room, rules)
+
+pub offset_bounds-list-pushed : goal.offset_bounds-list-pushed
+offset_bounds-list-pushed c = omega (arith, bounds-list-pushed c)
 
 pub overflow_add-pushed : goal.overflow_add-pushed
 overflow_add-pushed c = omega (arith, bounds-list-pushed c)

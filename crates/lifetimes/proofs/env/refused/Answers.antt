@@ -2,4 +2,4 @@
 use Rattle.lifetimes.proofs.env.refused.Goals as goal
 
 pub returns : goal.returns
-returns c = rw c.none.ensures
+returns c = rw c.none.ensures.answer

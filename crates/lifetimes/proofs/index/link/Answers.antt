@@ -18,32 +18,32 @@ loop-i-init c = search (linking_start, rules)
 
 pub offset_bounds-bounds-at : goal.offset_bounds-bounds-at
 offset_bounds-bounds-at c =
-    let few : c.args.t1.pushed ≤ 256 = omega (arith, c.requires.0.0.few, c.requires.0.1) in
+    let few : c.args.bounds.pushed ≤ 256 = omega (arith, c.requires.0.0.few, c.requires.0.1) in
     let inside : c.place-at.result < 256 = omega (
       arith,
       few,
-      place_below c.args.ast c.args.t1.pushed c.loop-i.i c.place-at.result (search rules)
+      place_below c.args.ast c.args.bounds.pushed c.loop-i.i c.place-at.result (search rules)
           c.place-at.ensures,
     ) in
     omega (arith, inside)
 
 pub bounds-bounds-at : goal.bounds-bounds-at
 bounds-bounds-at c =
-    let few : c.args.t1.pushed ≤ 256 = omega (arith, c.requires.0.0.few, c.requires.0.1) in
+    let few : c.args.bounds.pushed ≤ 256 = omega (arith, c.requires.0.0.few, c.requires.0.1) in
     let inside : c.place-at.result < 256 = omega (
       arith,
       few,
-      place_below c.args.ast c.args.t1.pushed c.loop-i.i c.place-at.result (search rules)
+      place_below c.args.ast c.args.bounds.pushed c.loop-i.i c.place-at.result (search rules)
           c.place-at.ensures,
     ) in
     inside
 
 pub offset_bounds-last-x : goal.offset_bounds-last-x
 offset_bounds-last-x c =
-    let fine : Fine (linked_in (order_of c.args.ast) (list_of c.args.t1)) = linked_fine (order_of c.args.ast) c.requires.0.0 in
-    let all : length (linked_in (order_of c.args.ast) (list_of c.args.t1)) ≡ c.args.t1.pushed = linked_length (order_of c.args.ast) (list_of c.args.t1) ∙ c.requires.0.1 in
-    let reads : get_or (linked_in (order_of c.args.ast) (list_of c.args.t1)) c.loop-i.i (above 0 0)
-    ≡ get_or c.args.t1.list c.place-at.result (above 0 0) = linked_at c.args.ast c.args.t1 c.loop-i.i c.place-at.result c.requires.0.1 (search rules)
+    let fine : Fine (linked_in (order_of c.args.ast) (list_of c.args.bounds)) = linked_fine (order_of c.args.ast) c.requires.0.0 in
+    let all : length (linked_in (order_of c.args.ast) (list_of c.args.bounds)) ≡ c.args.bounds.pushed = linked_length (order_of c.args.ast) (list_of c.args.bounds) ∙ c.requires.0.1 in
+    let reads : get_or (linked_in (order_of c.args.ast) (list_of c.args.bounds)) c.loop-i.i (above 0 0)
+    ≡ get_or c.args.bounds.list c.place-at.result (above 0 0) = linked_at c.args.ast c.args.bounds c.loop-i.i c.place-at.result c.requires.0.1 (search rules)
     c.place-at.ensures in
     let small : c.near-x.result < 64 = let l = c.loop-i in
     rw c.near-x.ensures (linking_near l.invariant fine all (search rules) reads) in
@@ -51,10 +51,10 @@ offset_bounds-last-x c =
 
 pub bounds-last-x : goal.bounds-last-x
 bounds-last-x c =
-    let fine : Fine (linked_in (order_of c.args.ast) (list_of c.args.t1)) = linked_fine (order_of c.args.ast) c.requires.0.0 in
-    let all : length (linked_in (order_of c.args.ast) (list_of c.args.t1)) ≡ c.args.t1.pushed = linked_length (order_of c.args.ast) (list_of c.args.t1) ∙ c.requires.0.1 in
-    let reads : get_or (linked_in (order_of c.args.ast) (list_of c.args.t1)) c.loop-i.i (above 0 0)
-    ≡ get_or c.args.t1.list c.place-at.result (above 0 0) = linked_at c.args.ast c.args.t1 c.loop-i.i c.place-at.result c.requires.0.1 (search rules)
+    let fine : Fine (linked_in (order_of c.args.ast) (list_of c.args.bounds)) = linked_fine (order_of c.args.ast) c.requires.0.0 in
+    let all : length (linked_in (order_of c.args.ast) (list_of c.args.bounds)) ≡ c.args.bounds.pushed = linked_length (order_of c.args.ast) (list_of c.args.bounds) ∙ c.requires.0.1 in
+    let reads : get_or (linked_in (order_of c.args.ast) (list_of c.args.bounds)) c.loop-i.i (above 0 0)
+    ≡ get_or c.args.bounds.list c.place-at.result (above 0 0) = linked_at c.args.ast c.args.bounds c.loop-i.i c.place-at.result c.requires.0.1 (search rules)
     c.place-at.ensures in
     let small : c.near-x.result < 64 = let l = c.loop-i in
     rw c.near-x.ensures (linking_near l.invariant fine all (search rules) reads) in
@@ -62,10 +62,10 @@ bounds-last-x c =
 
 pub overflow_cast-far : goal.overflow_cast-far
 overflow_cast-far c =
-    let fine : Fine (linked_in (order_of c.args.ast) (list_of c.args.t1)) = linked_fine (order_of c.args.ast) c.requires.0.0 in
-    let all : length (linked_in (order_of c.args.ast) (list_of c.args.t1)) ≡ c.args.t1.pushed = linked_length (order_of c.args.ast) (list_of c.args.t1) ∙ c.requires.0.1 in
-    let reads : get_or (linked_in (order_of c.args.ast) (list_of c.args.t1)) c.loop-i.i (above 0 0)
-    ≡ get_or c.args.t1.list c.place-at.result (above 0 0) = linked_at c.args.ast c.args.t1 c.loop-i.i c.place-at.result c.requires.0.1 (search rules)
+    let fine : Fine (linked_in (order_of c.args.ast) (list_of c.args.bounds)) = linked_fine (order_of c.args.ast) c.requires.0.0 in
+    let all : length (linked_in (order_of c.args.ast) (list_of c.args.bounds)) ≡ c.args.bounds.pushed = linked_length (order_of c.args.ast) (list_of c.args.bounds) ∙ c.requires.0.1 in
+    let reads : get_or (linked_in (order_of c.args.ast) (list_of c.args.bounds)) c.loop-i.i (above 0 0)
+    ≡ get_or c.args.bounds.list c.place-at.result (above 0 0) = linked_at c.args.ast c.args.bounds c.loop-i.i c.place-at.result c.requires.0.1 (search rules)
     c.place-at.ensures in
     let low : c.far-y.result < 64 = let l = c.loop-i in
     rw c.far-y.ensures (linking_far l.invariant fine all (search rules) reads) in
@@ -73,10 +73,10 @@ overflow_cast-far c =
 
 pub offset_bounds-last-x-in-loop-i : goal.offset_bounds-last-x-in-loop-i
 offset_bounds-last-x-in-loop-i c =
-    let fine : Fine (linked_in (order_of c.args.ast) (list_of c.args.t1)) = linked_fine (order_of c.args.ast) c.requires.0.0 in
-    let all : length (linked_in (order_of c.args.ast) (list_of c.args.t1)) ≡ c.args.t1.pushed = linked_length (order_of c.args.ast) (list_of c.args.t1) ∙ c.requires.0.1 in
-    let reads : get_or (linked_in (order_of c.args.ast) (list_of c.args.t1)) c.loop-i.i (above 0 0)
-    ≡ get_or c.args.t1.list c.place-at.result (above 0 0) = linked_at c.args.ast c.args.t1 c.loop-i.i c.place-at.result c.requires.0.1 (search rules)
+    let fine : Fine (linked_in (order_of c.args.ast) (list_of c.args.bounds)) = linked_fine (order_of c.args.ast) c.requires.0.0 in
+    let all : length (linked_in (order_of c.args.ast) (list_of c.args.bounds)) ≡ c.args.bounds.pushed = linked_length (order_of c.args.ast) (list_of c.args.bounds) ∙ c.requires.0.1 in
+    let reads : get_or (linked_in (order_of c.args.ast) (list_of c.args.bounds)) c.loop-i.i (above 0 0)
+    ≡ get_or c.args.bounds.list c.place-at.result (above 0 0) = linked_at c.args.ast c.args.bounds c.loop-i.i c.place-at.result c.requires.0.1 (search rules)
     c.place-at.ensures in
     let small : c.near-x.result < 64 = let l = c.loop-i in
     rw c.near-x.ensures (linking_near l.invariant fine all (search rules) reads) in
@@ -84,10 +84,10 @@ offset_bounds-last-x-in-loop-i c =
 
 pub bounds-last-x-in-loop-i : goal.bounds-last-x-in-loop-i
 bounds-last-x-in-loop-i c =
-    let fine : Fine (linked_in (order_of c.args.ast) (list_of c.args.t1)) = linked_fine (order_of c.args.ast) c.requires.0.0 in
-    let all : length (linked_in (order_of c.args.ast) (list_of c.args.t1)) ≡ c.args.t1.pushed = linked_length (order_of c.args.ast) (list_of c.args.t1) ∙ c.requires.0.1 in
-    let reads : get_or (linked_in (order_of c.args.ast) (list_of c.args.t1)) c.loop-i.i (above 0 0)
-    ≡ get_or c.args.t1.list c.place-at.result (above 0 0) = linked_at c.args.ast c.args.t1 c.loop-i.i c.place-at.result c.requires.0.1 (search rules)
+    let fine : Fine (linked_in (order_of c.args.ast) (list_of c.args.bounds)) = linked_fine (order_of c.args.ast) c.requires.0.0 in
+    let all : length (linked_in (order_of c.args.ast) (list_of c.args.bounds)) ≡ c.args.bounds.pushed = linked_length (order_of c.args.ast) (list_of c.args.bounds) ∙ c.requires.0.1 in
+    let reads : get_or (linked_in (order_of c.args.ast) (list_of c.args.bounds)) c.loop-i.i (above 0 0)
+    ≡ get_or c.args.bounds.list c.place-at.result (above 0 0) = linked_at c.args.ast c.args.bounds c.loop-i.i c.place-at.result c.requires.0.1 (search rules)
     c.place-at.ensures in
     let small : c.near-x.result < 64 = let l = c.loop-i in
     rw c.near-x.ensures (linking_near l.invariant fine all (search rules) reads) in
@@ -95,10 +95,10 @@ bounds-last-x-in-loop-i c =
 
 pub loop-i-preserved : goal.loop-i-preserved
 loop-i-preserved c =
-    let fine : Fine (linked_in (order_of c.args.ast) (list_of c.args.t1)) = linked_fine (order_of c.args.ast) c.requires.0.0 in
-    let all : length (linked_in (order_of c.args.ast) (list_of c.args.t1)) ≡ c.args.t1.pushed = linked_length (order_of c.args.ast) (list_of c.args.t1) ∙ c.requires.0.1 in
-    let reads : get_or (linked_in (order_of c.args.ast) (list_of c.args.t1)) c.loop-i.i (above 0 0)
-    ≡ get_or c.args.t1.list c.place-at.result (above 0 0) = linked_at c.args.ast c.args.t1 c.loop-i.i c.place-at.result c.requires.0.1 (search rules)
+    let fine : Fine (linked_in (order_of c.args.ast) (list_of c.args.bounds)) = linked_fine (order_of c.args.ast) c.requires.0.0 in
+    let all : length (linked_in (order_of c.args.ast) (list_of c.args.bounds)) ≡ c.args.bounds.pushed = linked_length (order_of c.args.ast) (list_of c.args.bounds) ∙ c.requires.0.1 in
+    let reads : get_or (linked_in (order_of c.args.ast) (list_of c.args.bounds)) c.loop-i.i (above 0 0)
+    ≡ get_or c.args.bounds.list c.place-at.result (above 0 0) = linked_at c.args.ast c.args.bounds c.loop-i.i c.place-at.result c.requires.0.1 (search rules)
     c.place-at.ensures in
     let l = c.loop-i in
     linking_more l.invariant fine all (search rules) reads
@@ -107,6 +107,6 @@ loop-i-preserved c =
 
 pub returns : goal.returns
 returns c =
-    let fine : Fine (linked_in (order_of c.args.ast) (list_of c.args.t1)) = linked_fine (order_of c.args.ast) c.requires.0.0 in
-    let all : length (linked_in (order_of c.args.ast) (list_of c.args.t1)) ≡ c.args.t1.pushed = linked_length (order_of c.args.ast) (list_of c.args.t1) ∙ c.requires.0.1 in
+    let fine : Fine (linked_in (order_of c.args.ast) (list_of c.args.bounds)) = linked_fine (order_of c.args.ast) c.requires.0.0 in
+    let all : length (linked_in (order_of c.args.ast) (list_of c.args.bounds)) ≡ c.args.bounds.pushed = linked_length (order_of c.args.ast) (list_of c.args.bounds) ∙ c.requires.0.1 in
     linking_end c.loop-i.invariant fine all (search rules)

@@ -14,12 +14,12 @@ pub returns-then-at-count : goal.returns-then-at-count
 unfolding linked_word unless
 returns-then-at-count c = let a = c.args in
     let same = c.if-words-count.false in
-    let at = c.index-at.ensures in
+    let at = c.index-at.ensures.answer in
     rw (eq-eqb (length a.words.now) a.count same, at, lt-ltb a.def.0 (length a.words.now) (omega arith))
 
 pub returns : goal.returns
 unfolding linked_word unless
 returns c = let a = c.args in
     let same = c.if-words-count.false in
-    let at = c.index-at.ensures in
+    let at = c.index-at.ensures.answer in
     rw (eq-eqb (length a.words.now) a.count same, le-ltb a.def.0 (length a.words.now) (omega arith))

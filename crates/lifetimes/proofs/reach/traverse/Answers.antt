@@ -15,7 +15,7 @@ returns-in-Refused c =
     let asked : List ℕ = list_by c.args.ast c.args.longer c.args.env c.args.lifetime.0 in
     let it = list_refused c.args.env c.args.lifetime.0 asked c.args.out.now
     (refused_first (tt {0}) _ (env_checks c.args.env)
-    (sym c.check-verdict.ensures ∙ c.in-Refused.is)) in
+    (sym c.check-verdict.ensures.answer ∙ c.in-Refused.is)) in
     record { value = it.0; fills = it.1 }
 
 pub returns-then-env-start : goal.returns-then-env-start
@@ -23,26 +23,26 @@ returns-then-env-start c =
     let asked : List ℕ = list_by c.args.ast c.args.longer c.args.env c.args.lifetime.0 in
     let none : NoneDue (env_checks c.args.env) = accepted_none (tt {0})
     (env_checks c.args.env)
-    (sym c.check-verdict.ensures ∙ c.in_default.is) in
+    (sym c.check-verdict.ensures.answer ∙ c.in_default.is) in
     let it = list_past c.args.env c.args.lifetime.0 asked c.args.out.now
-    none (omega (arith, c.index-start.ensures)) in
+    none (omega (arith, c.index-start.ensures.answer)) in
     record { value = it.0; fills = it.1 }
 
 pub list-n-requires : goal.list-n-requires
 list-n-requires c =
     let none : NoneDue (env_checks c.args.env) = accepted_none (tt {0})
     (env_checks c.args.env)
-    (sym c.check-verdict.ensures ∙ c.in_default.is) in
-    record { none_due = (none, omega (arith, c.index-start.ensures)); len = refl }
+    (sym c.check-verdict.ensures.answer ∙ c.in_default.is) in
+    record { none_due = (none, omega (arith, c.index-start.ensures.answer)); len = refl }
 
 pub returns-then-out-n : goal.returns-then-out-n
 returns-then-out-n c =
     let asked : List ℕ = list_by c.args.ast c.args.longer c.args.env c.args.lifetime.0 in
     let none : NoneDue (env_checks c.args.env) = accepted_none (tt {0})
     (env_checks c.args.env)
-    (sym c.check-verdict.ensures ∙ c.in_default.is) in
+    (sym c.check-verdict.ensures.answer ∙ c.in_default.is) in
     let it = let l = c.list-n in
-    let i = c.index-start.ensures in
+    let i = c.index-start.ensures.answer in
     list_short c.args.env c.args.lifetime.0 asked c.args.out.now
     none (omega (arith, i, c.if-env-start.false)) _ l.result
     (omega (arith, l.ensures)) (rw i at l.ensures.2) c.if-out-n.true in
@@ -53,9 +53,9 @@ returns c =
     let asked : List ℕ = list_by c.args.ast c.args.longer c.args.env c.args.lifetime.0 in
     let none : NoneDue (env_checks c.args.env) = accepted_none (tt {0})
     (env_checks c.args.env)
-    (sym c.check-verdict.ensures ∙ c.in_default.is) in
+    (sym c.check-verdict.ensures.answer ∙ c.in_default.is) in
     let it = let l = c.list-n in
-    let i = c.index-start.ensures in
+    let i = c.index-start.ensures.answer in
     let a = list_given c.args.env c.args.lifetime.0 asked c.args.out.now none
     (omega (arith, i, c.if-env-start.false)) _ l.result (omega (arith, l.ensures)) (rw i at l.ensures.2) c.if-out-n.false in
     (a.0, c.copy_to.ensures ∙ a.1) in

@@ -7,11 +7,11 @@ use Rattle.lifetimes.proofs.SetLaws.{member_past}
 use Rattle.lifetimes.proofs.set.contains.Goals as goal
 
 pub returns-then-number-lt-CAPACITY : goal.returns-then-number-lt-CAPACITY
-returns-then-number-lt-CAPACITY c = let it = c.holds.ensures ∙ ap (λ (n : ℕ). member c.args.set n) c.index-number.ensures in
-    record { answer = it }
+returns-then-number-lt-CAPACITY c = record { answer = c.holds.ensures ∙ ap (λ (n : ℕ). member c.args.set n) c.index-number.ensures.answer }
 
 pub returns : goal.returns
-returns c = let it = sym
-    (member_past 64 c.args.set c.args.lifetime.0 (omega arith)
-    (omega (arith, c.index-number.ensures))) in
-    record { answer = it }
+returns c = record {
+  answer = sym
+      (member_past 64 c.args.set c.args.lifetime.0 (omega arith)
+      (omega (arith, c.index-number.ensures.answer)));
+}

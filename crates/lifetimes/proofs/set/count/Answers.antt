@@ -8,5 +8,4 @@ pub overflow_cast-result : goal.overflow_cast-result
 overflow_cast-result c = omega (arith, ones-le 64 c.args.set (omega arith))
 
 pub returns : goal.returns
-returns c = let it = count_ones c.args.set (omega arith) in
-    record { answer = it }
+returns c = record { answer = count_ones c.args.set (omega arith) }

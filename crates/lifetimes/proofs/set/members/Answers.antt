@@ -1,6 +1,7 @@
 -- `set::members` meets its contract. The loop's invariant is `Listing` of proofs/SetLoops.antt; the measure is how
 -- many lifetimes are to be looked at.
 use Prim.Native.Nat.{◌-◌}
+use mathlib.Core.Logic.{⊎_elim}
 use mathlib.Core.Path.{sym, ◌∙◌}
 use borrow.Author.Rules.{rules}
 use Rattle.lifetimes.proofs.SetLoops.{too_short, listing_start, listing_room, listing_member}
@@ -8,7 +9,7 @@ use Rattle.lifetimes.proofs.SetLoops.{listing_other, listing_end}
 use Rattle.lifetimes.proofs.set.members.Goals as goal
 
 pub returns-then-out-n : goal.returns-then-out-n
-returns-then-out-n c = let it = too_short c.args.set c.args.out.now c.count-n.ensures c.if-out-n.true in
+returns-then-out-n c = let it = too_short c.args.set c.args.out.now c.count-n.ensures.answer c.if-out-n.true in
     record { answer = it.0; stored = it.1 }
 
 pub loop-x-init : goal.loop-x-init
@@ -28,5 +29,5 @@ loop-x-preserved c = let l = c.loop-x in
     c.if-holds.branch
 
 pub returns : goal.returns
-returns c = let it = listing_end c.loop-x.invariant c.count-n.ensures c.loop-x-test.false in
+returns c = let it = listing_end c.loop-x.invariant c.count-n.ensures.answer c.loop-x-test.false in
     record { answer = it.0; stored = it.1 }

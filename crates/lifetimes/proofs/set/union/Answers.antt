@@ -5,5 +5,4 @@ use Rattle.lifetimes.proofs.set.union.Goals as goal
 
 pub returns : goal.returns
 unfolding union
-returns c = let it = refl in
-    record { answer = it }
+returns c = record { answer = refl }

@@ -114,4 +114,4 @@ returns-then-not-holds c = λ g ch r.
     let p = c.pending in
     skipping_found ch r (p.invariant g ch r) (p.at - 1) (omega arith)
     (sym c.holds.ensures ∙ c.if-not-holds.true) c.new.result
-    (ap (λ (l : Lifetime). l.0) c.new.ensures)
+    (ap (λ (l : Lifetime). l.0) c.new.ensures.answer)

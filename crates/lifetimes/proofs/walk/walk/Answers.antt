@@ -1,6 +1,7 @@
 -- `walk` meets its contract: each turn lists the next unseen lifetime.
 use Prim.Native.Nat.{◌-◌, ◌<◌}
 use mathlib.Core.Path.{refl, ◌∙◌}
+use mathlib.Core.Logic.{⊎_elim}
 use native.Mathlib.Omega.{arith}
 use lib.ListN.{length-set}
 use Rattle.lifetimes.specs.Index.{Graph, Indexed, Within, Steps}
@@ -48,7 +49,7 @@ with-seen-requires-in-loop-count c =
     let (g, k, w) = c.requires.0.0 in
     omega (
       arith,
-      c.index-y.ensures,
+      c.index-y.ensures.answer,
       c.requires.0.1,
       walking_small k w c.requires.0.1 (l.invariant.3 g k w) (steps g k w) c.in-Yield.is,
     ) in
@@ -97,7 +98,7 @@ offset_bounds-last-y c =
     let (g, k, w) = c.requires.0.0 in
     omega (
       arith,
-      c.index-y.ensures,
+      c.index-y.ensures.answer,
       c.requires.0.1,
       walking_small k w c.requires.0.1 (l.invariant.3 g k w) (steps g k w) c.in-Yield.is,
     ) in
@@ -113,7 +114,7 @@ bounds-last-y c =
     let (g, k, w) = c.requires.0.0 in
     omega (
       arith,
-      c.index-y.ensures,
+      c.index-y.ensures.answer,
       c.requires.0.1,
       walking_small k w c.requires.0.1 (l.invariant.3 g k w) (steps g k w) c.in-Yield.is,
     ) in
@@ -129,7 +130,7 @@ overflow_cast-at-in-loop-count c =
     let (g, k, w) = c.requires.0.0 in
     omega (
       arith,
-      c.index-y.ensures,
+      c.index-y.ensures.answer,
       c.requires.0.1,
       walking_small k w c.requires.0.1 (l.invariant.3 g k w) (steps g k w) c.in-Yield.is,
     ) in
@@ -153,7 +154,7 @@ loop-count-preserved c =
           let inv = l.invariant.3 g k w in
           let st = steps g k w in
           let h = c.in-Yield.is in
-          rw (c.with-seen-in-loop-count.ensures, c.index-y.ensures)
+          rw (c.with-seen-in-loop-count.ensures, c.index-y.ensures.answer)
           (walking_more k w c.requires.0.1 inv st h c.loop-count-test.true l.invariant.0
           (⊎_elim (λ v. omega (arith, v.2)) (λ v. omega (arith, v.2)) c.if-rest-ne0.branch)
           (⊎_elim

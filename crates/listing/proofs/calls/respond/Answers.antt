@@ -18,7 +18,7 @@ pub returns-in-Refused : goal.returns-in-Refused
 returns-in-Refused c =
     let full : length c.args.out.now ≡ room_bytes = search rules in
     let it = let l = c.list_sheet-answer in
-    respond_refused c.in-Refused.refusal c.number.ensures
+    respond_refused c.in-Refused.refusal c.number.ensures.answer
     c.args.sheet.now c.args.out.now l.result l.new.1.0 full
     l.ensures c.in-Refused.is c.put_refusal.ensures in
     record { answer = it.0; stored = it.1 }

@@ -41,8 +41,8 @@ slice_bounds-put_following-end c = omega (
 )
 
 pub loop-i-preserved : goal.loop-i-preserved
-loop-i-preserved c = numbering_more c.loop-i.invariant c.loop-i-test.true (prints c.put_number-start.ensures)
-    (prints c.put_following-next.ensures)
+loop-i-preserved c = numbering_more c.loop-i.invariant c.loop-i-test.true (prints (c.put_number-start.ensures.answer, c.put_number-start.ensures.stored))
+    (prints (c.put_following-next.ensures.answer, c.put_following-next.ensures.stored))
 
 pub shape_of-out : goal.shape_of-out
 shape_of-out c = search (numbering_size, rules)

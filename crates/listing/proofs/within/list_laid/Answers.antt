@@ -20,13 +20,13 @@ list_records-requires c =
     c.record_words-7.result.now c.record_words-8.result.now
     c.record_words-9.result.now c.record_words-10.result.now in
     let found : sheet_in ≡ records_at c.args.words.now c.args.ends = ten_found c.args.words.now c.args.ends
-    c.record_words.ensures
-    c.record_words-2.ensures
-    c.record_words-3.ensures
-    c.record_words-4.ensures
-    c.record_words-5.ensures
-    c.record_words-6.ensures c.record_words-7.ensures
-    c.record_words-8.ensures c.record_words-9.ensures c.record_words-10.ensures in
+    c.record_words.ensures.answer
+    c.record_words-2.ensures.answer
+    c.record_words-3.ensures.answer
+    c.record_words-4.ensures.answer
+    c.record_words-5.ensures.answer
+    c.record_words-6.ensures.answer c.record_words-7.ensures.answer
+    c.record_words-8.ensures.answer c.record_words-9.ensures.answer c.record_words-10.ensures.answer in
     (subst (λ (r : Records). NoneDue (records_checks r)) (sym found) c.requires.0, c.requires.1)
 
 pub returns : goal.returns
@@ -40,13 +40,13 @@ returns c =
     c.record_words-7.result.now c.record_words-8.result.now
     c.record_words-9.result.now c.record_words-10.result.now in
     let found : sheet_in ≡ records_at c.args.words.now c.args.ends = ten_found c.args.words.now c.args.ends
-    c.record_words.ensures
-    c.record_words-2.ensures
-    c.record_words-3.ensures
-    c.record_words-4.ensures
-    c.record_words-5.ensures
-    c.record_words-6.ensures c.record_words-7.ensures
-    c.record_words-8.ensures c.record_words-9.ensures c.record_words-10.ensures in
+    c.record_words.ensures.answer
+    c.record_words-2.ensures.answer
+    c.record_words-3.ensures.answer
+    c.record_words-4.ensures.answer
+    c.record_words-5.ensures.answer
+    c.record_words-6.ensures.answer c.record_words-7.ensures.answer
+    c.record_words-8.ensures.answer c.record_words-9.ensures.answer c.record_words-10.ensures.answer in
     subst (λ (r : Records). ListsWithin (listed_records r)
     (Ample (length c.args.given.now) (length c.args.taken.now) (length c.args.lists.now)
     (length c.args.edges.now)) c.args.out.now c.list_records.result

@@ -23,8 +23,8 @@ returns-in-Refused-elided c =
     c.args.output.now c.args.force.now in
     steps_listed sheet_in c.requires.0 (length c.args.given.now) (length c.args.taken.now)
     c.if-given-steps.false c.if-taken-returns.false
-    c.from_method_item-ast.ensures c.in_default.is
-    c.lower-lowered.ensures.answer
+    c.from_method_item-ast.ensures.answer c.in_default.is
+    c.lower-lowered.ensures.answer.answer
     c.in-Refused-elided.is
 
 pub slice_bounds-list_method-end : goal.slice_bounds-list_method-end
@@ -36,12 +36,12 @@ slice_bounds-list_method-end c =
     c.args.taken.now
     c.from_method_item-ast.result c.lower-lowered.result
     c.lower-lowered.new.own c.lower-lowered.new.given
-    c.lower-lowered.new.taken = let l = c.lower-lowered.ensures in
+    c.lower-lowered.new.taken = let l = c.lower-lowered.ensures.answer in
     record {
       first = c.requires.0;
       steps_room = c.if-given-steps.left;
       returns_room = c.if-taken-returns.left;
-      names = c.from_method_item-ast.ensures;
+      names = c.from_method_item-ast.ensures.answer;
       fine = c.in_default.is;
       lowers = l.answer;
       own_written = l.own_filled;
@@ -60,12 +60,12 @@ slice_bounds-list_method-end-in-Set c =
     c.args.taken.now
     c.from_method_item-ast.result c.lower-lowered.result
     c.lower-lowered.new.own c.lower-lowered.new.given
-    c.lower-lowered.new.taken = let l = c.lower-lowered.ensures in
+    c.lower-lowered.new.taken = let l = c.lower-lowered.ensures.answer in
     record {
       first = c.requires.0;
       steps_room = c.if-given-steps.left;
       returns_room = c.if-taken-returns.left;
-      names = c.from_method_item-ast.ensures;
+      names = c.from_method_item-ast.ensures.answer;
       fine = c.in_default.is;
       lowers = l.answer;
       own_written = l.own_filled;
@@ -84,12 +84,12 @@ slice_bounds-list_method-end-in-Set-2 c =
     c.args.taken.now
     c.from_method_item-ast.result c.lower-lowered.result
     c.lower-lowered.new.own c.lower-lowered.new.given
-    c.lower-lowered.new.taken = let l = c.lower-lowered.ensures in
+    c.lower-lowered.new.taken = let l = c.lower-lowered.ensures.answer in
     record {
       first = c.requires.0;
       steps_room = c.if-given-steps.left;
       returns_room = c.if-taken-returns.left;
-      names = c.from_method_item-ast.ensures;
+      names = c.from_method_item-ast.ensures.answer;
       fine = c.in_default.is;
       lowers = l.answer;
       own_written = l.own_filled;
@@ -108,12 +108,12 @@ list_method-requires c =
     c.args.taken.now
     c.from_method_item-ast.result c.lower-lowered.result
     c.lower-lowered.new.own c.lower-lowered.new.given
-    c.lower-lowered.new.taken = let l = c.lower-lowered.ensures in
+    c.lower-lowered.new.taken = let l = c.lower-lowered.ensures.answer in
     record {
       first = c.requires.0;
       steps_room = c.if-given-steps.left;
       returns_room = c.if-taken-returns.left;
-      names = c.from_method_item-ast.ensures;
+      names = c.from_method_item-ast.ensures.answer;
       fine = c.in_default.is;
       lowers = l.answer;
       own_written = l.own_filled;
@@ -121,7 +121,7 @@ list_method-requires c =
       returns_written = l.taken_filled;
       elides = c.in_default-elided.is;
     } in (
-      listable elided c.used_method_lifetimes-used.ensures c.in-Set.is,
+      listable elided c.used_method_lifetimes-used.ensures.answer c.in-Set.is,
       c.requires.1,
     )
 
@@ -134,12 +134,12 @@ returns-in-Refused-used c =
     c.args.taken.now
     c.from_method_item-ast.result c.lower-lowered.result
     c.lower-lowered.new.own c.lower-lowered.new.given
-    c.lower-lowered.new.taken = let l = c.lower-lowered.ensures in
+    c.lower-lowered.new.taken = let l = c.lower-lowered.ensures.answer in
     record {
       first = c.requires.0;
       steps_room = c.if-given-steps.left;
       returns_room = c.if-taken-returns.left;
-      names = c.from_method_item-ast.ensures;
+      names = c.from_method_item-ast.ensures.answer;
       fine = c.in_default.is;
       lowers = l.answer;
       own_written = l.own_filled;
@@ -148,7 +148,7 @@ returns-in-Refused-used c =
       elides = c.in_default-elided.is;
     } in
     used_listed elided
-    c.used_method_lifetimes-used.ensures c.in-Refused-used.is
+    c.used_method_lifetimes-used.ensures.answer c.in-Refused-used.is
 
 pub returns-in-Set : goal.returns-in-Set
 returns-in-Set c =
@@ -159,12 +159,12 @@ returns-in-Set c =
     c.args.taken.now
     c.from_method_item-ast.result c.lower-lowered.result
     c.lower-lowered.new.own c.lower-lowered.new.given
-    c.lower-lowered.new.taken = let l = c.lower-lowered.ensures in
+    c.lower-lowered.new.taken = let l = c.lower-lowered.ensures.answer in
     record {
       first = c.requires.0;
       steps_room = c.if-given-steps.left;
       returns_room = c.if-taken-returns.left;
-      names = c.from_method_item-ast.ensures;
+      names = c.from_method_item-ast.ensures.answer;
       fine = c.in_default.is;
       lowers = l.answer;
       own_written = l.own_filled;
@@ -172,7 +172,7 @@ returns-in-Set c =
       returns_written = l.taken_filled;
       elides = c.in_default-elided.is;
     } in
-    records_listed elided c.used_method_lifetimes-used.ensures c.in-Set.is
+    records_listed elided c.used_method_lifetimes-used.ensures.answer c.in-Set.is
     (length c.args.lists.now) (length c.args.edges.now)
     c.list_method.result c.args.out.now
     c.list_method.new.out c.list_method.ensures

@@ -9,8 +9,8 @@ returns-in-Refused c = search (text_refused, rules)
 
 pub list_laid-requires : goal.list_laid-requires
 list_laid-requires c = let shape =
-    judge_shape c.args.sheet.now c.args.words.now c.requires.0 c.read_sheet-text.ensures.0
-    c.read_sheet-text.ensures.1 c.in_default.is in
+    judge_shape c.args.sheet.now c.args.words.now c.requires.0 c.read_sheet-text.ensures.answer
+    c.read_sheet-text.ensures.stored c.in_default.is in
     (shape, c.requires.1)
 
 pub returns : goal.returns

@@ -12,41 +12,43 @@ use Rattle.methods.proofs.FieldsLaws.{compute_refused, compute_given}
 use Rattle.methods.proofs.fields.compute_for_struct_field.Goals as goal
 
 pub returns-in_default : goal.returns-in_default
-returns-in_default c = let it = let s = c.args in
-    c.refused.ensures ∙ compute_torn s.structs.now s.row s.field
-    c.structs_shape-shape.ensures c.in_default.is in
-    record { answer = it }
+returns-in_default c = record {
+  answer = let s = c.args in
+      c.refused.ensures ∙ compute_torn s.structs.now s.row s.field
+      c.structs_shape-shape.ensures.answer c.in_default.is;
+}
 
 pub field_at-found-requires : goal.field_at-found-requires
 field_at-found-requires c =
     let in_order : let s = c.args.structs.now in
     (structs_in_shape s ≡ true) × (length (rows_of s) ≡ c.in-Count.rows) = let s = c.args.structs.now in
-    counted_shape (structs_in_shape s) (rows_of s) c.structs_shape-shape.ensures c.in-Count.is in
+    counted_shape (structs_in_shape s) (rows_of s) c.structs_shape-shape.ensures.answer c.in-Count.is in
     in_order
 
 pub returns-in_default-found : goal.returns-in_default-found
 returns-in_default-found c =
     let in_order : let s = c.args.structs.now in
     (structs_in_shape s ≡ true) × (length (rows_of s) ≡ c.in-Count.rows) = let s = c.args.structs.now in
-    counted_shape (structs_in_shape s) (rows_of s) c.structs_shape-shape.ensures c.in-Count.is in
-    let it = let s = c.args in
-    c.refused-in_default-found.ensures ∙ compute_other in_order.0
-    (subst (FieldIs s.structs.now s.row s.field) c.in_default-found.is
-    c.field_at-found.ensures) in
-    record { answer = it }
+    counted_shape (structs_in_shape s) (rows_of s) c.structs_shape-shape.ensures.answer c.in-Count.is in
+    record {
+      answer = let s = c.args in
+          c.refused-in_default-found.ensures ∙ compute_other in_order.0
+          (subst (FieldIs s.structs.now s.row s.field) c.in_default-found.is
+          c.field_at-found.ensures);
+    }
 
 pub index_rows-verdict-requires : goal.index_rows-verdict-requires
 index_rows-verdict-requires c =
     let in_order : let s = c.args.structs.now in
     (structs_in_shape s ≡ true) × (length (rows_of s) ≡ c.in-Count.rows) = let s = c.args.structs.now in
-    counted_shape (structs_in_shape s) (rows_of s) c.structs_shape-shape.ensures c.in-Count.is in
+    counted_shape (structs_in_shape s) (rows_of s) c.structs_shape-shape.ensures.answer c.in-Count.is in
     record { structs_value = in_order; lifetimes_len = refl }
 
 pub offset_bounds-lifetimes-row : goal.offset_bounds-lifetimes-row
 offset_bounds-lifetimes-row c =
     let in_order : let s = c.args.structs.now in
     (structs_in_shape s ≡ true) × (length (rows_of s) ≡ c.in-Count.rows) = let s = c.args.structs.now in
-    counted_shape (structs_in_shape s) (rows_of s) c.structs_shape-shape.ensures c.in-Count.is in
+    counted_shape (structs_in_shape s) (rows_of s) c.structs_shape-shape.ensures.answer c.in-Count.is in
     let indexed : let s = c.args in let f = c.found-1.given.0 in
     Indexed s.structs.now s.row s.field f.0 f.1.0 f.1.1.0 c.index_rows-verdict.new.lifetimes
     c.index_rows-verdict.result = let s = c.args in
@@ -63,7 +65,7 @@ pub bounds-lifetimes-row : goal.bounds-lifetimes-row
 bounds-lifetimes-row c =
     let in_order : let s = c.args.structs.now in
     (structs_in_shape s ≡ true) × (length (rows_of s) ≡ c.in-Count.rows) = let s = c.args.structs.now in
-    counted_shape (structs_in_shape s) (rows_of s) c.structs_shape-shape.ensures c.in-Count.is in
+    counted_shape (structs_in_shape s) (rows_of s) c.structs_shape-shape.ensures.answer c.in-Count.is in
     let indexed : let s = c.args in let f = c.found-1.given.0 in
     Indexed s.structs.now s.row s.field f.0 f.1.0 f.1.1.0 c.index_rows-verdict.new.lifetimes
     c.index_rows-verdict.result = let s = c.args in
@@ -80,7 +82,7 @@ pub offset_bounds-lifetimes-inner : goal.offset_bounds-lifetimes-inner
 offset_bounds-lifetimes-inner c =
     let in_order : let s = c.args.structs.now in
     (structs_in_shape s ≡ true) × (length (rows_of s) ≡ c.in-Count.rows) = let s = c.args.structs.now in
-    counted_shape (structs_in_shape s) (rows_of s) c.structs_shape-shape.ensures c.in-Count.is in
+    counted_shape (structs_in_shape s) (rows_of s) c.structs_shape-shape.ensures.answer c.in-Count.is in
     let indexed : let s = c.args in let f = c.found-1.given.0 in
     Indexed s.structs.now s.row s.field f.0 f.1.0 f.1.1.0 c.index_rows-verdict.new.lifetimes
     c.index_rows-verdict.result = let s = c.args in
@@ -97,7 +99,7 @@ pub bounds-lifetimes-inner : goal.bounds-lifetimes-inner
 bounds-lifetimes-inner c =
     let in_order : let s = c.args.structs.now in
     (structs_in_shape s ≡ true) × (length (rows_of s) ≡ c.in-Count.rows) = let s = c.args.structs.now in
-    counted_shape (structs_in_shape s) (rows_of s) c.structs_shape-shape.ensures c.in-Count.is in
+    counted_shape (structs_in_shape s) (rows_of s) c.structs_shape-shape.ensures.answer c.in-Count.is in
     let indexed : let s = c.args in let f = c.found-1.given.0 in
     Indexed s.structs.now s.row s.field f.0 f.1.0 f.1.1.0 c.index_rows-verdict.new.lifetimes
     c.index_rows-verdict.result = let s = c.args in
@@ -114,7 +116,7 @@ pub pairs_of-requires : goal.pairs_of-requires
 pairs_of-requires c =
     let in_order : let s = c.args.structs.now in
     (structs_in_shape s ≡ true) × (length (rows_of s) ≡ c.in-Count.rows) = let s = c.args.structs.now in
-    counted_shape (structs_in_shape s) (rows_of s) c.structs_shape-shape.ensures c.in-Count.is in
+    counted_shape (structs_in_shape s) (rows_of s) c.structs_shape-shape.ensures.answer c.in-Count.is in
     let indexed : let s = c.args in let f = c.found-1.given.0 in
     Indexed s.structs.now s.row s.field f.0 f.1.0 f.1.1.0 c.index_rows-verdict.new.lifetimes
     c.index_rows-verdict.result = let s = c.args in
@@ -124,13 +126,13 @@ pairs_of-requires c =
           c.field_at-found.ensures;
       index = c.index_rows-verdict.ensures;
     } in
-    path_linked indexed c.in-Accepted.is c.path_words-path.ensures
+    path_linked indexed c.in-Accepted.is c.path_words-path.ensures.answer
 
 pub returns-in-Refused : goal.returns-in-Refused
 returns-in-Refused c =
     let in_order : let s = c.args.structs.now in
     (structs_in_shape s ≡ true) × (length (rows_of s) ≡ c.in-Count.rows) = let s = c.args.structs.now in
-    counted_shape (structs_in_shape s) (rows_of s) c.structs_shape-shape.ensures c.in-Count.is in
+    counted_shape (structs_in_shape s) (rows_of s) c.structs_shape-shape.ensures.answer c.in-Count.is in
     let indexed : let s = c.args in let f = c.found-1.given.0 in
     Indexed s.structs.now s.row s.field f.0 f.1.0 f.1.1.0 c.index_rows-verdict.new.lifetimes
     c.index_rows-verdict.result = let s = c.args in
@@ -140,15 +142,16 @@ returns-in-Refused c =
           c.field_at-found.ensures;
       index = c.index_rows-verdict.ensures;
     } in
-    let it = c.refused-in-Refused.ensures ∙ compute_refused indexed
-    c.in-Refused.is in
-    record { answer = it }
+    record {
+      answer = c.refused-in-Refused.ensures ∙ compute_refused indexed
+          c.in-Refused.is;
+    }
 
 pub returns-in-Accepted : goal.returns-in-Accepted
 returns-in-Accepted c =
     let in_order : let s = c.args.structs.now in
     (structs_in_shape s ≡ true) × (length (rows_of s) ≡ c.in-Count.rows) = let s = c.args.structs.now in
-    counted_shape (structs_in_shape s) (rows_of s) c.structs_shape-shape.ensures c.in-Count.is in
+    counted_shape (structs_in_shape s) (rows_of s) c.structs_shape-shape.ensures.answer c.in-Count.is in
     let indexed : let s = c.args in let f = c.found-1.given.0 in
     Indexed s.structs.now s.row s.field f.0 f.1.0 f.1.1.0 c.index_rows-verdict.new.lifetimes
     c.index_rows-verdict.result = let s = c.args in
@@ -158,6 +161,7 @@ returns-in-Accepted c =
           c.field_at-found.ensures;
       index = c.index_rows-verdict.ensures;
     } in
-    let it = compute_given indexed c.in-Accepted.is
-    c.path_words-path.ensures c.pairs_of.ensures in
-    record { answer = it }
+    record {
+      answer = compute_given indexed c.in-Accepted.is
+          c.path_words-path.ensures.answer c.pairs_of.ensures;
+    }

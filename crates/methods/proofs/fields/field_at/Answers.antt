@@ -24,7 +24,7 @@ returns-in_default c =
     FieldStands s.structs.now s.row s.field c.skip_types-at.result = field_stands c.row_place-place.ensures c.if-count-field.false c.skip_types-at.ensures in
     field_lost stands
     (missing_told
-    (type_located c.args.structs.now c.skip_types-at.result c.type_at-found.ensures)
+    (type_located c.args.structs.now c.skip_types-at.result c.type_at-found.ensures.answer)
     c.in_default.is)
 
 pub returns-in-Struct : goal.returns-in-Struct
@@ -32,7 +32,7 @@ returns-in-Struct c =
     let stands : let s = c.args in
     FieldStands s.structs.now s.row s.field c.skip_types-at.result = field_stands c.row_place-place.ensures c.if-count-field.false c.skip_types-at.ensures in
     field_struct stands
-    (found_told (type_located _ _ c.type_at-found.ensures) c.in-At.is)
+    (found_told (type_located _ _ c.type_at-found.ensures.answer) c.in-At.is)
     c.in-Struct.is
 
 pub returns-in-Plain : goal.returns-in-Plain
@@ -41,7 +41,7 @@ returns-in-Plain c =
     FieldStands s.structs.now s.row s.field c.skip_types-at.result = field_stands c.row_place-place.ensures c.if-count-field.false c.skip_types-at.ensures in
     let not_struct : is_struct c.in-At.parts.kind ≡ false → let s = c.args in
     FieldIs s.structs.now s.row s.field Missing = λ e. field_other stands
-    (found_told (type_located _ _ c.type_at-found.ensures) c.in-At.is) e in
+    (found_told (type_located _ _ c.type_at-found.ensures.answer) c.in-At.is) e in
     not_struct (ap is_struct c.in-Plain.is)
 
 pub returns-in-Opaque : goal.returns-in-Opaque
@@ -50,7 +50,7 @@ returns-in-Opaque c =
     FieldStands s.structs.now s.row s.field c.skip_types-at.result = field_stands c.row_place-place.ensures c.if-count-field.false c.skip_types-at.ensures in
     let not_struct : is_struct c.in-At.parts.kind ≡ false → let s = c.args in
     FieldIs s.structs.now s.row s.field Missing = λ e. field_other stands
-    (found_told (type_located _ _ c.type_at-found.ensures) c.in-At.is) e in
+    (found_told (type_located _ _ c.type_at-found.ensures.answer) c.in-At.is) e in
     not_struct (ap is_struct c.in-Opaque.is)
 
 pub returns-in-Slice : goal.returns-in-Slice
@@ -59,5 +59,5 @@ returns-in-Slice c =
     FieldStands s.structs.now s.row s.field c.skip_types-at.result = field_stands c.row_place-place.ensures c.if-count-field.false c.skip_types-at.ensures in
     let not_struct : is_struct c.in-At.parts.kind ≡ false → let s = c.args in
     FieldIs s.structs.now s.row s.field Missing = λ e. field_other stands
-    (found_told (type_located _ _ c.type_at-found.ensures) c.in-At.is) e in
+    (found_told (type_located _ _ c.type_at-found.ensures.answer) c.in-At.is) e in
     not_struct (ap is_struct c.in-Slice.is)

@@ -2,4 +2,4 @@
 use Rattle.methods.proofs.fields.refused.Goals as goal
 
 pub returns : goal.returns
-returns c = rw (c.new-2.ensures, c.new.ensures)
+returns c = rw (c.new-2.ensures.answer, c.new.ensures.answer)

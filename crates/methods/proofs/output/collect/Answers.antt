@@ -8,9 +8,9 @@ pub returns-in_default : goal.returns-in_default
 returns-in_default c = search (collect_static, rules)
 
 pub returns-then-count-index : goal.returns-then-count-index
-returns-then-count-index c = collect_past _ _ c.in-NonStatic.is (omega (arith, c.index.ensures))
+returns-then-count-index c = collect_past _ _ c.in-NonStatic.is (omega (arith, c.index.ensures.answer))
 
 pub returns : goal.returns
 returns c = collect_one _ _ c.in-NonStatic.is
-    c.requires (omega (arith, c.index.ensures))
-    c.insert.ensures
+    c.requires (omega (arith, c.index.ensures.answer))
+    c.insert.ensures.answer

@@ -20,7 +20,7 @@ collect_path-path-requires c =
     Reading s.words.now s.types s.count l.at l.used l.i c.in-At.parts = record {
       collecting = c.loop-i.invariant;
       left = c.loop-i-test.true;
-      found = found_told (type_located _ _ c.type_at-found.ensures) c.in-At.is;
+      found = found_told (type_located _ _ c.type_at-found.ensures.answer) c.in-At.is;
     } in
     (c.requires, path_there reading)
 
@@ -30,7 +30,7 @@ returns-in_default-path c =
     Reading s.words.now s.types s.count l.at l.used l.i c.in-At.parts = record {
       collecting = c.loop-i.invariant;
       left = c.loop-i-test.true;
-      found = found_told (type_located _ _ c.type_at-found.ensures) c.in-At.is;
+      found = found_told (type_located _ _ c.type_at-found.ensures.answer) c.in-At.is;
     } in
     collecting_past reading c.collect_path-path.ensures
     c.in_default-path.is
@@ -41,7 +41,7 @@ returns-in_default-last c =
     Reading s.words.now s.types s.count l.at l.used l.i c.in-At.parts = record {
       collecting = c.loop-i.invariant;
       left = c.loop-i-test.true;
-      found = found_told (type_located _ _ c.type_at-found.ensures) c.in-At.is;
+      found = found_told (type_located _ _ c.type_at-found.ensures.answer) c.in-At.is;
     } in
     collecting_own reading c.collect_path-path.ensures
     c.in-Set.is c.collect_own-last.ensures c.in_default-last.is
@@ -52,7 +52,7 @@ loop-i-preserved c =
     Reading s.words.now s.types s.count l.at l.used l.i c.in-At.parts = record {
       collecting = c.loop-i.invariant;
       left = c.loop-i-test.true;
-      found = found_told (type_located _ _ c.type_at-found.ensures) c.in-At.is;
+      found = found_told (type_located _ _ c.type_at-found.ensures.answer) c.in-At.is;
     } in
     collecting_more reading c.collect_path-path.ensures
     c.in-Set.is c.collect_own-last.ensures c.in-Set-last.is

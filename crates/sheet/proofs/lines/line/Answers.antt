@@ -24,14 +24,14 @@ shape_of-words-in_default c = search (wording_size, rules)
 pub returns-in_default : goal.returns-in_default
 returns-in_default c = inr
     (wording_none c.loop-value.invariant
-    (found_nothing _ _ c.read_number-found.ensures c.in_default.is))
+    (found_nothing _ _ c.read_number-found.ensures.answer c.in_default.is))
 
 pub shape_of-words-then-n-at : goal.shape_of-words-then-n-at
 shape_of-words-then-n-at c = search (wording_size, rules)
 
 pub returns-then-n-at : goal.returns-then-n-at
 returns-then-n-at c = inr (wording_cut c.loop-value.invariant
-    (found_number _ _ c.read_number-found.ensures c.in-Number.is) c.if-n-at.true)
+    (found_number _ _ c.read_number-found.ensures.answer c.in-Number.is) c.if-n-at.true)
 
 pub overflow_add-i-in-loop-value : goal.overflow_add-i-in-loop-value
 overflow_add-i-in-loop-value c = search (found_number, rules)
@@ -41,7 +41,7 @@ shape_of-words-then-b-eq10 c = c.put.auto.0 ∙ wording_size c.loop-value.invari
 
 pub returns-then-b-eq10 : goal.returns-then-b-eq10
 returns-then-b-eq10 c = wording_end c.loop-value.invariant
-    (found_number _ _ c.read_number-found.ensures c.in-Number.is) c.if-n-at.false
+    (found_number _ _ c.read_number-found.ensures.answer c.in-Number.is) c.if-n-at.false
     c.put.ensures c.if-b-eq10.true
 
 pub shape_of-words-then-b-ne32 : goal.shape_of-words-then-b-ne32
@@ -49,13 +49,13 @@ shape_of-words-then-b-ne32 c = c.put.auto.0 ∙ wording_size c.loop-value.invari
 
 pub returns-then-b-ne32 : goal.returns-then-b-ne32
 returns-then-b-ne32 c = inr (wording_bad c.loop-value.invariant
-    (found_number _ _ c.read_number-found.ensures c.in-Number.is) c.if-n-at.false
+    (found_number _ _ c.read_number-found.ensures.answer c.in-Number.is) c.if-n-at.false
     c.if-b-eq10.false c.if-b-ne32.true)
 
 pub loop-value-smaller : goal.loop-value-smaller
-loop-value-smaller c = omega (arith, (found_number _ _ c.read_number-found.ensures c.in-Number.is).after)
+loop-value-smaller c = omega (arith, (found_number _ _ c.read_number-found.ensures.answer c.in-Number.is).after)
 
 pub loop-value-preserved : goal.loop-value-preserved
 loop-value-preserved c = wording_more c.loop-value.invariant
-    (found_number _ _ c.read_number-found.ensures c.in-Number.is) c.if-n-at.false
+    (found_number _ _ c.read_number-found.ensures.answer c.in-Number.is) c.if-n-at.false
     c.put.ensures c.if-b-ne32.false

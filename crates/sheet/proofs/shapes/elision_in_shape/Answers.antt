@@ -4,7 +4,7 @@ use Rattle.sheet.proofs.LaidLaws.{shape_is, all_three}
 use Rattle.sheet.proofs.shapes.elision_in_shape.Goals as goal
 
 pub returns : goal.returns
-returns c = all_three (shape_is self_in_shape c.args.own.now c.self_shape.ensures c.accepted-received.ensures)
-    (shape_is steps_in_shape c.args.steps.now c.steps_shape.ensures c.accepted-given.ensures)
-    (shape_is steps_in_shape c.args.returns.now c.steps_shape-2.ensures c.accepted-returned.ensures)
+returns c = all_three (shape_is self_in_shape c.args.own.now c.self_shape.ensures.answer c.accepted-received.ensures)
+    (shape_is steps_in_shape c.args.steps.now c.steps_shape.ensures.answer c.accepted-given.ensures)
+    (shape_is steps_in_shape c.args.returns.now c.steps_shape-2.ensures.answer c.accepted-returned.ensures)
     c.both.ensures c.both-2.ensures

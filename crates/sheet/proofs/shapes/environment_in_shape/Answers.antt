@@ -5,7 +5,7 @@ use Rattle.sheet.proofs.LaidLaws.{shape_is, all_three}
 use Rattle.sheet.proofs.shapes.environment_in_shape.Goals as goal
 
 pub returns : goal.returns
-returns c = all_three (shape_is names_in_shape c.args.names.now c.names_shape.ensures c.accepted-named.ensures)
-    (shape_is bounds_in_shape c.args.bounds.now c.bounds_shape.ensures c.accepted-bounded.ensures)
-    (shape_is types_in_shape c.args.types.now c.types_shape.ensures c.accepted-typed.ensures)
+returns c = all_three (shape_is names_in_shape c.args.names.now c.names_shape.ensures.answer c.accepted-named.ensures)
+    (shape_is bounds_in_shape c.args.bounds.now c.bounds_shape.ensures.answer c.accepted-bounded.ensures)
+    (shape_is types_in_shape c.args.types.now c.types_shape.ensures.answer c.accepted-typed.ensures)
     c.both.ensures c.both-2.ensures

@@ -5,13 +5,13 @@ use Rattle.sheet.proofs.LaidLaws.{ten_found}
 use Rattle.sheet.proofs.shapes.judge_laid.Goals as goal
 
 pub returns : goal.returns
-returns c = c.sheet_shape.ensures
+returns c = c.sheet_shape.ensures.answer
     ∙ ap records_verdict
-    (ten_found c.args.words.now c.args.ends c.record_words.ensures
-    c.record_words-2.ensures
-    c.record_words-3.ensures
-    c.record_words-4.ensures
-    c.record_words-5.ensures
-    c.record_words-6.ensures
-    c.record_words-7.ensures c.record_words-8.ensures
-    c.record_words-9.ensures c.record_words-10.ensures)
+    (ten_found c.args.words.now c.args.ends c.record_words.ensures.answer
+    c.record_words-2.ensures.answer
+    c.record_words-3.ensures.answer
+    c.record_words-4.ensures.answer
+    c.record_words-5.ensures.answer
+    c.record_words-6.ensures.answer
+    c.record_words-7.ensures.answer c.record_words-8.ensures.answer
+    c.record_words-9.ensures.answer c.record_words-10.ensures.answer)

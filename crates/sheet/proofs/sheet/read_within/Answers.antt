@@ -5,30 +5,30 @@ use Rattle.sheet.proofs.LaidLaws.{scanned_shape, scanned_short, scanned_wrote}
 use Rattle.sheet.proofs.sheet.read_within.Goals as goal
 
 pub returns-in_default : goal.returns-in_default
-returns-in_default c = let it = sheet_refused _ c.args.words.now c.scan-text.result c.scan-text.ensures.0 c.in_default.is in
+returns-in_default c = let it = sheet_refused _ c.args.words.now c.scan-text.result c.scan-text.ensures.value c.in_default.is in
     record { value = it.0; fills = it.1 }
 
 pub returns-in-Refused : goal.returns-in-Refused
 returns-in-Refused c = let it = let e = c.in-Accepted.is in
     let shape =
-    scanned_shape c.args.sheet.now c.args.scratch.now c.requires c.scan-text.ensures.0 e
-    c.scan-text.ensures.1 c.judge_laid-shape.ensures in
-    let a = sheet_unshaped _ c.args.words.now c.scan-text.result c.scan-text.ensures.0 e shape
+    scanned_shape c.args.sheet.now c.args.scratch.now c.requires c.scan-text.ensures.value e
+    c.scan-text.ensures.scratch_value c.judge_laid-shape.ensures in
+    let a = sheet_unshaped _ c.args.words.now c.scan-text.result c.scan-text.ensures.value e shape
     c.in-Refused.is in
     (c.refused.ensures ∙ a.0, a.1) in
     record { value = it.0; fills = it.1 }
 
 pub returns-in_default-copy_words : goal.returns-in_default-copy_words
-returns-in_default-copy_words c = let it = let a = scanned_short c.args.sheet.now c.args.scratch.now c.requires c.scan-text.ensures.0
-    c.in-Accepted.is c.scan-text.ensures.1
+returns-in_default-copy_words c = let it = let a = scanned_short c.args.sheet.now c.args.scratch.now c.requires c.scan-text.ensures.value
+    c.in-Accepted.is c.scan-text.ensures.scratch_value
     c.judge_laid-shape.ensures c.in_default-shape.is c.args.words.now
-    c.copy_words.ensures.1 c.copy_words.ensures.0 c.in_default-copy_words.is in
+    c.copy_words.ensures.stored c.copy_words.ensures.answer c.in_default-copy_words.is in
     (c.refused-in_default-copy_words.ensures ∙ a.0, a.1) in
     record { value = it.0; fills = it.1 }
 
 pub returns : goal.returns
-returns c = let it = scanned_wrote c.args.sheet.now c.args.scratch.now c.requires c.scan-text.ensures.0
-    c.in-Accepted.is c.scan-text.ensures.1
+returns c = let it = scanned_wrote c.args.sheet.now c.args.scratch.now c.requires c.scan-text.ensures.value
+    c.in-Accepted.is c.scan-text.ensures.scratch_value
     c.judge_laid-shape.ensures c.in_default-shape.is c.args.words.now
-    c.copy_words.ensures.1 c.copy_words.ensures.0 c.in-Count.is in
+    c.copy_words.ensures.stored c.copy_words.ensures.answer c.in-Count.is in
     record { value = it.0; fills = it.1 }

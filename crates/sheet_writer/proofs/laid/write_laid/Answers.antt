@@ -19,5 +19,5 @@ write_ten-requires c = ends_fine (length c.args.words.now) c.args.ends.now c.are
 
 pub returns : goal.returns
 returns c = let it = laid_written c.args.words.now c.args.ends.now c.args.out.now c.ten_of.ensures
-    c.write_ten.ensures in
+    (c.write_ten.ensures.value, c.write_ten.ensures.fills) in
     record { answer = it.0; stored = it.1 }

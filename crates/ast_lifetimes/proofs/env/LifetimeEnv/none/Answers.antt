@@ -4,5 +4,4 @@ use Rattle.ast_lifetimes.proofs.env.LifetimeEnv.none.Goals as goal
 
 pub returns : goal.returns
 unfolding named_env
-returns c = let it = rw c.none.ensures in
-    record { answer = it }
+returns c = record { answer = rw c.none.ensures.answer }

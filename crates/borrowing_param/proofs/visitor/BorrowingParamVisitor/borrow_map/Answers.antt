@@ -6,7 +6,7 @@ use Rattle.borrowing_param.proofs.visitor.BorrowingParamVisitor.borrow_map.Goals
 pub map_params-requires : goal.map_params-requires
 map_params-requires c = let s = c.args in
     are_params s.structs.now s.params.now
-    (map_none s.self s.structs.now s.params.now c.check_structs_and_params-verdict.ensures
+    (map_none s.self s.structs.now s.params.now c.check_structs_and_params-verdict.ensures.answer
     c.in-Accepted.is)
 
 pub returns-in-Refused : goal.returns-in-Refused

@@ -15,18 +15,17 @@ pub lifetimes-2-preserved-then-not-contains : goal.lifetimes-2-preserved-then-no
 lifetimes-2-preserved-then-not-contains c = (
   c.lifetimes-2.invariant.0,
   keeping_not c.lifetimes-2.invariant.1
-      (sym c.if-not-contains.true ∙ c.contains.ensures
-      ∙ ap (λ (x : Lifetime). member c.args.used x.0) c.new.ensures),
+      (sym c.if-not-contains.true ∙ c.contains.ensures.answer
+      ∙ ap (λ (x : Lifetime). member c.args.used x.0) c.new.ensures.answer),
 )
 
 pub lifetimes-2-preserved : goal.lifetimes-2-preserved
 lifetimes-2-preserved c = let inv = c.lifetimes-2.invariant in (
   inv.0,
   keeping_one inv.1 (below_64 inv.0 c.lifetimes-test.true)
-      (sym c.if-not-contains.false ∙ c.contains.ensures
-      ∙ ap (λ (x : Lifetime). member c.args.used x.0) c.new.ensures),
+      (sym c.if-not-contains.false ∙ c.contains.ensures.answer
+      ∙ ap (λ (x : Lifetime). member c.args.used x.0) c.new.ensures.answer),
 )
 
 pub returns : goal.returns
-returns c = let it = let inv = c.lifetimes-2.invariant in keeping_end inv.1 inv.0 c.lifetimes-test.false in
-    record { answer = it }
+returns c = record { answer = let inv = c.lifetimes-2.invariant in keeping_end inv.1 inv.0 c.lifetimes-test.false }

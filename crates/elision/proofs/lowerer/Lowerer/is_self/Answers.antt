@@ -4,17 +4,17 @@ use borrow.Author.Rules.{rules}
 use Rattle.elision.proofs.lowerer.Lowerer.is_self.Goals as goal
 
 pub returns-then-words-gt-MAX_LIST : goal.returns-then-words-gt-MAX_LIST
-returns-then-words-gt-MAX_LIST c = let it = rw c.refused.ensures (self_long _ _ _ _ c.if-words-gt-MAX_LIST.true) in
-    record { answer = it }
+returns-then-words-gt-MAX_LIST c = record { answer = rw c.refused.ensures (self_long _ _ _ _ c.if-words-gt-MAX_LIST.true) }
 
 pub returns-then-self : goal.returns-then-self
 returns-then-self c = search (self_kept, rules)
 
 pub returns-in-Refused : goal.returns-in-Refused
-returns-in-Refused c = let it = rw c.refused-in-Refused.ensures
-    (type_refused _ _ _ _ c.if-words-gt-MAX_LIST.false c.if-self.false c.lower_words-done.ensures
-    c.in-Refused.is) in
-    record { answer = it }
+returns-in-Refused c = record {
+  answer = rw c.refused-in-Refused.ensures
+      (type_refused _ _ _ _ c.if-words-gt-MAX_LIST.false c.if-self.false c.lower_words-done.ensures
+      c.in-Refused.is);
+}
 
 pub returns : goal.returns
 returns c = search (type_given, rules)

@@ -4,5 +4,4 @@ use Rattle.elision.proofs.lowerer.Lowerer.lower_lifetime.Goals as goal
 
 pub returns : goal.returns
 unfolding one_step lower_step
-returns c = let it = c.lower_generics.ensures in
-    record { answer = it }
+returns c = record { answer = c.lower_generics.ensures.answer }

@@ -4,10 +4,11 @@ use borrow.Author.Rules.{rules}
 use Rattle.elision.proofs.lowerer.Lowerer.lower_self_ref.Goals as goal
 
 pub returns-in-Refused : goal.returns-in-Refused
-returns-in-Refused c = let it = rw c.refused.ensures
-    (self_refused _ _ c.no_self_ref-fresh.ensures
-    c.lower_word-done.ensures c.in-Refused.is) in
-    record { answer = it }
+returns-in-Refused c = record {
+  answer = rw c.refused.ensures
+      (self_refused _ _ c.no_self_ref-fresh.ensures.answer
+      c.lower_word-done.ensures c.in-Refused.is);
+}
 
 pub returns : goal.returns
 returns c = search (self_given, rules)

@@ -4,5 +4,4 @@ use Rattle.elision.proofs.lowerer.Lowerer.no_self_ref.Goals as goal
 
 pub returns : goal.returns
 unfolding unused
-returns c = let it = rw c.no_lifetimes.ensures in
-    record { answer = it }
+returns c = record { answer = rw c.no_lifetimes.ensures }

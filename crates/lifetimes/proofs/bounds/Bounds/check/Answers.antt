@@ -16,15 +16,16 @@ loop-i-init c = search (checking_start, rules)
 
 pub returns-then-not-both_below : goal.returns-then-not-both_below
 returns-then-not-both_below c =
-    let full : length c.args.t1.list ≡ 256 = simp length-map at c.well_formed.0.1.1.1.0.1.0.1 in
-    let it = let l = c.loop-i in
-    checking_refused l.invariant full c.loop-i-test.true
-    (sym c.both_below.ensures ∙ c.if-not-both_below.true) in
-    record { answer = it }
+    let full : length c.args.self.list ≡ 256 = simp length-map at c.well_formed.0.1.1.1.0.1.0.1 in
+    record {
+      answer = let l = c.loop-i in
+          checking_refused l.invariant full c.loop-i-test.true
+          (sym c.both_below.ensures ∙ c.if-not-both_below.true);
+    }
 
 pub loop-i-preserved : goal.loop-i-preserved
 loop-i-preserved c =
-    let full : length c.args.t1.list ≡ 256 = simp length-map at c.well_formed.0.1.1.1.0.1.0.1 in
+    let full : length c.args.self.list ≡ 256 = simp length-map at c.well_formed.0.1.1.1.0.1.0.1 in
     let l = c.loop-i in
     checking_more l.invariant full c.loop-i-test.true
     (sym c.both_below.ensures ∙ c.if-not-both_below.false)

@@ -4,5 +4,4 @@ use Rattle.lifetimes.proofs.bounds.Bounds.none.Goals as goal
 
 pub returns : goal.returns
 unfolding bounds_from
-returns c = let it = rw c.bound_of-list.ensures in
-    record { answer = it }
+returns c = record { answer = rw c.bound_of-list.ensures }

@@ -21,13 +21,13 @@ parts p = (p.0, (p.1, p.2))
 pub returns-in-Refused : goal.returns-in-Refused
 returns-in-Refused c = let it = parts (lists_refused c.args.longer c.args.self c.args.words.now c.args.ends.now
     (refused_first (tt {0}) _ (env_checks c.args.self)
-    (sym c.check-verdict.ensures ∙ c.in-Refused.is))) in
+    (sym c.check-verdict.ensures.answer ∙ c.in-Refused.is))) in
     record { answer = it.0; words_filled = it.1.0; ends_filled = it.1.1 }
 
 pub returns-then-ends-count : goal.returns-then-ends-count
 returns-then-ends-count c =
     let none : NoneDue (env_checks c.args.self) = accepted_none (tt {0}) (env_checks c.args.self)
-    (sym c.check-verdict.ensures ∙ c.in_default.is) in
+    (sym c.check-verdict.ensures.answer ∙ c.in_default.is) in
     let it = let s = c.args in
     parts (lists_no_ends s.longer s.self s.words.now s.ends.now none c.if-ends-count.true) in
     record { answer = it.0; words_filled = it.1.0; ends_filled = it.1.1 }
@@ -35,7 +35,7 @@ returns-then-ends-count c =
 pub link-requires : goal.link-requires
 link-requires c =
     let none : NoneDue (env_checks c.args.self) = accepted_none (tt {0}) (env_checks c.args.self)
-    (sym c.check-verdict.ensures ∙ c.in_default.is) in
+    (sym c.check-verdict.ensures.answer ∙ c.in_default.is) in
     let holds : Valid c.args.self = valid c.args.self none in
     let full : length c.args.self.bounds.list ≡ 256 = simp length-map at c.well_formed.0.1.1.1.1.0.1.1.1.0.1.0.1 in
     let it = let v = holds in
@@ -45,7 +45,7 @@ link-requires c =
 pub all_fit-requires : goal.all_fit-requires
 all_fit-requires c =
     let none : NoneDue (env_checks c.args.self) = accepted_none (tt {0}) (env_checks c.args.self)
-    (sym c.check-verdict.ensures ∙ c.in_default.is) in
+    (sym c.check-verdict.ensures.answer ∙ c.in_default.is) in
     let holds : Valid c.args.self = valid c.args.self none in
     let s = c.args in
     let v = holds in (
@@ -57,7 +57,7 @@ all_fit-requires c =
 pub returns-then-not-all_fit : goal.returns-then-not-all_fit
 returns-then-not-all_fit c =
     let none : NoneDue (env_checks c.args.self) = accepted_none (tt {0}) (env_checks c.args.self)
-    (sym c.check-verdict.ensures ∙ c.in_default.is) in
+    (sym c.check-verdict.ensures.answer ∙ c.in_default.is) in
     let holds : Valid c.args.self = valid c.args.self none in
     let fit : let s = c.args in
     Fits (graph_of s.longer s.self) s.self.count (length s.words.now) c.all_fit.result = let s = c.args in
@@ -72,7 +72,7 @@ returns-then-not-all_fit c =
 pub lay-total-requires : goal.lay-total-requires
 lay-total-requires c =
     let none : NoneDue (env_checks c.args.self) = accepted_none (tt {0}) (env_checks c.args.self)
-    (sym c.check-verdict.ensures ∙ c.in_default.is) in
+    (sym c.check-verdict.ensures.answer ∙ c.in_default.is) in
     let holds : Valid c.args.self = valid c.args.self none in
     let fit : let s = c.args in
     Fits (graph_of s.longer s.self) s.self.count (length s.words.now) c.all_fit.result = let s = c.args in
@@ -97,7 +97,7 @@ lay-total-requires c =
 pub returns : goal.returns
 returns c =
     let none : NoneDue (env_checks c.args.self) = accepted_none (tt {0}) (env_checks c.args.self)
-    (sym c.check-verdict.ensures ∙ c.in_default.is) in
+    (sym c.check-verdict.ensures.answer ∙ c.in_default.is) in
     let holds : Valid c.args.self = valid c.args.self none in
     let fit : let s = c.args in
     Fits (graph_of s.longer s.self) s.self.count (length s.words.now) c.all_fit.result = let s = c.args in

@@ -2,5 +2,4 @@
 use Rattle.lifetimes.proofs.env.LifetimeEnv.get_bounds.Goals as goal
 
 pub returns : goal.returns
-returns c = let it = rw c.index.ensures in
-    record { answer = it }
+returns c = record { answer = rw c.index.ensures.answer }

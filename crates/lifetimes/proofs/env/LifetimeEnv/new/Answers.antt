@@ -20,12 +20,13 @@ pub returns-then-count-declared : goal.returns-then-count-declared
 returns-then-count-declared c = search (new_declared, rules)
 
 pub returns-then-not-pairs_below : goal.returns-then-not-pairs_below
-returns-then-not-pairs_below c = let it = let a = c.args in
-    new_outside a.declared a.count a.pairs.now c.if-pairs-eq1.false c.if-count-gt-MAX_LIFETIMES.false c.if-pairs-gt-MAX.false
-    c.if-count-declared.false
-    (sym c.pairs_below.ensures ∙ c.if-not-pairs_below.true)
-    c.refused-then-not-pairs_below.ensures in
-    record { answer = it }
+returns-then-not-pairs_below c = record {
+  answer = let a = c.args in
+      new_outside a.declared a.count a.pairs.now c.if-pairs-eq1.false c.if-count-gt-MAX_LIFETIMES.false c.if-pairs-gt-MAX.false
+      c.if-count-declared.false
+      (sym c.pairs_below.ensures ∙ c.if-not-pairs_below.true)
+      c.refused-then-not-pairs_below.ensures;
+}
 
 pub filled-requires : goal.filled-requires
 filled-requires c = let below = sym c.pairs_below.ensures ∙ c.if-not-pairs_below.false in
@@ -33,10 +34,11 @@ filled-requires c = let below = sym c.pairs_below.ensures ∙ c.if-not-pairs_bel
     (search rules, search rules, below_larger a.declared 256 (omega arith) (bounds_of_pairs a.pairs.now) below)
 
 pub returns : goal.returns
-returns c = let it = let a = c.args in
-    rw c.from_bounds.ensures
-    (new_given a.declared a.count a.pairs.now c.if-pairs-eq1.false c.if-count-gt-MAX_LIFETIMES.false c.if-pairs-gt-MAX.false
-    c.if-count-declared.false
-    (sym c.pairs_below.ensures ∙ c.if-not-pairs_below.false)
-    c.filled.ensures) in
-    record { answer = it }
+returns c = record {
+  answer = let a = c.args in
+      rw c.from_bounds.ensures.answer
+      (new_given a.declared a.count a.pairs.now c.if-pairs-eq1.false c.if-count-gt-MAX_LIFETIMES.false c.if-pairs-gt-MAX.false
+      c.if-count-declared.false
+      (sym c.pairs_below.ensures ∙ c.if-not-pairs_below.false)
+      c.filled.ensures);
+}

@@ -4,5 +4,4 @@ use Rattle.lifetimes.proofs.env.LifetimeEnv.none.Goals as goal
 
 pub returns : goal.returns
 unfolding env_of
-returns c = let it = rw (c.from_bounds.ensures, c.none.ensures) in
-    record { answer = it }
+returns c = record { answer = rw (c.from_bounds.ensures.answer, c.none.ensures.answer) }

@@ -13,35 +13,38 @@ returns-then-at-ge-MAX c = search (push_full, rules)
 pub returns-in_default : goal.returns-in_default
 returns-in_default c =
     let full : length c.args.self.bounds.list ≡ 256 = simp length-map at c.well_formed.0.1.1.1.1.0.1.1.1.0.1.0.1 in
-    let it = push_refused c.args.self (above c.args.longer.0 c.args.shorter.0) full c.if-at-ge-MAX.false
-    c.check-verdict.ensures c.in_default.is in
-    record { answer = it }
+    record {
+      answer = push_refused c.args.self (above c.args.longer.0 c.args.shorter.0) full c.if-at-ge-MAX.false
+          c.check-verdict.ensures.answer c.in_default.is;
+    }
 
 pub returns-then-not-numbers_below : goal.returns-then-not-numbers_below
 returns-then-not-numbers_below c =
     let full : length c.args.self.bounds.list ≡ 256 = simp length-map at c.well_formed.0.1.1.1.1.0.1.1.1.0.1.0.1 in
-    let it = let a = c.args in let f : both_below a.self.declared (above a.longer.0 a.shorter.0) ≡ false =
-    rw (c.index-from.ensures, c.index-to.ensures)
-    at (sym c.numbers_below.ensures ∙ c.if-not-numbers_below.true) in
-    push_outside a.self (above a.longer.0 a.shorter.0) full c.if-at-ge-MAX.false c.check-verdict.ensures
-    c.in-Accepted.is f in
-    record { answer = it }
+    record {
+      answer = let a = c.args in let f : both_below a.self.declared (above a.longer.0 a.shorter.0) ≡ false =
+          rw (c.index-from.ensures.answer, c.index-to.ensures.answer)
+          at (sym c.numbers_below.ensures ∙ c.if-not-numbers_below.true) in
+          push_outside a.self (above a.longer.0 a.shorter.0) full c.if-at-ge-MAX.false c.check-verdict.ensures.answer
+          c.in-Accepted.is f;
+    }
 
 pub bound_of-requires : goal.bound_of-requires
 bound_of-requires c =
     let full : length c.args.self.bounds.list ≡ 256 = simp length-map at c.well_formed.0.1.1.1.1.0.1.1.1.0.1.0.1 in
     let a = c.args in
     push_small a.self (above c.index-from.result c.index-to.result)
-    full c.if-at-ge-MAX.false c.check-verdict.ensures c.in-Accepted.is
+    full c.if-at-ge-MAX.false c.check-verdict.ensures.answer c.in-Accepted.is
     (sym c.numbers_below.ensures ∙ c.if-not-numbers_below.false)
 
 pub returns : goal.returns
 returns c =
     let full : length c.args.self.bounds.list ≡ 256 = simp length-map at c.well_formed.0.1.1.1.1.0.1.1.1.0.1.0.1 in
-    let it = let a = c.args in let t : both_below a.self.declared (above a.longer.0 a.shorter.0) ≡ true =
-    rw (c.index-from.ensures, c.index-to.ensures)
-    at (sym c.numbers_below.ensures ∙ c.if-not-numbers_below.false) in
-    rw (c.from_bounds.ensures, c.bound_of.ensures, c.index-from.ensures, c.index-to.ensures)
-    (push_given a.self (above a.longer.0 a.shorter.0) full c.if-at-ge-MAX.false c.check-verdict.ensures
-    c.in-Accepted.is t) in
-    record { answer = it }
+    record {
+      answer = let a = c.args in let t : both_below a.self.declared (above a.longer.0 a.shorter.0) ≡ true =
+          rw (c.index-from.ensures.answer, c.index-to.ensures.answer)
+          at (sym c.numbers_below.ensures ∙ c.if-not-numbers_below.false) in
+          rw (c.from_bounds.ensures.answer, c.bound_of.ensures, c.index-from.ensures.answer, c.index-to.ensures.answer)
+          (push_given a.self (above a.longer.0 a.shorter.0) full c.if-at-ge-MAX.false c.check-verdict.ensures.answer
+          c.in-Accepted.is t);
+    }

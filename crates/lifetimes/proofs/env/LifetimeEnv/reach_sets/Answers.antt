@@ -13,15 +13,16 @@ use Rattle.lifetimes.proofs.ReachAnswers.{sets_refused, sets_given}
 use Rattle.lifetimes.proofs.env.LifetimeEnv.reach_sets.Goals as goal
 
 pub returns-in_default : goal.returns-in_default
-returns-in_default c = let it = let told = c.in_default.is in
-    rw told (sets_refused c.args.longer c.args.self
-    (refused_first (tt {0}) _ (env_checks c.args.self) (sym c.check-verdict.ensures ∙ told))) in
-    record { answer = it }
+returns-in_default c = record {
+  answer = let told = c.in_default.is in
+      rw told (sets_refused c.args.longer c.args.self
+      (refused_first (tt {0}) _ (env_checks c.args.self) (sym c.check-verdict.ensures.answer ∙ told)));
+}
 
 pub link-requires : goal.link-requires
 link-requires c =
     let none : NoneDue (env_checks c.args.self) = accepted_none (tt {0}) (env_checks c.args.self)
-    (sym c.check-verdict.ensures ∙ c.in-Accepted.is) in
+    (sym c.check-verdict.ensures.answer ∙ c.in-Accepted.is) in
     let holds : Valid c.args.self = valid c.args.self none in
     let full : length c.args.self.bounds.list ≡ 256 = simp length-map at c.well_formed.0.1.1.1.1.0.1.1.1.0.1.0.1 in
     let it = let v = holds in
@@ -31,7 +32,7 @@ link-requires c =
 pub measure-requires : goal.measure-requires
 measure-requires c =
     let none : NoneDue (env_checks c.args.self) = accepted_none (tt {0}) (env_checks c.args.self)
-    (sym c.check-verdict.ensures ∙ c.in-Accepted.is) in
+    (sym c.check-verdict.ensures.answer ∙ c.in-Accepted.is) in
     let holds : Valid c.args.self = valid c.args.self none in
     let it = let s = c.args in
     let v = holds in (
@@ -47,10 +48,11 @@ measure-requires c =
 pub returns : goal.returns
 returns c =
     let none : NoneDue (env_checks c.args.self) = accepted_none (tt {0}) (env_checks c.args.self)
-    (sym c.check-verdict.ensures ∙ c.in-Accepted.is) in
+    (sym c.check-verdict.ensures.answer ∙ c.in-Accepted.is) in
     let holds : Valid c.args.self = valid c.args.self none in
-    let it = let s = c.args in
-    sets_given s.longer s.self none
-    (c.measure.ensures (graph_of s.longer s.self) c.link.ensures
-    (bounds_within holds LastFirst s.longer _ (omega arith))) in
-    record { answer = it }
+    record {
+      answer = let s = c.args in
+          sets_given s.longer s.self none
+          (c.measure.ensures (graph_of s.longer s.self) c.link.ensures
+          (bounds_within holds LastFirst s.longer _ (omega arith)));
+    }

@@ -3,9 +3,7 @@ use Rattle.lifetimes.proofs.MaybeStaticLaws.{word_above}
 use Rattle.lifetimes.proofs.maybe_static.MaybeStatic.word.Goals as goal
 
 pub returns-in-Static : goal.returns-in-Static
-returns-in-Static c = let it = rw c.in-Static.is in
-    record { answer = it }
+returns-in-Static c = record { answer = rw c.in-Static.is }
 
 pub returns-in-NonStatic : goal.returns-in-NonStatic
-returns-in-NonStatic c = let it = rw c.in-NonStatic.is (word_above c.word_after.ensures c.index.ensures) in
-    record { answer = it }
+returns-in-NonStatic c = record { answer = rw c.in-NonStatic.is (word_above c.word_after.ensures c.index.ensures.answer) }
