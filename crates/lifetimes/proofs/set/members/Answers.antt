@@ -20,12 +20,11 @@ bounds-out-at c = listing_room c.loop-x.invariant c.loop-x-test.true
     (sym c.holds.ensures ∙ c.if-holds.true)
 
 pub loop-x-preserved : goal.loop-x-preserved
-loop-x-preserved c = let l = c.loop-x in
-    let below = c.loop-x-test.true in
+loop-x-preserved c = let below = c.loop-x-test.true in
     let told = sym c.holds.ensures in
     ⊎_elim
-    (λ w. rw (w.1, w.2) (listing_member l.invariant below (told ∙ w.0.taken)))
-    (λ w. rw (w.1, w.2) (listing_other l.invariant below (told ∙ w.0.left)))
+    (λ w. rw (w.1, w.2) (listing_member c.loop-x.invariant below (told ∙ w.0.taken)))
+    (λ w. rw (w.1, w.2) (listing_other c.loop-x.invariant below (told ∙ w.0.left)))
     c.if-holds.branch
 
 pub returns : goal.returns
