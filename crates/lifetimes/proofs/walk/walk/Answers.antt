@@ -1,13 +1,13 @@
 -- `walk` meets its contract: each turn lists the next unseen lifetime.
 use Prim.Native.Nat.{◌-◌, ◌<◌}
 use mathlib.Core.Path.{refl, ◌∙◌}
-use mathlib.Core.Logic.{⊎_elim}
 use native.Mathlib.Omega.{arith}
 use lib.ListN.{length-set}
 use Rattle.lifetimes.specs.Index.{Graph, Indexed, Within, Steps}
 use Rattle.lifetimes.proofs.WalkLoops.{last_small, walking_start, walking_end, walking_small}
 use Rattle.lifetimes.proofs.WalkLoops.{walking_more, walking_held, stacked_push, stacked_same, going_full}
 use Rattle.lifetimes.proofs.walk.walk.Goals as goal
+use Rattle.lifetimes.proofs.walk.walk.Goals.{then-rest-ne0, else-rest-ne0}
 
 pub overflow_cast-at : goal.overflow_cast-at
 overflow_cast-at c = omega (arith, last_small c.requires.walkable.0.1 c.args.start (omega (arith, c.requires.walkable.1, c.requires.walkable.2)))
@@ -115,26 +115,39 @@ loop-count-preserved c =
     → Steps g c.loop-count.stack c.loop-count.seen c.loop-count.at c.loop-count.depth c.advance-stepped.result = λ g k w. c.advance-stepped.ensures g k.chained (c.loop-count.invariant.3 g k w).ready in
     let deep : c.advance-stepped.result.depth < 64 = let (g, k, w) = c.requires.walkable.0 in
     omega (arith, c.requires.walkable.1, c.loop-count.invariant.2, (c.loop-count.invariant.3 g k w).deep, (steps g k w).deep) in
-    let r = c.advance-stepped.result in (
-      length-set c.loop-count.items c.loop-count.count c.index-y.result ∙ c.loop-count.invariant.0,
-      ⊎_elim (λ v. rw v.1 (length-set c.loop-count.stack r.depth r.at ∙ c.loop-count.invariant.1)) (λ v. rw v.1 c.loop-count.invariant.1) c.if-rest-ne0.branch,
-      omega arith,
-      λ g k w.
-          let inv = c.loop-count.invariant.3 g k w in
-          let st = steps g k w in
-          let h = c.in-Yield.is in
-          rw (c.with-seen-in-loop-count.ensures, c.index-y.ensures.answer)
-          (walking_more k w c.requires.walkable.1 inv st h c.loop-count-test.true c.loop-count.invariant.0
-          (⊎_elim (λ v. omega (arith, v.2)) (λ v. omega (arith, v.2)) c.if-rest-ne0.branch)
-          (⊎_elim
-          (λ v. rw (v.1, v.2)
-          (stacked_push c.loop-count.stack r.depth r.at st.here (walking_held k w c.requires.walkable.1 inv st h)
-          (omega (arith, c.loop-count.invariant.1, deep))))
-          (λ v. rw (v.1, v.2)
-          (stacked_same c.loop-count.stack r.depth r.at st.here (walking_held k w c.requires.walkable.1 inv st h)
-          v.0.left))
-          c.if-rest-ne0.branch)),
-    )
+    let r = c.advance-stepped.result in
+    elim c.if-rest-ne0.branch [
+      | then-rest-ne0 v ↦ (
+        length-set c.loop-count.items c.loop-count.count c.index-y.result ∙ c.loop-count.invariant.0,
+        rw v.stack-is (length-set c.loop-count.stack r.depth r.at ∙ c.loop-count.invariant.1),
+        omega arith,
+        λ g k w.
+            let inv = c.loop-count.invariant.3 g k w in
+            let st = steps g k w in
+            let h = c.in-Yield.is in
+            rw (c.with-seen-in-loop-count.ensures, c.index-y.ensures.answer)
+            (walking_more k w c.requires.walkable.1 inv st h c.loop-count-test.true c.loop-count.invariant.0
+            (omega (arith, v.depth-is))
+            (rw (v.stack-is, v.depth-is)
+            (stacked_push c.loop-count.stack r.depth r.at st.here (walking_held k w c.requires.walkable.1 inv st h)
+            (omega (arith, c.loop-count.invariant.1, deep))))),
+      )
+      | else-rest-ne0 v ↦ (
+        length-set c.loop-count.items c.loop-count.count c.index-y.result ∙ c.loop-count.invariant.0,
+        rw v.stack-is c.loop-count.invariant.1,
+        omega arith,
+        λ g k w.
+            let inv = c.loop-count.invariant.3 g k w in
+            let st = steps g k w in
+            let h = c.in-Yield.is in
+            rw (c.with-seen-in-loop-count.ensures, c.index-y.ensures.answer)
+            (walking_more k w c.requires.walkable.1 inv st h c.loop-count-test.true c.loop-count.invariant.0
+            (omega (arith, v.depth-is))
+            (rw (v.stack-is, v.depth-is)
+            (stacked_same c.loop-count.stack r.depth r.at st.here (walking_held k w c.requires.walkable.1 inv st h)
+            v.if-rest-ne0.false))),
+      )
+    ]
 
 pub returns : goal.returns
 returns c = record { count_le_most_lifetimes = (omega (arith, c.loop-count.invariant.2, c.requires.walkable.1), c.loop-count.invariant.0); complete = λ g k w. going_full w (c.loop-count.invariant.3 g k w).going c.loop-count-test.false }
