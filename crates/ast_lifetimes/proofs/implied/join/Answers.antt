@@ -22,7 +22,7 @@ loop-x-preserved c =
       | then-contains w ↦ (
         omega arith,
         c.loop-x.invariant.1,
-        rw (w.reach-is, w.union.ensures)
+        rw (w.reach-is, w.union.ensures.answer)
             (joining_joins c.loop-x.invariant.2 (omega arith) (told ∙ w.if-contains.true) _ c.loop-x.invariant.1),
       )
       | else-contains w ↦ (

@@ -22,7 +22,7 @@ pub returns-then-code-eq1 : goal.returns-then-code-eq1
 returns-then-code-eq1 t c =
     let stands : Stands c.args.words.now c.args.at c.args.nesting =
     record { some = c.if-nesting-eq0.false; here = c.if-n-at.false } in
-    type_path stands c.if-code-eq1.true (lifetimes_end _ _ c.lifetimes_end.ensures)
+    type_path stands c.if-code-eq1.true (lifetimes_end _ _ c.lifetimes_end.ensures.answer)
 
 pub returns-then-n-next : goal.returns-then-n-next
 returns-then-n-next t c =
