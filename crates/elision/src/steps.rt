@@ -1,6 +1,5 @@
 // The records `self`, `steps` and `returns`: their shape.
 ghost use Rattle.std.specs.Prelude.{◌≡◌, drop};
-ghost use Rattle.answers.specs.Lent.{held};
 ghost use Rattle.records.specs.Reading.{shape_verdict};
 ghost use Rattle.records.specs.Ends.{EndsAt};
 ghost use Rattle.elision.specs.Steps.{read_step, self_in_shape, steps_in_shape};
@@ -60,7 +59,7 @@ pub fn steps_shape(steps: &[usize]) -> Verdict
 
 // Where the step ends that stands at a place.
 pub(crate) fn step_end(words: &[usize], at: usize) -> End
-    ensures { EndsAt (held words) at (read_step (drop at (held words))) result }
+    ensures { EndsAt words.now at (read_step (drop at words.now)) result }
 {
     let step = read_step(words, at);
     match step {
@@ -77,7 +76,7 @@ pub(crate) fn step_end(words: &[usize], at: usize) -> End
 
 // The step that stands at a place.
 pub(crate) fn read_step(words: &[usize], at: usize) -> StepAt
-    ensures { StandsAt (held words) at (read_step (drop at (held words))) result }
+    ensures { StandsAt words.now at (read_step (drop at words.now)) result }
 {
     let n = words.len();
     if n <= at {

@@ -12,7 +12,7 @@ use Rattle.answers.specs.declared.Refusal.{Refusal}
 use Rattle.answers.specs.declared.Refusal.TheVariants.{NoRoom}
 use Rattle.answers.specs.declared.Listed.{Listed}
 use Rattle.answers.specs.declared.Listed.TheVariants as listed
-use Rattle.answers.specs.Refusals.{Check, Outcome, Gives, Refuses, unless, FirstDue, here, end}
+use Rattle.answers.specs.Refusals.{Check, Outcome, Gives, Refuses, unless, FirstDue, here, later, end}
 use Rattle.answers.specs.Lent.{counted, written, room_check}
 use Rattle.answers.proofs.RefusalLaws.{due_given, refused_due, given_due, none_first}
 use Rattle.answers.proofs.LentLaws.{answers_refusal, answers_list, no_room, has_room}

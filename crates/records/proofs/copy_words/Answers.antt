@@ -1,5 +1,4 @@
 -- `copy_words` meets its contract: refused where the slice is too short; else each turn stores one word more.
-use Prim.Native.Nat.{◌-◌}
 use native.Mathlib.Nat.{zero-add}
 use native.Mathlib.Omega.{arith}
 use borrow.Author.Rules.{rules}

@@ -21,9 +21,9 @@ lifetimes-2-init c = let a = c.args in
     let all =
     struct_edges (draws_in a.set) a.used a.param c.option_number-option.result 0
     (all_path a.words.now a.parts.from a.parts.count) in
-    let room : width * (a.at + length all) ≤ length a.edges.now = rw c.option_number-option.ensures c.requires.1 in (
+    let room : width * (a.at + length all) ≤ length a.edges.now = rw c.option_number-option.ensures c.requires.parts_in_bounds in (
       omega arith,
-      storing_none (storing_start all a.at a.pairs.now a.edges.now c.requires.0.3 room)
+      storing_none (storing_start all a.at a.pairs.now a.edges.now c.requires.inside.3 room)
           (edges_all (draws_in a.set) a.used a.param c.option_number-option.result a.words.now
           a.parts.from a.parts.count),
     )
@@ -37,12 +37,12 @@ lifetimes-2-preserved-then-not-draws c =
     let linked : let a = c.args in
     c.linked_lifetime.result ≡ from_word (get_or a.words.now (a.parts.from + c.lifetimes-2.i) 0) = let a = c.args in
     part_word a.words.now c.path_words-path.result.now a.parts.from a.parts.count
-    c.path_words-path.ensures.answer c.lifetimes-test.true c.linked_lifetime.ensures in
+    c.path_words-path.ensures.answer c.lifetimes-2-test.true c.linked_lifetime.ensures in
     let a = c.args in (
-      omega (arith, c.lifetimes-test.true),
+      omega (arith, c.lifetimes-2-test.true),
       storing_none c.lifetimes-2.invariant.1
           (edges_skip (draws_in a.set) a.used a.param option a.words.now a.parts.from
-          a.parts.count c.requires.0.0 c.lifetimes-2.i c.lifetimes-test.true
+          a.parts.count c.requires.inside.0 c.lifetimes-2.i c.lifetimes-2-test.true
           linked (sym c.if-not-draws.true ∙ c.draws.ensures)),
     )
 
@@ -55,20 +55,19 @@ store_pair-next-requires c =
     let linked : let a = c.args in
     c.linked_lifetime.result ≡ from_word (get_or a.words.now (a.parts.from + c.lifetimes-2.i) 0) = let a = c.args in
     part_word a.words.now c.path_words-path.result.now a.parts.from a.parts.count
-    c.path_words-path.ensures.answer c.lifetimes-test.true c.linked_lifetime.ensures in
+    c.path_words-path.ensures.answer c.lifetimes-2-test.true c.linked_lifetime.ensures in
     let split : from c.lifetimes-2.i
     ≡ this ++ from
     (c.lifetimes-2.i + 1) = let a = c.args in
     edges_one (draws_in a.set) a.used a.param option a.words.now
-    a.parts.from a.parts.count c.requires.0.0 c.lifetimes-2.i
-    c.lifetimes-test.true linked
-    (sym c.if-not-draws.false ∙ c.draws.ensures) in
-    let l = c.lifetimes-2 in (
+    a.parts.from a.parts.count c.requires.inside.0 c.lifetimes-2.i
+    c.lifetimes-2-test.true linked
+    (sym c.if-not-draws.false ∙ c.draws.ensures) in (
       refl,
-      omega (arith, c.requires.0.1, c.lifetimes-test.true),
-      c.requires.0.2,
-      l.invariant.1.sets16,
-      storing_fits l.invariant.1 this (from (l.i + 1)) split,
+      omega (arith, c.requires.inside.1, c.lifetimes-2-test.true),
+      c.requires.inside.2,
+      c.lifetimes-2.invariant.1.sets16,
+      storing_fits c.lifetimes-2.invariant.1 this (from (c.lifetimes-2.i + 1)) split,
     )
 
 pub lifetimes-2-preserved : goal.lifetimes-2-preserved
@@ -80,20 +79,18 @@ lifetimes-2-preserved c =
     let linked : let a = c.args in
     c.linked_lifetime.result ≡ from_word (get_or a.words.now (a.parts.from + c.lifetimes-2.i) 0) = let a = c.args in
     part_word a.words.now c.path_words-path.result.now a.parts.from a.parts.count
-    c.path_words-path.ensures.answer c.lifetimes-test.true c.linked_lifetime.ensures in
+    c.path_words-path.ensures.answer c.lifetimes-2-test.true c.linked_lifetime.ensures in
     let split : from c.lifetimes-2.i
     ≡ this ++ from
     (c.lifetimes-2.i + 1) = let a = c.args in
     edges_one (draws_in a.set) a.used a.param option a.words.now
-    a.parts.from a.parts.count c.requires.0.0 c.lifetimes-2.i
-    c.lifetimes-test.true linked
-    (sym c.if-not-draws.false ∙ c.draws.ensures) in
-    let l = c.lifetimes-2 in (
-      omega (arith, c.lifetimes-test.true),
-      storing_part l.invariant.1 this (from (l.i + 1)) split c.store_pair-next.ensures,
+    a.parts.from a.parts.count c.requires.inside.0 c.lifetimes-2.i
+    c.lifetimes-2-test.true linked
+    (sym c.if-not-draws.false ∙ c.draws.ensures) in (
+      omega (arith, c.lifetimes-2-test.true),
+      storing_part c.lifetimes-2.invariant.1 this (from (c.lifetimes-2.i + 1)) split c.store_pair-next.ensures,
     )
 
 pub returns : goal.returns
-returns c = let l = c.lifetimes-2 in
-    rw c.option_number-option.ensures
-    at (storing_end l.invariant.1 (edges_none _ _ _ _ _ _ _ l.i c.lifetimes-test.false))
+returns c = rw c.option_number-option.ensures
+    at (storing_end c.lifetimes-2.invariant.1 (edges_none _ _ _ _ _ _ _ c.lifetimes-2.i c.lifetimes-2-test.false))

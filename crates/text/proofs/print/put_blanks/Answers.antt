@@ -1,5 +1,4 @@
 -- `put_blanks` meets its contract: each turn stores one blank more, as long as there is room.
-use Prim.Native.Nat.{◌-◌}
 use native.Mathlib.Omega.{arith}
 use borrow.Author.Rules.{rules}
 use Rattle.answers.proofs.Copying.{copying_start}

@@ -16,7 +16,7 @@ pub loop-i-preserved : goal.loop-i-preserved
 loop-i-preserved c = search (following_more, rules)
 
 pub shape_of-out : goal.shape_of-out
-shape_of-out c = c.put.auto.0 ∙ following_size c.loop-i.invariant
+shape_of-out c = c.put.auto.out ∙ following_size c.loop-i.invariant
 
 pub returns : goal.returns
 returns c = let it = printed

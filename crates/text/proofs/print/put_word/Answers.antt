@@ -67,7 +67,7 @@ returns-then-word-lt100 c =
     search (word_two, room, rules)
 
 pub shape_of-out : goal.shape_of-out
-shape_of-out c = c.put_digits-2.auto.0 ∙ length-set c.args.out.now c.args.at space
+shape_of-out c = c.put_digits-2.auto.out ∙ length-set c.args.out.now c.args.at space
 
 pub returns : goal.returns
 returns c =
