@@ -1,5 +1,6 @@
-// The static library for C and Rust: the three calls of the crate `exports` with C's calling convention, under the names
-// that include/borrows.h declares. A slice is a pointer, then a length. Each promises what the call of `exports` does.
+// The static library for C and Rust: the three calls of the crate `exports` with C's calling convention, under the
+// names that include/borrows.h declares. A slice is a pointer, then a length. Each call promises what that of `exports`
+// does.
 #![tactic(auto)]
 
 ghost use Rattle.answers.specs.Lent.{room};
