@@ -22,7 +22,5 @@ pub mod IndexLoops
 pub mod AdvanceLoops
 pub mod WalkLoops
 pub mod ReachLoops
--- Of walks by hand:
-pub mod LinkedView
 -- Answers:
 pub mod ReachAnswers

@@ -38,8 +38,8 @@ bit_other x y h = elim (dec_lt x y) [ yes l ↦ rw (div-eq_of_lt (pow-lt l)) | n
     above : (k : ℕ) → x ≡ suc k + y → 2 ^ x / 2 ^ y % 2 ≡ 0
     above k e = rw (e, pow-add 2 (suc k) y, shl-shr (2 ^ suc k) y, pow-suc 2 k) (mul-mod_left (2 ^ k) 2)
 
-bit_or : (s t x : ℕ) → bit_or s t / 2 ^ x % 2 ≡ bit_or (s / 2 ^ x % 2) (t / 2 ^ x % 2)
-bit_or s t x = rw or_shr (or_mod (s / 2 ^ x) (t / 2 ^ x) 1)
+bit_or_lem : (s t x : ℕ) → bit_or s t / 2 ^ x % 2 ≡ bit_or (s / 2 ^ x % 2) (t / 2 ^ x % 2)
+bit_or_lem s t x = rw or_shr (or_mod (s / 2 ^ x) (t / 2 ^ x) 1)
 
 or_one : (a : ℕ) → a < 2 → bit_or a 1 ≡ 1
 or_one zero h = refl
@@ -48,11 +48,11 @@ or_one (suc (suc n)) h = absurd (omega arith)
 
 pub member_insert_same : (s x : ℕ) → member (insert s x) x ≡ true
 unfolding member insert
-member_insert_same s x = rw (bit_or s (2 ^ x) x, bit_same x, or_one (s / 2 ^ x % 2) (omega arith))
+member_insert_same s x = rw (bit_or_lem s (2 ^ x) x, bit_same x, or_one (s / 2 ^ x % 2) (omega arith))
 
 pub member_insert_other : (s x y : ℕ) → (x ≡ y → ⊥) → member (insert s x) y ≡ member s y
 unfolding member insert
-member_insert_other s x y h = rw (bit_or s (2 ^ x) y, bit_other x y h, or_zero_r (s / 2 ^ y % 2))
+member_insert_other s x y h = rw (bit_or_lem s (2 ^ x) y, bit_other x y h, or_zero_r (s / 2 ^ y % 2))
 
 -- what a test of a set with one member more says of the set
 pub member_insert_true : (s x y : ℕ) → member (insert s x) y ≡ true → (x ≡ y) ⊎ (member s y ≡ true)
@@ -91,7 +91,7 @@ half_lt w s h = shr_lt w 1 (rw (add-one w) h)
 
 pub member_union : (s t x : ℕ) → member (union s t) x ≡ member s x || member t x
 unfolding member union
-member_union s t x = rw (bit_or s t x) (digits (s / 2 ^ x % 2) (t / 2 ^ x % 2) (omega arith) (omega arith))
+member_union s t x = rw (bit_or_lem s t x) (digits (s / 2 ^ x % 2) (t / 2 ^ x % 2) (omega arith) (omega arith))
   where
     digits : (a b : ℕ) → a < 2 → b < 2 → eqb (bit_or a b) 1 ≡ eqb a 1 || eqb b 1
     digits zero zero h k = refl

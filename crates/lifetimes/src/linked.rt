@@ -6,7 +6,6 @@
 // Words and lifetimes that are not as many are refused by 7 when they are asked for. The Rust only asserts that in a
 // debug build, and else cuts to the shorter.
 ghost use Rattle.std.specs.Prelude.{◌≡◌};
-ghost use Rattle.answers.specs.Lent.{held};
 ghost use Rattle.lifetimes.specs.Linked.{linked_word, linked_answer, linked_pair, pair_answer};
 
 use super::def_lifetime::DefLifetime;

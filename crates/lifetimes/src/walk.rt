@@ -80,7 +80,7 @@ pub(crate) fn walk(
     requires walkable { Walkable far.now before.now last.now limit start }
     requires len { length items.old ≡ most_lifetimes }
     ensures count_le_most_lifetimes { (result.count ≤ most_lifetimes) × (length (left items) ≡ most_lifetimes) }
-    ensures complete { (g : Graph) → Indexed g (held far) (held before) (held last) → Within g limit
+    ensures complete { (g : Graph) → Indexed g far.now before.now last.now → Within g limit
         → Complete g start (left items) result }
 {
     let mut stack = [0usize; LifetimeEnv::MAX_LIFETIMES];

@@ -11,52 +11,51 @@ use Rattle.ast_lifetimes.proofs.env.build.Goals as goal
 
 pub bounds-names-0 : goal.bounds-names-0
 bounds-names-0 c =
-    let shape : Shaped c.args.names.now c.args.bounds.now c.args.types.now = shaped _ _ _ c.requires.0 in
+    let shape : Shaped c.args.names.now c.args.bounds.now c.args.types.now = shaped _ _ _ c.requires.names_value in
     shape.in_names.some
 
 pub overflow_sub-all : goal.overflow_sub-all
 overflow_sub-all c =
-    let shape : Shaped c.args.names.now c.args.bounds.now c.args.types.now = shaped _ _ _ c.requires.0 in
+    let shape : Shaped c.args.names.now c.args.bounds.now c.args.types.now = shaped _ _ _ c.requires.names_value in
     omega (arith, shape.in_names.some)
 
 pub bounds-bounds-0 : goal.bounds-bounds-0
 bounds-bounds-0 c =
-    let shape : Shaped c.args.names.now c.args.bounds.now c.args.types.now = shaped _ _ _ c.requires.0 in
+    let shape : Shaped c.args.names.now c.args.bounds.now c.args.types.now = shaped _ _ _ c.requires.names_value in
     shape.in_bounds.some
 
 pub overflow_sub-pairs : goal.overflow_sub-pairs
 overflow_sub-pairs c =
-    let shape : Shaped c.args.names.now c.args.bounds.now c.args.types.now = shaped _ _ _ c.requires.0 in
+    let shape : Shaped c.args.names.now c.args.bounds.now c.args.types.now = shaped _ _ _ c.requires.names_value in
     omega (arith, shape.in_bounds.some)
 
 pub overflow_add-impls : goal.overflow_add-impls
 overflow_add-impls c =
-    let shape : Shaped c.args.names.now c.args.bounds.now c.args.types.now = shaped _ _ _ c.requires.0 in
+    let shape : Shaped c.args.names.now c.args.bounds.now c.args.types.now = shaped _ _ _ c.requires.names_value in
     let h = shape.in_names in omega (arith, h.few, h.fits)
 
 pub declare_all-named-requires : goal.declare_all-named-requires
 declare_all-named-requires c =
-    let shape : Shaped c.args.names.now c.args.bounds.now c.args.types.now = shaped _ _ _ c.requires.0 in
-    record { from_le_to = (omega arith, shape.in_names.fits); named_le_most_names = (omega arith, c.requires.1.0) }
+    let shape : Shaped c.args.names.now c.args.bounds.now c.args.types.now = shaped _ _ _ c.requires.names_value in
+    record { from_le_to = (omega arith, shape.in_names.fits); named_le_most_names = (omega arith, c.requires.declared_len.0) }
 
 pub returns-in_default : goal.returns-in_default
 returns-in_default c =
-    let shape : Shaped c.args.names.now c.args.bounds.now c.args.types.now = shaped _ _ _ c.requires.0 in
-    impl_names_refused shape c.declare_all-named.ensures c.requires.1.1 c.requires.1.2 c.in_default.is
+    let shape : Shaped c.args.names.now c.args.bounds.now c.args.types.now = shaped _ _ _ c.requires.names_value in
+    impl_names_refused shape c.declare_all-named.ensures c.requires.declared_len.1 c.requires.declared_len.2 c.in_default.is
 
 pub push_pairs-bounded-requires : goal.push_pairs-bounded-requires
 push_pairs-bounded-requires c =
-    let shape : Shaped c.args.names.now c.args.bounds.now c.args.types.now = shaped _ _ _ c.requires.0 in
+    let shape : Shaped c.args.names.now c.args.bounds.now c.args.types.now = shaped _ _ _ c.requires.names_value in
     let one : ImplNamed c.args.names.now c.args.bounds.now c.args.types.now
     c.declare_all-named.new.names = impl_named shape c.declare_all-named.ensures c.in-Accepted.is in
-    let it = let o = one in
+    let o = one in
     let h = o.shaped.in_bounds in
-    (omega (arith, h.fits, h.even), ((o.named.few, o.named.size), (omega arith, c.requires.1.1, c.requires.1.2))) in
-    record { count_in_bounds = it.0; named_le_most_names = it.1.0; pushed_le_most_bounds = it.1.1 }
+    record { count_in_bounds = omega (arith, h.fits, h.even); named_le_most_names = (o.named.few, o.named.size); pushed_le_most_bounds = (omega arith, c.requires.declared_len.1, c.requires.declared_len.2) }
 
 pub returns-in_default-bounded : goal.returns-in_default-bounded
 returns-in_default-bounded c =
-    let shape : Shaped c.args.names.now c.args.bounds.now c.args.types.now = shaped _ _ _ c.requires.0 in
+    let shape : Shaped c.args.names.now c.args.bounds.now c.args.types.now = shaped _ _ _ c.requires.names_value in
     let one : ImplNamed c.args.names.now c.args.bounds.now c.args.types.now
     c.declare_all-named.new.names = impl_named shape c.declare_all-named.ensures c.in-Accepted.is in
     impl_pairs_refused one
@@ -64,7 +63,7 @@ returns-in_default-bounded c =
 
 pub overflow_add-impls-2 : goal.overflow_add-impls-2
 overflow_add-impls-2 c =
-    let shape : Shaped c.args.names.now c.args.bounds.now c.args.types.now = shaped _ _ _ c.requires.0 in
+    let shape : Shaped c.args.names.now c.args.bounds.now c.args.types.now = shaped _ _ _ c.requires.names_value in
     let one : ImplNamed c.args.names.now c.args.bounds.now c.args.types.now
     c.declare_all-named.new.names = impl_named shape c.declare_all-named.ensures c.in-Accepted.is in
     let two : let p = c.push_pairs-bounded.new.words in
@@ -74,20 +73,19 @@ overflow_add-impls-2 c =
 
 pub declare_all-renamed-requires : goal.declare_all-renamed-requires
 declare_all-renamed-requires c =
-    let shape : Shaped c.args.names.now c.args.bounds.now c.args.types.now = shaped _ _ _ c.requires.0 in
+    let shape : Shaped c.args.names.now c.args.bounds.now c.args.types.now = shaped _ _ _ c.requires.names_value in
     let one : ImplNamed c.args.names.now c.args.bounds.now c.args.types.now
     c.declare_all-named.new.names = impl_named shape c.declare_all-named.ensures c.in-Accepted.is in
     let two : let p = c.push_pairs-bounded.new.words in
     ImplBound c.args.names.now c.args.bounds.now c.args.types.now
     c.declare_all-named.new.names p.1.1.1.1.1.0 p.1.1.1.1.1.1.0 = impl_bound one c.push_pairs-bounded.ensures c.in-Accepted-bounded.is in
-    let it = let t = two in
+    let t = two in
     let h = t.shaped.in_names in
-    ((omega (arith, h.fits), omega (arith, h.some)), (t.named.few, t.named.size)) in
-    record { from_le_to = it.0; named_le_most_names = it.1 }
+    record { from_le_to = (omega (arith, h.fits), omega (arith, h.some)); named_le_most_names = (t.named.few, t.named.size) }
 
 pub returns-in_default-renamed : goal.returns-in_default-renamed
 returns-in_default-renamed c =
-    let shape : Shaped c.args.names.now c.args.bounds.now c.args.types.now = shaped _ _ _ c.requires.0 in
+    let shape : Shaped c.args.names.now c.args.bounds.now c.args.types.now = shaped _ _ _ c.requires.names_value in
     let one : ImplNamed c.args.names.now c.args.bounds.now c.args.types.now
     c.declare_all-named.new.names = impl_named shape c.declare_all-named.ensures c.in-Accepted.is in
     let two : let p = c.push_pairs-bounded.new.words in
@@ -98,7 +96,7 @@ returns-in_default-renamed c =
 
 pub overflow_mul-first : goal.overflow_mul-first
 overflow_mul-first c =
-    let shape : Shaped c.args.names.now c.args.bounds.now c.args.types.now = shaped _ _ _ c.requires.0 in
+    let shape : Shaped c.args.names.now c.args.bounds.now c.args.types.now = shaped _ _ _ c.requires.names_value in
     let one : ImplNamed c.args.names.now c.args.bounds.now c.args.types.now
     c.declare_all-named.new.names = impl_named shape c.declare_all-named.ensures c.in-Accepted.is in
     let two : let p = c.push_pairs-bounded.new.words in
@@ -111,7 +109,7 @@ overflow_mul-first c =
 
 pub overflow_add-first : goal.overflow_add-first
 overflow_add-first c =
-    let shape : Shaped c.args.names.now c.args.bounds.now c.args.types.now = shaped _ _ _ c.requires.0 in
+    let shape : Shaped c.args.names.now c.args.bounds.now c.args.types.now = shaped _ _ _ c.requires.names_value in
     let one : ImplNamed c.args.names.now c.args.bounds.now c.args.types.now
     c.declare_all-named.new.names = impl_named shape c.declare_all-named.ensures c.in-Accepted.is in
     let two : let p = c.push_pairs-bounded.new.words in
@@ -124,7 +122,7 @@ overflow_add-first c =
 
 pub overflow_sub-pairs-2 : goal.overflow_sub-pairs-2
 overflow_sub-pairs-2 c =
-    let shape : Shaped c.args.names.now c.args.bounds.now c.args.types.now = shaped _ _ _ c.requires.0 in
+    let shape : Shaped c.args.names.now c.args.bounds.now c.args.types.now = shaped _ _ _ c.requires.names_value in
     let one : ImplNamed c.args.names.now c.args.bounds.now c.args.types.now
     c.declare_all-named.new.names = impl_named shape c.declare_all-named.ensures c.in-Accepted.is in
     let two : let p = c.push_pairs-bounded.new.words in
@@ -137,7 +135,7 @@ overflow_sub-pairs-2 c =
 
 pub push_pairs-rebounded-requires : goal.push_pairs-rebounded-requires
 push_pairs-rebounded-requires c =
-    let shape : Shaped c.args.names.now c.args.bounds.now c.args.types.now = shaped _ _ _ c.requires.0 in
+    let shape : Shaped c.args.names.now c.args.bounds.now c.args.types.now = shaped _ _ _ c.requires.names_value in
     let one : ImplNamed c.args.names.now c.args.bounds.now c.args.types.now
     c.declare_all-named.new.names = impl_named shape c.declare_all-named.ensures c.in-Accepted.is in
     let two : let p = c.push_pairs-bounded.new.words in
@@ -146,14 +144,13 @@ push_pairs-rebounded-requires c =
     let three : let p = c.push_pairs-bounded.new.words in
     AllNamed c.args.names.now c.args.bounds.now c.args.types.now
     c.declare_all-renamed.new.names p.1.1.1.1.1.0 p.1.1.1.1.1.1.0 = all_named two c.declare_all-renamed.ensures c.in-Accepted-renamed.is in
-    let it = let t = three in
+    let t = three in
     let h = t.shaped.in_bounds in
-    (omega (arith, h.fits, h.even), ((t.named.few, t.named.size), (t.sides.few, t.sides.size_longs, t.sides.size_shorts))) in
-    record { count_in_bounds = it.0; named_le_most_names = it.1.0; pushed_le_most_bounds = it.1.1 }
+    record { count_in_bounds = omega (arith, h.fits, h.even); named_le_most_names = (t.named.few, t.named.size); pushed_le_most_bounds = (t.sides.few, t.sides.size_longs, t.sides.size_shorts) }
 
 pub returns-in_default-rebounded : goal.returns-in_default-rebounded
 returns-in_default-rebounded c =
-    let shape : Shaped c.args.names.now c.args.bounds.now c.args.types.now = shaped _ _ _ c.requires.0 in
+    let shape : Shaped c.args.names.now c.args.bounds.now c.args.types.now = shaped _ _ _ c.requires.names_value in
     let one : ImplNamed c.args.names.now c.args.bounds.now c.args.types.now
     c.declare_all-named.new.names = impl_named shape c.declare_all-named.ensures c.in-Accepted.is in
     let two : let p = c.push_pairs-bounded.new.words in
@@ -167,7 +164,7 @@ returns-in_default-rebounded c =
 
 pub close-requires : goal.close-requires
 close-requires c =
-    let shape : Shaped c.args.names.now c.args.bounds.now c.args.types.now = shaped _ _ _ c.requires.0 in
+    let shape : Shaped c.args.names.now c.args.bounds.now c.args.types.now = shaped _ _ _ c.requires.names_value in
     let one : ImplNamed c.args.names.now c.args.bounds.now c.args.types.now
     c.declare_all-named.new.names = impl_named shape c.declare_all-named.ensures c.in-Accepted.is in
     let two : let p = c.push_pairs-bounded.new.words in
@@ -179,13 +176,12 @@ close-requires c =
     let four : let p = c.push_pairs-rebounded.new.words in
     AllBound c.args.names.now c.args.bounds.now c.args.types.now
     c.declare_all-renamed.new.names p.1.1.1.1.1.0 p.1.1.1.1.1.1.0 = all_bound three c.push_pairs-rebounded.ensures c.in-Accepted-rebounded.is in
-    let it = let f = four in
-    ((f.named.few, f.sides.few, bound_below f), (f.sides.size_longs, f.sides.size_shorts, refl)) in
-    record { named_le_most_names = it.0; longs_len = it.1 }
+    let f = four in
+    record { named_le_most_names = (f.named.few, f.sides.few, bound_below f); longs_len = (f.sides.size_longs, f.sides.size_shorts, refl) }
 
 pub push_types-implied-requires : goal.push_types-implied-requires
 push_types-implied-requires c =
-    let shape : Shaped c.args.names.now c.args.bounds.now c.args.types.now = shaped _ _ _ c.requires.0 in
+    let shape : Shaped c.args.names.now c.args.bounds.now c.args.types.now = shaped _ _ _ c.requires.names_value in
     let one : ImplNamed c.args.names.now c.args.bounds.now c.args.types.now
     c.declare_all-named.new.names = impl_named shape c.declare_all-named.ensures c.in-Accepted.is in
     let two : let p = c.push_pairs-bounded.new.words in
@@ -197,15 +193,11 @@ push_types-implied-requires c =
     let four : let p = c.push_pairs-rebounded.new.words in
     AllBound c.args.names.now c.args.bounds.now c.args.types.now
     c.declare_all-renamed.new.names p.1.1.1.1.1.0 p.1.1.1.1.1.1.0 = all_bound three c.push_pairs-rebounded.ensures c.in-Accepted-rebounded.is in
-    let it = let f = four in (
-      (type_names_of _, f.shaped.in_types),
-      ((f.named.few, f.named.size), ((f.sides.few, f.sides.size_longs, f.sides.size_shorts), c.close.ensures)),
-    ) in
-    record { ts_value = it.0; named_le_most_names = it.1.0; pushed_le_most_bounds = it.1.1.0; reach_len = it.1.1.1 }
+    let f = four in record { ts_value = (type_names_of _, f.shaped.in_types); named_le_most_names = (f.named.few, f.named.size); pushed_le_most_bounds = (f.sides.few, f.sides.size_longs, f.sides.size_shorts); reach_len = c.close.ensures }
 
 pub returns : goal.returns
 returns c =
-    let shape : Shaped c.args.names.now c.args.bounds.now c.args.types.now = shaped _ _ _ c.requires.0 in
+    let shape : Shaped c.args.names.now c.args.bounds.now c.args.types.now = shaped _ _ _ c.requires.names_value in
     let one : ImplNamed c.args.names.now c.args.bounds.now c.args.types.now
     c.declare_all-named.new.names = impl_named shape c.declare_all-named.ensures c.in-Accepted.is in
     let two : let p = c.push_pairs-bounded.new.words in

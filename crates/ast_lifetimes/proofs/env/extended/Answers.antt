@@ -1,6 +1,6 @@
 -- `extended` meets its contract: its answers are laws of proofs/ExtendLaws.antt.
 use mathlib.Core.Path.{◌≡◌}
-use lib.ListN.{length, length-map}
+use lib.ListN.{length}
 use borrow.Author.Rules.{rules}
 use Rattle.ast_lifetimes.specs.Types.{type_names_of}
 use Rattle.ast_lifetimes.proofs.ReadingLaws.{types_encoded}
@@ -16,16 +16,9 @@ close-requires c = search (valid_named, valid_pushed, split_below, rules)
 
 pub push_types-implied-requires : goal.push_types-implied-requires
 push_types-implied-requires c =
-    let full : length c.args.env.names ≡ 32 = simp length-map at c.well_formed.0.1.1.0.1.0.1 in
-    let it = let e = c.args.env in
-    let splits = c.split.ensures in (
-      (type_names_of c.args.types.now, types_encoded c.args.types.now c.requires.1),
-      (
-        (valid_named e c.requires.0, full),
-        ((valid_pushed e c.requires.0, splits.size_longs, splits.size_shorts), c.close.ensures),
-      ),
-    ) in
-    record { ts_value = it.0; named_le_most_names = it.1.0; pushed_le_most_bounds = it.1.1.0; reach_len = it.1.1.1 }
+    let full : length c.args.env.names ≡ 32 = search rules in
+    let e = c.args.env in
+    let splits = c.split.ensures in record { ts_value = (type_names_of c.args.types.now, types_encoded c.args.types.now c.requires.1); named_le_most_names = (valid_named e c.requires.0, full); pushed_le_most_bounds = (valid_pushed e c.requires.0, splits.size_longs, splits.size_shorts); reach_len = c.close.ensures }
 
 pub returns-in_default : goal.returns-in_default
 returns-in_default c = extended_refused c.args.env c.args.types.now c.split.ensures
@@ -33,8 +26,8 @@ returns-in_default c = extended_refused c.args.env c.args.types.now c.split.ensu
 
 pub assembled-requires : goal.assembled-requires
 assembled-requires c =
-    let full : length c.args.env.names ≡ 32 = simp length-map at c.well_formed.0.1.1.0.1.0.1 in
-    let it = let all =
+    let full : length c.args.env.names ≡ 32 = search rules in
+    let all =
     extended_few c.args.env c.args.types.now c.split.ensures
     (c.push_types-implied.ensures _ (types_encoded _ c.requires.1))
     c.in-Accepted.is in
@@ -42,8 +35,7 @@ assembled-requires c =
     extended_small c.args.env c.args.types.now c.split.ensures
     (c.push_types-implied.ensures _ (types_encoded _ c.requires.1))
     c.in-Accepted.is c.requires.0 in
-    ((valid_named c.args.env c.requires.0, all.0), ((full, all.1, all.2), small)) in
-    record { named_le_most_names = it.0; declared_len = it.1.0; shorts_value = it.1.1 }
+    record { named_le_most_names = (valid_named c.args.env c.requires.0, all.0); declared_len = (full, all.1, all.2); shorts_value = small }
 
 pub returns : goal.returns
 returns c = extended_given c.args.env c.args.types.now c.split.ensures

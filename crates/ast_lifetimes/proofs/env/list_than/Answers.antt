@@ -1,6 +1,7 @@
 -- `list_than` meets its contract: each of its answers is that of the first check that is due, or the list.
 use mathlib.Core.Path.{◌≡◌, sym, ◌∙◌}
-use lib.ListN.{length, length-map}
+use lib.ListN.{length}
+use borrow.Author.Rules.{rules}
 use Rattle.answers.specs.Refusals.{NoneDue}
 use Rattle.answers.proofs.RefusalLaws.{refused_first, accepted_none}
 use Rattle.ast_lifetimes.specs.Env.{env_checks}
@@ -17,14 +18,14 @@ pub position-at-requires : goal.position-at-requires
 position-at-requires c =
     let none : NoneDue (env_checks c.args.env) = let e = c.args.env in
     accepted_none (tt {0}) (env_checks e) (sym c.check-verdict.ensures.answer ∙ c.in_default.is) in
-    let full : length c.args.env.names ≡ 32 = simp length-map at c.well_formed.0.1.1.0.1.0.1 in
+    let full : length c.args.env.names ≡ 32 = search rules in
     (few_names c.args.env none, full)
 
 pub returns-then-named-at : goal.returns-then-named-at
 returns-then-named-at c =
     let none : NoneDue (env_checks c.args.env) = let e = c.args.env in
     accepted_none (tt {0}) (env_checks e) (sym c.check-verdict.ensures.answer ∙ c.in_default.is) in
-    let full : length c.args.env.names ≡ 32 = simp length-map at c.well_formed.0.1.1.0.1.0.1 in
+    let full : length c.args.env.names ≡ 32 = search rules in
     let it = than_unknown c.args.longer c.args.env c.args.name c.args.out.now
     none full
     c.position-at.ensures c.if-named-at.true in
@@ -34,7 +35,7 @@ pub returns : goal.returns
 returns c =
     let none : NoneDue (env_checks c.args.env) = let e = c.args.env in
     accepted_none (tt {0}) (env_checks e) (sym c.check-verdict.ensures.answer ∙ c.in_default.is) in
-    let full : length c.args.env.names ≡ 32 = simp length-map at c.well_formed.0.1.1.0.1.0.1 in
+    let full : length c.args.env.names ≡ 32 = search rules in
     let it = than_traversal c.args.longer c.args.env c.args.name c.args.out.now none full
     c.position-at.ensures
     c.if-named-at.false

@@ -2,7 +2,7 @@
 -- bounds are to be read.
 use Prim.Native.Nat.{◌-◌}
 use mathlib.Core.Path.{◌≡◌, refl}
-use lib.ListN.{length, length-map}
+use lib.ListN.{length}
 use borrow.Author.Rules.{rules}
 use Rattle.ast_lifetimes.proofs.ExtendLaws.{splitting_start, splitting_more, splitting_end}
 use Rattle.ast_lifetimes.proofs.env.split.Goals as goal
@@ -12,7 +12,7 @@ loop-i-init c = search (splitting_start, rules)
 
 pub loop-i-preserved : goal.loop-i-preserved
 loop-i-preserved c =
-    let full : length c.args.bounds.list ≡ 256 = simp length-map at c.well_formed.0.1.1.1.0.1.0.1 in
+    let full : length c.args.bounds.list ≡ 256 = search rules in
     splitting_more c.loop-i.invariant full c.requires.0 c.loop-i-test.true refl refl
 
 pub returns : goal.returns

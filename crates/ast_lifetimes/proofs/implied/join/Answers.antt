@@ -14,16 +14,15 @@ pub loop-x-init : goal.loop-x-init
 loop-x-init c = search (joining_start, rules)
 
 pub loop-x-preserved : goal.loop-x-preserved
-loop-x-preserved c = let l = c.loop-x in
-    let told =
+loop-x-preserved c = let told =
     sym
-    (c.contains.ensures.answer ∙ ap (λ (k : Lifetime). member (get_or l.reach l.x 0) k.0)
+    (c.contains.ensures.answer ∙ ap (λ (k : Lifetime). member (get_or c.loop-x.reach c.loop-x.x 0) k.0)
     c.new.ensures.answer) in (
       omega arith,
-      l.invariant.1,
+      c.loop-x.invariant.1,
       ⊎_elim
-          (λ w. rw (w.2, w.1.ensures) (joining_joins l.invariant.2 (omega arith) (told ∙ w.0.taken) _ l.invariant.1))
-          (λ w. rw w.1 (joining_stays l.invariant.2 (told ∙ w.0.left)))
+          (λ w. rw (w.2, w.1.ensures) (joining_joins c.loop-x.invariant.2 (omega arith) (told ∙ w.0.taken) _ c.loop-x.invariant.1))
+          (λ w. rw w.1 (joining_stays c.loop-x.invariant.2 (told ∙ w.0.left)))
           c.if-contains.branch,
     )
 

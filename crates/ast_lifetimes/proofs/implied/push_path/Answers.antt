@@ -18,20 +18,20 @@ use Rattle.ast_lifetimes.proofs.implied.push_path.Goals as goal
 
 pub lifetimes-2-init : goal.lifetimes-2-init
 lifetimes-2-init c =
-    let named_long : length (take c.args.named c.args.names.now) ≡ c.args.named = length-take-le c.args.named c.args.names.now (omega (arith, c.requires.1.0)) in
+    let named_long : length (take c.args.named c.args.names.now) ≡ c.args.named = length-take-le c.args.named c.args.names.now (omega (arith, c.requires.named_le_most_names)) in
     let reaches : OutliveSets (sides_of c.args.pushed c.args.longs.now c.args.shorts.now)
-    (length (take c.args.named c.args.names.now)) c.args.reach.now = rw named_long c.requires.1.1.1.1 in (
+    (length (take c.args.named c.args.names.now)) c.args.reach.now = rw named_long c.requires.reach_len.1 in (
       omega arith,
-      c.requires.0.0,
-      run_start (take c.args.named c.args.names.now) _ _ _ _ _ c.requires.1.1.0.0 c.requires.1.1.0.1
-          c.requires.1.1.0.2 c.requires.1.1.1.0 reaches,
+      c.requires.from_le_to.0,
+      run_start (take c.args.named c.args.names.now) _ _ _ _ _ c.requires.pushed_le_most_bounds.0 c.requires.pushed_le_most_bounds.1
+          c.requires.pushed_le_most_bounds.2 c.requires.reach_len.0 reaches,
     )
 
 pub lifetimes-2-preserved-then-not-is_implied : goal.lifetimes-2-preserved-then-not-is_implied
 lifetimes-2-preserved-then-not-is_implied c =
-    let named_long : length (take c.args.named c.args.names.now) ≡ c.args.named = length-take-le c.args.named c.args.names.now (omega (arith, c.requires.1.0)) in
+    let named_long : length (take c.args.named c.args.names.now) ≡ c.args.named = length-take-le c.args.named c.args.names.now (omega (arith, c.requires.named_le_most_names)) in
     let reaches : OutliveSets (sides_of c.args.pushed c.args.longs.now c.args.shorts.now)
-    (length (take c.args.named c.args.names.now)) c.args.reach.now = rw named_long c.requires.1.1.1.1 in
+    (length (take c.args.named c.args.names.now)) c.args.reach.now = rw named_long c.requires.reach_len.1 in
     let tested : let w = get_or c.args.words.now c.lifetimes-2.at 0 in
     is_implied (take c.args.named c.args.names.now)
     c.outlived-taken.result w
@@ -42,22 +42,21 @@ lifetimes-2-preserved-then-not-is_implied c =
     ap (λ (t : ℕ). is_implied (take c.args.named c.args.names.now) t w) c.outlived-taken.ensures
     ∙ implied_test (take c.args.named c.args.names.now)
     (sides_of c.args.pushed c.args.longs.now c.args.shorts.now) c.args.reach.now reaches
-    c.args.behind w in
-    let l = c.lifetimes-2 in (
+    c.args.behind w in (
       omega arith,
       omega arith,
-      run_same l.invariant.2
+      run_same c.lifetimes-2.invariant.2
           (path_passed (take c.args.named c.args.names.now)
           (sides_of c.args.pushed c.args.longs.now c.args.shorts.now) c.args.behind
-          c.args.words.now l.at c.args.to c.lifetimes-test.true c.requires.0.1
+          c.args.words.now c.lifetimes-2.at c.args.to c.lifetimes-test.true c.requires.from_le_to.1
           (sym tested ∙ sym c.is_implied.ensures ∙ c.if-not-is_implied.true)),
     )
 
 pub returns-in_default : goal.returns-in_default
 returns-in_default c =
-    let named_long : length (take c.args.named c.args.names.now) ≡ c.args.named = length-take-le c.args.named c.args.names.now (omega (arith, c.requires.1.0)) in
+    let named_long : length (take c.args.named c.args.names.now) ≡ c.args.named = length-take-le c.args.named c.args.names.now (omega (arith, c.requires.named_le_most_names)) in
     let reaches : OutliveSets (sides_of c.args.pushed c.args.longs.now c.args.shorts.now)
-    (length (take c.args.named c.args.names.now)) c.args.reach.now = rw named_long c.requires.1.1.1.1 in
+    (length (take c.args.named c.args.names.now)) c.args.reach.now = rw named_long c.requires.reach_len.1 in
     let tested : let w = get_or c.args.words.now c.lifetimes-2.at 0 in
     is_implied (take c.args.named c.args.names.now)
     c.outlived-taken.result w
@@ -70,28 +69,25 @@ returns-in_default c =
     (sides_of c.args.pushed c.args.longs.now c.args.shorts.now) c.args.reach.now reaches
     c.args.behind w in
     let pushed_next : not c.is_implied.result ≡ false →
-    let l = c.lifetimes-2 in
     path_pairs (take c.args.named c.args.names.now)
     (sides_of c.args.pushed c.args.longs.now c.args.shorts.now) c.args.behind
-    (slice l.at c.args.to c.args.words.now)
-    ≡ (pair (get_or c.args.words.now l.at 0) c.args.behind ∷ [])
+    (slice c.lifetimes-2.at c.args.to c.args.words.now)
+    ≡ (pair (get_or c.args.words.now c.lifetimes-2.at 0) c.args.behind ∷ [])
     ++ path_pairs (take c.args.named c.args.names.now)
     (sides_of c.args.pushed c.args.longs.now c.args.shorts.now) c.args.behind
-    (slice (l.at + 1) c.args.to c.args.words.now) = λ h. let l = c.lifetimes-2 in
-    path_pushed (take c.args.named c.args.names.now)
+    (slice (c.lifetimes-2.at + 1) c.args.to c.args.words.now) = λ h. path_pushed (take c.args.named c.args.names.now)
     (sides_of c.args.pushed c.args.longs.now c.args.shorts.now) c.args.behind c.args.words.now
-    l.at c.args.to c.lifetimes-test.true c.requires.0.1
+    c.lifetimes-2.at c.args.to c.lifetimes-test.true c.requires.from_le_to.1
     (sym tested ∙ sym c.is_implied.ensures ∙ not-false _ h) in
-    let l = c.lifetimes-2 in
     let e = c.in_default.is in
-    run_refused l.invariant.2 _ _ (pushed_next c.if-not-is_implied.false)
-    (extends_refused c.push_pair-verdict.ensures e l.invariant.2.size_reach) e
+    run_refused c.lifetimes-2.invariant.2 _ _ (pushed_next c.if-not-is_implied.false)
+    (extends_refused c.push_pair-verdict.ensures e c.lifetimes-2.invariant.2.size_reach) e
 
 pub join-requires : goal.join-requires
 join-requires c =
-    let named_long : length (take c.args.named c.args.names.now) ≡ c.args.named = length-take-le c.args.named c.args.names.now (omega (arith, c.requires.1.0)) in
+    let named_long : length (take c.args.named c.args.names.now) ≡ c.args.named = length-take-le c.args.named c.args.names.now (omega (arith, c.requires.named_le_most_names)) in
     let sides = accepted_sides c.push_pair-verdict.ensures c.in-Accepted.is in (
-      omega (arith, c.requires.1.0),
+      omega (arith, c.requires.named_le_most_names),
       omega (arith, named_long, sides, c.position-long.ensures),
       omega (arith, named_long, sides, c.position-short.ensures),
       c.lifetimes-2.invariant.2.size_reach,
@@ -99,9 +95,9 @@ join-requires c =
 
 pub lifetimes-2-preserved : goal.lifetimes-2-preserved
 lifetimes-2-preserved c =
-    let named_long : length (take c.args.named c.args.names.now) ≡ c.args.named = length-take-le c.args.named c.args.names.now (omega (arith, c.requires.1.0)) in
+    let named_long : length (take c.args.named c.args.names.now) ≡ c.args.named = length-take-le c.args.named c.args.names.now (omega (arith, c.requires.named_le_most_names)) in
     let reaches : OutliveSets (sides_of c.args.pushed c.args.longs.now c.args.shorts.now)
-    (length (take c.args.named c.args.names.now)) c.args.reach.now = rw named_long c.requires.1.1.1.1 in
+    (length (take c.args.named c.args.names.now)) c.args.reach.now = rw named_long c.requires.reach_len.1 in
     let tested : let w = get_or c.args.words.now c.lifetimes-2.at 0 in
     is_implied (take c.args.named c.args.names.now)
     c.outlived-taken.result w
@@ -114,28 +110,24 @@ lifetimes-2-preserved c =
     (sides_of c.args.pushed c.args.longs.now c.args.shorts.now) c.args.reach.now reaches
     c.args.behind w in
     let pushed_next : not c.is_implied.result ≡ false →
-    let l = c.lifetimes-2 in
     path_pairs (take c.args.named c.args.names.now)
     (sides_of c.args.pushed c.args.longs.now c.args.shorts.now) c.args.behind
-    (slice l.at c.args.to c.args.words.now)
-    ≡ (pair (get_or c.args.words.now l.at 0) c.args.behind ∷ [])
+    (slice c.lifetimes-2.at c.args.to c.args.words.now)
+    ≡ (pair (get_or c.args.words.now c.lifetimes-2.at 0) c.args.behind ∷ [])
     ++ path_pairs (take c.args.named c.args.names.now)
     (sides_of c.args.pushed c.args.longs.now c.args.shorts.now) c.args.behind
-    (slice (l.at + 1) c.args.to c.args.words.now) = λ h. let l = c.lifetimes-2 in
-    path_pushed (take c.args.named c.args.names.now)
+    (slice (c.lifetimes-2.at + 1) c.args.to c.args.words.now) = λ h. path_pushed (take c.args.named c.args.names.now)
     (sides_of c.args.pushed c.args.longs.now c.args.shorts.now) c.args.behind c.args.words.now
-    l.at c.args.to c.lifetimes-test.true c.requires.0.1
+    c.lifetimes-2.at c.args.to c.lifetimes-test.true c.requires.from_le_to.1
     (sym tested ∙ sym c.is_implied.ensures ∙ not-false _ h) in
-    let joined : let l = c.lifetimes-2 in
-    Joins (length (take c.args.named c.args.names.now))
-    (place (take c.args.named c.args.names.now) (get_or c.args.words.now l.at 0))
-    (place (take c.args.named c.args.names.now) c.args.behind) l.reach c.join.new.reach = rw (named_long, ← c.position-long.ensures, ← c.position-short.ensures) c.join.ensures in
-    let l = c.lifetimes-2 in
+    let joined : Joins (length (take c.args.named c.args.names.now))
+    (place (take c.args.named c.args.names.now) (get_or c.args.words.now c.lifetimes-2.at 0))
+    (place (take c.args.named c.args.names.now) c.args.behind) c.lifetimes-2.reach c.join.new.reach = rw (named_long, ← c.position-long.ensures, ← c.position-short.ensures) c.join.ensures in
     let e = c.in-Accepted.is in (
       omega arith,
       omega arith,
-      run_more l.invariant.2 _ _ (pushed_next c.if-not-is_implied.false)
-          (extends_one c.push_pair-verdict.ensures e joined l.invariant.2.reaches) e,
+      run_more c.lifetimes-2.invariant.2 _ _ (pushed_next c.if-not-is_implied.false)
+          (extends_one c.push_pair-verdict.ensures e joined c.lifetimes-2.invariant.2.reaches) e,
     )
 
 pub returns : goal.returns

@@ -27,20 +27,19 @@ overflow_add-n c = let i = c.loop-l.invariant in
     )
 
 pub loop-l-preserved : goal.loop-l-preserved
-loop-l-preserved c = let l = c.loop-l in
-    let few = path_few c.args.words.now c.args.parts c.requires.0 c.requires.1 in
-    let test : c.contains.result ≡ member c.args.used l.l =
+loop-l-preserved c = let few = path_few c.args.words.now c.args.parts c.requires.0 c.requires.1 in
+    let test : c.contains.result ≡ member c.args.used c.loop-l.l =
     c.contains.ensures.answer ∙ ap (λ (x : Lifetime). member c.args.used x.0)
     c.new.ensures.answer in
     ⊎_elim
     (λ t. rw t.3 (
-      l.invariant.0,
-      counting_all_more l.invariant.1 few t.2.ensures
-          (below_64 l.invariant.0 c.loop-l-test.true) (sym t.0.taken ∙ test),
+      c.loop-l.invariant.0,
+      counting_all_more c.loop-l.invariant.1 few t.2.ensures
+          (below_64 c.loop-l.invariant.0 c.loop-l-test.true) (sym t.0.taken ∙ test),
     ))
     (λ t. rw t.1 (
-      l.invariant.0,
-      counting_all_not l.invariant.1 (below_64 l.invariant.0 c.loop-l-test.true)
+      c.loop-l.invariant.0,
+      counting_all_not c.loop-l.invariant.1 (below_64 c.loop-l.invariant.0 c.loop-l-test.true)
           (sym t.0.left ∙ test),
     ))
     c.if-contains.branch

@@ -15,8 +15,7 @@ pub linked_lifetime-requires : goal.linked_lifetime-requires
 linked_lifetime-requires c = search (part_many, rules)
 
 pub loop-i-preserved : goal.loop-i-preserved
-loop-i-preserved c = let l = c.loop-i in
-    let test = c.draws.ensures in
+loop-i-preserved c = let test = c.draws.ensures in
     let word =
     part_word c.args.words.now
     c.path_words-path.result.now
@@ -26,10 +25,10 @@ loop-i-preserved c = let l = c.loop-i in
     c.linked_lifetime.ensures in
     ⊎_elim
     (λ h. rw h.1
-    (counting_one l.invariant c.requires
+    (counting_one c.loop-i.invariant c.requires
     c.loop-i-test.true word (sym h.0.taken ∙ test)))
     (λ h. rw h.1
-    (counting_none l.invariant c.requires
+    (counting_none c.loop-i.invariant c.requires
     c.loop-i-test.true word (sym h.0.left ∙ test)))
     c.if-draws.branch
 

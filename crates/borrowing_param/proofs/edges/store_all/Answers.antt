@@ -18,44 +18,41 @@ pub used-init : goal.used-init
 used-init c = search (storing_start, storing_none, all_left, rules)
 
 pub used-preserved-then-not-contains : goal.used-preserved-then-not-contains
-used-preserved-then-not-contains c = let l = c.used in (
-  l.invariant.0,
-  storing_none l.invariant.1
+used-preserved-then-not-contains c = (
+  c.used.invariant.0,
+  storing_none c.used.invariant.1
       (all_not c.args.used c.args.drawn.now (type_in c.args.words.now c.args.parts) c.args.param
-      l.i (below_64 l.invariant.0 c.used-test.true)
+      c.used.i (below_64 c.used.invariant.0 c.used-test.true)
       (sym c.if-not-contains.true ∙ c.contains.ensures.answer
       ∙ ap (λ (x : Lifetime). member c.args.used x.0) c.new.ensures.answer)),
 )
 
 pub store_for-next-requires : goal.store_for-next-requires
-store_for-next-requires c = let it = let l = c.used in
-    let h = below_64 l.invariant.0 c.used-test.true in
+store_for-next-requires c = let h = below_64 c.used.invariant.0 c.used-test.true in
     let split =
     all_here c.args.used c.args.drawn.now (type_in c.args.words.now c.args.parts) c.args.param
-    l.i h (sym c.if-not-contains.false ∙ c.contains.ensures.answer
-    ∙ ap (λ (x : Lifetime). member c.args.used x.0) c.new.ensures.answer) in (
-      (c.requires.0.0, c.requires.0.1, h, l.invariant.1.sets16),
-      storing_fits l.invariant.1
-          (bring (draws_in (get_or c.args.drawn.now l.i 0)) l.i c.args.param
+    c.used.i h (sym c.if-not-contains.false ∙ c.contains.ensures.answer
+    ∙ ap (λ (x : Lifetime). member c.args.used x.0) c.new.ensures.answer) in record {
+      inside = (c.requires.inside.0, c.requires.inside.1, h, c.used.invariant.1.sets16);
+      parts_in_bounds = storing_fits c.used.invariant.1
+          (bring (draws_in (get_or c.args.drawn.now c.used.i 0)) c.used.i c.args.param
           (type_in c.args.words.now c.args.parts))
           (left_all c.args.used c.args.drawn.now (type_in c.args.words.now c.args.parts) c.args.param
-          (l.i + 1)) split,
-    ) in
-    record { inside = it.0; parts_in_bounds = it.1 }
+          (c.used.i + 1)) split;
+    }
 
 pub used-preserved : goal.used-preserved
-used-preserved c = let l = c.used in
-    let split =
+used-preserved c = let split =
     all_here c.args.used c.args.drawn.now (type_in c.args.words.now c.args.parts) c.args.param
-    l.i (below_64 l.invariant.0 c.used-test.true)
+    c.used.i (below_64 c.used.invariant.0 c.used-test.true)
     (sym c.if-not-contains.false ∙ c.contains.ensures.answer
     ∙ ap (λ (x : Lifetime). member c.args.used x.0) c.new.ensures.answer) in (
-      l.invariant.0,
-      storing_part l.invariant.1
-          (bring (draws_in (get_or c.args.drawn.now l.i 0)) l.i c.args.param
+      c.used.invariant.0,
+      storing_part c.used.invariant.1
+          (bring (draws_in (get_or c.args.drawn.now c.used.i 0)) c.used.i c.args.param
           (type_in c.args.words.now c.args.parts))
           (left_all c.args.used c.args.drawn.now (type_in c.args.words.now c.args.parts) c.args.param
-          (l.i + 1)) split c.store_for-next.ensures,
+          (c.used.i + 1)) split c.store_for-next.ensures,
     )
 
 pub returns : goal.returns

@@ -21,9 +21,9 @@ lifetimes-2-init c = let a = c.args in
     let all =
     struct_edges (draws_in a.set) a.used a.param c.option_number-option.result 0
     (all_path a.words.now a.parts.from a.parts.count) in
-    let room : width * (a.at + length all) ≤ length a.edges.now = rw c.option_number-option.ensures c.requires.1 in (
+    let room : width * (a.at + length all) ≤ length a.edges.now = rw c.option_number-option.ensures c.requires.parts_in_bounds in (
       omega arith,
-      storing_none (storing_start all a.at a.pairs.now a.edges.now c.requires.0.3 room)
+      storing_none (storing_start all a.at a.pairs.now a.edges.now c.requires.inside.3 room)
           (edges_all (draws_in a.set) a.used a.param c.option_number-option.result a.words.now
           a.parts.from a.parts.count),
     )
@@ -42,7 +42,7 @@ lifetimes-2-preserved-then-not-draws c =
       omega (arith, c.lifetimes-test.true),
       storing_none c.lifetimes-2.invariant.1
           (edges_skip (draws_in a.set) a.used a.param option a.words.now a.parts.from
-          a.parts.count c.requires.0.0 c.lifetimes-2.i c.lifetimes-test.true
+          a.parts.count c.requires.inside.0 c.lifetimes-2.i c.lifetimes-test.true
           linked (sym c.if-not-draws.true ∙ c.draws.ensures)),
     )
 
@@ -60,15 +60,14 @@ store_pair-next-requires c =
     ≡ this ++ from
     (c.lifetimes-2.i + 1) = let a = c.args in
     edges_one (draws_in a.set) a.used a.param option a.words.now
-    a.parts.from a.parts.count c.requires.0.0 c.lifetimes-2.i
+    a.parts.from a.parts.count c.requires.inside.0 c.lifetimes-2.i
     c.lifetimes-test.true linked
-    (sym c.if-not-draws.false ∙ c.draws.ensures) in
-    let l = c.lifetimes-2 in (
+    (sym c.if-not-draws.false ∙ c.draws.ensures) in (
       refl,
-      omega (arith, c.requires.0.1, c.lifetimes-test.true),
-      c.requires.0.2,
-      l.invariant.1.sets16,
-      storing_fits l.invariant.1 this (from (l.i + 1)) split,
+      omega (arith, c.requires.inside.1, c.lifetimes-test.true),
+      c.requires.inside.2,
+      c.lifetimes-2.invariant.1.sets16,
+      storing_fits c.lifetimes-2.invariant.1 this (from (c.lifetimes-2.i + 1)) split,
     )
 
 pub lifetimes-2-preserved : goal.lifetimes-2-preserved
@@ -85,15 +84,13 @@ lifetimes-2-preserved c =
     ≡ this ++ from
     (c.lifetimes-2.i + 1) = let a = c.args in
     edges_one (draws_in a.set) a.used a.param option a.words.now
-    a.parts.from a.parts.count c.requires.0.0 c.lifetimes-2.i
+    a.parts.from a.parts.count c.requires.inside.0 c.lifetimes-2.i
     c.lifetimes-test.true linked
-    (sym c.if-not-draws.false ∙ c.draws.ensures) in
-    let l = c.lifetimes-2 in (
+    (sym c.if-not-draws.false ∙ c.draws.ensures) in (
       omega (arith, c.lifetimes-test.true),
-      storing_part l.invariant.1 this (from (l.i + 1)) split c.store_pair-next.ensures,
+      storing_part c.lifetimes-2.invariant.1 this (from (c.lifetimes-2.i + 1)) split c.store_pair-next.ensures,
     )
 
 pub returns : goal.returns
-returns c = let l = c.lifetimes-2 in
-    rw c.option_number-option.ensures
-    at (storing_end l.invariant.1 (edges_none _ _ _ _ _ _ _ l.i c.lifetimes-test.false))
+returns c = rw c.option_number-option.ensures
+    at (storing_end c.lifetimes-2.invariant.1 (edges_none _ _ _ _ _ _ _ c.lifetimes-2.i c.lifetimes-test.false))

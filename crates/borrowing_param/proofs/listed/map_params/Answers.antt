@@ -1,6 +1,6 @@
 -- `map_params` meets its contract: its three answers are laws of proofs/ListedLaws.antt.
 use mathlib.Core.Path.{◌≡◌, refl, sym}
-use lib.ListN.{length, length-map}
+use lib.ListN.{length}
 use Rattle.borrowing_param.specs.InnerMap.{param_types}
 use Rattle.borrowing_param.proofs.ListedLaws.{no_room_answers, no_room_edges, numbers_size, listed_room, mapped}
 use borrow.Author.Rules.{rules}
@@ -8,7 +8,7 @@ use Rattle.borrowing_param.proofs.listed.map_params.Goals as goal
 
 pub count_params-counted-requires : goal.count_params-counted-requires
 count_params-counted-requires c =
-    let full : length c.args.visitor.draws ≡ 64 = simp length-map at c.well_formed.0.1.1.1.0.1.0.1 in (
+    let full : length c.args.visitor.draws ≡ 64 = search rules in (
       c.requires,
       full,
       refl,
@@ -25,7 +25,7 @@ slice_bounds-copy_words-end c = sym (numbers_size c.args.visitor (param_types c.
 
 pub store_listed-stored-requires : goal.store_listed-stored-requires
 store_listed-stored-requires c =
-    let full : length c.args.visitor.draws ≡ 64 = simp length-map at c.well_formed.0.1.1.1.0.1.0.1 in (
+    let full : length c.args.visitor.draws ≡ 64 = search rules in (
       c.requires,
       full,
       listed_room c.args.visitor (param_types c.args.params.now) c.count_params-counted.ensures

@@ -25,45 +25,41 @@ used-init c = (
 )
 
 pub used-preserved-then-not-contains : goal.used-preserved-then-not-contains
-used-preserved-then-not-contains c = let l = c.used in (
-  l.invariant.0,
-  storing_none l.invariant.1
-      (listed_not c.args.used c.args.drawn.now (param_types c.args.params.now) l.i
-      (below_64 l.invariant.0 c.used-test.true)
+used-preserved-then-not-contains c = (
+  c.used.invariant.0,
+  storing_none c.used.invariant.1
+      (listed_not c.args.used c.args.drawn.now (param_types c.args.params.now) c.used.i
+      (below_64 c.used.invariant.0 c.used-test.true)
       (sym c.if-not-contains.true ∙ c.contains.ensures.answer
       ∙ ap (λ (x : Lifetime). member c.args.used x.0) c.new.ensures.answer)),
 )
 
 pub store_to-next-requires : goal.store_to-next-requires
-store_to-next-requires c = let it = let l = c.used in
-    let h = below_64 l.invariant.0 c.used-test.true in
+store_to-next-requires c = let h = below_64 c.used.invariant.0 c.used-test.true in
     let split =
-    listed_here c.args.used c.args.drawn.now (param_types c.args.params.now) l.i h
+    listed_here c.args.used c.args.drawn.now (param_types c.args.params.now) c.used.i h
     (sym c.if-not-contains.false ∙ c.contains.ensures.answer
-    ∙ ap (λ (x : Lifetime). member c.args.used x.0) c.new.ensures.answer) in (
-      (c.requires.0, h, l.invariant.1.sets16),
-      storing_fits l.invariant.1
-          (bring_from (draws_in (get_or c.args.drawn.now l.i 0)) l.i 0 (param_types c.args.params.now))
-          (left_listed c.args.used c.args.drawn.now (param_types c.args.params.now) (l.i + 1)) split,
-    ) in
-    record { params = it.0; params_in_bounds = it.1 }
+    ∙ ap (λ (x : Lifetime). member c.args.used x.0) c.new.ensures.answer) in record {
+      params = (c.requires.0, h, c.used.invariant.1.sets16);
+      params_in_bounds = storing_fits c.used.invariant.1
+          (bring_from (draws_in (get_or c.args.drawn.now c.used.i 0)) c.used.i 0 (param_types c.args.params.now))
+          (left_listed c.args.used c.args.drawn.now (param_types c.args.params.now) (c.used.i + 1)) split;
+    }
 
 pub used-preserved : goal.used-preserved
-used-preserved c = let l = c.used in
-    let split =
-    listed_here c.args.used c.args.drawn.now (param_types c.args.params.now) l.i
-    (below_64 l.invariant.0 c.used-test.true)
+used-preserved c = let split =
+    listed_here c.args.used c.args.drawn.now (param_types c.args.params.now) c.used.i
+    (below_64 c.used.invariant.0 c.used-test.true)
     (sym c.if-not-contains.false ∙ c.contains.ensures.answer
     ∙ ap (λ (x : Lifetime). member c.args.used x.0) c.new.ensures.answer) in (
-      l.invariant.0,
-      storing_part l.invariant.1
-          (bring_from (draws_in (get_or c.args.drawn.now l.i 0)) l.i 0 (param_types c.args.params.now))
-          (left_listed c.args.used c.args.drawn.now (param_types c.args.params.now) (l.i + 1)) split
+      c.used.invariant.0,
+      storing_part c.used.invariant.1
+          (bring_from (draws_in (get_or c.args.drawn.now c.used.i 0)) c.used.i 0 (param_types c.args.params.now))
+          (left_listed c.args.used c.args.drawn.now (param_types c.args.params.now) (c.used.i + 1)) split
           c.store_to-next.ensures,
     )
 
 pub returns : goal.returns
-returns c = let l = c.used in
-    (storing_end l.invariant.1
-    (listed_end c.args.used c.args.drawn.now (param_types c.args.params.now) l.invariant.0 l.i
+returns c = (storing_end c.used.invariant.1
+    (listed_end c.args.used c.args.drawn.now (param_types c.args.params.now) c.used.invariant.0 c.used.i
     c.used-test.false)).stores

@@ -14,10 +14,9 @@ pub returns-in_default : goal.returns-in_default
 returns-in_default c = search (passing_missing, rules)
 
 pub store_for-next-requires : goal.store_for-next-requires
-store_for-next-requires c = let it = let o = passing_next c.loop-place.invariant.passing c.loop-place-test.true c.type_at-found.ensures.answer
+store_for-next-requires c = let o = passing_next c.loop-place.invariant.passing c.loop-place-test.true c.type_at-found.ensures.answer
     c.in-At.is in
-    ((o.inside, o.few, c.requires.0.1, c.loop-place.invariant.storing.sets16), to_fits c.loop-place.invariant o) in
-    record { inside = it.0; parts_in_bounds = it.1 }
+    record { inside = (o.inside, o.few, c.requires.params.1, c.loop-place.invariant.storing.sets16); parts_in_bounds = to_fits c.loop-place.invariant o }
 
 pub overflow_add-param : goal.overflow_add-param
 overflow_add-param c = search (to_few, passing_next, rules)

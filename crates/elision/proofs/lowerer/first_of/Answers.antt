@@ -2,7 +2,7 @@
 -- lifetimes are to be copied.
 use mathlib.Core.Path.{◌≡◌, refl}
 use native.Mathlib.Omega.{arith}
-use lib.ListN.{length, length-map}
+use lib.ListN.{length}
 use Rattle.elision.proofs.LaidLoops.{firsts_start, firsts_few, firsts_more, firsts_end}
 use Prim.Native.Nat.{◌-◌}
 use borrow.Author.Rules.{rules}
@@ -25,11 +25,11 @@ bounds-list-i c = search (firsts_few, rules)
 
 pub loop-i-preserved : goal.loop-i-preserved
 loop-i-preserved c =
-    let full : length c.args.t1.list ≡ 16 = simp length-map at c.well_formed.0.1.1.1.0.1.0.1 in
+    let full : length c.args.own.list ≡ 16 = search rules in
     firsts_more c.loop-i.invariant full c.loop-i-test.true
     _ refl
 
 pub returns : goal.returns
 returns c =
-    let full : length c.args.t1.list ≡ 16 = simp length-map at c.well_formed.0.1.1.1.0.1.0.1 in
+    let full : length c.args.own.list ≡ 16 = search rules in
     firsts_end c.loop-i.invariant full c.loop-i-test.false

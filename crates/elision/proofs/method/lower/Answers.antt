@@ -1,9 +1,10 @@
 -- `lower` meets its contract: each way out is one law of proofs/EntryLaws.antt.
 use native.Mathlib.Omega.{arith}
 use mathlib.Core.Path.{◌≡◌, refl}
-use lib.ListN.{length, length-map}
+use lib.ListN.{length}
 use Rattle.elision.proofs.EntryLaws.{Measured, measures, lower_refused, lower_shaped, lower_named, lower_own}
 use Rattle.elision.proofs.EntryLaws.{lower_given, lower_taken, lower_all}
+use borrow.Author.Rules.{rules}
 use Rattle.elision.proofs.method.lower.Goals as goal
 
 pub returns-in-Refused : goal.returns-in-Refused
@@ -35,7 +36,7 @@ returns-then-taken-measured c =
 
 pub slice_bounds-run-end : goal.slice_bounds-run-end
 slice_bounds-run-end c =
-    let full : length c.args.env.names ≡ 32 = simp length-map at c.well_formed.0.1.1.0.1.0.1 in
+    let full : length c.args.env.names ≡ 32 = search rules in
     let measured : Measured c.args.env c.args.receiver.now c.args.steps.now c.args.returns.now
     c.measure-measured.result = measures _ _ _ _ c.measure-measured.ensures.answer c.in_default.is in
     omega (arith, full, lower_named measured)
@@ -51,5 +52,5 @@ pub returns : goal.returns
 returns c =
     let measured : Measured c.args.env c.args.receiver.now c.args.steps.now c.args.returns.now
     c.measure-measured.result = measures _ _ _ _ c.measure-measured.ensures.answer c.in_default.is in
-    let full : length c.args.env.names ≡ 32 = simp length-map at c.well_formed.0.1.1.0.1.0.1 in
+    let full : length c.args.env.names ≡ 32 = search rules in
     record { answer = lower_all measured _ _ _ c.if-own-measured.false c.if-given-measured.false c.if-taken-measured.false full c.run.ensures }

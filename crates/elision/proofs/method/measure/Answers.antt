@@ -1,7 +1,7 @@
 -- `measure` meets its contract: each way out is one law of proofs/EntryLaws.antt.
 use native.Mathlib.Omega.{arith}
 use mathlib.Core.Path.{◌≡◌, sym, ◌∙◌}
-use lib.ListN.{length, length-map}
+use lib.ListN.{length}
 use Rattle.answers.proofs.RefusalLaws.{refused_first, accepted_none}
 use Rattle.ast_lifetimes.proofs.ThanLaws.{few_names}
 use Rattle.elision.proofs.EntryLaws.{measure_shape, Shaped, shape_told, measure_shaped, measure_env, Valid}
@@ -23,7 +23,7 @@ returns-in-Refused-valid c =
 
 pub slice_bounds-judge-end : goal.slice_bounds-judge-end
 slice_bounds-judge-end c =
-    let full : length c.args.env.names ≡ 32 = simp length-map at c.well_formed.0.1.1.0.1.0.1 in
+    let full : length c.args.env.names ≡ 32 = search rules in
     let shaped : Shaped c.args.env c.args.receiver.now c.args.steps.now c.args.returns.now = shape_told _ _ _ _ c.shape_of-shape.ensures c.in_default.is in
     let valid : Valid c.args.env c.args.receiver.now c.args.steps.now c.args.returns.now = record {
       shaped = shaped;

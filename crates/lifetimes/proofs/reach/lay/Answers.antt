@@ -12,70 +12,61 @@ pub loop-x-init : goal.loop-x-init
 loop-x-init c = search (laying_start, rules)
 
 pub walk-walked-requires : goal.walk-walked-requires
-walk-walked-requires c = let it = let m = c.limit_of-limit.ensures in (
-  (
-    (c.requires.0.0.0, c.requires.0.0.1, λ b i. omega (arith, c.requires.0.0.2 b i, m)),
-    omega (arith, c.requires.0.2, m),
+walk-walked-requires c = let m = c.limit_of-limit.ensures in record {
+  walkable = (
+    (c.requires.layable.0.0, c.requires.layable.0.1, λ b i. omega (arith, c.requires.layable.0.2 b i, m)),
+    omega (arith, c.requires.layable.2, m),
     m.0,
-  ),
-  c.loop-x.invariant.0,
-) in
-    record { walkable = it.0; len = it.1 }
+  );
+  len = c.loop-x.invariant.0;
+}
 
 pub copy_to-requires : goal.copy_to-requires
 copy_to-requires c =
     let room : c.loop-x.at + c.walk-walked.result.count
-    ≤ length c.loop-x.words = let l = c.loop-x in
-    let w = c.walk-walked in
-    let (g, k, h, fits) = c.requires.0.0 in
-    let done = w.ensures.1 g k (λ b i. omega (arith, h b i, c.limit_of-limit.ensures)) in
-    let n : w.result.count ≡ length (take w.result.count w.new.1.1.1.1.1.0) =
-    sym (length-take-le w.result.count _ (omega (arith, w.ensures.0))) in
+    ≤ length c.loop-x.words = let (g, k, h, fits) = c.requires.layable.0 in
+    let done = c.walk-walked.ensures.complete g k (λ b i. omega (arith, h b i, c.limit_of-limit.ensures)) in
+    let n : c.walk-walked.result.count ≡ length (take c.walk-walked.result.count c.walk-walked.new.items) =
+    sym (length-take-le c.walk-walked.result.count _ (omega (arith, c.walk-walked.ensures.count_le_most_lifetimes))) in
     omega (
       arith,
-      l.invariant.1,
+      c.loop-x.invariant.1,
       n,
       ap length done.items,
-      laying_room (l.invariant.5 g k h) c.loop-x-test.true (omega (arith, l.invariant.1)),
+      laying_room (c.loop-x.invariant.5 g k h) c.loop-x-test.true (omega (arith, c.loop-x.invariant.1)),
     ) in
-    let w = c.walk-walked in
-    (w.ensures.0.0, w.ensures.0.1, room)
+    (c.walk-walked.ensures.count_le_most_lifetimes.0, c.walk-walked.ensures.count_le_most_lifetimes.1, room)
 
 pub overflow_add-at : goal.overflow_add-at
 overflow_add-at c =
     let room : c.loop-x.at + c.walk-walked.result.count
-    ≤ length c.loop-x.words = let l = c.loop-x in
-    let w = c.walk-walked in
-    let (g, k, h, fits) = c.requires.0.0 in
-    let done = w.ensures.1 g k (λ b i. omega (arith, h b i, c.limit_of-limit.ensures)) in
-    let n : w.result.count ≡ length (take w.result.count w.new.1.1.1.1.1.0) =
-    sym (length-take-le w.result.count _ (omega (arith, w.ensures.0))) in
+    ≤ length c.loop-x.words = let (g, k, h, fits) = c.requires.layable.0 in
+    let done = c.walk-walked.ensures.complete g k (λ b i. omega (arith, h b i, c.limit_of-limit.ensures)) in
+    let n : c.walk-walked.result.count ≡ length (take c.walk-walked.result.count c.walk-walked.new.items) =
+    sym (length-take-le c.walk-walked.result.count _ (omega (arith, c.walk-walked.ensures.count_le_most_lifetimes))) in
     omega (
       arith,
-      l.invariant.1,
+      c.loop-x.invariant.1,
       n,
       ap length done.items,
-      laying_room (l.invariant.5 g k h) c.loop-x-test.true (omega (arith, l.invariant.1)),
+      laying_room (c.loop-x.invariant.5 g k h) c.loop-x-test.true (omega (arith, c.loop-x.invariant.1)),
     ) in
     omega (arith, room)
 
 pub loop-x-preserved : goal.loop-x-preserved
-loop-x-preserved c = let l = c.loop-x in
-    let w = c.walk-walked in
-    let m = c.limit_of-limit.ensures in
-    let y = c.copy_to in (
-      w.ensures.0.1,
-      ap length y.ensures ∙ simp length-sets l.invariant.1,
-      length-set l.ends l.x _ ∙ l.invariant.2,
-      length-set l.reach l.x w.result.seen ∙ l.invariant.3,
-      omega arith,
-      λ g k h.
-          let done = w.ensures.1 g k (λ b i. omega (arith, h b i, m)) in
-          rw y.ensures
-          (laying_more (l.invariant.5 g k h) c.loop-x-test.true _ _ _ done.items
-          (sym (length-take-le w.result.count _ (omega (arith, w.ensures.0))))
-          done.seen),
-    )
+loop-x-preserved c = let m = c.limit_of-limit.ensures in (
+  c.walk-walked.ensures.count_le_most_lifetimes.1,
+  ap length c.copy_to.ensures ∙ simp length-sets c.loop-x.invariant.1,
+  length-set c.loop-x.ends c.loop-x.x _ ∙ c.loop-x.invariant.2,
+  length-set c.loop-x.reach c.loop-x.x c.walk-walked.result.seen ∙ c.loop-x.invariant.3,
+  omega arith,
+  λ g k h.
+      let done = c.walk-walked.ensures.complete g k (λ b i. omega (arith, h b i, m)) in
+      rw c.copy_to.ensures
+      (laying_more (c.loop-x.invariant.5 g k h) c.loop-x-test.true _ _ _ done.items
+      (sym (length-take-le c.walk-walked.result.count _ (omega (arith, c.walk-walked.ensures.count_le_most_lifetimes))))
+      done.seen),
+)
 
 pub returns : goal.returns
 returns c = λ g k w. laying_end (c.loop-x.invariant.5 g k w) c.loop-x-test.false

@@ -2,33 +2,33 @@
 -- over it lists the traversal in that order.
 use mathlib.Core.Path.{◌≡◌, refl, ◌∙◌}
 use native.Mathlib.Omega.{arith}
-use lib.ListN.{length, length-map}
+use lib.ListN.{length}
 use Rattle.lifetimes.specs.Env.{bounds_of}
 use Rattle.lifetimes.specs.Walk.{order_of}
 use Rattle.lifetimes.specs.Index.{graph_in}
 use Rattle.lifetimes.proofs.EnvLaws.{Valid, valid}
 use Rattle.lifetimes.proofs.IndexLaws.{bounds_length, bounds_fine, bounds_within, zeros}
 use Rattle.lifetimes.proofs.ReachAnswers.{list_by_lem}
+use borrow.Author.Rules.{rules}
 use Rattle.lifetimes.proofs.reach.list.Goals as goal
 
 pub link-requires : goal.link-requires
 link-requires c =
-    let holds : Valid c.args.env = valid c.args.env c.requires.0.0 in
-    let full : length c.args.env.bounds.list ≡ 256 = simp length-map at c.well_formed.0.1.1.1.1.0.1.1.1.0.1.0.1 in
-    let it = let v = holds in
-    ((bounds_fine v full, bounds_length v full), (zeros 64, (refl, refl, refl))) in
-    record { fine = it.0; zeros = it.1.0; far_len = it.1.1 }
+    let holds : Valid c.args.env = valid c.args.env c.requires.none_due.0 in
+    let full : length c.args.env.bounds.list ≡ 256 = search rules in
+    let v = holds in
+    record { fine = (bounds_fine v full, bounds_length v full); zeros = zeros 64; far_len = (refl, refl, refl) }
 
 pub limit_of-limit-requires : goal.limit_of-limit-requires
 limit_of-limit-requires c =
-    let holds : Valid c.args.env = valid c.args.env c.requires.0.0 in
-    (c.requires.0.1, holds.declares)
+    let holds : Valid c.args.env = valid c.args.env c.requires.none_due.0 in
+    (c.requires.none_due.1, holds.declares)
 
 pub walk-requires : goal.walk-requires
 walk-requires c =
-    let holds : Valid c.args.env = valid c.args.env c.requires.0.0 in
-    let it = let m = c.limit_of-limit.ensures in (
-      (
+    let holds : Valid c.args.env = valid c.args.env c.requires.none_due.0 in
+    let m = c.limit_of-limit.ensures in record {
+      walkable = (
         (
           graph_in (order_of c.args.ast) c.args.longer (bounds_of c.args.env),
           c.link.ensures,
@@ -36,18 +36,16 @@ walk-requires c =
         ),
         omega (arith, holds.counted, m),
         m.0,
-      ),
-      c.requires.1,
-    ) in
-    record { walkable = it.0; len = it.1 }
+      );
+      len = c.requires.len;
+    }
 
 pub returns : goal.returns
 returns c =
-    let holds : Valid c.args.env = valid c.args.env c.requires.0.0 in
-    let w = c.walk in (
-      w.ensures.0.0,
-      w.ensures.0.1,
-      (w.ensures.1 (graph_in (order_of c.args.ast) c.args.longer (bounds_of c.args.env)) c.link.ensures
+    let holds : Valid c.args.env = valid c.args.env c.requires.none_due.0 in (
+      c.walk.ensures.count_le_most_lifetimes.0,
+      c.walk.ensures.count_le_most_lifetimes.1,
+      (c.walk.ensures.complete (graph_in (order_of c.args.ast) c.args.longer (bounds_of c.args.env)) c.link.ensures
           (bounds_within holds (order_of c.args.ast) c.args.longer
           _ c.limit_of-limit.ensures.2)).items
           ∙ list_by_lem c.args.ast c.args.longer c.args.env c.args.start,

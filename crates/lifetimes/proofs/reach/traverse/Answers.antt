@@ -41,11 +41,10 @@ returns-then-out-n c =
     let none : NoneDue (env_checks c.args.env) = accepted_none (tt {0})
     (env_checks c.args.env)
     (sym c.check-verdict.ensures.answer ∙ c.in_default.is) in
-    let it = let l = c.list-n in
-    let i = c.index-start.ensures.answer in
+    let it = let i = c.index-start.ensures.answer in
     list_short c.args.env c.args.lifetime.0 asked c.args.out.now
-    none (omega (arith, i, c.if-env-start.false)) _ l.result
-    (omega (arith, l.ensures)) (rw i at l.ensures.2) c.if-out-n.true in
+    none (omega (arith, i, c.if-env-start.false)) _ c.list-n.result
+    (omega (arith, c.list-n.ensures)) (rw i at c.list-n.ensures.2) c.if-out-n.true in
     record { value = it.0; fills = it.1 }
 
 pub returns : goal.returns
@@ -54,9 +53,7 @@ returns c =
     let none : NoneDue (env_checks c.args.env) = accepted_none (tt {0})
     (env_checks c.args.env)
     (sym c.check-verdict.ensures.answer ∙ c.in_default.is) in
-    let it = let l = c.list-n in
     let i = c.index-start.ensures.answer in
     let a = list_given c.args.env c.args.lifetime.0 asked c.args.out.now none
-    (omega (arith, i, c.if-env-start.false)) _ l.result (omega (arith, l.ensures)) (rw i at l.ensures.2) c.if-out-n.false in
-    (a.0, c.copy_to.ensures ∙ a.1) in
-    record { value = it.0; fills = it.1 }
+    (omega (arith, i, c.if-env-start.false)) _ c.list-n.result (omega (arith, c.list-n.ensures)) (rw i at c.list-n.ensures.2) c.if-out-n.false in
+    record { value = a.0; fills = c.copy_to.ensures ∙ a.1 }

@@ -1,12 +1,12 @@
 -- `set::members` meets its contract. The loop's invariant is `Listing` of proofs/SetLoops.antt; the measure is how
 -- many lifetimes are to be looked at.
 use Prim.Native.Nat.{◌-◌}
-use mathlib.Core.Logic.{⊎_elim}
 use mathlib.Core.Path.{sym, ◌∙◌}
 use borrow.Author.Rules.{rules}
 use Rattle.lifetimes.proofs.SetLoops.{too_short, listing_start, listing_room, listing_member}
 use Rattle.lifetimes.proofs.SetLoops.{listing_other, listing_end}
 use Rattle.lifetimes.proofs.set.members.Goals as goal
+use Rattle.lifetimes.proofs.set.members.Goals.{then-holds, else-holds}
 
 pub returns-then-out-n : goal.returns-then-out-n
 returns-then-out-n c = let it = too_short c.args.set c.args.out.now c.count-n.ensures.answer c.if-out-n.true in
@@ -20,13 +20,12 @@ bounds-out-at c = listing_room c.loop-x.invariant c.loop-x-test.true
     (sym c.holds.ensures ∙ c.if-holds.true)
 
 pub loop-x-preserved : goal.loop-x-preserved
-loop-x-preserved c = let l = c.loop-x in
-    let below = c.loop-x-test.true in
+loop-x-preserved c =
     let told = sym c.holds.ensures in
-    ⊎_elim
-    (λ w. rw (w.1, w.2) (listing_member l.invariant below (told ∙ w.0.taken)))
-    (λ w. rw (w.1, w.2) (listing_other l.invariant below (told ∙ w.0.left)))
-    c.if-holds.branch
+    elim c.if-holds.branch [
+      | then-holds w ↦ rw (w.out-is, w.at-is) (listing_member c.loop-x.invariant c.loop-x-test.true (told ∙ w.if-holds.true))
+      | else-holds w ↦ rw (w.out-is, w.at-is) (listing_other c.loop-x.invariant c.loop-x-test.true (told ∙ w.if-holds.false))
+    ]
 
 pub returns : goal.returns
 returns c = let it = listing_end c.loop-x.invariant c.count-n.ensures.answer c.loop-x-test.false in

@@ -30,18 +30,16 @@ pub pending-smaller-then-at-eq0 : goal.pending-smaller-then-at-eq0
 pending-smaller-then-at-eq0 c =
     let inv_of : Skipping c.requires.0 c.args.stack.now c.args.seen c.args.from
     c.args.deep c.pending.at c.pending.depth = c.pending.invariant c.requires.0 c.requires.1 c.requires.2 in
-    let p = c.pending in
     omega (
       arith,
       c.requires.1.few,
       skipping_top c.requires.1 c.requires.2 inv_of c.if-at-eq0.true
-          (p.depth - 1) (omega arith),
+          (c.pending.depth - 1) (omega arith),
     )
 
 pub pending-preserved-then-at-eq0 : goal.pending-preserved-then-at-eq0
 pending-preserved-then-at-eq0 c = λ g ch r.
-    let p = c.pending in
-    skipping_pop ch r (p.invariant g ch r) c.if-at-eq0.true (p.depth - 1) (omega arith)
+    skipping_pop ch r (c.pending.invariant g ch r) c.if-at-eq0.true (c.pending.depth - 1) (omega arith)
 
 pub bounds-far-i : goal.bounds-far-i
 bounds-far-i c =
@@ -54,8 +52,7 @@ pub overflow_cast-y : goal.overflow_cast-y
 overflow_cast-y c =
     let inv_of : Skipping c.requires.0 c.args.stack.now c.args.seen c.args.from
     c.args.deep c.pending.at c.pending.depth = c.pending.invariant c.requires.0 c.requires.1 c.requires.2 in
-    let p = c.pending in
-    omega (arith, skipping_far c.requires.1 c.requires.2 inv_of (p.at - 1) (omega arith))
+    omega (arith, skipping_far c.requires.1 c.requires.2 inv_of (c.pending.at - 1) (omega arith))
 
 pub offset_bounds-before-i : goal.offset_bounds-before-i
 offset_bounds-before-i c =
@@ -76,42 +73,37 @@ overflow_cast-at c =
     let inv_of : Skipping c.requires.0 c.args.stack.now c.args.seen c.args.from
     c.args.deep c.pending.at c.pending.depth = c.pending.invariant c.requires.0 c.requires.1 c.requires.2 in
     let few_at : c.pending.at ≤ 256 = skipping_at c.requires.1 c.requires.2 inv_of in
-    let p = c.pending in
     omega (
       arith,
       few_at,
-      skipping_before c.requires.1 c.requires.2 inv_of (p.at - 1) (omega arith),
+      skipping_before c.requires.1 c.requires.2 inv_of (c.pending.at - 1) (omega arith),
     )
 
 pub holds-requires : goal.holds-requires
 holds-requires c =
     let inv_of : Skipping c.requires.0 c.args.stack.now c.args.seen c.args.from
     c.args.deep c.pending.at c.pending.depth = c.pending.invariant c.requires.0 c.requires.1 c.requires.2 in
-    let p = c.pending in
-    skipping_far c.requires.1 c.requires.2 inv_of (p.at - 1) (omega arith)
+    skipping_far c.requires.1 c.requires.2 inv_of (c.pending.at - 1) (omega arith)
 
 pub pending-smaller : goal.pending-smaller
 pending-smaller c =
     let inv_of : Skipping c.requires.0 c.args.stack.now c.args.seen c.args.from
     c.args.deep c.pending.at c.pending.depth = c.pending.invariant c.requires.0 c.requires.1 c.requires.2 in
-    let p = c.pending in
     omega (
       arith,
-      skipping_before c.requires.1 c.requires.2 inv_of (p.at - 1)
+      skipping_before c.requires.1 c.requires.2 inv_of (c.pending.at - 1)
           (omega arith),
     )
 
 pub pending-preserved : goal.pending-preserved
 pending-preserved c = λ g ch r.
-    let p = c.pending in
-    skipping_seen ch r (p.invariant g ch r) (p.at - 1) (omega arith) (sym c.holds.ensures ∙ c.if-not-holds.false)
+    skipping_seen ch r (c.pending.invariant g ch r) (c.pending.at - 1) (omega arith) (sym c.holds.ensures ∙ c.if-not-holds.false)
 
 pub returns-then-depth-eq0 : goal.returns-then-depth-eq0
 returns-then-depth-eq0 c = λ g ch r. skipping_end ch r (c.pending.invariant g ch r) c.if-at-eq0.true c.if-depth-eq0.true
 
 pub returns-then-not-holds : goal.returns-then-not-holds
 returns-then-not-holds c = λ g ch r.
-    let p = c.pending in
-    skipping_found ch r (p.invariant g ch r) (p.at - 1) (omega arith)
+    skipping_found ch r (c.pending.invariant g ch r) (c.pending.at - 1) (omega arith)
     (sym c.holds.ensures ∙ c.if-not-holds.true) c.new.result
     (ap (λ (l : Lifetime). l.0) c.new.ensures.answer)

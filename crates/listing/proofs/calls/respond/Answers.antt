@@ -9,16 +9,14 @@ use Rattle.listing.proofs.calls.respond.Goals as goal
 pub returns-in-Count : goal.returns-in-Count
 returns-in-Count c =
     let full : length c.args.out.now ≡ room_bytes = search rules in
-    let it = let l = c.list_sheet-answer in
-    respond_listed c.args.sheet.now c.args.out.now l.result l.new.1.0
-    full l.ensures c.in-Count.is in
+    let it = respond_listed c.args.sheet.now c.args.out.now c.list_sheet-answer.result c.list_sheet-answer.new.out
+    full c.list_sheet-answer.ensures c.in-Count.is in
     record { answer = it.0; stored = it.1 }
 
 pub returns-in-Refused : goal.returns-in-Refused
 returns-in-Refused c =
     let full : length c.args.out.now ≡ room_bytes = search rules in
-    let it = let l = c.list_sheet-answer in
-    respond_refused c.in-Refused.refusal c.number.ensures.answer
-    c.args.sheet.now c.args.out.now l.result l.new.1.0 full
-    l.ensures c.in-Refused.is c.put_refusal.ensures in
+    let it = respond_refused c.in-Refused.refusal c.number.ensures.answer
+    c.args.sheet.now c.args.out.now c.list_sheet-answer.result c.list_sheet-answer.new.out full
+    c.list_sheet-answer.ensures c.in-Refused.is c.put_refusal.ensures in
     record { answer = it.0; stored = it.1 }

@@ -45,12 +45,11 @@ put_listing-length-requires c =
     let mapped : Mapped c.from_sets-visitor.result c.args.structs.now c.args.params.now (replicate 16 0)
     c.args.edges.now c.borrow_map-map.result c.borrow_map-map.new.answers c.borrow_map-map.new.edges = let m = c.borrow_map-map.ensures.answer in
     record { sixteen = refl; most = c.requires.1; maps = m.counts; noted = m.answers_filled; stored = m.edges_filled } in
-    let it = let fine = c.in_default.is in
+    let fine = c.in_default.is in
     let can = c.requires.0 in
     let all = all_listed in
     let new = c.from_sets-visitor.ensures.answer in
-    (refl, (lists_ascend can all, edges_inside can all new mapped fine)) in
-    record { counts_len = it.0; ascend = it.1.0; counts_in_bounds = it.1.1 }
+    record { counts_len = refl; ascend = lists_ascend can all; counts_in_bounds = edges_inside can all new mapped fine }
 
 pub returns : goal.returns
 returns c =

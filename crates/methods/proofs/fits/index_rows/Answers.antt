@@ -15,20 +15,20 @@ pub returns-then-number-ge-MAX_ROWS : goal.returns-then-number-ge-MAX_ROWS
 returns-then-number-ge-MAX_ROWS c = search (indexing_full, rules)
 
 pub offset_bounds-structs-at : goal.offset_bounds-structs-at
-offset_bounds-structs-at c = omega (arith, row_here c.loop-number.invariant (omega (arith, c.requires.0.1)))
+offset_bounds-structs-at c = omega (arith, row_here c.loop-number.invariant (omega (arith, c.requires.structs_value.1)))
 
 pub bounds-structs-at : goal.bounds-structs-at
 bounds-structs-at c = omega (
   arith,
   row_here c.loop-number.invariant
-      (omega (arith, c.requires.0.1)),
+      (omega (arith, c.requires.structs_value.1)),
 )
 
 pub overflow_add-fields : goal.overflow_add-fields
 overflow_add-fields c = omega (
   arith,
   row_here c.loop-number.invariant
-      (omega (arith, c.requires.0.1)),
+      (omega (arith, c.requires.structs_value.1)),
 )
 
 pub offset_bounds-structs-at-in-loop-number : goal.offset_bounds-structs-at-in-loop-number
@@ -41,7 +41,7 @@ pub overflow_add-at : goal.overflow_add-at
 overflow_add-at c = omega (
   arith,
   row_here c.loop-number.invariant
-      (omega (arith, c.requires.0.1)),
+      (omega (arith, c.requires.structs_value.1)),
 )
 
 pub types_fit-fit-requires : goal.types_fit-fit-requires
@@ -49,7 +49,7 @@ types_fit-fit-requires c = (
   omega (
     arith,
     row_here c.loop-number.invariant
-        (omega (arith, c.requires.0.1)),
+        (omega (arith, c.requires.structs_value.1)),
   ),
   rw length-set c.loop-number.invariant.size,
 )
@@ -61,4 +61,4 @@ pub loop-number-preserved : goal.loop-number-preserved
 loop-number-preserved c = search (indexing_more, rules)
 
 pub returns : goal.returns
-returns c = indexing_end c.loop-number.invariant (omega (arith, c.requires.0.1))
+returns c = indexing_end c.loop-number.invariant (omega (arith, c.requires.structs_value.1))

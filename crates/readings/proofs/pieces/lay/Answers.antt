@@ -5,5 +5,4 @@ use lib.ListN.{length-set}
 use Rattle.readings.proofs.pieces.lay.Goals as goal
 
 pub loop-i-preserved : goal.loop-i-preserved
-loop-i-preserved c = let l = c.loop-i in
-    (simp length-set (omega (arith, c.if-text-at.false)), simp length-set l.invariant.1)
+loop-i-preserved c = (simp length-set (omega (arith, c.if-text-at.false)), simp length-set c.loop-i.invariant.1)

@@ -18,11 +18,9 @@ pub bounds-bytes-i : goal.bounds-bytes-i
 bounds-bytes-i c = search (comparing_here, rules)
 
 pub loop-i-preserved : goal.loop-i-preserved
-loop-i-preserved c = let l = c.loop-i in
-    (comparing_more heading c.args.bytes.now l.i l.same l.invariant.0 c.loop-i-test.true c.both-same.result c.both-same.ensures, refl)
+loop-i-preserved c = (comparing_more heading c.args.bytes.now c.loop-i.i c.loop-i.same c.loop-i.invariant.0 c.loop-i-test.true c.both-same.result c.both-same.ensures, refl)
 
 pub returns : goal.returns
-returns c = let l = c.loop-i in
-    let b = c.args.bytes.now in
-    let e : l.i ≡ 66 = omega (arith, (comparing_here heading b l.i l.same l.invariant.0).0, c.loop-i-test.false) in
-    comparing_end heading b l.i l.same l.invariant.0 c.loop-i-test.false ∙ rw e
+returns c = let b = c.args.bytes.now in
+    let e : c.loop-i.i ≡ 66 = omega (arith, (comparing_here heading b c.loop-i.i c.loop-i.same c.loop-i.invariant.0).0, c.loop-i-test.false) in
+    comparing_end heading b c.loop-i.i c.loop-i.same c.loop-i.invariant.0 c.loop-i-test.false ∙ rw e

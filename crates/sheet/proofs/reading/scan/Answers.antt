@@ -7,18 +7,16 @@ use Rattle.sheet.proofs.ReadingLaws.{measured_unreadable, measured_malformed, me
 use Rattle.sheet.proofs.reading.scan.Goals as goal
 
 pub returns-then-sheet-gt-MAX_BYTES : goal.returns-then-sheet-gt-MAX_BYTES
-returns-then-sheet-gt-MAX_BYTES c = let it = let b = c.args.sheet.now in
+returns-then-sheet-gt-MAX_BYTES c = let b = c.args.sheet.now in
     let e = measured_none b (too_many b (omega (arith, c.if-sheet-gt-MAX_BYTES.true))) in
-    (c.refused.ensures ∙ e, scan_refused b e) in
-    record { value = it.0; scratch_value = it.1 }
+    record { value = c.refused.ensures ∙ e; scratch_value = scan_refused b e }
 
 pub returns-then-not-headed : goal.returns-then-not-headed
-returns-then-not-headed c = let it = let b = c.args.sheet.now in
+returns-then-not-headed c = let b = c.args.sheet.now in
     let e = measured_none b
     (no_heading b (omega (arith, c.if-sheet-gt-MAX_BYTES.false))
     (heading_not b c.headed.result c.headed.ensures c.if-not-headed.true)) in
-    (c.refused-then-not-headed.ensures ∙ e, scan_refused b e) in
-    record { value = it.0; scratch_value = it.1 }
+    record { value = c.refused-then-not-headed.ensures ∙ e; scratch_value = scan_refused b e }
 
 pub returns-in-Unreadable : goal.returns-in-Unreadable
 returns-in-Unreadable c = record {

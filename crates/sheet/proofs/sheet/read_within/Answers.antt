@@ -9,22 +9,20 @@ returns-in_default c = let it = sheet_refused _ c.args.words.now c.scan-text.res
     record { value = it.0; fills = it.1 }
 
 pub returns-in-Refused : goal.returns-in-Refused
-returns-in-Refused c = let it = let e = c.in-Accepted.is in
+returns-in-Refused c = let e = c.in-Accepted.is in
     let shape =
     scanned_shape c.args.sheet.now c.args.scratch.now c.requires c.scan-text.ensures.value e
     c.scan-text.ensures.scratch_value c.judge_laid-shape.ensures in
     let a = sheet_unshaped _ c.args.words.now c.scan-text.result c.scan-text.ensures.value e shape
     c.in-Refused.is in
-    (c.refused.ensures ∙ a.0, a.1) in
-    record { value = it.0; fills = it.1 }
+    record { value = c.refused.ensures ∙ a.0; fills = a.1 }
 
 pub returns-in_default-copy_words : goal.returns-in_default-copy_words
-returns-in_default-copy_words c = let it = let a = scanned_short c.args.sheet.now c.args.scratch.now c.requires c.scan-text.ensures.value
+returns-in_default-copy_words c = let a = scanned_short c.args.sheet.now c.args.scratch.now c.requires c.scan-text.ensures.value
     c.in-Accepted.is c.scan-text.ensures.scratch_value
     c.judge_laid-shape.ensures c.in_default-shape.is c.args.words.now
     c.copy_words.ensures.stored c.copy_words.ensures.answer c.in_default-copy_words.is in
-    (c.refused-in_default-copy_words.ensures ∙ a.0, a.1) in
-    record { value = it.0; fills = it.1 }
+    record { value = c.refused-in_default-copy_words.ensures ∙ a.0; fills = a.1 }
 
 pub returns : goal.returns
 returns c = let it = scanned_wrote c.args.sheet.now c.args.scratch.now c.requires c.scan-text.ensures.value

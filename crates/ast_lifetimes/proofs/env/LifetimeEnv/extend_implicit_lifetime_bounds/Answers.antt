@@ -14,7 +14,9 @@ pub extended-requires : goal.extended-requires
 extended-requires c = search (valid, extend_shaped, rules)
 
 pub returns : goal.returns
-returns c = record { answer = let s = s.argsin
-    c.extended.ensures ∙ extend_given s.self s.types.now c.types_shape-shape.ensures.answer
-    c.in-Accepted.is
-    (valid s.self c.check-valid.ensures.answer c.in-Accepted-valid.is) }
+returns c = record {
+  answer = let s = c.args in
+      c.extended.ensures ∙ extend_given s.self s.types.now c.types_shape-shape.ensures.answer
+      c.in-Accepted.is
+      (valid s.self c.check-valid.ensures.answer c.in-Accepted-valid.is);
+}

@@ -20,10 +20,9 @@ returns-in_default-verdict c = record {
 }
 
 pub assembled-requires : goal.assembled-requires
-assembled-requires c = let it = let b = c.build-built.ensures in
+assembled-requires c = let b = c.build-built.ensures in
     let e = c.in-Accepted-verdict.is in
-    (b.few e, (b.sizes, built_small b e)) in
-    record { named_le_most_names = it.0; declared_len = it.1.0; shorts_value = it.1.1 }
+    record { named_le_most_names = b.few e; declared_len = b.sizes; shorts_value = built_small b e }
 
 pub returns : goal.returns
 returns c = search (method_given, rules)

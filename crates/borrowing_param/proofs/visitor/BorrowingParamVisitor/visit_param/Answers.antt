@@ -8,31 +8,37 @@ use Rattle.borrowing_param.proofs.VisitorLaws.{visit_refuses, visit_goes_on}
 use Rattle.borrowing_param.proofs.visitor.BorrowingParamVisitor.visit_param.Goals as goal
 
 pub returns-in_default : goal.returns-in_default
-returns-in_default c = record { answer = let s = c.args in
-    let answer = ap (λ (x : Visited). outcome x.info (state x.visitor s.edges.now)) c.refused.ensures in
-    answer ∙ sym
-    (visit_refuses s.structs.now s.params.now (state s.self s.edges.now) s.param
-    (nowhere_refused s.structs.now s.params.now s.param
-    (missing_told c.param_at-found.ensures.found c.in_default.is))) }
+returns-in_default c = record {
+  answer = let s = c.args in
+      let answer = ap (λ (x : Visited). outcome x.info (state x.visitor s.edges.now)) c.refused.ensures in
+      answer ∙ sym
+      (visit_refuses s.structs.now s.params.now (state s.self s.edges.now) s.param
+      (nowhere_refused s.structs.now s.params.now s.param
+      (missing_told c.param_at-found.ensures.found c.in_default.is)));
+}
 
 pub visit_parts-requires : goal.visit_parts-requires
 visit_parts-requires c = parts_there c.param_at-found.ensures c.in-At.is
 
 pub returns-in-Refused : goal.returns-in-Refused
-returns-in-Refused c = record { answer = let s = s.argsin
-    let answer = ap (λ (x : Visited). outcome x.info (state x.visitor s.edges.now)) c.refused-in-Refused.ensures in
-    let f = found_told c.param_at-found.ensures.found c.in-At.is in
-    answer ∙ sym
-    (visit_refuses s.structs.now s.params.now (state s.self s.edges.now) s.param
-    (records_refused s.structs.now s.params.now s.param f.reads
-    c.check_structs_and_params-verdict.ensures.answer c.in-Refused.is)) }
+returns-in-Refused c = record {
+  answer = let s = c.args in
+      let answer = ap (λ (x : Visited). outcome x.info (state x.visitor s.edges.now)) c.refused-in-Refused.ensures in
+      let f = found_told c.param_at-found.ensures.found c.in-At.is in
+      answer ∙ sym
+      (visit_refuses s.structs.now s.params.now (state s.self s.edges.now) s.param
+      (records_refused s.structs.now s.params.now s.param f.reads
+      c.check_structs_and_params-verdict.ensures.answer c.in-Refused.is));
+}
 
 pub returns-in-Accepted : goal.returns-in-Accepted
-returns-in-Accepted c = record { answer = let s = s.argsin
-    let f = found_told c.param_at-found.ensures.found c.in-At.is in
-    let a = records_accepted s.structs.now s.params.now s.param f.reads
-    c.check_structs_and_params-verdict.ensures.answer c.in-Accepted.is in
-    c.visit_parts.ensures
-    ∙ sym
-    (visit_goes_on s.structs.now s.params.now (state s.self s.edges.now) s.param f.stands
-    a.0 a.1) }
+returns-in-Accepted c = record {
+  answer = let s = c.args in
+      let f = found_told c.param_at-found.ensures.found c.in-At.is in
+      let a = records_accepted s.structs.now s.params.now s.param f.reads
+      c.check_structs_and_params-verdict.ensures.answer c.in-Accepted.is in
+      c.visit_parts.ensures
+      ∙ sym
+      (visit_goes_on s.structs.now s.params.now (state s.self s.edges.now) s.param f.stands
+      a.0 a.1);
+}

@@ -2,7 +2,7 @@
 -- many bounds are to be read.
 use Prim.Native.Nat.{◌-◌}
 use mathlib.Core.Path.{◌≡◌, sym, ◌∙◌}
-use lib.ListN.{length, length-map}
+use lib.ListN.{length}
 use borrow.Author.Rules.{rules}
 use Rattle.lifetimes.proofs.BoundsLaws.{check_many, checking_start, checking_refused, checking_more}
 use Rattle.lifetimes.proofs.BoundsLaws.{checking_end}
@@ -16,18 +16,16 @@ loop-i-init c = search (checking_start, rules)
 
 pub returns-then-not-both_below : goal.returns-then-not-both_below
 returns-then-not-both_below c =
-    let full : length c.args.self.list ≡ 256 = simp length-map at c.well_formed.0.1.1.1.0.1.0.1 in
+    let full : length c.args.self.list ≡ 256 = search rules in
     record {
-      answer = let l = c.loop-i in
-          checking_refused l.invariant full c.loop-i-test.true
+      answer = checking_refused c.loop-i.invariant full c.loop-i-test.true
           (sym c.both_below.ensures ∙ c.if-not-both_below.true);
     }
 
 pub loop-i-preserved : goal.loop-i-preserved
 loop-i-preserved c =
-    let full : length c.args.self.list ≡ 256 = simp length-map at c.well_formed.0.1.1.1.0.1.0.1 in
-    let l = c.loop-i in
-    checking_more l.invariant full c.loop-i-test.true
+    let full : length c.args.self.list ≡ 256 = search rules in
+    checking_more c.loop-i.invariant full c.loop-i-test.true
     (sym c.both_below.ensures ∙ c.if-not-both_below.false)
 
 pub returns : goal.returns

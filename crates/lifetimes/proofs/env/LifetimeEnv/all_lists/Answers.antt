@@ -2,8 +2,9 @@
 -- lays them.
 use mathlib.Core.Path.{◌≡◌, refl, sym, ◌∙◌}
 use native.Mathlib.Omega.{arith}
+use borrow.Author.Rules.{rules}
 use borrow.Author.Tests.{leb-true, leb-false}
-use lib.ListN.{length, length-map}
+use lib.ListN.{length}
 use Rattle.answers.specs.Refusals.{NoneDue}
 use Rattle.lifetimes.specs.Env.{env_checks}
 use Rattle.lifetimes.specs.Walk.{LastFirst}
@@ -37,10 +38,9 @@ link-requires c =
     let none : NoneDue (env_checks c.args.self) = accepted_none (tt {0}) (env_checks c.args.self)
     (sym c.check-verdict.ensures.answer ∙ c.in_default.is) in
     let holds : Valid c.args.self = valid c.args.self none in
-    let full : length c.args.self.bounds.list ≡ 256 = simp length-map at c.well_formed.0.1.1.1.1.0.1.1.1.0.1.0.1 in
-    let it = let v = holds in
-    ((bounds_fine v full, bounds_length v full), (zeros 64, (refl, refl, refl))) in
-    record { fine = it.0; zeros = it.1.0; far_len = it.1.1 }
+    let full : length c.args.self.bounds.list ≡ 256 = search rules in
+    let v = holds in
+    record { fine = (bounds_fine v full, bounds_length v full); zeros = zeros 64; far_len = (refl, refl, refl) }
 
 pub all_fit-requires : goal.all_fit-requires
 all_fit-requires c =
@@ -78,9 +78,9 @@ lay-total-requires c =
     Fits (graph_of s.longer s.self) s.self.count (length s.words.now) c.all_fit.result = let s = c.args in
     c.all_fit.ensures (graph_of s.longer s.self) c.link.ensures
     (bounds_within holds LastFirst s.longer _ (omega arith)) in
-    let it = let s = c.args in
-    let v = holds in (
-      (
+    let s = c.args in
+    let v = holds in record {
+      layable = (
         (
           graph_of s.longer s.self,
           c.link.ensures,
@@ -89,10 +89,9 @@ lay-total-requires c =
         ),
         v.declares,
         v.counted,
-      ),
-      (c.if-ends-count.false, refl),
-    ) in
-    record { layable = it.0; count_in_bounds = it.1 }
+      );
+      count_in_bounds = (c.if-ends-count.false, refl);
+    }
 
 pub returns : goal.returns
 returns c =

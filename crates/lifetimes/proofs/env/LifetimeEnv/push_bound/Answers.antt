@@ -1,5 +1,5 @@
 -- `LifetimeEnv::push_bound` meets its contract: the checks of the environment come before that of the bound.
-use lib.ListN.{length, length-map}
+use lib.ListN.{length}
 use borrow.Author.Rules.{rules}
 use mathlib.Core.Bool.{true, false}
 use mathlib.Core.Path.{◌≡◌, sym, ◌∙◌}
@@ -12,7 +12,7 @@ returns-then-at-ge-MAX c = search (push_full, rules)
 
 pub returns-in_default : goal.returns-in_default
 returns-in_default c =
-    let full : length c.args.self.bounds.list ≡ 256 = simp length-map at c.well_formed.0.1.1.1.1.0.1.1.1.0.1.0.1 in
+    let full : length c.args.self.bounds.list ≡ 256 = search rules in
     record {
       answer = push_refused c.args.self (above c.args.longer.0 c.args.shorter.0) full c.if-at-ge-MAX.false
           c.check-verdict.ensures.answer c.in_default.is;
@@ -20,7 +20,7 @@ returns-in_default c =
 
 pub returns-then-not-numbers_below : goal.returns-then-not-numbers_below
 returns-then-not-numbers_below c =
-    let full : length c.args.self.bounds.list ≡ 256 = simp length-map at c.well_formed.0.1.1.1.1.0.1.1.1.0.1.0.1 in
+    let full : length c.args.self.bounds.list ≡ 256 = search rules in
     record {
       answer = let a = c.args in let f : both_below a.self.declared (above a.longer.0 a.shorter.0) ≡ false =
           rw (c.index-from.ensures.answer, c.index-to.ensures.answer)
@@ -31,7 +31,7 @@ returns-then-not-numbers_below c =
 
 pub bound_of-requires : goal.bound_of-requires
 bound_of-requires c =
-    let full : length c.args.self.bounds.list ≡ 256 = simp length-map at c.well_formed.0.1.1.1.1.0.1.1.1.0.1.0.1 in
+    let full : length c.args.self.bounds.list ≡ 256 = search rules in
     let a = c.args in
     push_small a.self (above c.index-from.result c.index-to.result)
     full c.if-at-ge-MAX.false c.check-verdict.ensures.answer c.in-Accepted.is
@@ -39,7 +39,7 @@ bound_of-requires c =
 
 pub returns : goal.returns
 returns c =
-    let full : length c.args.self.bounds.list ≡ 256 = simp length-map at c.well_formed.0.1.1.1.1.0.1.1.1.0.1.0.1 in
+    let full : length c.args.self.bounds.list ≡ 256 = search rules in
     record {
       answer = let a = c.args in let t : both_below a.self.declared (above a.longer.0 a.shorter.0) ≡ true =
           rw (c.index-from.ensures.answer, c.index-to.ensures.answer)

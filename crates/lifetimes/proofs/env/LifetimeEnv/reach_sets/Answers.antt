@@ -1,7 +1,8 @@
 -- `reach_sets` meets its contract: refused as the environment is, or all sets as `measure` gives them.
 use mathlib.Core.Path.{◌≡◌, refl, sym, ◌∙◌}
 use native.Mathlib.Omega.{arith}
-use lib.ListN.{length, length-map}
+use borrow.Author.Rules.{rules}
+use lib.ListN.{length}
 use Rattle.answers.specs.Refusals.{NoneDue}
 use Rattle.lifetimes.specs.Env.{env_checks}
 use Rattle.lifetimes.specs.Walk.{LastFirst}
@@ -24,26 +25,24 @@ link-requires c =
     let none : NoneDue (env_checks c.args.self) = accepted_none (tt {0}) (env_checks c.args.self)
     (sym c.check-verdict.ensures.answer ∙ c.in-Accepted.is) in
     let holds : Valid c.args.self = valid c.args.self none in
-    let full : length c.args.self.bounds.list ≡ 256 = simp length-map at c.well_formed.0.1.1.1.1.0.1.1.1.0.1.0.1 in
-    let it = let v = holds in
-    ((bounds_fine v full, bounds_length v full), (zeros 64, (refl, refl, refl))) in
-    record { fine = it.0; zeros = it.1.0; far_len = it.1.1 }
+    let full : length c.args.self.bounds.list ≡ 256 = search rules in
+    let v = holds in
+    record { fine = (bounds_fine v full, bounds_length v full); zeros = zeros 64; far_len = (refl, refl, refl) }
 
 pub measure-requires : goal.measure-requires
 measure-requires c =
     let none : NoneDue (env_checks c.args.self) = accepted_none (tt {0}) (env_checks c.args.self)
     (sym c.check-verdict.ensures.answer ∙ c.in-Accepted.is) in
     let holds : Valid c.args.self = valid c.args.self none in
-    let it = let s = c.args in
-    let v = holds in (
-      (
+    let s = c.args in
+    let v = holds in record {
+      measurable = (
         (graph_of s.longer s.self, c.link.ensures, bounds_within v LastFirst s.longer _ (omega arith)),
         v.declares,
         v.counted,
-      ),
-      refl,
-    ) in
-    record { measurable = it.0; reach_len = it.1 }
+      );
+      reach_len = refl;
+    }
 
 pub returns : goal.returns
 returns c =
