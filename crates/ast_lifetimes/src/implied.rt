@@ -52,7 +52,7 @@ pub(crate) fn close(
     requires named_le_most_names { (named ≤ most_names) × (pushed ≤ most_bounds) × SidesBelow named pushed longs.now shorts.now }
     requires longs_len { (length longs.now ≡ most_bounds) × (length shorts.now ≡ most_bounds)
         × (length reach.old ≡ most_names) }
-    ensures { (length (left reach) ≡ most_names) × OutliveSets (sides_of pushed (held longs) (held shorts)) named
+    ensures { (length (left reach) ≡ most_names) × OutliveSets (sides_of pushed longs.now shorts.now) named
         (left reach) }
 {
     each_itself(named, reach);
@@ -180,9 +180,9 @@ pub(crate) fn push_types(
     requires pushed_le_most_bounds { (pushed ≤ most_bounds) × (length longs.old ≡ most_bounds) × (length shorts.old ≡ most_bounds) }
     requires reach_len { (length reach.old ≡ most_names)
         × OutliveSets (sides_of pushed longs.old shorts.old) named reach.old }
-    ensures { (ts : List TypeName) → encode_all ts ≡ held types
-        → Extends (take named (held names))
-        (all_implied (take named (held names)) (sides_of pushed (held longs) (held shorts)) ts) (held longs) (held shorts)
+    ensures { (ts : List TypeName) → encode_all ts ≡ types.now
+        → Extends (take named names.now)
+        (all_implied (take named names.now) (sides_of pushed (held longs) (held shorts)) ts) (held longs) (held shorts)
         (left longs) (left shorts) (left reach) pushed result }
 {
     let mut count = pushed;

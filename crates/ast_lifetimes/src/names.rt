@@ -50,7 +50,7 @@ fn all_names(words: &[usize]) -> bool
 // The number of a name among the first `named` of an array: its place, or `named` where it is not declared.
 pub(crate) fn position(names: &[usize; LifetimeEnv::MAX_NAMES], named: usize, name: usize) -> usize
     requires { (named ≤ most_names) × (length names.now ≡ most_names) }
-    ensures { result ≡ place (take named (held names)) name }
+    ensures { result ≡ place (take named names.now) name }
 {
     let mut i = 0;
     while i < named {
@@ -87,7 +87,7 @@ pub(crate) fn declare_all(
 ) -> Verdict
     requires from_le_to { (from ≤ to) × (to ≤ length words.now) }
     requires named_le_most_names { (named ≤ most_names) × (length names.old ≡ most_names) }
-    ensures { Declares (slice from to (held words)) (held names) (left names) named result }
+    ensures { Declares (slice from to words.now) (held names) (left names) named result }
 {
     let mut at = from;
     let mut count = named;

@@ -190,7 +190,7 @@ pub(crate) fn count_all(
 ) -> usize
     requires { Inside words.now parts.from parts.count × (parts.count ≤ most_defs)
         × (length drawn.now ≡ most_lifetimes) }
-    ensures { CountsAll used (held drawn) (type_in (held words) parts) result }
+    ensures { CountsAll used drawn.now (type_in words.now parts) result }
 {
     let limit = past_last(used);
     let mut n = 0;
@@ -336,7 +336,7 @@ pub(crate) fn store_for(
         × (length pairs.old ≡ most_defs) }
     requires parts_in_bounds { width * (at + length (bring (draws_in set) used param (type_in words.now parts)))
         ≤ length edges.old }
-    ensures { Stores (bring (draws_in set) used param (type_in (held words) parts)) at (held pairs) (held edges) result
+    ensures { Stores (bring (draws_in set) used param (type_in words.now parts)) at (held pairs) (held edges) result
         (left pairs) (left edges) }
 {
     let kind = parts.kind;
@@ -363,7 +363,7 @@ pub(crate) fn store_all(
         × (length pairs.old ≡ most_defs) × (length drawn.now ≡ most_lifetimes) }
     requires param_in_bounds { width * (at + length (all_in used drawn.now (type_in words.now parts) param))
         ≤ length edges.old }
-    ensures { Stores (all_in used (held drawn) (type_in (held words) parts) param) at (held pairs) (held edges) result
+    ensures { Stores (all_in used drawn.now (type_in words.now parts) param) at (held pairs) (held edges) result
         (left pairs) (left edges) }
 {
     let limit = past_last(used);

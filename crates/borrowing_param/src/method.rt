@@ -81,7 +81,7 @@ fn lower_within(sheet: &[u8], scratch: &mut [usize], words: &mut [usize]) -> She
 // A sheet's method, its words left in scratch.
 pub(crate) fn judge_sheet(sheet: &[u8], scratch: &mut [usize]) -> SheetMethod
     requires { Roomy sheet.now (length scratch.old) }
-    ensures { JudgesSheet (held sheet) result (left scratch) }
+    ensures { JudgesSheet sheet.now result (left scratch) }
 {
     let text = read_sheet(sheet, scratch);
     let verdict = text.verdict;

@@ -332,7 +332,7 @@ pub(crate) fn larger(a: usize, b: usize) -> usize
 
 // A word, or an anonymous lifetime past the words.
 pub(crate) fn word_or_anonymous(words: &[usize], i: usize) -> usize
-    ensures { result ≡ get_or (held words) i 1 }
+    ensures { result ≡ get_or words.now i 1 }
 {
     if i < words.len() {
         return words[i];
@@ -342,7 +342,7 @@ pub(crate) fn word_or_anonymous(words: &[usize], i: usize) -> usize
 
 // Lower one word. Refused by 3 for a name that is not declared, and as an anonymous lifetime is.
 pub(crate) fn lower_word(names: &[usize], standing: Standing, word: usize, seen: Seen) -> Worded
-    ensures { result ≡ worded seen (lower_word (held names) standing word seen) }
+    ensures { result ≡ worded seen (lower_word names.now standing word seen) }
 {
     if word == 1 {
         return lower_anonymous(standing, seen);

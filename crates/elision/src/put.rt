@@ -44,7 +44,7 @@ pub(crate) struct Took {
 pub(crate) fn put_receiver(names: &[usize], receiver: &[usize], out: &mut [usize]) -> Took
     ensures own_le_most_list { result.own ≤ most_list }
     ensures by_index { (list : List ℕ) → length list ≡ most_list
-        → Lowers (lower_self (held names) (receiver_of (held receiver))) 0 list
+        → Lowers (lower_self names.now (receiver_of receiver.now)) 0 list
         (held out) (left out) result }
 {
     let fresh = Seen {
@@ -104,7 +104,7 @@ pub(crate) fn put_record(
     requires { (steps_in_shape words.now ≡ true) × (had ≤ most_list) }
     ensures own_le_most_list { result.own ≤ most_list }
     ensures lowers { (s : Lowerer) → Shows s before was had (held list)
-        → Lowers (run_steps (held names) output (steps_of (held words)) s) 0 (left list) (held out) (left out) result }
+        → Lowers (run_steps names.now output (steps_of words.now) s) 0 (left list) (held out) (left out) result }
 {
     if words.len() == 0 {
         return Took {

@@ -60,7 +60,7 @@ pub fn steps_shape(steps: &[usize]) -> Verdict
 
 // Where the step ends that stands at a place.
 pub(crate) fn step_end(words: &[usize], at: usize) -> End
-    ensures { EndsAt (held words) at (read_step (drop at (held words))) result }
+    ensures { EndsAt words.now at (read_step (drop at words.now)) result }
 {
     let step = read_step(words, at);
     match step {
@@ -77,7 +77,7 @@ pub(crate) fn step_end(words: &[usize], at: usize) -> End
 
 // The step that stands at a place.
 pub(crate) fn read_step(words: &[usize], at: usize) -> StepAt
-    ensures { StandsAt (held words) at (read_step (drop at (held words))) result }
+    ensures { StandsAt words.now at (read_step (drop at words.now)) result }
 {
     let n = words.len();
     if n <= at {

@@ -15,7 +15,7 @@ use text::{put_following, put_line, put_number, put_text};
 
 // How many lifetimes, used lifetimes, parameters and edges there are.
 pub(crate) fn put_counts(out: &mut [u8], at: usize, counts: &[usize]) -> usize
-    ensures { Prints (count_heading ++ line (held counts)) at (held out) result (left out) }
+    ensures { Prints (count_heading ++ line counts.now) at (held out) result (left out) }
 {
     let heading = b"lifetimes used params edges\n";
     let next = put_text(out, at, heading);
@@ -30,7 +30,7 @@ pub(crate) fn put_lowered(
     given: &[usize],
     taken: &[usize],
 ) -> usize
-    ensures { Prints (lowered_heading ++ (line (held own) ++ (line (held given) ++ line (held taken))))
+    ensures { Prints (lowered_heading ++ (line own.now ++ (line given.now ++ line taken.now)))
         at (held out) result (left out) }
 {
     let heading = b"lowered\n";
@@ -42,7 +42,7 @@ pub(crate) fn put_lowered(
 
 // A refusal.
 pub(crate) fn put_refusal(out: &mut [u8], at: usize, number: &[usize]) -> usize
-    ensures { Prints (refusal_heading ++ line (held number)) at (held out) result (left out) }
+    ensures { Prints (refusal_heading ++ line number.now) at (held out) result (left out) }
 {
     let heading = b"refusal\n";
     let next = put_text(out, at, heading);
@@ -58,7 +58,7 @@ pub(crate) fn put_longer(
     count: usize,
 ) -> usize
     requires { Ascend 0 (length words.now) ends.now count }
-    ensures { Prints (longer_heading ++ list_lines 0 (cut_from 0 (held words) (held ends) count)) at (held out) result
+    ensures { Prints (longer_heading ++ list_lines 0 (cut_from 0 words.now ends.now count)) at (held out) result
         (left out) }
 {
     let heading = b"lifetime longer\n";
@@ -86,7 +86,7 @@ fn put_numbered(out: &mut [u8], at: usize, words: &[usize], ends: &[usize], coun
 
 // Each parameter and the number of its answer.
 pub(crate) fn put_answers(out: &mut [u8], at: usize, answers: &[usize]) -> usize
-    ensures { Prints (answer_lines (held answers)) at (held out) result (left out) }
+    ensures { Prints (answer_lines answers.now) at (held out) result (left out) }
 {
     let heading = b"param answer\n";
     let next = put_text(out, at, heading);
@@ -110,7 +110,7 @@ fn put_each_answer(out: &mut [u8], at: usize, answers: &[usize]) -> usize
 // Each edge, by the values that stand for it.
 pub(crate) fn put_edges(out: &mut [u8], at: usize, edges: &[usize], count: usize) -> usize
     requires { width * count ≤ length edges.now }
-    ensures { Prints (edge_lines (edges_in count (held edges))) at (held out) result (left out) }
+    ensures { Prints (edge_lines (edges_in count edges.now)) at (held out) result (left out) }
 {
     let heading = b"used param kind def option\n";
     let next = put_text(out, at, heading);

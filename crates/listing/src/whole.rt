@@ -26,8 +26,8 @@ pub(crate) fn put_listing(
     requires ascend { Ascend 0 (length lists.now) ends.now (get_or counts.now 0 0) }
     requires counts_in_bounds { width * get_or counts.now 3 0 ≤ length edges.now }
     ensures { Prints
-        (sections (held counts) (held own) (held given) (held taken) (held lists) (held ends) (held answers)
-        (held edges)) 0 (held out) result (left out) }
+        (sections counts.now own.now given.now taken.now lists.now ends.now answers.now
+        edges.now) 0 (held out) result (left out) }
 {
     let lowered = put_counts(out, 0, counts);
     let longer = put_lowered(out, lowered, own, given, taken);

@@ -52,7 +52,7 @@ pub(crate) fn list_within(
     out: &mut [u8],
 ) -> Within
     requires { Roomy sheet.now (length words.old) × (length edges.old ≤ edges_room) }
-    ensures { ListsWithin (listed_sheet (held sheet)) (Ample (room given) (room taken) (room lists) (room edges))
+    ensures { ListsWithin (listed_sheet sheet.now) (Ample (room given) (room taken) (room lists) (room edges))
         (held out) result (left out) }
 {
     let text = read_sheet(sheet, words);

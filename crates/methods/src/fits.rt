@@ -30,7 +30,7 @@ pub(crate) fn index_rows(
 ) -> Verdict
     requires structs_value { (structs_in_shape structs.now ≡ true) × (length (rows_of structs.now) ≡ rows) }
     requires lifetimes_len { length lifetimes.old ≡ most_rows }
-    ensures { Indexes (held structs) (left lifetimes) result }
+    ensures { Indexes structs.now (left lifetimes) result }
 {
     let mut at = 0;
     let mut number = 0;
@@ -54,7 +54,7 @@ pub(crate) fn index_rows(
 // Whether parameters, so many, are not too many and fit: a misfit before the 17th comes first.
 pub(crate) fn params_fit(params: &[usize], count: usize, lifetimes: &[usize; MAX_ROWS]) -> Verdict
     requires { length lifetimes.now ≡ most_rows }
-    ensures { ParamsFit (held params) count (held lifetimes) result }
+    ensures { ParamsFit params.now count lifetimes.now result }
 {
     if MAX_PARAMS < count {
         let first = types_fit(params, 0, MAX_PARAMS, lifetimes);
@@ -79,7 +79,7 @@ pub(crate) fn types_fit(
     lifetimes: &[usize; MAX_ROWS],
 ) -> Fit
     requires { (from ≤ length words.now) × (length lifetimes.now ≡ most_rows) }
-    ensures { TypesFit (held words) from count (held lifetimes) result }
+    ensures { TypesFit words.now from count lifetimes.now result }
 {
     let mut at = from;
     let mut i = 0;

@@ -63,7 +63,7 @@ pub(crate) fn judge(
     output: &[usize],
     force: &[usize],
 ) -> Judged
-    ensures { JudgesMethod env (held structs) (held params) (held output) (held force) result }
+    ensures { JudgesMethod env structs.now params.now output.now force.now result }
 {
     let shape = method_shape(structs, params, output, force);
     let first = shape.verdict;

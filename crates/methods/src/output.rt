@@ -19,7 +19,7 @@ pub(crate) enum Collected {
 // The lifetimes of so many types, which stand at the front of some words, as a set; or that one is past the count.
 pub(crate) fn collect_types(words: &[usize], types: usize, count: usize) -> Collected
     requires { count ≤ most_lifetimes }
-    ensures { TypesCollect (held words) 0 types count 0 result }
+    ensures { TypesCollect words.now 0 types count 0 result }
 {
     let mut at = 0;
     let mut used = set::EMPTY;

@@ -91,7 +91,7 @@ pub(crate) fn lines(
     ends: &mut [usize; Text::RECORDS],
 ) -> Judged
     requires { length ends.old ≡ record_count }
-    ensures { LinesRead (held bytes) from (held words) (left words) (left ends) result }
+    ensures { LinesRead bytes.now from (held words) (left words) (left ends) result }
 {
     let mut at = from;
     let mut count = 0;

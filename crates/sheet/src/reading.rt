@@ -105,9 +105,9 @@ fn measure(sheet: &[u8]) -> Text
 
 // The same, and the words of an accepted text are left in scratch, one record after another, as far as it goes.
 pub(crate) fn scan(sheet: &[u8], scratch: &mut [usize]) -> Text
-    ensures value { result ≡ measured (held sheet) }
-    ensures scratch_value { NoneDue (text_checks (held sheet)) → left scratch
-        ≡ sets (held scratch) 0 (words_of (sheet_of (held sheet))) }
+    ensures value { result ≡ measured sheet.now }
+    ensures scratch_value { NoneDue (text_checks sheet.now) → left scratch
+        ≡ sets (held scratch) 0 (words_of (sheet_of sheet.now)) }
 {
     if Text::MAX_BYTES < sheet.len() {
         return refused(Refusal::Unreadable);

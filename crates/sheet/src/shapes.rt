@@ -43,7 +43,7 @@ pub fn sheet_shape(
 
 // The same of records whose words stand one record after another.
 pub(crate) fn judge_laid(words: &[usize], ends: [usize; Text::RECORDS]) -> Verdict
-    ensures { result ≡ records_verdict (records_at (held words) ends) }
+    ensures { result ≡ records_verdict (records_at words.now ends) }
 {
     sheet_shape(
         record_words(words, ends, Text::NAMES),

@@ -66,9 +66,8 @@ overflow_add-impls-2 c =
     let shape : Shaped c.args.names.now c.args.bounds.now c.args.types.now = shaped _ _ _ c.requires.names_value in
     let one : ImplNamed c.args.names.now c.args.bounds.now c.args.types.now
     c.declare_all-named.new.names = impl_named shape c.declare_all-named.ensures c.in-Accepted.is in
-    let two : let p = c.push_pairs-bounded.new.words in
-    ImplBound c.args.names.now c.args.bounds.now c.args.types.now
-    c.declare_all-named.new.names p.1.1.1.1.1.0 p.1.1.1.1.1.1.0 = impl_bound one c.push_pairs-bounded.ensures c.in-Accepted-bounded.is in
+    let two : ImplBound c.args.names.now c.args.bounds.now c.args.types.now
+    c.declare_all-named.new.names c.push_pairs-bounded.new.longs c.push_pairs-bounded.new.shorts = impl_bound one c.push_pairs-bounded.ensures c.in-Accepted-bounded.is in
     let h = two.shaped.in_names in omega (arith, h.few, h.fits)
 
 pub declare_all-renamed-requires : goal.declare_all-renamed-requires
@@ -76,9 +75,8 @@ declare_all-renamed-requires c =
     let shape : Shaped c.args.names.now c.args.bounds.now c.args.types.now = shaped _ _ _ c.requires.names_value in
     let one : ImplNamed c.args.names.now c.args.bounds.now c.args.types.now
     c.declare_all-named.new.names = impl_named shape c.declare_all-named.ensures c.in-Accepted.is in
-    let two : let p = c.push_pairs-bounded.new.words in
-    ImplBound c.args.names.now c.args.bounds.now c.args.types.now
-    c.declare_all-named.new.names p.1.1.1.1.1.0 p.1.1.1.1.1.1.0 = impl_bound one c.push_pairs-bounded.ensures c.in-Accepted-bounded.is in
+    let two : ImplBound c.args.names.now c.args.bounds.now c.args.types.now
+    c.declare_all-named.new.names c.push_pairs-bounded.new.longs c.push_pairs-bounded.new.shorts = impl_bound one c.push_pairs-bounded.ensures c.in-Accepted-bounded.is in
     let t = two in
     let h = t.shaped.in_names in
     record { from_le_to = (omega (arith, h.fits), omega (arith, h.some)); named_le_most_names = (t.named.few, t.named.size) }
@@ -88,9 +86,8 @@ returns-in_default-renamed c =
     let shape : Shaped c.args.names.now c.args.bounds.now c.args.types.now = shaped _ _ _ c.requires.names_value in
     let one : ImplNamed c.args.names.now c.args.bounds.now c.args.types.now
     c.declare_all-named.new.names = impl_named shape c.declare_all-named.ensures c.in-Accepted.is in
-    let two : let p = c.push_pairs-bounded.new.words in
-    ImplBound c.args.names.now c.args.bounds.now c.args.types.now
-    c.declare_all-named.new.names p.1.1.1.1.1.0 p.1.1.1.1.1.1.0 = impl_bound one c.push_pairs-bounded.ensures c.in-Accepted-bounded.is in
+    let two : ImplBound c.args.names.now c.args.bounds.now c.args.types.now
+    c.declare_all-named.new.names c.push_pairs-bounded.new.longs c.push_pairs-bounded.new.shorts = impl_bound one c.push_pairs-bounded.ensures c.in-Accepted-bounded.is in
     method_names_refused two c.declare_all-renamed.ensures
     c.in_default-renamed.is
 
@@ -99,12 +96,10 @@ overflow_mul-first c =
     let shape : Shaped c.args.names.now c.args.bounds.now c.args.types.now = shaped _ _ _ c.requires.names_value in
     let one : ImplNamed c.args.names.now c.args.bounds.now c.args.types.now
     c.declare_all-named.new.names = impl_named shape c.declare_all-named.ensures c.in-Accepted.is in
-    let two : let p = c.push_pairs-bounded.new.words in
-    ImplBound c.args.names.now c.args.bounds.now c.args.types.now
-    c.declare_all-named.new.names p.1.1.1.1.1.0 p.1.1.1.1.1.1.0 = impl_bound one c.push_pairs-bounded.ensures c.in-Accepted-bounded.is in
-    let three : let p = c.push_pairs-bounded.new.words in
-    AllNamed c.args.names.now c.args.bounds.now c.args.types.now
-    c.declare_all-renamed.new.names p.1.1.1.1.1.0 p.1.1.1.1.1.1.0 = all_named two c.declare_all-renamed.ensures c.in-Accepted-renamed.is in
+    let two : ImplBound c.args.names.now c.args.bounds.now c.args.types.now
+    c.declare_all-named.new.names c.push_pairs-bounded.new.longs c.push_pairs-bounded.new.shorts = impl_bound one c.push_pairs-bounded.ensures c.in-Accepted-bounded.is in
+    let three : AllNamed c.args.names.now c.args.bounds.now c.args.types.now
+    c.declare_all-renamed.new.names c.push_pairs-bounded.new.longs c.push_pairs-bounded.new.shorts = all_named two c.declare_all-renamed.ensures c.in-Accepted-renamed.is in
     let h = three.shaped.in_bounds in omega (arith, h.few, h.fits, h.even)
 
 pub overflow_add-first : goal.overflow_add-first
@@ -112,12 +107,10 @@ overflow_add-first c =
     let shape : Shaped c.args.names.now c.args.bounds.now c.args.types.now = shaped _ _ _ c.requires.names_value in
     let one : ImplNamed c.args.names.now c.args.bounds.now c.args.types.now
     c.declare_all-named.new.names = impl_named shape c.declare_all-named.ensures c.in-Accepted.is in
-    let two : let p = c.push_pairs-bounded.new.words in
-    ImplBound c.args.names.now c.args.bounds.now c.args.types.now
-    c.declare_all-named.new.names p.1.1.1.1.1.0 p.1.1.1.1.1.1.0 = impl_bound one c.push_pairs-bounded.ensures c.in-Accepted-bounded.is in
-    let three : let p = c.push_pairs-bounded.new.words in
-    AllNamed c.args.names.now c.args.bounds.now c.args.types.now
-    c.declare_all-renamed.new.names p.1.1.1.1.1.0 p.1.1.1.1.1.1.0 = all_named two c.declare_all-renamed.ensures c.in-Accepted-renamed.is in
+    let two : ImplBound c.args.names.now c.args.bounds.now c.args.types.now
+    c.declare_all-named.new.names c.push_pairs-bounded.new.longs c.push_pairs-bounded.new.shorts = impl_bound one c.push_pairs-bounded.ensures c.in-Accepted-bounded.is in
+    let three : AllNamed c.args.names.now c.args.bounds.now c.args.types.now
+    c.declare_all-renamed.new.names c.push_pairs-bounded.new.longs c.push_pairs-bounded.new.shorts = all_named two c.declare_all-renamed.ensures c.in-Accepted-renamed.is in
     let h = three.shaped.in_bounds in omega (arith, h.few, h.fits, h.even)
 
 pub overflow_sub-pairs-2 : goal.overflow_sub-pairs-2
@@ -125,12 +118,10 @@ overflow_sub-pairs-2 c =
     let shape : Shaped c.args.names.now c.args.bounds.now c.args.types.now = shaped _ _ _ c.requires.names_value in
     let one : ImplNamed c.args.names.now c.args.bounds.now c.args.types.now
     c.declare_all-named.new.names = impl_named shape c.declare_all-named.ensures c.in-Accepted.is in
-    let two : let p = c.push_pairs-bounded.new.words in
-    ImplBound c.args.names.now c.args.bounds.now c.args.types.now
-    c.declare_all-named.new.names p.1.1.1.1.1.0 p.1.1.1.1.1.1.0 = impl_bound one c.push_pairs-bounded.ensures c.in-Accepted-bounded.is in
-    let three : let p = c.push_pairs-bounded.new.words in
-    AllNamed c.args.names.now c.args.bounds.now c.args.types.now
-    c.declare_all-renamed.new.names p.1.1.1.1.1.0 p.1.1.1.1.1.1.0 = all_named two c.declare_all-renamed.ensures c.in-Accepted-renamed.is in
+    let two : ImplBound c.args.names.now c.args.bounds.now c.args.types.now
+    c.declare_all-named.new.names c.push_pairs-bounded.new.longs c.push_pairs-bounded.new.shorts = impl_bound one c.push_pairs-bounded.ensures c.in-Accepted-bounded.is in
+    let three : AllNamed c.args.names.now c.args.bounds.now c.args.types.now
+    c.declare_all-renamed.new.names c.push_pairs-bounded.new.longs c.push_pairs-bounded.new.shorts = all_named two c.declare_all-renamed.ensures c.in-Accepted-renamed.is in
     three.shaped.in_bounds.fits
 
 pub push_pairs-rebounded-requires : goal.push_pairs-rebounded-requires
@@ -138,12 +129,10 @@ push_pairs-rebounded-requires c =
     let shape : Shaped c.args.names.now c.args.bounds.now c.args.types.now = shaped _ _ _ c.requires.names_value in
     let one : ImplNamed c.args.names.now c.args.bounds.now c.args.types.now
     c.declare_all-named.new.names = impl_named shape c.declare_all-named.ensures c.in-Accepted.is in
-    let two : let p = c.push_pairs-bounded.new.words in
-    ImplBound c.args.names.now c.args.bounds.now c.args.types.now
-    c.declare_all-named.new.names p.1.1.1.1.1.0 p.1.1.1.1.1.1.0 = impl_bound one c.push_pairs-bounded.ensures c.in-Accepted-bounded.is in
-    let three : let p = c.push_pairs-bounded.new.words in
-    AllNamed c.args.names.now c.args.bounds.now c.args.types.now
-    c.declare_all-renamed.new.names p.1.1.1.1.1.0 p.1.1.1.1.1.1.0 = all_named two c.declare_all-renamed.ensures c.in-Accepted-renamed.is in
+    let two : ImplBound c.args.names.now c.args.bounds.now c.args.types.now
+    c.declare_all-named.new.names c.push_pairs-bounded.new.longs c.push_pairs-bounded.new.shorts = impl_bound one c.push_pairs-bounded.ensures c.in-Accepted-bounded.is in
+    let three : AllNamed c.args.names.now c.args.bounds.now c.args.types.now
+    c.declare_all-renamed.new.names c.push_pairs-bounded.new.longs c.push_pairs-bounded.new.shorts = all_named two c.declare_all-renamed.ensures c.in-Accepted-renamed.is in
     let t = three in
     let h = t.shaped.in_bounds in
     record { count_in_bounds = omega (arith, h.fits, h.even); named_le_most_names = (t.named.few, t.named.size); pushed_le_most_bounds = (t.sides.few, t.sides.size_longs, t.sides.size_shorts) }
@@ -153,12 +142,10 @@ returns-in_default-rebounded c =
     let shape : Shaped c.args.names.now c.args.bounds.now c.args.types.now = shaped _ _ _ c.requires.names_value in
     let one : ImplNamed c.args.names.now c.args.bounds.now c.args.types.now
     c.declare_all-named.new.names = impl_named shape c.declare_all-named.ensures c.in-Accepted.is in
-    let two : let p = c.push_pairs-bounded.new.words in
-    ImplBound c.args.names.now c.args.bounds.now c.args.types.now
-    c.declare_all-named.new.names p.1.1.1.1.1.0 p.1.1.1.1.1.1.0 = impl_bound one c.push_pairs-bounded.ensures c.in-Accepted-bounded.is in
-    let three : let p = c.push_pairs-bounded.new.words in
-    AllNamed c.args.names.now c.args.bounds.now c.args.types.now
-    c.declare_all-renamed.new.names p.1.1.1.1.1.0 p.1.1.1.1.1.1.0 = all_named two c.declare_all-renamed.ensures c.in-Accepted-renamed.is in
+    let two : ImplBound c.args.names.now c.args.bounds.now c.args.types.now
+    c.declare_all-named.new.names c.push_pairs-bounded.new.longs c.push_pairs-bounded.new.shorts = impl_bound one c.push_pairs-bounded.ensures c.in-Accepted-bounded.is in
+    let three : AllNamed c.args.names.now c.args.bounds.now c.args.types.now
+    c.declare_all-renamed.new.names c.push_pairs-bounded.new.longs c.push_pairs-bounded.new.shorts = all_named two c.declare_all-renamed.ensures c.in-Accepted-renamed.is in
     method_pairs_refused three
     c.push_pairs-rebounded.ensures c.in_default-rebounded.is
 
@@ -167,15 +154,12 @@ close-requires c =
     let shape : Shaped c.args.names.now c.args.bounds.now c.args.types.now = shaped _ _ _ c.requires.names_value in
     let one : ImplNamed c.args.names.now c.args.bounds.now c.args.types.now
     c.declare_all-named.new.names = impl_named shape c.declare_all-named.ensures c.in-Accepted.is in
-    let two : let p = c.push_pairs-bounded.new.words in
-    ImplBound c.args.names.now c.args.bounds.now c.args.types.now
-    c.declare_all-named.new.names p.1.1.1.1.1.0 p.1.1.1.1.1.1.0 = impl_bound one c.push_pairs-bounded.ensures c.in-Accepted-bounded.is in
-    let three : let p = c.push_pairs-bounded.new.words in
-    AllNamed c.args.names.now c.args.bounds.now c.args.types.now
-    c.declare_all-renamed.new.names p.1.1.1.1.1.0 p.1.1.1.1.1.1.0 = all_named two c.declare_all-renamed.ensures c.in-Accepted-renamed.is in
-    let four : let p = c.push_pairs-rebounded.new.words in
-    AllBound c.args.names.now c.args.bounds.now c.args.types.now
-    c.declare_all-renamed.new.names p.1.1.1.1.1.0 p.1.1.1.1.1.1.0 = all_bound three c.push_pairs-rebounded.ensures c.in-Accepted-rebounded.is in
+    let two : ImplBound c.args.names.now c.args.bounds.now c.args.types.now
+    c.declare_all-named.new.names c.push_pairs-bounded.new.longs c.push_pairs-bounded.new.shorts = impl_bound one c.push_pairs-bounded.ensures c.in-Accepted-bounded.is in
+    let three : AllNamed c.args.names.now c.args.bounds.now c.args.types.now
+    c.declare_all-renamed.new.names c.push_pairs-bounded.new.longs c.push_pairs-bounded.new.shorts = all_named two c.declare_all-renamed.ensures c.in-Accepted-renamed.is in
+    let four : AllBound c.args.names.now c.args.bounds.now c.args.types.now
+    c.declare_all-renamed.new.names c.push_pairs-rebounded.new.longs c.push_pairs-rebounded.new.shorts = all_bound three c.push_pairs-rebounded.ensures c.in-Accepted-rebounded.is in
     let f = four in
     record { named_le_most_names = (f.named.few, f.sides.few, bound_below f); longs_len = (f.sides.size_longs, f.sides.size_shorts, refl) }
 
@@ -184,15 +168,12 @@ push_types-implied-requires c =
     let shape : Shaped c.args.names.now c.args.bounds.now c.args.types.now = shaped _ _ _ c.requires.names_value in
     let one : ImplNamed c.args.names.now c.args.bounds.now c.args.types.now
     c.declare_all-named.new.names = impl_named shape c.declare_all-named.ensures c.in-Accepted.is in
-    let two : let p = c.push_pairs-bounded.new.words in
-    ImplBound c.args.names.now c.args.bounds.now c.args.types.now
-    c.declare_all-named.new.names p.1.1.1.1.1.0 p.1.1.1.1.1.1.0 = impl_bound one c.push_pairs-bounded.ensures c.in-Accepted-bounded.is in
-    let three : let p = c.push_pairs-bounded.new.words in
-    AllNamed c.args.names.now c.args.bounds.now c.args.types.now
-    c.declare_all-renamed.new.names p.1.1.1.1.1.0 p.1.1.1.1.1.1.0 = all_named two c.declare_all-renamed.ensures c.in-Accepted-renamed.is in
-    let four : let p = c.push_pairs-rebounded.new.words in
-    AllBound c.args.names.now c.args.bounds.now c.args.types.now
-    c.declare_all-renamed.new.names p.1.1.1.1.1.0 p.1.1.1.1.1.1.0 = all_bound three c.push_pairs-rebounded.ensures c.in-Accepted-rebounded.is in
+    let two : ImplBound c.args.names.now c.args.bounds.now c.args.types.now
+    c.declare_all-named.new.names c.push_pairs-bounded.new.longs c.push_pairs-bounded.new.shorts = impl_bound one c.push_pairs-bounded.ensures c.in-Accepted-bounded.is in
+    let three : AllNamed c.args.names.now c.args.bounds.now c.args.types.now
+    c.declare_all-renamed.new.names c.push_pairs-bounded.new.longs c.push_pairs-bounded.new.shorts = all_named two c.declare_all-renamed.ensures c.in-Accepted-renamed.is in
+    let four : AllBound c.args.names.now c.args.bounds.now c.args.types.now
+    c.declare_all-renamed.new.names c.push_pairs-rebounded.new.longs c.push_pairs-rebounded.new.shorts = all_bound three c.push_pairs-rebounded.ensures c.in-Accepted-rebounded.is in
     let f = four in record { ts_value = (type_names_of _, f.shaped.in_types); named_le_most_names = (f.named.few, f.named.size); pushed_le_most_bounds = (f.sides.few, f.sides.size_longs, f.sides.size_shorts); reach_len = c.close.ensures }
 
 pub returns : goal.returns
@@ -200,13 +181,10 @@ returns c =
     let shape : Shaped c.args.names.now c.args.bounds.now c.args.types.now = shaped _ _ _ c.requires.names_value in
     let one : ImplNamed c.args.names.now c.args.bounds.now c.args.types.now
     c.declare_all-named.new.names = impl_named shape c.declare_all-named.ensures c.in-Accepted.is in
-    let two : let p = c.push_pairs-bounded.new.words in
-    ImplBound c.args.names.now c.args.bounds.now c.args.types.now
-    c.declare_all-named.new.names p.1.1.1.1.1.0 p.1.1.1.1.1.1.0 = impl_bound one c.push_pairs-bounded.ensures c.in-Accepted-bounded.is in
-    let three : let p = c.push_pairs-bounded.new.words in
-    AllNamed c.args.names.now c.args.bounds.now c.args.types.now
-    c.declare_all-renamed.new.names p.1.1.1.1.1.0 p.1.1.1.1.1.1.0 = all_named two c.declare_all-renamed.ensures c.in-Accepted-renamed.is in
-    let four : let p = c.push_pairs-rebounded.new.words in
-    AllBound c.args.names.now c.args.bounds.now c.args.types.now
-    c.declare_all-renamed.new.names p.1.1.1.1.1.0 p.1.1.1.1.1.1.0 = all_bound three c.push_pairs-rebounded.ensures c.in-Accepted-rebounded.is in
+    let two : ImplBound c.args.names.now c.args.bounds.now c.args.types.now
+    c.declare_all-named.new.names c.push_pairs-bounded.new.longs c.push_pairs-bounded.new.shorts = impl_bound one c.push_pairs-bounded.ensures c.in-Accepted-bounded.is in
+    let three : AllNamed c.args.names.now c.args.bounds.now c.args.types.now
+    c.declare_all-renamed.new.names c.push_pairs-bounded.new.longs c.push_pairs-bounded.new.shorts = all_named two c.declare_all-renamed.ensures c.in-Accepted-renamed.is in
+    let four : AllBound c.args.names.now c.args.bounds.now c.args.types.now
+    c.declare_all-renamed.new.names c.push_pairs-rebounded.new.longs c.push_pairs-rebounded.new.shorts = all_bound three c.push_pairs-rebounded.ensures c.in-Accepted-rebounded.is in
     all_built four c.push_types-implied.ensures

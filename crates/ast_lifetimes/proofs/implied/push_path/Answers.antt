@@ -48,7 +48,7 @@ lifetimes-2-preserved-then-not-is_implied c =
       run_same c.lifetimes-2.invariant.2
           (path_passed (take c.args.named c.args.names.now)
           (sides_of c.args.pushed c.args.longs.now c.args.shorts.now) c.args.behind
-          c.args.words.now c.lifetimes-2.at c.args.to c.lifetimes-test.true c.requires.from_le_to.1
+          c.args.words.now c.lifetimes-2.at c.args.to c.lifetimes-2-test.true c.requires.from_le_to.1
           (sym tested ∙ sym c.is_implied.ensures ∙ c.if-not-is_implied.true)),
     )
 
@@ -77,7 +77,7 @@ returns-in_default c =
     (sides_of c.args.pushed c.args.longs.now c.args.shorts.now) c.args.behind
     (slice (c.lifetimes-2.at + 1) c.args.to c.args.words.now) = λ h. path_pushed (take c.args.named c.args.names.now)
     (sides_of c.args.pushed c.args.longs.now c.args.shorts.now) c.args.behind c.args.words.now
-    c.lifetimes-2.at c.args.to c.lifetimes-test.true c.requires.from_le_to.1
+    c.lifetimes-2.at c.args.to c.lifetimes-2-test.true c.requires.from_le_to.1
     (sym tested ∙ sym c.is_implied.ensures ∙ not-false _ h) in
     let e = c.in_default.is in
     run_refused c.lifetimes-2.invariant.2 _ _ (pushed_next c.if-not-is_implied.false)
@@ -118,7 +118,7 @@ lifetimes-2-preserved c =
     (sides_of c.args.pushed c.args.longs.now c.args.shorts.now) c.args.behind
     (slice (c.lifetimes-2.at + 1) c.args.to c.args.words.now) = λ h. path_pushed (take c.args.named c.args.names.now)
     (sides_of c.args.pushed c.args.longs.now c.args.shorts.now) c.args.behind c.args.words.now
-    c.lifetimes-2.at c.args.to c.lifetimes-test.true c.requires.from_le_to.1
+    c.lifetimes-2.at c.args.to c.lifetimes-2-test.true c.requires.from_le_to.1
     (sym tested ∙ sym c.is_implied.ensures ∙ not-false _ h) in
     let joined : Joins (length (take c.args.named c.args.names.now))
     (place (take c.args.named c.args.names.now) (get_or c.args.words.now c.lifetimes-2.at 0))

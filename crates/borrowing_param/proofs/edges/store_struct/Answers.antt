@@ -37,12 +37,12 @@ lifetimes-2-preserved-then-not-draws c =
     let linked : let a = c.args in
     c.linked_lifetime.result ≡ from_word (get_or a.words.now (a.parts.from + c.lifetimes-2.i) 0) = let a = c.args in
     part_word a.words.now c.path_words-path.result.now a.parts.from a.parts.count
-    c.path_words-path.ensures.answer c.lifetimes-test.true c.linked_lifetime.ensures in
+    c.path_words-path.ensures.answer c.lifetimes-2-test.true c.linked_lifetime.ensures in
     let a = c.args in (
-      omega (arith, c.lifetimes-test.true),
+      omega (arith, c.lifetimes-2-test.true),
       storing_none c.lifetimes-2.invariant.1
           (edges_skip (draws_in a.set) a.used a.param option a.words.now a.parts.from
-          a.parts.count c.requires.inside.0 c.lifetimes-2.i c.lifetimes-test.true
+          a.parts.count c.requires.inside.0 c.lifetimes-2.i c.lifetimes-2-test.true
           linked (sym c.if-not-draws.true ∙ c.draws.ensures)),
     )
 
@@ -55,16 +55,16 @@ store_pair-next-requires c =
     let linked : let a = c.args in
     c.linked_lifetime.result ≡ from_word (get_or a.words.now (a.parts.from + c.lifetimes-2.i) 0) = let a = c.args in
     part_word a.words.now c.path_words-path.result.now a.parts.from a.parts.count
-    c.path_words-path.ensures.answer c.lifetimes-test.true c.linked_lifetime.ensures in
+    c.path_words-path.ensures.answer c.lifetimes-2-test.true c.linked_lifetime.ensures in
     let split : from c.lifetimes-2.i
     ≡ this ++ from
     (c.lifetimes-2.i + 1) = let a = c.args in
     edges_one (draws_in a.set) a.used a.param option a.words.now
     a.parts.from a.parts.count c.requires.inside.0 c.lifetimes-2.i
-    c.lifetimes-test.true linked
+    c.lifetimes-2-test.true linked
     (sym c.if-not-draws.false ∙ c.draws.ensures) in (
       refl,
-      omega (arith, c.requires.inside.1, c.lifetimes-test.true),
+      omega (arith, c.requires.inside.1, c.lifetimes-2-test.true),
       c.requires.inside.2,
       c.lifetimes-2.invariant.1.sets16,
       storing_fits c.lifetimes-2.invariant.1 this (from (c.lifetimes-2.i + 1)) split,
@@ -79,18 +79,18 @@ lifetimes-2-preserved c =
     let linked : let a = c.args in
     c.linked_lifetime.result ≡ from_word (get_or a.words.now (a.parts.from + c.lifetimes-2.i) 0) = let a = c.args in
     part_word a.words.now c.path_words-path.result.now a.parts.from a.parts.count
-    c.path_words-path.ensures.answer c.lifetimes-test.true c.linked_lifetime.ensures in
+    c.path_words-path.ensures.answer c.lifetimes-2-test.true c.linked_lifetime.ensures in
     let split : from c.lifetimes-2.i
     ≡ this ++ from
     (c.lifetimes-2.i + 1) = let a = c.args in
     edges_one (draws_in a.set) a.used a.param option a.words.now
     a.parts.from a.parts.count c.requires.inside.0 c.lifetimes-2.i
-    c.lifetimes-test.true linked
+    c.lifetimes-2-test.true linked
     (sym c.if-not-draws.false ∙ c.draws.ensures) in (
-      omega (arith, c.lifetimes-test.true),
+      omega (arith, c.lifetimes-2-test.true),
       storing_part c.lifetimes-2.invariant.1 this (from (c.lifetimes-2.i + 1)) split c.store_pair-next.ensures,
     )
 
 pub returns : goal.returns
 returns c = rw c.option_number-option.ensures
-    at (storing_end c.lifetimes-2.invariant.1 (edges_none _ _ _ _ _ _ _ c.lifetimes-2.i c.lifetimes-test.false))
+    at (storing_end c.lifetimes-2.invariant.1 (edges_none _ _ _ _ _ _ _ c.lifetimes-2.i c.lifetimes-2-test.false))

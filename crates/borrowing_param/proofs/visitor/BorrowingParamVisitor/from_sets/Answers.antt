@@ -22,10 +22,10 @@ lifetimes-2-preserved-then-not-contains c = (
 pub lifetimes-2-preserved : goal.lifetimes-2-preserved
 lifetimes-2-preserved c = let inv = c.lifetimes-2.invariant in (
   inv.0,
-  keeping_one inv.1 (below_64 inv.0 c.lifetimes-test.true)
+  keeping_one inv.1 (below_64 inv.0 c.lifetimes-2-test.true)
       (sym c.if-not-contains.false ∙ c.contains.ensures.answer
       ∙ ap (λ (x : Lifetime). member c.args.used x.0) c.new.ensures.answer),
 )
 
 pub returns : goal.returns
-returns c = record { answer = let inv = c.lifetimes-2.invariant in keeping_end inv.1 inv.0 c.lifetimes-test.false }
+returns c = record { answer = let inv = c.lifetimes-2.invariant in keeping_end inv.1 inv.0 c.lifetimes-2-test.false }
