@@ -6,7 +6,6 @@ ghost use Rattle.elision.specs.Rfc.{appended, standing_in};
 ghost use Rattle.elision.specs.Machine.{visited, new_lifetime, lower_anonymous, lower_word, lower_words, unused};
 ghost use Rattle.elision.specs.Machine.{self_ref, one_step, laid, values_in, stepped};
 ghost use Rattle.elision.specs.Inner.{worded, ran, at_most16};
-ghost use Rattle.answers.specs.Lent.{held};
 ghost use Rattle.records.specs.Reading.{most_list};
 
 use super::source::ElisionSource;

@@ -1,6 +1,5 @@
 // The records `self`, `steps` and `returns`: their shape.
 ghost use Rattle.std.specs.Prelude.{◌≡◌, drop};
-ghost use Rattle.answers.specs.Lent.{held};
 ghost use Rattle.records.specs.Reading.{shape_verdict};
 ghost use Rattle.records.specs.Ends.{EndsAt};
 ghost use Rattle.elision.specs.Steps.{read_step, self_in_shape, steps_in_shape};

@@ -1,6 +1,6 @@
 -- `push_path` meets its contract: each turn passes over a lifetime, or pushes it and joins its bound.
 use Prim.Native.Nat.{ℕ, ◌+◌, ◌-◌}
-use mathlib.Core.Bool.{false, ◌&&◌, not}
+use mathlib.Core.Bool.{true, false, ◌&&◌, not}
 use mathlib.Core.Path.{◌≡◌, sym, ap, ◌∙◌}
 use mathlib.Core.List.{[], ◌∷◌, ◌++◌}
 use native.Mathlib.Omega.{arith}
@@ -68,7 +68,7 @@ returns-in_default c =
     ∙ implied_test (take c.args.named c.args.names.now)
     (sides_of c.args.pushed c.args.longs.now c.args.shorts.now) c.args.reach.now reaches
     c.args.behind w in
-    let pushed_next : not c.is_implied.result ≡ false →
+    let pushed_next : c.is_implied.result ≡ true →
     path_pairs (take c.args.named c.args.names.now)
     (sides_of c.args.pushed c.args.longs.now c.args.shorts.now) c.args.behind
     (slice c.lifetimes-2.at c.args.to c.args.words.now)
@@ -78,7 +78,7 @@ returns-in_default c =
     (slice (c.lifetimes-2.at + 1) c.args.to c.args.words.now) = λ h. path_pushed (take c.args.named c.args.names.now)
     (sides_of c.args.pushed c.args.longs.now c.args.shorts.now) c.args.behind c.args.words.now
     c.lifetimes-2.at c.args.to c.lifetimes-2-test.true c.requires.from_le_to.1
-    (sym tested ∙ sym c.is_implied.ensures ∙ not-false _ h) in
+    (sym tested ∙ sym c.is_implied.ensures ∙ h) in
     let e = c.in_default.is in
     run_refused c.lifetimes-2.invariant.2 _ _ (pushed_next c.if-not-is_implied.false)
     (extends_refused c.push_pair-verdict.ensures e c.lifetimes-2.invariant.2.size_reach) e
@@ -109,7 +109,7 @@ lifetimes-2-preserved c =
     ∙ implied_test (take c.args.named c.args.names.now)
     (sides_of c.args.pushed c.args.longs.now c.args.shorts.now) c.args.reach.now reaches
     c.args.behind w in
-    let pushed_next : not c.is_implied.result ≡ false →
+    let pushed_next : c.is_implied.result ≡ true →
     path_pairs (take c.args.named c.args.names.now)
     (sides_of c.args.pushed c.args.longs.now c.args.shorts.now) c.args.behind
     (slice c.lifetimes-2.at c.args.to c.args.words.now)
@@ -119,7 +119,7 @@ lifetimes-2-preserved c =
     (slice (c.lifetimes-2.at + 1) c.args.to c.args.words.now) = λ h. path_pushed (take c.args.named c.args.names.now)
     (sides_of c.args.pushed c.args.longs.now c.args.shorts.now) c.args.behind c.args.words.now
     c.lifetimes-2.at c.args.to c.lifetimes-2-test.true c.requires.from_le_to.1
-    (sym tested ∙ sym c.is_implied.ensures ∙ not-false _ h) in
+    (sym tested ∙ sym c.is_implied.ensures ∙ h) in
     let joined : Joins (length (take c.args.named c.args.names.now))
     (place (take c.args.named c.args.names.now) (get_or c.args.words.now c.lifetimes-2.at 0))
     (place (take c.args.named c.args.names.now) c.args.behind) c.lifetimes-2.reach c.join.new.reach = rw (named_long, ← c.position-long.ensures, ← c.position-short.ensures) c.join.ensures in

@@ -7,8 +7,7 @@ pub returns-in-Refused : goal.returns-in-Refused
 returns-in-Refused c = search (sheet_unborrowed, rules)
 
 pub returns : goal.returns
-returns c = let b = c.borrow_method.ensures.answer in
-    sheet_borrowed _ _ _ _ c.judge_sheet-method.ensures c.in_default.is
+returns c = sheet_borrowed _ _ _ _ c.judge_sheet-method.ensures c.in_default.is
     c.record_words.ensures.answer c.record_words-2.ensures.answer
     c.record_words-3.ensures.answer c.record_words-4.ensures.answer
-    b.counts b.used_filled b.answers_filled b.edges_filled
+    c.borrow_method.ensures.answer.counts c.borrow_method.ensures.answer.used_filled c.borrow_method.ensures.answer.answers_filled c.borrow_method.ensures.answer.edges_filled

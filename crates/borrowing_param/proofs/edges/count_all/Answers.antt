@@ -16,15 +16,14 @@ pub loop-l-init : goal.loop-l-init
 loop-l-init c = search (counting_all, rules)
 
 pub overflow_add-n : goal.overflow_add-n
-overflow_add-n c = let i = c.loop-l.invariant in
-    omega (
-      arith,
-      i.1.few,
-      i.0.0,
-      c.loop-l-test.true,
-      counted_few i.1 (path_few c.args.words.now c.args.parts c.requires.0 c.requires.1)
-          c.count_for-n.ensures,
-    )
+overflow_add-n c = omega (
+  arith,
+  c.loop-l.invariant.1.few,
+  c.loop-l.invariant.0.0,
+  c.loop-l-test.true,
+  counted_few c.loop-l.invariant.1 (path_few c.args.words.now c.args.parts c.requires.0 c.requires.1)
+      c.count_for-n.ensures,
+)
 
 pub loop-l-preserved : goal.loop-l-preserved
 loop-l-preserved c = let few = path_few c.args.words.now c.args.parts c.requires.0 c.requires.1 in

@@ -15,8 +15,7 @@ pub linked_lifetime-requires : goal.linked_lifetime-requires
 linked_lifetime-requires c = search (part_many, rules)
 
 pub loop-i-preserved : goal.loop-i-preserved
-loop-i-preserved c = let test = c.draws.ensures in
-    let word =
+loop-i-preserved c = let word =
     part_word c.args.words.now
     c.path_words-path.result.now
     c.args.from
@@ -26,10 +25,10 @@ loop-i-preserved c = let test = c.draws.ensures in
     ⊎_elim
     (λ h. rw h.1
     (counting_one c.loop-i.invariant c.requires
-    c.loop-i-test.true word (sym h.0.taken ∙ test)))
+    c.loop-i-test.true word (sym h.0.taken ∙ c.draws.ensures)))
     (λ h. rw h.1
     (counting_none c.loop-i.invariant c.requires
-    c.loop-i-test.true word (sym h.0.left ∙ test)))
+    c.loop-i-test.true word (sym h.0.left ∙ c.draws.ensures)))
     c.if-draws.branch
 
 pub returns : goal.returns

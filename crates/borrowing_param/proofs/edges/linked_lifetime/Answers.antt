@@ -10,7 +10,7 @@ pub returns-in_default : goal.returns-in_default
 returns-in_default c = link_only c.args.path.now c.args.count
     c.requires.0 c.requires.1
     c.new.ensures.answer c.linked_word-linked.ensures.answer (tag_of LinkedWord.the_type) refl
-    c.in_default.keys2
+    c.in_default.in_default-own.keys2
 
 pub returns : goal.returns
 returns c = search (link_told, rules)

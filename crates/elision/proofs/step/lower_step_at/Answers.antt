@@ -9,50 +9,42 @@ use Rattle.elision.proofs.step.lower_step_at.Goals as goal
 
 pub offset_bounds-words-from : goal.offset_bounds-words-from
 offset_bounds-words-from c =
-    let words : List ℕ = c.args.words.now in
-    let generics : let g = c.step-in-Generics-1.given.0 in (g.0 ≤ 16) × Part words g.1.0 g.1.1.0 = part_generics c.read_step-step.ensures c.in-Generics.is in
+    let generics = part_generics c.read_step-step.ensures c.in-Generics.is in
     let p = generics.1 in omega (arith, p.starts, p.ends)
 
 pub slice_bounds-lower_generics-count : goal.slice_bounds-lower_generics-count
 slice_bounds-lower_generics-count c =
-    let words : List ℕ = c.args.words.now in
-    let generics : let g = c.step-in-Generics-1.given.0 in (g.0 ≤ 16) × Part words g.1.0 g.1.1.0 = part_generics c.read_step-step.ensures c.in-Generics.is in
+    let generics = part_generics c.read_step-step.ensures c.in-Generics.is in
     generics.1.starts
 
 pub slice_bounds-lower_generics-start : goal.slice_bounds-lower_generics-start
 slice_bounds-lower_generics-start c =
-    let words : List ℕ = c.args.words.now in
-    let generics : let g = c.step-in-Generics-1.given.0 in (g.0 ≤ 16) × Part words g.1.0 g.1.1.0 = part_generics c.read_step-step.ensures c.in-Generics.is in
+    let generics = part_generics c.read_step-step.ensures c.in-Generics.is in
     generics.1.starts
 
 pub slice_bounds-lower_generics-end : goal.slice_bounds-lower_generics-end
 slice_bounds-lower_generics-end c =
-    let words : List ℕ = c.args.words.now in
-    let generics : let g = c.step-in-Generics-1.given.0 in (g.0 ≤ 16) × Part words g.1.0 g.1.1.0 = part_generics c.read_step-step.ensures c.in-Generics.is in
+    let generics = part_generics c.read_step-step.ensures c.in-Generics.is in
     generics.1.ends
 
 pub offset_bounds-words-from-in-SelfType : goal.offset_bounds-words-from-in-SelfType
 offset_bounds-words-from-in-SelfType c =
-    let words : List ℕ = c.args.words.now in
-    let self_type : let p = c.step-in-SelfType-1.given.0 in Part words p.0 p.1.0 = part_self c.read_step-step.ensures c.in-SelfType.is in
+    let self_type = part_self c.read_step-step.ensures c.in-SelfType.is in
     let p = self_type in omega (arith, p.starts, p.ends)
 
 pub slice_bounds-is_self-count : goal.slice_bounds-is_self-count
 slice_bounds-is_self-count c =
-    let words : List ℕ = c.args.words.now in
-    let self_type : let p = c.step-in-SelfType-1.given.0 in Part words p.0 p.1.0 = part_self c.read_step-step.ensures c.in-SelfType.is in
+    let self_type = part_self c.read_step-step.ensures c.in-SelfType.is in
     self_type.starts
 
 pub slice_bounds-is_self-start : goal.slice_bounds-is_self-start
 slice_bounds-is_self-start c =
-    let words : List ℕ = c.args.words.now in
-    let self_type : let p = c.step-in-SelfType-1.given.0 in Part words p.0 p.1.0 = part_self c.read_step-step.ensures c.in-SelfType.is in
+    let self_type = part_self c.read_step-step.ensures c.in-SelfType.is in
     self_type.starts
 
 pub slice_bounds-is_self-end : goal.slice_bounds-is_self-end
 slice_bounds-is_self-end c =
-    let words : List ℕ = c.args.words.now in
-    let self_type : let p = c.step-in-SelfType-1.given.0 in Part words p.0 p.1.0 = part_self c.read_step-step.ensures c.in-SelfType.is in
+    let self_type = part_self c.read_step-step.ensures c.in-SelfType.is in
     self_type.ends
 
 pub returns-in-Lifetime : goal.returns-in-Lifetime

@@ -10,10 +10,10 @@ pub loop-i-init : goal.loop-i-init
 loop-i-init c = search (answering_start, rules)
 
 pub loop-i-preserved : goal.loop-i-preserved
-loop-i-preserved c = let inv = c.loop-i.invariant in (
-  answering_more inv.0 (omega (arith, c.loop-i-test.true, inv.1)) (prints (c.put_number-start.ensures.answer, c.put_number-start.ensures.stored))
+loop-i-preserved c = (
+  answering_more c.loop-i.invariant.0 (omega (arith, c.loop-i-test.true, c.loop-i.invariant.1)) (prints (c.put_number-start.ensures.answer, c.put_number-start.ensures.stored))
       (prints (c.put_following-next.ensures.answer, c.put_following-next.ensures.stored)),
-  inv.1,
+  c.loop-i.invariant.1,
 )
 
 pub shape_of-out : goal.shape_of-out

@@ -36,17 +36,16 @@ slice_bounds-list_method-end c =
     c.args.taken.now
     c.from_method_item-ast.result c.lower-lowered.result
     c.lower-lowered.new.own c.lower-lowered.new.given
-    c.lower-lowered.new.taken = let l = c.lower-lowered.ensures.answer in
-    record {
+    c.lower-lowered.new.taken = record {
       first = c.requires.0;
       steps_room = c.if-given-steps.left;
       returns_room = c.if-taken-returns.left;
       names = c.from_method_item-ast.ensures.answer;
       fine = c.in_default.is;
-      lowers = l.answer;
-      own_written = l.own_filled;
-      steps_written = l.given_filled;
-      returns_written = l.taken_filled;
+      lowers = c.lower-lowered.ensures.answer.answer;
+      own_written = c.lower-lowered.ensures.answer.own_filled;
+      steps_written = c.lower-lowered.ensures.answer.given_filled;
+      returns_written = c.lower-lowered.ensures.answer.taken_filled;
       elides = c.in_default-elided.is;
     } in
     (own_stands elided).0
@@ -60,17 +59,16 @@ slice_bounds-list_method-end-in-Set c =
     c.args.taken.now
     c.from_method_item-ast.result c.lower-lowered.result
     c.lower-lowered.new.own c.lower-lowered.new.given
-    c.lower-lowered.new.taken = let l = c.lower-lowered.ensures.answer in
-    record {
+    c.lower-lowered.new.taken = record {
       first = c.requires.0;
       steps_room = c.if-given-steps.left;
       returns_room = c.if-taken-returns.left;
       names = c.from_method_item-ast.ensures.answer;
       fine = c.in_default.is;
-      lowers = l.answer;
-      own_written = l.own_filled;
-      steps_written = l.given_filled;
-      returns_written = l.taken_filled;
+      lowers = c.lower-lowered.ensures.answer.answer;
+      own_written = c.lower-lowered.ensures.answer.own_filled;
+      steps_written = c.lower-lowered.ensures.answer.given_filled;
+      returns_written = c.lower-lowered.ensures.answer.taken_filled;
       elides = c.in_default-elided.is;
     } in
     (steps_stand elided).0
@@ -84,17 +82,16 @@ slice_bounds-list_method-end-in-Set-2 c =
     c.args.taken.now
     c.from_method_item-ast.result c.lower-lowered.result
     c.lower-lowered.new.own c.lower-lowered.new.given
-    c.lower-lowered.new.taken = let l = c.lower-lowered.ensures.answer in
-    record {
+    c.lower-lowered.new.taken = record {
       first = c.requires.0;
       steps_room = c.if-given-steps.left;
       returns_room = c.if-taken-returns.left;
       names = c.from_method_item-ast.ensures.answer;
       fine = c.in_default.is;
-      lowers = l.answer;
-      own_written = l.own_filled;
-      steps_written = l.given_filled;
-      returns_written = l.taken_filled;
+      lowers = c.lower-lowered.ensures.answer.answer;
+      own_written = c.lower-lowered.ensures.answer.own_filled;
+      steps_written = c.lower-lowered.ensures.answer.given_filled;
+      returns_written = c.lower-lowered.ensures.answer.taken_filled;
       elides = c.in_default-elided.is;
     } in
     (returns_stand elided).0
@@ -108,17 +105,16 @@ list_method-requires c =
     c.args.taken.now
     c.from_method_item-ast.result c.lower-lowered.result
     c.lower-lowered.new.own c.lower-lowered.new.given
-    c.lower-lowered.new.taken = let l = c.lower-lowered.ensures.answer in
-    record {
+    c.lower-lowered.new.taken = record {
       first = c.requires.0;
       steps_room = c.if-given-steps.left;
       returns_room = c.if-taken-returns.left;
       names = c.from_method_item-ast.ensures.answer;
       fine = c.in_default.is;
-      lowers = l.answer;
-      own_written = l.own_filled;
-      steps_written = l.given_filled;
-      returns_written = l.taken_filled;
+      lowers = c.lower-lowered.ensures.answer.answer;
+      own_written = c.lower-lowered.ensures.answer.own_filled;
+      steps_written = c.lower-lowered.ensures.answer.given_filled;
+      returns_written = c.lower-lowered.ensures.answer.taken_filled;
       elides = c.in_default-elided.is;
     } in (
       listable elided c.used_method_lifetimes-used.ensures.answer c.in-Set.is,
@@ -134,17 +130,16 @@ returns-in-Refused-used c =
     c.args.taken.now
     c.from_method_item-ast.result c.lower-lowered.result
     c.lower-lowered.new.own c.lower-lowered.new.given
-    c.lower-lowered.new.taken = let l = c.lower-lowered.ensures.answer in
-    record {
+    c.lower-lowered.new.taken = record {
       first = c.requires.0;
       steps_room = c.if-given-steps.left;
       returns_room = c.if-taken-returns.left;
       names = c.from_method_item-ast.ensures.answer;
       fine = c.in_default.is;
-      lowers = l.answer;
-      own_written = l.own_filled;
-      steps_written = l.given_filled;
-      returns_written = l.taken_filled;
+      lowers = c.lower-lowered.ensures.answer.answer;
+      own_written = c.lower-lowered.ensures.answer.own_filled;
+      steps_written = c.lower-lowered.ensures.answer.given_filled;
+      returns_written = c.lower-lowered.ensures.answer.taken_filled;
       elides = c.in_default-elided.is;
     } in
     used_listed elided
@@ -159,17 +154,16 @@ returns-in-Set c =
     c.args.taken.now
     c.from_method_item-ast.result c.lower-lowered.result
     c.lower-lowered.new.own c.lower-lowered.new.given
-    c.lower-lowered.new.taken = let l = c.lower-lowered.ensures.answer in
-    record {
+    c.lower-lowered.new.taken = record {
       first = c.requires.0;
       steps_room = c.if-given-steps.left;
       returns_room = c.if-taken-returns.left;
       names = c.from_method_item-ast.ensures.answer;
       fine = c.in_default.is;
-      lowers = l.answer;
-      own_written = l.own_filled;
-      steps_written = l.given_filled;
-      returns_written = l.taken_filled;
+      lowers = c.lower-lowered.ensures.answer.answer;
+      own_written = c.lower-lowered.ensures.answer.own_filled;
+      steps_written = c.lower-lowered.ensures.answer.given_filled;
+      returns_written = c.lower-lowered.ensures.answer.taken_filled;
       elides = c.in_default-elided.is;
     } in
     records_listed elided c.used_method_lifetimes-used.ensures.answer c.in-Set.is

@@ -49,8 +49,7 @@ offset_bounds-lifetimes-row c =
     let in_order : let s = c.args.structs.now in
     (structs_in_shape s ≡ true) × (length (rows_of s) ≡ c.in-Count.rows) = let s = c.args.structs.now in
     counted_shape (structs_in_shape s) (rows_of s) c.structs_shape-shape.ensures.answer c.in-Count.is in
-    let indexed : let s = c.args in let f = c.found-1.given.0 in
-    Indexed s.structs.now s.row s.field f.0 f.1.0 f.1.1.0 c.index_rows-verdict.new.lifetimes
+    let indexed : let s = c.args in Indexed s.structs.now s.row s.field c.in-Struct.inner c.in-Struct.from c.in-Struct.count c.index_rows-verdict.new.lifetimes
     c.index_rows-verdict.result = let s = c.args in
     record {
       shape = in_order.0;
@@ -66,8 +65,7 @@ bounds-lifetimes-row c =
     let in_order : let s = c.args.structs.now in
     (structs_in_shape s ≡ true) × (length (rows_of s) ≡ c.in-Count.rows) = let s = c.args.structs.now in
     counted_shape (structs_in_shape s) (rows_of s) c.structs_shape-shape.ensures.answer c.in-Count.is in
-    let indexed : let s = c.args in let f = c.found-1.given.0 in
-    Indexed s.structs.now s.row s.field f.0 f.1.0 f.1.1.0 c.index_rows-verdict.new.lifetimes
+    let indexed : let s = c.args in Indexed s.structs.now s.row s.field c.in-Struct.inner c.in-Struct.from c.in-Struct.count c.index_rows-verdict.new.lifetimes
     c.index_rows-verdict.result = let s = c.args in
     record {
       shape = in_order.0;
@@ -83,8 +81,7 @@ offset_bounds-lifetimes-inner c =
     let in_order : let s = c.args.structs.now in
     (structs_in_shape s ≡ true) × (length (rows_of s) ≡ c.in-Count.rows) = let s = c.args.structs.now in
     counted_shape (structs_in_shape s) (rows_of s) c.structs_shape-shape.ensures.answer c.in-Count.is in
-    let indexed : let s = c.args in let f = c.found-1.given.0 in
-    Indexed s.structs.now s.row s.field f.0 f.1.0 f.1.1.0 c.index_rows-verdict.new.lifetimes
+    let indexed : let s = c.args in Indexed s.structs.now s.row s.field c.in-Struct.inner c.in-Struct.from c.in-Struct.count c.index_rows-verdict.new.lifetimes
     c.index_rows-verdict.result = let s = c.args in
     record {
       shape = in_order.0;
@@ -100,8 +97,7 @@ bounds-lifetimes-inner c =
     let in_order : let s = c.args.structs.now in
     (structs_in_shape s ≡ true) × (length (rows_of s) ≡ c.in-Count.rows) = let s = c.args.structs.now in
     counted_shape (structs_in_shape s) (rows_of s) c.structs_shape-shape.ensures.answer c.in-Count.is in
-    let indexed : let s = c.args in let f = c.found-1.given.0 in
-    Indexed s.structs.now s.row s.field f.0 f.1.0 f.1.1.0 c.index_rows-verdict.new.lifetimes
+    let indexed : let s = c.args in Indexed s.structs.now s.row s.field c.in-Struct.inner c.in-Struct.from c.in-Struct.count c.index_rows-verdict.new.lifetimes
     c.index_rows-verdict.result = let s = c.args in
     record {
       shape = in_order.0;
@@ -117,8 +113,7 @@ pairs_of-requires c =
     let in_order : let s = c.args.structs.now in
     (structs_in_shape s ≡ true) × (length (rows_of s) ≡ c.in-Count.rows) = let s = c.args.structs.now in
     counted_shape (structs_in_shape s) (rows_of s) c.structs_shape-shape.ensures.answer c.in-Count.is in
-    let indexed : let s = c.args in let f = c.found-1.given.0 in
-    Indexed s.structs.now s.row s.field f.0 f.1.0 f.1.1.0 c.index_rows-verdict.new.lifetimes
+    let indexed : let s = c.args in Indexed s.structs.now s.row s.field c.in-Struct.inner c.in-Struct.from c.in-Struct.count c.index_rows-verdict.new.lifetimes
     c.index_rows-verdict.result = let s = c.args in
     record {
       shape = in_order.0;
@@ -133,8 +128,7 @@ returns-in-Refused c =
     let in_order : let s = c.args.structs.now in
     (structs_in_shape s ≡ true) × (length (rows_of s) ≡ c.in-Count.rows) = let s = c.args.structs.now in
     counted_shape (structs_in_shape s) (rows_of s) c.structs_shape-shape.ensures.answer c.in-Count.is in
-    let indexed : let s = c.args in let f = c.found-1.given.0 in
-    Indexed s.structs.now s.row s.field f.0 f.1.0 f.1.1.0 c.index_rows-verdict.new.lifetimes
+    let indexed : let s = c.args in Indexed s.structs.now s.row s.field c.in-Struct.inner c.in-Struct.from c.in-Struct.count c.index_rows-verdict.new.lifetimes
     c.index_rows-verdict.result = let s = c.args in
     record {
       shape = in_order.0;
@@ -152,8 +146,7 @@ returns-in-Accepted c =
     let in_order : let s = c.args.structs.now in
     (structs_in_shape s ≡ true) × (length (rows_of s) ≡ c.in-Count.rows) = let s = c.args.structs.now in
     counted_shape (structs_in_shape s) (rows_of s) c.structs_shape-shape.ensures.answer c.in-Count.is in
-    let indexed : let s = c.args in let f = c.found-1.given.0 in
-    Indexed s.structs.now s.row s.field f.0 f.1.0 f.1.1.0 c.index_rows-verdict.new.lifetimes
+    let indexed : let s = c.args in Indexed s.structs.now s.row s.field c.in-Struct.inner c.in-Struct.from c.in-Struct.count c.index_rows-verdict.new.lifetimes
     c.index_rows-verdict.result = let s = c.args in
     record {
       shape = in_order.0;

@@ -17,7 +17,7 @@ loop-i-init c = search (pairing_start, rules)
 pub loop-i-preserved-in_default : goal.loop-i-preserved-in_default
 loop-i-preserved-in_default c = pair_only c.args.path.now c.args.count c.requires.0 c.loop-i.i
     c.loop-i-test.true c.linked_pair-linked.ensures.answer (tag_of LinkedPair.the_type) refl
-    c.in_default.keys2
+    c.in_default.in_default-own.keys2
 
 pub loop-i-preserved-in_default-lifetime : goal.loop-i-preserved-in_default-lifetime
 loop-i-preserved-in_default-lifetime c =

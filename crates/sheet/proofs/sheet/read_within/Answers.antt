@@ -9,11 +9,10 @@ returns-in_default c = let it = sheet_refused _ c.args.words.now c.scan-text.res
     record { value = it.0; fills = it.1 }
 
 pub returns-in-Refused : goal.returns-in-Refused
-returns-in-Refused c = let e = c.in-Accepted.is in
-    let shape =
-    scanned_shape c.args.sheet.now c.args.scratch.now c.requires c.scan-text.ensures.value e
+returns-in-Refused c = let shape =
+    scanned_shape c.args.sheet.now c.args.scratch.now c.requires c.scan-text.ensures.value c.in-Accepted.is
     c.scan-text.ensures.scratch_value c.judge_laid-shape.ensures in
-    let a = sheet_unshaped _ c.args.words.now c.scan-text.result c.scan-text.ensures.value e shape
+    let a = sheet_unshaped _ c.args.words.now c.scan-text.result c.scan-text.ensures.value c.in-Accepted.is shape
     c.in-Refused.is in
     record { value = c.refused.ensures ∙ a.0; fills = a.1 }
 

@@ -20,12 +20,12 @@ lifetimes-2-preserved-then-not-contains c = (
 )
 
 pub lifetimes-2-preserved : goal.lifetimes-2-preserved
-lifetimes-2-preserved c = let inv = c.lifetimes-2.invariant in (
-  inv.0,
-  keeping_one inv.1 (below_64 inv.0 c.lifetimes-2-test.true)
+lifetimes-2-preserved c = (
+  c.lifetimes-2.invariant.0,
+  keeping_one c.lifetimes-2.invariant.1 (below_64 c.lifetimes-2.invariant.0 c.lifetimes-2-test.true)
       (sym c.if-not-contains.false ∙ c.contains.ensures.answer
       ∙ ap (λ (x : Lifetime). member c.args.used x.0) c.new.ensures.answer),
 )
 
 pub returns : goal.returns
-returns c = record { answer = let inv = c.lifetimes-2.invariant in keeping_end inv.1 inv.0 c.lifetimes-2-test.false }
+returns c = record { answer = keeping_end c.lifetimes-2.invariant.1 c.lifetimes-2.invariant.0 c.lifetimes-2-test.false }
