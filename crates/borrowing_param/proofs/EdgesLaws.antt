@@ -202,8 +202,8 @@ module _ (path : List ℕ) (count : ℕ) {def : ℕ} (same : length path ≡ cou
   asked : r ≡ linked_answer (linked_word path count (def_lifetime def))
   asked = e ∙ ap (λ (x : DefLifetime). linked_answer (linked_word path count x)) is
 
-  pub link_only : {B : Type 0} (tag : LinkedWord → ℕ) → tag (Word (get_or path def 0)) ≡ 0 → (tag r ≡ 1) ⊎ (tag r ≡ 2) → B
-  link_only tag z later = word_only path count same def h asked tag z later
+  pub link_only : {B : Type 0} → ((word : ℕ) → r ≡ Word word → ⊥) → B
+  link_only other = word_only path count same def h asked other
 
   pub link_told : {word : ℕ} → r ≡ Word word → {m : MaybeStatic} → m ≡ from_word word → m ≡ from_word (get_or path def 0)
   link_told t q = q ∙ ap from_word (word_told path count same def h asked t)

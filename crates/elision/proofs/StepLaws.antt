@@ -13,7 +13,7 @@ use Rattle.records.specs.Ends.{EndsAt, ends, missing}
 use Rattle.records.proofs.ReadingLaws.{Holds, LifetimesIn, holds_read, lifetimes_read}
 use Rattle.elision.specs.declared.steps.StepAt.{StepAt}
 use Rattle.elision.specs.declared.steps.StepAt.TheVariants as standing
-use Rattle.elision.specs.Steps.{Step, Lifetime, Generics, SelfType, read_step}
+use Rattle.elision.specs.Steps.{Step, Generics, SelfType, read_step}
 use Rattle.elision.specs.Inner.{StandsAt}
 use Rattle.elision.specs.Inner as inner
 

@@ -2,7 +2,6 @@
 -- are not as many.
 use Prim.Native.Nat.{ℕ, zero, suc, ◌+◌, ◌≤◌, ◌<◌}
 use mathlib.Core.Path.{◌≡◌, sym, ap, ◌∙◌}
-use mathlib.Core.Logic.{◌⊎◌, ⊎_elim}
 use mathlib.Core.List.{List, map}
 use native.Mathlib.Omega.{arith}
 use borrow.Author.Tests.{eq-eqb, ne_eqb, lt-ltb, le-ltb}
@@ -46,10 +45,9 @@ module _ (words : List ℕ) (count : ℕ) where
         pub word_told : {word : ℕ} → r ≡ Word word → word ≡ get_or words j 0
         word_told q = let z = sym q ∙ word_is in cc z
 
-        -- it is of no later variant, however the variants are numbered from 0
-        pub word_only : {B : Type 0} (tag : LinkedWord → ℕ) → tag (Word (get_or words j 0)) ≡ 0 → (tag r ≡ 1) ⊎ (tag r ≡ 2) → B
-        word_only tag z later = let n : tag r ≡ 0 = ap tag word_is ∙ z in
-            ⊎_elim (λ a. absurd (omega arith)) (λ b. absurd (omega arith)) later
+        -- it is of no other variant
+        pub word_only : {B : Type 0} → ((word : ℕ) → r ≡ Word word → ⊥) → B
+        word_only other = absurd (other (get_or words j 0) word_is)
 
       module _ {r : LinkedPair} (e : r ≡ pair_answer (linked_pair words count j)) where
         pair_is : r ≡ pair.Pair (get_or words j 0) (def_lifetime j)
@@ -58,10 +56,8 @@ module _ (words : List ℕ) (count : ℕ) where
         pub pair_told : {word : ℕ} {def : DefLifetime} → r ≡ pair.Pair word def → (word ≡ get_or words j 0) × (def ≡ def_lifetime j)
         pair_told q = let z = sym q ∙ pair_is in (cc z, cc z)
 
-        pub pair_only : {B : Type 0} (tag : LinkedPair → ℕ) → tag (pair.Pair (get_or words j 0) (def_lifetime j)) ≡ 0
-            → (tag r ≡ 1) ⊎ (tag r ≡ 2) → B
-        pair_only tag z later = let n : tag r ≡ 0 = ap tag pair_is ∙ z in
-            ⊎_elim (λ a. absurd (omega arith)) (λ b. absurd (omega arith)) later
+        pub pair_only : {B : Type 0} → ((word : ℕ) (def : DefLifetime) → r ≡ pair.Pair word def → ⊥) → B
+        pair_only other = absurd (other (get_or words j 0) (def_lifetime j) pair_is)
 
     -- the pairs at n places from j on, to the last
     pairs_from_lem : (j n : ℕ) → j + n ≡ count → map (linked_pair words count) (range j n) ≡ pairs_with_places j (drop j words)

@@ -3,7 +3,6 @@
 -- record is an empty line") is `line` of the crate text.
 use Rattle.std.specs.Prelude.{ℕ, ◌≤◌}
 use mathlib.Core.List.{List, [], ◌∷◌, ◌++◌, flat_map, flatten, Memᴰ}
-use Rattle.answers.specs.Lent.{Slice, held}
 use Rattle.text.specs.Decimal.{newline, space, line}
 
 -- "One line of names": names bounds types self steps returns structs params output force
@@ -46,10 +45,10 @@ ten_records names bounds types self steps returns structs params output force =
       force = force;
     }
 
-abbrev pub records_in : Slice → Slice → Slice → Slice → Slice → Slice → Slice → Slice → Slice → Slice → Records
+abbrev pub records_in : List ℕ → List ℕ → List ℕ → List ℕ → List ℕ → List ℕ → List ℕ → List ℕ → List ℕ → List ℕ
+    → Records
 records_in names bounds types self steps returns structs params output force =
-    ten_records (held names) (held bounds) (held types) (held self) (held steps) (held returns) (held structs)
-    (held params) (held output) (held force)
+    ten_records names bounds types self steps returns structs params output force
 
 -- "ten lines of values in that order"
 abbrev pub lists : Records → List (List ℕ)

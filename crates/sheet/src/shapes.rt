@@ -30,7 +30,8 @@ pub fn sheet_shape(
     force: &[usize],
 ) -> Verdict
     ensures answer { result ≡ records_verdict
-        (records_in names bounds types own steps returns structs params output force) }
+        (records_in names.now bounds.now types.now own.now steps.now
+        returns.now structs.now params.now output.now force.now) }
 {
     let environment = environment_in_shape(names, bounds, types);
     let elision = elision_in_shape(own, steps, returns);

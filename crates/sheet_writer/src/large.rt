@@ -20,7 +20,8 @@ pub(crate) fn any_large(
     force: &[usize],
 ) -> bool
     ensures { result ≡ has_large (words_of
-        (records_in names bounds types own steps returns structs params output force)) }
+        (records_in names.now bounds.now types.now own.now steps.now
+        returns.now structs.now params.now output.now force.now)) }
 {
     let environment = three_large(names, bounds, types);
     let elision = three_large(own, steps, returns);

@@ -21,7 +21,8 @@ pub(crate) fn put_sheet(
     output: &[usize],
     force: &[usize],
 ) -> usize
-    ensures { Prints (text (records_in names bounds types own steps returns structs params output force)) 0
+    ensures { Prints (text (records_in names.now bounds.now types.now own.now steps.now
+        returns.now structs.now params.now output.now force.now)) 0
         (held out) result (left out) }
 {
     let heading = b"names bounds types self steps returns structs params output force\n";

@@ -35,9 +35,11 @@ pub fn write_sheet(
     out: &mut [u8],
 ) -> Listed
     ensures answer { result ≡ counted (write_sheet
-        (records_in names bounds types own steps returns structs params output force) (room out)) }
+        (records_in names.now bounds.now types.now own.now steps.now
+        returns.now structs.now params.now output.now force.now) (room out)) }
     ensures stored { Fills (write_sheet
-        (records_in names bounds types own steps returns structs params output force) (room out)) out }
+        (records_in names.now bounds.now types.now own.now steps.now
+        returns.now structs.now params.now output.now force.now) (room out)) out }
 {
     let verdict = judge(
         names, bounds, types, own, steps, returns, structs, params, output, force,
@@ -70,7 +72,8 @@ fn judge(
     force: &[usize],
 ) -> Verdict
     ensures { result ≡ judged (write_checks
-        (records_in names bounds types own steps returns structs params output force)) }
+        (records_in names.now bounds.now types.now own.now steps.now
+        returns.now structs.now params.now output.now force.now)) }
 {
     if any_large(
         names, bounds, types, own, steps, returns, structs, params, output, force,
@@ -99,7 +102,8 @@ fn fits(
     requires { NoneDue (write_checks (ten_records names.now bounds.now types.now own.now steps.now
         returns.now structs.now params.now output.now force.now)) }
     ensures { result ≡ leb (length (text
-        (records_in names bounds types own steps returns structs params output force))) room }
+        (records_in names.now bounds.now types.now own.now steps.now
+        returns.now structs.now params.now output.now force.now))) room }
 {
     if MAX_WRITTEN <= room {
         return true;

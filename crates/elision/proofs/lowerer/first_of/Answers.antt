@@ -4,7 +4,6 @@ use mathlib.Core.Path.{◌≡◌, refl}
 use native.Mathlib.Omega.{arith}
 use lib.ListN.{length}
 use Rattle.elision.proofs.LaidLoops.{firsts_start, firsts_few, firsts_more, firsts_end}
-use Prim.Native.Nat.{◌-◌}
 use borrow.Author.Rules.{rules}
 use Rattle.elision.proofs.lowerer.first_of.Goals as goal
 

@@ -1,6 +1,5 @@
 -- `lower_words` meets its contract. The loop's invariant is `Running` of proofs/LowererLoops.antt; the measure is how many
 -- words are to be lowered.
-use Prim.Native.Nat.{◌-◌}
 use borrow.Author.Rules.{rules}
 use Rattle.elision.proofs.LowererLoops.{running_start, running_few, running_refused, running_more}
 use Rattle.elision.proofs.LowererLoops.{running_end}

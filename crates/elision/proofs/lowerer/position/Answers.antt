@@ -1,6 +1,5 @@
 -- `position` meets its contract. The loop's invariant is `Placing` of proofs/NameLaws.antt; the measure is how many
 -- names are to be read.
-use Prim.Native.Nat.{◌-◌}
 use borrow.Author.Rules.{rules}
 use Rattle.elision.proofs.NameLaws.{placing_start, placing_found, placing_more, placing_end}
 use Rattle.elision.proofs.lowerer.position.Goals as goal

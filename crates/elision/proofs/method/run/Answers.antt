@@ -25,9 +25,6 @@ put_record-third-requires c = (
   c.put_record-second.ensures.own_le_most_list,
 )
 
-pub shape_of-own-in-Refused-three : goal.shape_of-own-in-Refused-three
-shape_of-own-in-Refused-three c = c.own-1.given
-
 pub returns-in-Refused-three : goal.returns-in-Refused-three
 returns-in-Refused-three c =
     let one : Given (lower_self c.args.names.now (receiver_of c.args.receiver.now)) 0 (replicate 16 0) c.args.own.now
@@ -38,9 +35,6 @@ returns-in-Refused-three c =
     one.shows).accepted c.in_default-two.is in
     all_third _ _ _ _ one two c.put_record-third.ensures.lowers
     c.in-Refused-three.is c.refused_totals-in-Refused-three.ensures
-
-pub shape_of-own : goal.shape_of-own
-shape_of-own c = c.own-1.given
 
 pub returns : goal.returns
 returns c =

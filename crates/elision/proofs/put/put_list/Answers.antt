@@ -1,6 +1,5 @@
 -- `put_list` meets its contract. The loop's invariant is `Storing` of proofs/PutLaws.antt; the measure is how many
 -- words are to be stored.
-use Prim.Native.Nat.{◌-◌}
 use borrow.Author.Rules.{rules}
 use Rattle.elision.proofs.PutLaws.{storing_start, storing_more, storing_end}
 use Rattle.elision.proofs.put.put_list.Goals as goal

@@ -1,6 +1,5 @@
 -- `put_steps` meets its contract. The loop's invariant is `Recording` of proofs/PutLoops.antt; the measure is how many
 -- words are to be read.
-use Prim.Native.Nat.{◌-◌}
 use native.Mathlib.Omega.{arith}
 use borrow.Author.Rules.{rules}
 use Rattle.elision.proofs.PutLoops.{recording_start, recording_room, recording_refused}

@@ -1,6 +1,5 @@
 -- `put_words` meets its contract. The loop's invariant is `Putting` of proofs/LowererLoops.antt; the measure is how many
 -- words are to be lowered.
-use Prim.Native.Nat.{◌-◌}
 use borrow.Author.Rules.{rules}
 use Rattle.elision.proofs.LowererLoops.{putting_start, putting_refused, putting_more, putting_end}
 use Rattle.elision.proofs.put.put_words.Goals as goal

@@ -1,8 +1,6 @@
 -- `lower_step_at` meets its contract: each arm is one law of proofs/TookLaws.antt.
-use Prim.Native.Nat.{ℕ, ◌≤◌}
-use mathlib.Core.List.{List}
 use native.Mathlib.Omega.{arith}
-use Rattle.elision.proofs.TookLaws.{Part, part_generics, part_self, takes_lifetime, takes_generics, takes_self}
+use Rattle.elision.proofs.TookLaws.{part_generics, part_self, takes_lifetime, takes_generics, takes_self}
 use Rattle.elision.proofs.TookLaws.{takes_missing}
 use borrow.Author.Rules.{rules}
 use Rattle.elision.proofs.step.lower_step_at.Goals as goal

@@ -23,8 +23,8 @@ returns c =
     let small : length c.args.out.now < 2 ^ 64 = search rules in
     let all = leaves_all (counts ++ (lowered ++ (longer ++ (answers ++ edges)))) 0 c.args.out.now
     small (omega arith) in
-    let four = leaves_rest {c = counts} (lowered ++ (longer ++ (answers ++ edges))) all c.put_counts-lowered.ensures in
-    let three = leaves_rest {c = lowered} (longer ++ (answers ++ edges)) four c.put_lowered-longer.ensures in
-    let two = leaves_rest {c = longer} (answers ++ edges) three c.put_longer-answered.ensures in
-    let one = leaves_rest {c = answers} edges two c.put_answers-edged.ensures in
-    leaves_none {c = edges} one c.put_edges.ensures
+    let four = leaves_rest {s = counts} (lowered ++ (longer ++ (answers ++ edges))) all c.put_counts-lowered.ensures in
+    let three = leaves_rest {s = lowered} (longer ++ (answers ++ edges)) four c.put_lowered-longer.ensures in
+    let two = leaves_rest {s = longer} (answers ++ edges) three c.put_longer-answered.ensures in
+    let one = leaves_rest {s = answers} edges two c.put_answers-edged.ensures in
+    leaves_none {s = edges} one c.put_edges.ensures

@@ -4,8 +4,6 @@ use Prim.Native.Nat.{◌-◌}
 use borrow.Author.Rules.{rules}
 use mathlib.Core.Path.{refl}
 use native.Mathlib.Omega.{arith}
-use denote.Enum.Declared.{tag_of}
-use Rattle.lifetimes.specs.contracts.linked.LinkedPair as LinkedPair
 use Rattle.lifetimes.proofs.LinkedLaws.{pair_only}
 use Rattle.methods.proofs.FieldsLaws.{pairing_start, Linking, linking, pairing_static, pairing_past}
 use Rattle.methods.proofs.FieldsLaws.{pairing_more, pairing_none, pairing_some}
@@ -15,9 +13,9 @@ pub loop-i-init : goal.loop-i-init
 loop-i-init c = search (pairing_start, rules)
 
 pub loop-i-preserved-in_default : goal.loop-i-preserved-in_default
-loop-i-preserved-in_default c = pair_only c.args.path.now c.args.count c.requires.0 c.loop-i.i
-    c.loop-i-test.true c.linked_pair-linked.ensures.answer (tag_of LinkedPair.the_type) refl
-    c.in_default.in_default-own.keys2
+loop-i-preserved-in_default c =
+    pair_only c.args.path.now c.args.count c.requires.0 c.loop-i.i c.loop-i-test.true c.linked_pair-linked.ensures.answer
+    c.in_default.not-Pair
 
 pub loop-i-preserved-in_default-lifetime : goal.loop-i-preserved-in_default-lifetime
 loop-i-preserved-in_default-lifetime c =

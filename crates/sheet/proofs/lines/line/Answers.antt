@@ -37,7 +37,7 @@ pub overflow_add-i-in-loop-value : goal.overflow_add-i-in-loop-value
 overflow_add-i-in-loop-value c = search (found_number, rules)
 
 pub shape_of-words-then-b-eq10 : goal.shape_of-words-then-b-eq10
-shape_of-words-then-b-eq10 c = c.put.auto.0 ∙ wording_size c.loop-value.invariant
+shape_of-words-then-b-eq10 c = c.put.auto.words ∙ wording_size c.loop-value.invariant
 
 pub returns-then-b-eq10 : goal.returns-then-b-eq10
 returns-then-b-eq10 c = wording_end c.loop-value.invariant
@@ -45,7 +45,7 @@ returns-then-b-eq10 c = wording_end c.loop-value.invariant
     c.put.ensures c.if-b-eq10.true
 
 pub shape_of-words-then-b-ne32 : goal.shape_of-words-then-b-ne32
-shape_of-words-then-b-ne32 c = c.put.auto.0 ∙ wording_size c.loop-value.invariant
+shape_of-words-then-b-ne32 c = c.put.auto.words ∙ wording_size c.loop-value.invariant
 
 pub returns-then-b-ne32 : goal.returns-then-b-ne32
 returns-then-b-ne32 c = inr (wording_bad c.loop-value.invariant

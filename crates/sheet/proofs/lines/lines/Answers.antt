@@ -9,7 +9,7 @@ pub loop-i-init : goal.loop-i-init
 loop-i-init c = search (lining_start, rules)
 
 pub shape_of-words-in_default : goal.shape_of-words-in_default
-shape_of-words-in_default c = c.line-read.auto.1.1.0 ∙ lining_size c.loop-i.invariant
+shape_of-words-in_default c = c.line-read.auto.words ∙ lining_size c.loop-i.invariant
 
 pub returns-in_default : goal.returns-in_default
 returns-in_default c = search (read_nothing, lining_none, rules)

@@ -21,9 +21,9 @@ returns c =
     c.args.returns.now c.args.structs.now c.args.params.now c.args.output.now c.args.force.now in
     let all = leaves_all (heading ++ (environment ++ (elision ++ (method ++ last)))) 0 c.args.out.now
     small (omega arith) in
-    let four = leaves_rest {c = heading} (environment ++ (elision ++ (method ++ last))) all
+    let four = leaves_rest {s = heading} (environment ++ (elision ++ (method ++ last))) all
     (prints (c.put_text-environment.ensures.answer, c.put_text-environment.ensures.stored)) in
-    let three = leaves_rest {c = environment} (elision ++ (method ++ last)) four c.put_three-elision.ensures in
-    let two = leaves_rest {c = elision} (method ++ last) three c.put_three-method.ensures in
-    let one = leaves_rest {c = method} last two c.put_three-last.ensures in
-    prints_text records (leaves_none {c = last} one (prints (c.put_line.ensures.answer, c.put_line.ensures.stored)))
+    let three = leaves_rest {s = environment} (elision ++ (method ++ last)) four c.put_three-elision.ensures in
+    let two = leaves_rest {s = elision} (method ++ last) three c.put_three-method.ensures in
+    let one = leaves_rest {s = method} last two c.put_three-last.ensures in
+    prints_text records (leaves_none {s = last} one (prints (c.put_line.ensures.answer, c.put_line.ensures.stored)))
