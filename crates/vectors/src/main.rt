@@ -89,11 +89,18 @@ const BYTES: usize = 524288;
 // How many numbers: every other byte may be one.
 const NUMBERS: usize = 262144;
 
-// Room for the bytes that are read.
+// So many zeros.
+fn zeros<const N: usize>() -> [u8; N]
+    ensures { N ≡ length result }
+{
+    [0; N]
+}
+
+// Room for the bytes that are read. The prover does not count so many places one by one, but those of any number.
 fn room_for_bytes() -> [u8; BYTES]
     ensures { 524288 ≡ length result }
 {
-    [0; BYTES]
+    zeros()
 }
 
 // Room for their numbers.
