@@ -1,4 +1,4 @@
-//! Links libexports.a, which `rt staticlib exports` writes: from the folder DOVRELKA_LIB, or from the
+//! Links libexports.a, which `tools/staticlib` writes: from the folder DOVRELKA_LIB, or from the
 //! repository's target/staticlib.
 
 use std::path::{Path, PathBuf};
@@ -12,7 +12,7 @@ fn main() {
     let library = folder.join("libexports.a");
     assert!(
         library.is_file(),
-        "{} is not there: run `rt staticlib exports` in the repository, or set DOVRELKA_LIB to the folder that holds libexports.a",
+        "{} is not there: run `tools/staticlib` in the repository, or set DOVRELKA_LIB to the folder that holds libexports.a",
         library.display()
     );
     println!("cargo:rustc-link-search=native={}", folder.display());

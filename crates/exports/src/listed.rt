@@ -10,8 +10,7 @@ use listing::listing;
 // Write the listing of a sheet to the first slice and its length in bytes to the first word of the second. Refused as
 // the sheet is (10; 1 over all records; 13; 2 to 7 at the first bad place; 8), then by 9 for more than 4,096 edges,
 // where the first slice is too short, or where the second has no word. 131,072 bytes and one word are always enough.
-#[unsafe(no_mangle)]
-pub extern "C" fn borrows_listing(sheet: &[u8], out: &mut [u8], written: &mut [usize]) -> usize
+pub fn borrows_listing(sheet: &[u8], out: &mut [u8], written: &mut [usize]) -> usize
     ensures answer { TextAnswers (listing_to sheet.now (room out) (room written)) result out written }
 {
     if written.len() < 1 {

@@ -11,8 +11,7 @@ use borrowing_param::borrow_sheet;
 // the edges, five words each in listing order, to the third; and to the fourth how many lifetimes, parameters and edges
 // these are. Refused as the sheet is (10; 1 over all records; 13; 2 to 7 at the first bad place; 8), then by 9 where a
 // slice is too short. 34, 16, 43,520 and 3 words are always enough.
-#[unsafe(no_mangle)]
-pub extern "C" fn borrows_sheet(
+pub fn borrows_sheet(
     sheet: &[u8],
     used: &mut [usize],
     answers: &mut [usize],

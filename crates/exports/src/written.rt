@@ -12,8 +12,7 @@ use sheet_writer::write_laid;
 // are not ten ends, ascending, none past the words; then by 10 for a word above 65535 in any record, however long it
 // is; then by 1 where a record is not in shape; then by 13 for 1 in `force`; then by 9 where the third slice is too
 // short or the fourth has no word. 61,506 bytes and one word are always enough.
-#[unsafe(no_mangle)]
-pub extern "C" fn borrows_write_sheet(
+pub fn borrows_write_sheet(
     words: &[usize],
     ends: &[usize],
     out: &mut [u8],

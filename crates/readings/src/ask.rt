@@ -6,30 +6,30 @@ use listing::{ROOM, respond};
 use sheet::{Text, read_sheet, read_text};
 
 // A text asked about, by the kind of the question.
-pub(crate) fn ask(text: &[u8], kind: usize, room: usize) {
+pub(crate) fn ask(rt: &impl Print, text: &[u8], kind: usize, room: usize) {
     if kind == 1 {
-        response(text);
+        response(rt, text);
         return;
     }
-    both(text, room);
+    both(rt, text, room);
 }
 
 // What the program answers to a text, behind a line with the number of its bytes.
-fn response(text: &[u8]) {
+fn response(rt: &impl Print, text: &[u8]) {
     let mut out = [0u8; ROOM];
     let n = respond(text, &mut out);
-    print::counted(&out[..n]);
+    print::counted(rt, &out[..n]);
 }
 
 // The line of a text: its bytes, then for `read_text` and for `read_sheet`, each lent so many words (at most 10,240),
 // the refusal's number or 0, the ten ends, and the words of the lent slice up to the last that was written, with their
 // number in front.
-fn both(text: &[u8], room: usize) {
+fn both(rt: &impl Print, text: &[u8], room: usize) {
     let n = scan::least(room, 10240);
-    print::first(text.len());
-    ask_text(text, n);
-    ask_sheet(text, n);
-    print::end();
+    print::first(rt, text.len());
+    ask_text(rt, text, n);
+    ask_sheet(rt, text, n);
+    print::end(rt);
 }
 
 // Words as no sheet has them, so that each word that is written shows.
@@ -40,40 +40,40 @@ fn unwritten() -> [usize; 10240]
 }
 
 // `read_text`, lent the first n of them.
-fn ask_text(text: &[u8], n: usize)
+fn ask_text(rt: &impl Print, text: &[u8], n: usize)
     requires { n ≤ 10240 }
 {
     let mut words = unwritten();
-    lend_text(text, &mut words[..n]);
+    lend_text(rt, text, &mut words[..n]);
 }
 
 // `read_sheet` likewise.
-fn ask_sheet(text: &[u8], n: usize)
+fn ask_sheet(rt: &impl Print, text: &[u8], n: usize)
     requires { n ≤ 10240 }
 {
     let mut words = unwritten();
-    lend_sheet(text, &mut words[..n]);
+    lend_sheet(rt, text, &mut words[..n]);
 }
 
-fn lend_text(text: &[u8], words: &mut [usize]) {
+fn lend_text(rt: &impl Print, text: &[u8], words: &mut [usize]) {
     let answer = read_text(text, words);
-    print_answer(answer, words);
+    print_answer(rt, answer, words);
 }
 
-fn lend_sheet(text: &[u8], words: &mut [usize]) {
+fn lend_sheet(rt: &impl Print, text: &[u8], words: &mut [usize]) {
     let answer = read_sheet(text, words);
-    print_answer(answer, words);
+    print_answer(rt, answer, words);
 }
 
 // What a call answered, and what it left in the slice.
-fn print_answer(answer: Text, words: &[usize]) {
+fn print_answer(rt: &impl Print, answer: Text, words: &[usize]) {
     let verdict = answer.verdict;
     let ends = answer.ends;
     let count = written(words);
-    print::next(print::number_of(verdict));
-    print::some(&ends, 10);
-    print::next(count);
-    print::some(words, count);
+    print::next(rt, print::number_of(verdict));
+    print::some(rt, &ends, 10);
+    print::next(rt, count);
+    print::some(rt, words, count);
 }
 
 // How many words stand before those at the end that were not written.

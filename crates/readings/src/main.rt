@@ -16,8 +16,10 @@ mod scan;
 
 ghost use Rattle.std.specs.Prelude.{◌≡◌, ◌≤◌, length};
 
+use input::read_input;
+
 // Print the answer to the question that stands at a place, with room for its text. Answers the place behind it.
-fn answer(bytes: &[u8], kind: usize, text: &mut [u8]) -> usize
+fn answer(rt: &impl Print, bytes: &[u8], kind: usize, text: &mut [u8]) -> usize
     requires { kind ≤ length bytes.now }
     ensures { (kind ≤ result) × (result ≤ length bytes.now) }
 {
@@ -27,6 +29,7 @@ fn answer(bytes: &[u8], kind: usize, text: &mut [u8]) -> usize
     let laid = pieces::lay_all(bytes, from, scan::number(bytes, count), text);
     let size = laid.size;
     ask::ask(
+        rt,
         &text[..size],
         scan::number(bytes, kind),
         scan::number(bytes, room),
@@ -35,10 +38,10 @@ fn answer(bytes: &[u8], kind: usize, text: &mut [u8]) -> usize
 }
 
 // Print the answers to all questions.
-fn answer_all(bytes: &[u8], text: &mut [u8]) {
+fn answer_all(rt: &impl Print, bytes: &[u8], text: &mut [u8]) {
     let mut at = 0;
     while at < bytes.len() {
-        at = answer(bytes, at + 1, text);
+        at = answer(rt, bytes, at + 1, text);
     }
 }
 
@@ -56,9 +59,11 @@ fn room_for_text() -> [u8; 69632]
     [0; 69632]
 }
 
-fn main() {
+fn main(rt: HostRuntime) {
     let mut bytes = room_for_bytes();
-    let n = io::read_full(libc::STDIN_FILENO, &mut bytes);
+    let mut stdin = rt.stdin();
+    let input = read_input(&mut stdin, &mut bytes);
+    let n = input.count;
     let mut text = room_for_text();
-    answer_all(&bytes[..n], &mut text);
+    answer_all(&rt, &bytes[..n], &mut text);
 }

@@ -7,6 +7,7 @@
 ghost use Rattle.std.specs.Prelude.{◌≤◌, ◌≡◌, length};
 
 use answers::{Listed, Refusal, Verdict};
+use input::read_input;
 use sheet::{Text, read_sheet};
 use sheet_writer::{MAX_WRITTEN, write_laid};
 use text::{put_line, put_text};
@@ -59,15 +60,17 @@ fn rewrite(sheet: &[u8], out: &mut [u8]) -> usize {
 }
 
 // The answer to standard output, by way of a slice.
-fn answer(sheet: &[u8], out: &mut [u8]) {
+fn answer(rt: &impl Print, sheet: &[u8], out: &mut [u8]) {
     let count = rewrite(sheet, out);
     let n = least(count, out.len());
-    io::write_all(libc::STDOUT_FILENO, &out[..n]);
+    let _ = rt.write_all(&out[..n]);
 }
 
-fn main() {
+fn main(rt: HostRuntime) {
     let mut sheet = room_for_sheet();
-    let read = io::read_full(libc::STDIN_FILENO, &mut sheet);
+    let mut stdin = rt.stdin();
+    let input = read_input(&mut stdin, &mut sheet);
+    let read = input.count;
     let mut out = room_for_text();
-    answer(&sheet[..read], &mut out);
+    answer(&rt, &sheet[..read], &mut out);
 }

@@ -16,7 +16,7 @@ const ROOM: usize = 40;
 // Kind 1: records names, bounds, types. `from_method_item`: the refusal's number; or 0, how many names and how many
 // bounds there are, the bounds, and for each name the list of those that outlive it and the list of those that it
 // outlives, each with its length in front.
-pub(crate) fn from_method_item(words: &[usize], names: usize) -> usize
+pub(crate) fn from_method_item(rt: &impl Print, words: &[usize], names: usize) -> usize
     requires { names ≤ length words.now }
     ensures { (names ≤ result) × (result ≤ length words.now) }
 {
@@ -28,46 +28,46 @@ pub(crate) fn from_method_item(words: &[usize], names: usize) -> usize
         scan::record(words, types),
     );
     let verdict = made.verdict;
-    print::first(print::number_of(verdict));
+    print::first(rt, print::number_of(verdict));
     if let Verdict::Accepted = verdict {
         let env = made.env;
-        print_environment(env);
+        print_environment(rt, env);
     }
-    print::end();
+    print::end(rt);
     scan::behind_record(words, types)
 }
 
 // Kind 2: record names. Its shape.
-pub(crate) fn names_shape(words: &[usize], at: usize) -> usize
+pub(crate) fn names_shape(rt: &impl Print, words: &[usize], at: usize) -> usize
     requires { at ≤ length words.now }
     ensures { (at ≤ result) × (result ≤ length words.now) }
 {
-    print::verdict(ast_lifetimes::names_shape(scan::record(words, at)));
+    print::verdict(rt, ast_lifetimes::names_shape(scan::record(words, at)));
     scan::behind_record(words, at)
 }
 
 // Kind 3: record bounds. Its shape.
-pub(crate) fn bounds_shape(words: &[usize], at: usize) -> usize
+pub(crate) fn bounds_shape(rt: &impl Print, words: &[usize], at: usize) -> usize
     requires { at ≤ length words.now }
     ensures { (at ≤ result) × (result ≤ length words.now) }
 {
-    print::verdict(ast_lifetimes::bounds_shape(scan::record(words, at)));
+    print::verdict(rt, ast_lifetimes::bounds_shape(scan::record(words, at)));
     scan::behind_record(words, at)
 }
 
 // Kind 4: record types. Its shape.
-pub(crate) fn types_shape(words: &[usize], at: usize) -> usize
+pub(crate) fn types_shape(rt: &impl Print, words: &[usize], at: usize) -> usize
     requires { at ≤ length words.now }
     ensures { (at ≤ result) × (result ≤ length words.now) }
 {
-    print::verdict(ast_lifetimes::types_shape(scan::record(words, at)));
+    print::verdict(rt, ast_lifetimes::types_shape(scan::record(words, at)));
     scan::behind_record(words, at)
 }
 
 // Kind 5: an environment made by hand, a name, and how long the lent slice is, at most 40. The number of `check`; then
 // for `longer_than` and for `shorter_than` the refusal's number or 0, the count, and all words of the slice, whose
 // words were 99.
-pub(crate) fn lists(words: &[usize], at: usize) -> usize
+pub(crate) fn lists(rt: &impl Print, words: &[usize], at: usize) -> usize
     requires { at ≤ length words.now }
     ensures { (at ≤ result) × (result ≤ length words.now) }
 {
@@ -76,16 +76,16 @@ pub(crate) fn lists(words: &[usize], at: usize) -> usize
     let room = scan::behind(words, asked);
     let name = scan::number(words, asked);
     let n = scan::least(scan::number(words, room), ROOM);
-    print::first(print::number_of(env.check()));
-    print_room(env, name, true, n);
-    print_room(env, name, false, n);
-    print::end();
+    print::first(rt, print::number_of(env.check()));
+    print_room(rt, env, name, true, n);
+    print_room(rt, env, name, false, n);
+    print::end(rt);
     scan::behind(words, room)
 }
 
 // Kind 6: an environment made by hand, and the record types. `extend_implicit_lifetime_bounds`: the refusal's number or
 // 0, and the whole environment.
-pub(crate) fn extend_implicit_lifetime_bounds(words: &[usize], at: usize) -> usize
+pub(crate) fn extend_implicit_lifetime_bounds(rt: &impl Print, words: &[usize], at: usize) -> usize
     requires { at ≤ length words.now }
     ensures { (at ≤ result) × (result ≤ length words.now) }
 {
@@ -94,9 +94,9 @@ pub(crate) fn extend_implicit_lifetime_bounds(words: &[usize], at: usize) -> usi
     let made = env.extend_implicit_lifetime_bounds(scan::record(words, types));
     let verdict = made.verdict;
     let extended = made.env;
-    print::first(print::number_of(verdict));
-    print_whole(extended);
-    print::end();
+    print::first(rt, print::number_of(verdict));
+    print_whole(rt, extended);
+    print::end(rt);
     scan::behind_record(words, types)
 }
 
@@ -142,69 +142,69 @@ fn names_of(words: &[usize]) -> [usize; LifetimeEnv::MAX_NAMES] {
 }
 
 // What kind 1 prints of an environment.
-fn print_environment(env: LifetimeEnv) {
+fn print_environment(rt: &impl Print, env: LifetimeEnv) {
     let named = env.named;
     let bounds = env.bounds;
     let pushed = bounds.pushed;
-    print::next(named);
-    print::next(pushed);
-    bounds::print_first(bounds, scan::least(pushed, Bounds::MAX));
-    print_lists(env, scan::least(named, LifetimeEnv::MAX_NAMES));
+    print::next(rt, named);
+    print::next(rt, pushed);
+    bounds::print_first(rt, bounds, scan::least(pushed, Bounds::MAX));
+    print_lists(rt, env, scan::least(named, LifetimeEnv::MAX_NAMES));
 }
 
 // A whole environment: how many names and how many bounds there are, all places for names, and the bounds up to the
 // last that is not 0 0, with their number in front.
-pub(crate) fn print_whole(env: LifetimeEnv) {
+pub(crate) fn print_whole(rt: &impl Print, env: LifetimeEnv) {
     let bounds = env.bounds;
-    print::next(env.named);
-    print::next(bounds.pushed);
-    print_names(env);
-    bounds::print_filled(bounds);
+    print::next(rt, env.named);
+    print::next(rt, bounds.pushed);
+    print_names(rt, env);
+    bounds::print_filled(rt, bounds);
 }
 
 // All places for names.
-fn print_names(env: LifetimeEnv) {
+fn print_names(rt: &impl Print, env: LifetimeEnv) {
     let mut i = 0;
     while i < LifetimeEnv::MAX_NAMES {
-        print::next(env.names[i]);
+        print::next(rt, env.names[i]);
         i += 1;
     }
 }
 
 // Both lists of each of the first names.
-fn print_lists(env: LifetimeEnv, n: usize)
+fn print_lists(rt: &impl Print, env: LifetimeEnv, n: usize)
     requires { n ≤ 32 }
 {
     let mut i = 0;
     while i < n {
         let name = env.names[i];
-        print_list(env, name, true);
-        print_list(env, name, false);
+        print_list(rt, env, name, true);
+        print_list(rt, env, name, false);
         i += 1;
     }
 }
 
 // One list of a name.
-fn print_list(env: LifetimeEnv, name: usize, longer: bool) {
+fn print_list(rt: &impl Print, env: LifetimeEnv, name: usize, longer: bool) {
     let mut out = [0usize; LifetimeEnv::MAX_NAMES];
     let listed = list(env, name, longer, &mut out);
-    print::listed(listed, &out);
+    print::listed(rt, listed, &out);
 }
 
 // What a call answers, and all words of the slice that it was lent.
-fn print_lent(env: LifetimeEnv, name: usize, longer: bool, out: &mut [usize]) {
+fn print_lent(rt: &impl Print, env: LifetimeEnv, name: usize, longer: bool, out: &mut [usize]) {
     let listed = list(env, name, longer, out);
-    print::next(print::number_in(listed));
-    print::next(print::count_in(listed));
-    print::all(out);
+    print::next(rt, print::number_in(listed));
+    print::next(rt, print::count_in(listed));
+    print::all(rt, out);
 }
 
 // The same for a slice of this length.
-fn print_room(env: LifetimeEnv, name: usize, longer: bool, n: usize)
+fn print_room(rt: &impl Print, env: LifetimeEnv, name: usize, longer: bool, n: usize)
     requires { n ≤ 40 }
 {
     let mut out = [99usize; ROOM];
-    print_lent(env, name, longer, &mut out[..n]);
+    print_lent(rt, env, name, longer, &mut out[..n]);
 }
 
 // `longer_than` or `shorter_than`.

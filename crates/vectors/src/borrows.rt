@@ -6,18 +6,18 @@ use borrowing_param::{Borrows, borrow_method};
 
 // Kind 23: an environment made by hand, records structs, params, output, force, and the record of how long the three
 // lent slices are: used lifetimes, answers, edges. `borrow_method`: what it answers, and all words of the slices.
-pub(crate) fn borrow(words: &[usize], at: usize) -> usize
+pub(crate) fn borrow(rt: &impl Print, words: &[usize], at: usize) -> usize
     requires { at ≤ length words.now }
     ensures { (at ≤ result) × (result ≤ length words.now) }
 {
     let lengths = lowered::behind_method(words, at);
-    print_room(words, at, scan::record(words, lengths));
-    print::end();
+    print_room(rt, words, at, scan::record(words, lengths));
+    print::end(rt);
     scan::behind_record(words, lengths)
 }
 
 // A method borrowed into slices of these lengths.
-fn print_room(words: &[usize], at: usize, lengths: &[usize])
+fn print_room(rt: &impl Print, words: &[usize], at: usize, lengths: &[usize])
     requires { at ≤ length words.now }
 {
     let mut used = rooms::words();
@@ -27,6 +27,7 @@ fn print_room(words: &[usize], at: usize, lengths: &[usize])
     let params = scan::least(scan::number(lengths, 1), rooms::WORDS);
     let edged = scan::least(scan::number(lengths, 2), rooms::EDGES);
     print_lent(
+        rt,
         words,
         at,
         &mut used[..lifetimes],
@@ -37,6 +38,7 @@ fn print_room(words: &[usize], at: usize, lengths: &[usize])
 
 // What `borrow_method` answers, and all words of the slices that it was lent.
 fn print_lent(
+    rt: &impl Print,
     words: &[usize],
     at: usize,
     used: &mut [usize],
@@ -60,17 +62,17 @@ fn print_lent(
         answers,
         edges,
     );
-    print_borrows(borrows);
-    print::all(used);
-    print::all(answers);
-    print::all(edges);
+    print_borrows(rt, borrows);
+    print::all(rt, used);
+    print::all(rt, answers);
+    print::all(rt, edges);
 }
 
 // The refusal's number or 0, and how many used lifetimes, parameters and edges there are.
-pub(crate) fn print_borrows(borrows: Borrows) {
+pub(crate) fn print_borrows(rt: &impl Print, borrows: Borrows) {
     let verdict = borrows.verdict;
-    print::first(print::number_of(verdict));
-    print::next(borrows.used);
-    print::next(borrows.params);
-    print::next(borrows.edges);
+    print::first(rt, print::number_of(verdict));
+    print::next(rt, borrows.used);
+    print::next(rt, borrows.params);
+    print::next(rt, borrows.edges);
 }

@@ -6,14 +6,14 @@ use lifetimes::{Bound, Bounds, Lifetime};
 
 // Kind 31: how many lifetimes there are, how many bounds are pushed, taken as it is, and the record of pairs longer,
 // shorter. `Bounds::check`: the refusal's number or 0.
-pub(crate) fn check(words: &[usize], at: usize) -> usize
+pub(crate) fn check(rt: &impl Print, words: &[usize], at: usize) -> usize
     requires { at ≤ length words.now }
     ensures { (at ≤ result) × (result ≤ length words.now) }
 {
     let count = scan::behind(words, at);
     let pairs = scan::behind(words, count);
     let bounds = of_pairs(scan::number(words, count), scan::record(words, pairs));
-    print::verdict(bounds.check(scan::number(words, at)));
+    print::verdict(rt, bounds.check(scan::number(words, at)));
     scan::behind_record(words, pairs)
 }
 
@@ -53,21 +53,21 @@ fn filled(bounds: Bounds) -> usize
 }
 
 // All bounds up to the last that is not 0 0, with their number in front.
-pub(crate) fn print_filled(bounds: Bounds) {
+pub(crate) fn print_filled(rt: &impl Print, bounds: Bounds) {
     let n = filled(bounds);
-    print::next(n);
-    print_first(bounds, n);
+    print::next(rt, n);
+    print_first(rt, bounds, n);
 }
 
 // The first bounds.
-pub(crate) fn print_first(bounds: Bounds, n: usize)
+pub(crate) fn print_first(rt: &impl Print, bounds: Bounds, n: usize)
     requires { n ≤ 256 }
 {
     let mut i = 0;
     while i < n {
         let bound = bounds.list[i];
-        print::next(bound.longer as usize);
-        print::next(bound.shorter as usize);
+        print::next(rt, bound.longer as usize);
+        print::next(rt, bound.shorter as usize);
         i += 1;
     }
 }

@@ -11,7 +11,7 @@ use lifetimes::{Bounds, Lifetime, LifetimeEnv};
 
 // Kind 17: how many lifetimes are declared, how many there are, and the record of pairs. `LifetimeEnv::new`: the
 // refusal's number or 0, and the whole environment.
-pub(crate) fn new(words: &[usize], at: usize) -> usize
+pub(crate) fn new(rt: &impl Print, words: &[usize], at: usize) -> usize
     requires { at ≤ length words.now }
     ensures { (at ≤ result) × (result ≤ length words.now) }
 {
@@ -24,16 +24,16 @@ pub(crate) fn new(words: &[usize], at: usize) -> usize
     );
     let verdict = made.verdict;
     let env = made.env;
-    print::first(print::number_of(verdict));
-    print_environment(env);
-    print::end();
+    print::first(rt, print::number_of(verdict));
+    print_environment(rt, env);
+    print::end(rt);
     scan::behind_record(words, pairs)
 }
 
 // Kind 18: an environment made by hand, and a bound, longer and shorter. `push_bound`: the refusal's number or 0, and
 // the whole environment afterwards. Behind it, of the longer one and of the shorter one, whether `get_bounds` of the
 // environment as it was knows it.
-pub(crate) fn push_bound(words: &[usize], at: usize) -> usize
+pub(crate) fn push_bound(rt: &impl Print, words: &[usize], at: usize) -> usize
     requires { at ≤ length words.now }
     ensures { (at ≤ result) × (result ≤ length words.now) }
 {
@@ -45,26 +45,26 @@ pub(crate) fn push_bound(words: &[usize], at: usize) -> usize
     let pushed = env.push_bound(longer, shorter);
     let verdict = pushed.verdict;
     let after = pushed.env;
-    print::first(print::number_of(verdict));
-    print_environment(after);
-    print::flag(env.get_bounds(longer));
-    print::flag(env.get_bounds(shorter));
-    print::end();
+    print::first(rt, print::number_of(verdict));
+    print_environment(rt, after);
+    print::flag(rt, env.get_bounds(longer));
+    print::flag(rt, env.get_bounds(shorter));
+    print::end(rt);
     scan::behind(words, below)
 }
 
 // Kind 32, with nothing behind it: `Bounds::none`, how many bounds are pushed, and the bounds up to the last that is
 // not 0 0, with their number in front; `LifetimeEnv::none`, and that of the crate `ast_lifetimes`, each as a whole.
 // Answers the place that it is given.
-pub(crate) fn none(at: usize) -> usize
+pub(crate) fn none(rt: &impl Print, at: usize) -> usize
     ensures { result ≡ at }
 {
     let bounds = Bounds::none();
-    print::first(bounds.pushed);
-    bounds::print_filled(bounds);
-    print_environment(LifetimeEnv::none());
-    ast::print_whole(ast_lifetimes::LifetimeEnv::none());
-    print::end();
+    print::first(rt, bounds.pushed);
+    bounds::print_filled(rt, bounds);
+    print_environment(rt, LifetimeEnv::none());
+    ast::print_whole(rt, ast_lifetimes::LifetimeEnv::none());
+    print::end(rt);
     at
 }
 
@@ -95,10 +95,10 @@ pub(crate) fn behind_environment(words: &[usize], at: usize) -> usize
 
 // A whole environment: how many lifetimes are declared, how many there are, how many bounds are pushed, and the bounds
 // up to the last that is not 0 0, with their number in front.
-pub(crate) fn print_environment(env: LifetimeEnv) {
+pub(crate) fn print_environment(rt: &impl Print, env: LifetimeEnv) {
     let bounds = env.bounds;
-    print::next(env.declared);
-    print::next(env.count);
-    print::next(bounds.pushed);
-    bounds::print_filled(bounds);
+    print::next(rt, env.declared);
+    print::next(rt, env.count);
+    print::next(rt, bounds.pushed);
+    bounds::print_filled(rt, bounds);
 }

@@ -10,21 +10,21 @@ use records::End;
 
 // Kind 10: an environment made by hand, records structs, params, output, force. `check_method`: the refusal's number or
 // 0. Then `used_method_lifetimes`: the refusal's number; or 0 and the set, ascending.
-pub(crate) fn used_method_lifetimes(words: &[usize], at: usize) -> usize
+pub(crate) fn used_method_lifetimes(rt: &impl Print, words: &[usize], at: usize) -> usize
     requires { at ≤ length words.now }
     ensures { (at ≤ result) × (result ≤ length words.now) }
 {
     let verdict = checked(words, at);
     let used = used_at(words, at);
-    print::first(print::number_of(verdict));
-    print_used(used);
-    print::end();
+    print::first(rt, print::number_of(verdict));
+    print_used(rt, used);
+    print::end(rt);
     behind_method(words, at)
 }
 
 // Kind 11: record structs, a row, a field. `compute_for_struct_field`: the refusal's number; or 0 and how many pairs
 // there are, 0 for none, and they.
-pub(crate) fn compute_for_struct_field(words: &[usize], structs: usize) -> usize
+pub(crate) fn compute_for_struct_field(rt: &impl Print, words: &[usize], structs: usize) -> usize
     requires { structs ≤ length words.now }
     ensures { (structs ≤ result) × (result ≤ length words.now) }
 {
@@ -35,31 +35,31 @@ pub(crate) fn compute_for_struct_field(words: &[usize], structs: usize) -> usize
         scan::number(words, row),
         scan::number(words, field),
     );
-    print_field(lifetimes);
-    print::end();
+    print_field(rt, lifetimes);
+    print::end(rt);
     scan::behind(words, field)
 }
 
 // Kind 12: a record, a lowered type, and an index. `type_lifetimes`: the refusal's number; or 0, and 0 for none, 1 for
 // a static lifetime, 2 and the number of another.
-pub(crate) fn type_lifetimes(words: &[usize], at: usize) -> usize
+pub(crate) fn type_lifetimes(rt: &impl Print, words: &[usize], at: usize) -> usize
     requires { at ≤ length words.now }
     ensures { (at ≤ result) × (result ≤ length words.now) }
 {
     let index = scan::behind_record(words, at);
     let found = hir_types::type_lifetimes(scan::record(words, at), scan::number(words, index));
     match found {
-        LifetimeAt::Refused(refusal) => print::first(refusal.number()),
+        LifetimeAt::Refused(refusal) => print::first(rt, refusal.number()),
         LifetimeAt::Absent => {
-            print::first(0);
-            print::next(0);
+            print::first(rt, 0);
+            print::next(rt, 0);
         }
         LifetimeAt::Lifetime(lifetime) => {
-            print::first(0);
-            print_lifetime(lifetime);
+            print::first(rt, 0);
+            print_lifetime(rt, lifetime);
         }
     }
-    print::end();
+    print::end(rt);
     scan::behind(words, index)
 }
 
@@ -112,64 +112,64 @@ fn used_at(words: &[usize], at: usize) -> UsedLifetimes
 }
 
 // The used lifetimes of a method.
-fn print_used(used: UsedLifetimes) {
+fn print_used(rt: &impl Print, used: UsedLifetimes) {
     match used {
-        UsedLifetimes::Refused(refusal) => print::next(refusal.number()),
+        UsedLifetimes::Refused(refusal) => print::next(rt, refusal.number()),
         UsedLifetimes::Set(set) => {
-            print::next(0);
-            print_members(set);
+            print::next(rt, 0);
+            print_members(rt, set);
         }
     }
 }
 
 // The lifetimes of a set, ascending.
-pub(crate) fn print_members(members: u64) {
+pub(crate) fn print_members(rt: &impl Print, members: u64) {
     let mut i = 0;
     while i < set::CAPACITY {
         if set::contains(members, Lifetime::new(i)) {
-            print::next(i);
+            print::next(rt, i);
         }
         i += 1;
     }
 }
 
 // A lifetime or static.
-fn print_lifetime(lifetime: MaybeStatic) {
+fn print_lifetime(rt: &impl Print, lifetime: MaybeStatic) {
     match lifetime {
-        MaybeStatic::Static => print::next(1),
+        MaybeStatic::Static => print::next(rt, 1),
         MaybeStatic::NonStatic(found) => {
-            print::next(2);
-            print::next(found.index());
+            print::next(rt, 2);
+            print::next(rt, found.index());
         }
     }
 }
 
 // What kind 11 prints.
-fn print_field(lifetimes: FieldLifetimes) {
+fn print_field(rt: &impl Print, lifetimes: FieldLifetimes) {
     let answer = lifetimes.answer;
     match answer {
-        FieldAnswer::Refused(refusal) => print::first(refusal.number()),
+        FieldAnswer::Refused(refusal) => print::first(rt, refusal.number()),
         FieldAnswer::Absent => {
-            print::first(0);
-            print::next(0);
+            print::first(rt, 0);
+            print::next(rt, 0);
         }
         FieldAnswer::Pairs(count) => {
-            print::first(0);
-            print::next(count);
-            print_pairs(lifetimes, scan::least(count, End::MAX_LIST));
+            print::first(rt, 0);
+            print::next(rt, count);
+            print_pairs(rt, lifetimes, scan::least(count, End::MAX_LIST));
         }
     }
 }
 
 // The first pairs.
-fn print_pairs(lifetimes: FieldLifetimes, n: usize)
+fn print_pairs(rt: &impl Print, lifetimes: FieldLifetimes, n: usize)
     requires { n ≤ 16 }
 {
     let mut i = 0;
     while i < n {
         let pair = lifetimes.pairs[i];
-        print::next(pair.def.index());
-        print::next(pair.outer.index());
+        print::next(rt, pair.def.index());
+        print::next(rt, pair.outer.index());
         i += 1;
     }
 }

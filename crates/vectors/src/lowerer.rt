@@ -16,7 +16,7 @@ use records::End;
 // (`lower_step`), which are the record. The refusal's number or 0; the lowerer afterwards: source and its word, how
 // many lifetimes, 1 if the `Self` type was there, its lifetimes; and those of the step. A list of lifetimes is how many
 // it has, and its 16 words.
-pub(crate) fn step(words: &[usize], names: usize) -> usize
+pub(crate) fn step(rt: &impl Print, words: &[usize], names: usize) -> usize
     requires { names ≤ length words.now }
     ensures { (names ≤ result) × (result ≤ length words.now) }
 {
@@ -28,14 +28,14 @@ pub(crate) fn step(words: &[usize], names: usize) -> usize
         words,
         kind,
     );
-    print_stepped(stepped);
-    print::end();
+    print_stepped(rt, stepped);
+    print::end(rt);
     behind_step(words, kind)
 }
 
 // Kind 15: a lowerer made by hand, and an AST environment made by hand as in ast.rt. `finish`: the refusal's number or
 // 0, and how many lifetimes are declared, how many there are, how many bounds are pushed.
-pub(crate) fn finish(words: &[usize], at: usize) -> usize
+pub(crate) fn finish(rt: &impl Print, words: &[usize], at: usize) -> usize
     requires { at ≤ length words.now }
     ensures { (at ≤ result) × (result ≤ length words.now) }
 {
@@ -43,30 +43,30 @@ pub(crate) fn finish(words: &[usize], at: usize) -> usize
     let made = elision::finish(made_by_hand(words, at), ast::made_by_hand(words, names));
     let verdict = made.verdict;
     let env = made.env;
-    print::first(print::number_of(verdict));
-    print::next(env.declared);
-    print::next(env.count);
-    print::next(env.bounds.pushed);
-    print::end();
+    print::first(rt, print::number_of(verdict));
+    print::next(rt, env.declared);
+    print::next(rt, env.count);
+    print::next(rt, env.bounds.pushed);
+    print::end(rt);
     ast::behind_environment(words, names)
 }
 
 // Kind 21: record of names, and record self, of at most one word. `no_self_ref` where self is empty, else
 // `lower_self_ref`: what kind 14 prints.
-pub(crate) fn start(words: &[usize], names: usize) -> usize
+pub(crate) fn start(rt: &impl Print, words: &[usize], names: usize) -> usize
     requires { names ≤ length words.now }
     ensures { (names ≤ result) × (result ≤ length words.now) }
 {
     let receiver = scan::behind_record(words, names);
     let stepped = started(scan::record(words, names), scan::record(words, receiver));
-    print_stepped(stepped);
-    print::end();
+    print_stepped(rt, stepped);
+    print::end(rt);
     scan::behind_record(words, receiver)
 }
 
 // Kind 22: record of names, a lowerer made by hand, and the records of two steps' words. `input_then_output`, and in it
 // `Lowerer::step` on a lent lowerer twice: the refusal's number or 0 and the lifetimes, both of the second step.
-pub(crate) fn input_then_output(words: &[usize], names: usize) -> usize
+pub(crate) fn input_then_output(rt: &impl Print, words: &[usize], names: usize) -> usize
     requires { names ≤ length words.now }
     ensures { (names ≤ result) × (result ≤ length words.now) }
 {
@@ -81,9 +81,9 @@ pub(crate) fn input_then_output(words: &[usize], names: usize) -> usize
     );
     let verdict = answer.verdict;
     let lifetimes = answer.lifetimes;
-    print::first(print::number_of(verdict));
-    print_list(lifetimes);
-    print::end();
+    print::first(rt, print::number_of(verdict));
+    print_list(rt, lifetimes);
+    print::end(rt);
     scan::behind_record(words, output)
 }
 
@@ -189,54 +189,54 @@ fn list_of(words: &[usize]) -> [Lowered; End::MAX_LIST] {
 }
 
 // What kind 14 prints.
-fn print_stepped(stepped: Stepped) {
+fn print_stepped(rt: &impl Print, stepped: Stepped) {
     let verdict = stepped.verdict;
     let after = stepped.lowerer;
     let seen = after.seen;
     let source = seen.source;
     let own = after.own;
     let lifetimes = stepped.lifetimes;
-    print::first(print::number_of(verdict));
-    print_source(source);
-    print::next(seen.count);
-    print::flag(after.kept);
-    print_list(own);
-    print_list(lifetimes);
+    print::first(rt, print::number_of(verdict));
+    print_source(rt, source);
+    print::next(rt, seen.count);
+    print::flag(rt, after.kept);
+    print_list(rt, own);
+    print_list(rt, lifetimes);
 }
 
 // A source of elision and its word.
-fn print_source(source: ElisionSource) {
+fn print_source(rt: &impl Print, source: ElisionSource) {
     match source {
-        ElisionSource::NoBorrows => print_coded(0, MaybeStatic::Static),
-        ElisionSource::SelfParam(lifetime) => print_coded(1, lifetime),
-        ElisionSource::OneParam(lifetime) => print_coded(2, lifetime),
-        ElisionSource::MultipleBorrows => print_coded(3, MaybeStatic::Static),
+        ElisionSource::NoBorrows => print_coded(rt, 0, MaybeStatic::Static),
+        ElisionSource::SelfParam(lifetime) => print_coded(rt, 1, lifetime),
+        ElisionSource::OneParam(lifetime) => print_coded(rt, 2, lifetime),
+        ElisionSource::MultipleBorrows => print_coded(rt, 3, MaybeStatic::Static),
     }
 }
 
 // A code and a lifetime's word.
-fn print_coded(code: usize, lifetime: MaybeStatic) {
-    print::next(code);
-    print_word(lifetime);
+fn print_coded(rt: &impl Print, code: usize, lifetime: MaybeStatic) {
+    print::next(rt, code);
+    print_word(rt, lifetime);
 }
 
 // The word of a lifetime; the largest number where it has none.
-fn print_word(lifetime: MaybeStatic) {
+fn print_word(rt: &impl Print, lifetime: MaybeStatic) {
     let answer = lifetime.word();
     match answer {
-        LoweredWord::Word(word) => print::next(word),
-        LoweredWord::Absent => print::next(usize::MAX),
+        LoweredWord::Word(word) => print::next(rt, word),
+        LoweredWord::Absent => print::next(rt, usize::MAX),
     }
 }
 
 // A list of lifetimes.
-fn print_list(lifetimes: Lifetimes) {
-    print::next(lifetimes.n);
+fn print_list(rt: &impl Print, lifetimes: Lifetimes) {
+    print::next(rt, lifetimes.n);
     let mut i = 0;
     while i < End::MAX_LIST {
         let lowered = lifetimes.list[i];
         let lifetime = lowered.lifetime;
-        print_word(lifetime);
+        print_word(rt, lifetime);
         i += 1;
     }
 }

@@ -12,7 +12,7 @@ const OWN: usize = 4;
 // and 8,192 words. The number of `from_method_item` if it refuses; else what `lower` answers: the refusal's number or
 // 0, the three counts, how many lifetimes are declared and how many there are, and all words of the slices, which were
 // 99.
-pub(crate) fn lower(words: &[usize], names: usize) -> usize
+pub(crate) fn lower(rt: &impl Print, words: &[usize], names: usize) -> usize
     requires { names ≤ length words.now }
     ensures { (names ≤ result) × (result ≤ length words.now) }
 {
@@ -26,31 +26,31 @@ pub(crate) fn lower(words: &[usize], names: usize) -> usize
     );
     let verdict = made.verdict;
     match verdict {
-        Verdict::Refused(refusal) => print::first(refusal.number()),
+        Verdict::Refused(refusal) => print::first(rt, refusal.number()),
         Verdict::Accepted => {
             let env = made.env;
-            print_lowered(env, words, receiver);
+            print_lowered(rt, env, words, receiver);
         }
     }
-    print::end();
+    print::end(rt);
     behind_rooms(words, behind_lowered(words, receiver))
 }
 
 // Kind 8: record self. Its shape.
-pub(crate) fn self_shape(words: &[usize], at: usize) -> usize
+pub(crate) fn self_shape(rt: &impl Print, words: &[usize], at: usize) -> usize
     requires { at ≤ length words.now }
     ensures { (at ≤ result) × (result ≤ length words.now) }
 {
-    print::verdict(elision::self_shape(scan::record(words, at)));
+    print::verdict(rt, elision::self_shape(scan::record(words, at)));
     scan::behind_record(words, at)
 }
 
 // Kind 9: record steps, or returns. Its shape.
-pub(crate) fn steps_shape(words: &[usize], at: usize) -> usize
+pub(crate) fn steps_shape(rt: &impl Print, words: &[usize], at: usize) -> usize
     requires { at ≤ length words.now }
     ensures { (at ≤ result) × (result ≤ length words.now) }
 {
-    print::verdict(elision::steps_shape(scan::record(words, at)));
+    print::verdict(rt, elision::steps_shape(scan::record(words, at)));
     scan::behind_record(words, at)
 }
 
@@ -75,7 +75,7 @@ fn behind_rooms(words: &[usize], at: usize) -> usize
 }
 
 // What is asked for behind the environment, lowered over it.
-fn print_lowered(env: LifetimeEnv, words: &[usize], receiver: usize)
+fn print_lowered(rt: &impl Print, env: LifetimeEnv, words: &[usize], receiver: usize)
     requires { receiver ≤ length words.now }
 {
     let steps = scan::behind_record(words, receiver);
@@ -84,6 +84,7 @@ fn print_lowered(env: LifetimeEnv, words: &[usize], receiver: usize)
     let given = scan::behind(words, own);
     let taken = scan::behind(words, given);
     print_room(
+        rt,
         env,
         scan::record(words, receiver),
         scan::record(words, steps),
@@ -96,6 +97,7 @@ fn print_lowered(env: LifetimeEnv, words: &[usize], receiver: usize)
 
 // Three records lowered into slices of these lengths.
 fn print_room(
+    rt: &impl Print,
     env: LifetimeEnv,
     receiver: &[usize],
     steps: &[usize],
@@ -110,6 +112,7 @@ fn print_room(
     let mut given = rooms::words();
     let mut taken = rooms::words();
     print_lent(
+        rt,
         env,
         receiver,
         steps,
@@ -122,6 +125,7 @@ fn print_room(
 
 // What `lower` answers, and all words of the slices that it was lent.
 fn print_lent(
+    rt: &impl Print,
     env: LifetimeEnv,
     receiver: &[usize],
     steps: &[usize],
@@ -133,13 +137,13 @@ fn print_lent(
     let lowering = elision::lower(env, receiver, steps, returns, own, given, taken);
     let verdict = lowering.verdict;
     let after = lowering.env;
-    print::first(print::number_of(verdict));
-    print::next(lowering.selves);
-    print::next(lowering.steps);
-    print::next(lowering.returns);
-    print::next(after.declared);
-    print::next(after.count);
-    print::all(own);
-    print::all(given);
-    print::all(taken);
+    print::first(rt, print::number_of(verdict));
+    print::next(rt, lowering.selves);
+    print::next(rt, lowering.steps);
+    print::next(rt, lowering.returns);
+    print::next(rt, after.declared);
+    print::next(rt, after.count);
+    print::all(rt, own);
+    print::all(rt, given);
+    print::all(rt, taken);
 }

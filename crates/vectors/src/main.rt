@@ -30,54 +30,56 @@ mod writes;
 
 ghost use Rattle.std.specs.Prelude.{◌≡◌, ◌≤◌, length};
 
+use input::read_input;
+
 // Print the answer to the question that stands at a place. Answers the place behind it; behind a kind that is not known
 // the end, so that the answers stop.
-fn answer(kind: usize, words: &[usize], at: usize) -> usize
+fn answer(rt: &impl Print, kind: usize, words: &[usize], at: usize) -> usize
     requires { at ≤ length words.now }
     ensures { (at ≤ result) × (result ≤ length words.now) }
 {
     match kind {
-        1 => ast::from_method_item(words, at),
-        2 => ast::names_shape(words, at),
-        3 => ast::bounds_shape(words, at),
-        4 => ast::types_shape(words, at),
-        5 => ast::lists(words, at),
-        6 => ast::extend_implicit_lifetime_bounds(words, at),
-        7 => lowering::lower(words, at),
-        8 => lowering::self_shape(words, at),
-        9 => lowering::steps_shape(words, at),
-        10 => lowered::used_method_lifetimes(words, at),
-        11 => lowered::compute_for_struct_field(words, at),
-        12 => lowered::type_lifetimes(words, at),
-        13 => visits::visit_params(words, at),
-        14 => lowerer::step(words, at),
-        15 => lowerer::finish(words, at),
-        16 => reach::all_lists(words, at),
-        17 => environments::new(words, at),
-        18 => environments::push_bound(words, at),
-        19 => words::list(words, at),
-        20 => words::word(words, at),
-        21 => lowerer::start(words, at),
-        22 => lowerer::input_then_output(words, at),
-        23 => borrows::borrow(words, at),
-        24 | 25 | 26 => sheets::ask(kind, words, at),
-        27 => visits::edge(words, at),
-        28 => texts::put(words, at),
-        29 => texts::read(words, at),
-        30 => visits::from_sets(words, at),
-        31 => bounds::check(words, at),
-        32 => environments::none(at),
-        33 => writes::ten(words, at),
-        34 => writes::laid(words, at),
+        1 => ast::from_method_item(rt, words, at),
+        2 => ast::names_shape(rt, words, at),
+        3 => ast::bounds_shape(rt, words, at),
+        4 => ast::types_shape(rt, words, at),
+        5 => ast::lists(rt, words, at),
+        6 => ast::extend_implicit_lifetime_bounds(rt, words, at),
+        7 => lowering::lower(rt, words, at),
+        8 => lowering::self_shape(rt, words, at),
+        9 => lowering::steps_shape(rt, words, at),
+        10 => lowered::used_method_lifetimes(rt, words, at),
+        11 => lowered::compute_for_struct_field(rt, words, at),
+        12 => lowered::type_lifetimes(rt, words, at),
+        13 => visits::visit_params(rt, words, at),
+        14 => lowerer::step(rt, words, at),
+        15 => lowerer::finish(rt, words, at),
+        16 => reach::all_lists(rt, words, at),
+        17 => environments::new(rt, words, at),
+        18 => environments::push_bound(rt, words, at),
+        19 => words::list(rt, words, at),
+        20 => words::word(rt, words, at),
+        21 => lowerer::start(rt, words, at),
+        22 => lowerer::input_then_output(rt, words, at),
+        23 => borrows::borrow(rt, words, at),
+        24 | 25 | 26 => sheets::ask(rt, kind, words, at),
+        27 => visits::edge(rt, words, at),
+        28 => texts::put(rt, words, at),
+        29 => texts::read(rt, words, at),
+        30 => visits::from_sets(rt, words, at),
+        31 => bounds::check(rt, words, at),
+        32 => environments::none(rt, at),
+        33 => writes::ten(rt, words, at),
+        34 => writes::laid(rt, words, at),
         _ => words.len(),
     }
 }
 
 // Print the answers to all questions.
-fn answer_all(words: &[usize]) {
+fn answer_all(rt: &impl Print, words: &[usize]) {
     let mut at = 0;
     while at < words.len() {
-        at = answer(words[at], words, at + 1);
+        at = answer(rt, words[at], words, at + 1);
     }
 }
 
@@ -101,10 +103,12 @@ fn room_for_numbers() -> [usize; NUMBERS]
     [0; NUMBERS]
 }
 
-fn main() {
+fn main(rt: HostRuntime) {
     let mut bytes = room_for_bytes();
-    let n = io::read_full(libc::STDIN_FILENO, &mut bytes);
+    let mut stdin = rt.stdin();
+    let input = read_input(&mut stdin, &mut bytes);
+    let n = input.count;
     let mut words = room_for_numbers();
     let count = scan::numbers(&bytes[..n], &mut words);
-    answer_all(&words[..count]);
+    answer_all(&rt, &words[..count]);
 }

@@ -3,62 +3,61 @@ use super::scan;
 use answers::{Listed, Verdict};
 
 // The first number of a line.
-pub(crate) fn first(number: usize) {
-    io::print_decimal(libc::STDOUT_FILENO, number as u64);
+pub(crate) fn first(rt: &impl Print, number: usize) {
+    let _ = rt.print(number);
 }
 
 // A further number.
-pub(crate) fn next(number: usize) {
-    io::write_all(libc::STDOUT_FILENO, b" ");
-    io::print_decimal(libc::STDOUT_FILENO, number as u64);
+pub(crate) fn next(rt: &impl Print, number: usize) {
+    let _ = print!(rt; " {number}");
 }
 
 // A byte as a number.
-fn next_byte(byte: u8) {
-    next(byte as usize);
+fn next_byte(rt: &impl Print, byte: u8) {
+    next(rt, byte as usize);
 }
 
 // 1 or 0.
-pub(crate) fn flag(flag: bool) {
+pub(crate) fn flag(rt: &impl Print, flag: bool) {
     if flag {
-        next(1);
+        next(rt, 1);
     } else {
-        next(0);
+        next(rt, 0);
     }
 }
 
 // Further numbers: the first n, or all.
-pub(crate) fn some(words: &[usize], n: usize) {
+pub(crate) fn some(rt: &impl Print, words: &[usize], n: usize) {
     let count = scan::least(n, words.len());
     let mut i = 0;
     while i < count {
-        next(words[i]);
+        next(rt, words[i]);
         i += 1;
     }
 }
 
 // Every word of a slice.
-pub(crate) fn all(words: &[usize]) {
-    some(words, words.len());
+pub(crate) fn all(rt: &impl Print, words: &[usize]) {
+    some(rt, words, words.len());
 }
 
 // Every byte of a slice.
-pub(crate) fn bytes(bytes: &[u8]) {
+pub(crate) fn bytes(rt: &impl Print, bytes: &[u8]) {
     let mut i = 0;
     while i < bytes.len() {
-        next_byte(bytes[i]);
+        next_byte(rt, bytes[i]);
         i += 1;
     }
 }
 
 // What a call wrote to a slice, its length in front; or the refusal's number.
-pub(crate) fn listed(listed: Listed, out: &[usize]) {
+pub(crate) fn listed(rt: &impl Print, listed: Listed, out: &[usize]) {
     match listed {
         Listed::Count(count) => {
-            next(count);
-            some(out, count);
+            next(rt, count);
+            some(rt, out, count);
         }
-        Listed::Refused(refusal) => next(refusal.number()),
+        Listed::Refused(refusal) => next(rt, refusal.number()),
     }
 }
 
@@ -79,8 +78,8 @@ pub(crate) fn count_in(listed: Listed) -> usize {
 }
 
 // The end of a line.
-pub(crate) fn end() {
-    io::write_all(libc::STDOUT_FILENO, b"\n");
+pub(crate) fn end(rt: &impl Print) {
+    let _ = rt.print("\n");
 }
 
 // The number of a verdict: 0 where nothing is refused.
@@ -92,7 +91,7 @@ pub(crate) fn number_of(verdict: Verdict) -> usize {
 }
 
 // The line of a verdict.
-pub(crate) fn verdict(verdict: Verdict) {
-    first(number_of(verdict));
-    end();
+pub(crate) fn verdict(rt: &impl Print, verdict: Verdict) {
+    first(rt, number_of(verdict));
+    end(rt);
 }

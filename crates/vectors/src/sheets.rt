@@ -21,62 +21,68 @@ const BORROWED: usize = 25;
 //
 // Kind 26, a slice for bytes and one for their number: `listing`, lent the first, the refusal's number or 0, the count
 // and all bytes of the slice; then `borrows_listing`, its status, and all bytes and words of both.
-pub(crate) fn ask(kind: usize, words: &[usize], at: usize) -> usize
+pub(crate) fn ask(rt: &impl Print, kind: usize, words: &[usize], at: usize) -> usize
     requires { at ≤ length words.now }
     ensures { (at ≤ result) × (result ≤ length words.now) }
 {
     let lengths = scan::behind_record(words, at);
     let mut bytes = rooms::bytes();
     let n = scan::lay(scan::record(words, at), &mut bytes);
-    print_sheet(kind, &bytes[..n], scan::record(words, lengths));
-    print::end();
+    print_sheet(rt, kind, &bytes[..n], scan::record(words, lengths));
+    print::end(rt);
     scan::behind_record(words, lengths)
 }
 
 // What a kind prints of a sheet.
-fn print_sheet(kind: usize, sheet: &[u8], lengths: &[usize]) {
+fn print_sheet(rt: &impl Print, kind: usize, sheet: &[u8], lengths: &[usize]) {
     match kind {
-        LOWERED => print_lowered(sheet, scan::number(lengths, 0)),
-        BORROWED => print_borrowed(sheet, lengths),
-        _ => print_listed(sheet, scan::number(lengths, 0), scan::number(lengths, 1)),
+        LOWERED => print_lowered(rt, sheet, scan::number(lengths, 0)),
+        BORROWED => print_borrowed(rt, sheet, lengths),
+        _ => print_listed(
+            rt,
+            sheet,
+            scan::number(lengths, 0),
+            scan::number(lengths, 1),
+        ),
     }
 }
 
 // `lower_sheet` with a slice of this length.
-fn print_lowered(sheet: &[u8], length: usize) {
+fn print_lowered(rt: &impl Print, sheet: &[u8], length: usize) {
     let n = scan::least(length, rooms::WORDS);
     let mut words = rooms::words();
-    lend_lowered(sheet, &mut words[..n]);
+    lend_lowered(rt, sheet, &mut words[..n]);
 }
 
-fn lend_lowered(sheet: &[u8], words: &mut [usize]) {
+fn lend_lowered(rt: &impl Print, sheet: &[u8], words: &mut [usize]) {
     let method = lower_sheet(sheet, words);
     let verdict = method.verdict;
     let ends = method.ends;
     let env = method.env;
-    print::first(print::number_of(verdict));
-    print::all(&ends);
-    environments::print_environment(env);
-    print::all(words);
+    print::first(rt, print::number_of(verdict));
+    print::all(rt, &ends);
+    environments::print_environment(rt, env);
+    print::all(rt, words);
 }
 
 // `borrow_sheet` and `borrows_sheet`, with slices of these lengths for each.
-fn print_borrowed(sheet: &[u8], lengths: &[usize]) {
+fn print_borrowed(rt: &impl Print, sheet: &[u8], lengths: &[usize]) {
     let used = scan::least(scan::number(lengths, 0), rooms::WORDS);
     let answers = scan::least(scan::number(lengths, 1), rooms::WORDS);
     let edges = scan::least(scan::number(lengths, 2), rooms::EDGES);
     let counts = scan::least(scan::number(lengths, 3), rooms::WORDS);
-    print_called(sheet, used, answers, edges);
-    print_exported(sheet, used, answers, edges, counts);
+    print_called(rt, sheet, used, answers, edges);
+    print_exported(rt, sheet, used, answers, edges, counts);
 }
 
-fn print_called(sheet: &[u8], lifetimes: usize, params: usize, edged: usize)
+fn print_called(rt: &impl Print, sheet: &[u8], lifetimes: usize, params: usize, edged: usize)
     requires { (lifetimes ≤ 8192) × (params ≤ 8192) × (edged ≤ 20480) }
 {
     let mut used = rooms::words();
     let mut answers = rooms::words();
     let mut edges = rooms::edges();
     lend_called(
+        rt,
         sheet,
         &mut used[..lifetimes],
         &mut answers[..params],
@@ -84,15 +90,28 @@ fn print_called(sheet: &[u8], lifetimes: usize, params: usize, edged: usize)
     );
 }
 
-fn lend_called(sheet: &[u8], used: &mut [usize], answers: &mut [usize], edges: &mut [usize]) {
+fn lend_called(
+    rt: &impl Print,
+    sheet: &[u8],
+    used: &mut [usize],
+    answers: &mut [usize],
+    edges: &mut [usize],
+) {
     let borrows = borrow_sheet(sheet, used, answers, edges);
-    borrows::print_borrows(borrows);
-    print::all(used);
-    print::all(answers);
-    print::all(edges);
+    borrows::print_borrows(rt, borrows);
+    print::all(rt, used);
+    print::all(rt, answers);
+    print::all(rt, edges);
 }
 
-fn print_exported(sheet: &[u8], lifetimes: usize, params: usize, edged: usize, counted: usize)
+fn print_exported(
+    rt: &impl Print,
+    sheet: &[u8],
+    lifetimes: usize,
+    params: usize,
+    edged: usize,
+    counted: usize,
+)
     requires { (lifetimes ≤ 8192) × (params ≤ 8192) × (edged ≤ 20480) × (counted ≤ 8192) }
 {
     let mut used = rooms::words();
@@ -100,6 +119,7 @@ fn print_exported(sheet: &[u8], lifetimes: usize, params: usize, edged: usize, c
     let mut edges = rooms::edges();
     let mut counts = rooms::words();
     lend_exported(
+        rt,
         sheet,
         &mut used[..lifetimes],
         &mut answers[..params],
@@ -109,6 +129,7 @@ fn print_exported(sheet: &[u8], lifetimes: usize, params: usize, edged: usize, c
 }
 
 fn lend_exported(
+    rt: &impl Print,
     sheet: &[u8],
     used: &mut [usize],
     answers: &mut [usize],
@@ -116,34 +137,34 @@ fn lend_exported(
     counts: &mut [usize],
 ) {
     let status = borrows_sheet(sheet, used, answers, edges, counts);
-    print::next(status);
-    print::all(used);
-    print::all(answers);
-    print::all(edges);
-    print::all(counts);
+    print::next(rt, status);
+    print::all(rt, used);
+    print::all(rt, answers);
+    print::all(rt, edges);
+    print::all(rt, counts);
 }
 
 // `listing` and `borrows_listing`, with slices of these lengths for each.
-fn print_listed(sheet: &[u8], length: usize, counted: usize) {
+fn print_listed(rt: &impl Print, sheet: &[u8], length: usize, counted: usize) {
     let bytes = scan::least(length, rooms::BYTES);
     let words = scan::least(counted, rooms::WORDS);
     let mut out = rooms::bytes();
     let mut exported = rooms::bytes();
     let mut counts = rooms::words();
-    lend_listed(sheet, &mut out[..bytes]);
-    lend_exported_listing(sheet, &mut exported[..bytes], &mut counts[..words]);
+    lend_listed(rt, sheet, &mut out[..bytes]);
+    lend_exported_listing(rt, sheet, &mut exported[..bytes], &mut counts[..words]);
 }
 
-fn lend_listed(sheet: &[u8], out: &mut [u8]) {
+fn lend_listed(rt: &impl Print, sheet: &[u8], out: &mut [u8]) {
     let listed = listing(sheet, out);
-    print::first(print::number_in(listed));
-    print::next(print::count_in(listed));
-    print::bytes(out);
+    print::first(rt, print::number_in(listed));
+    print::next(rt, print::count_in(listed));
+    print::bytes(rt, out);
 }
 
-fn lend_exported_listing(sheet: &[u8], out: &mut [u8], counts: &mut [usize]) {
+fn lend_exported_listing(rt: &impl Print, sheet: &[u8], out: &mut [u8], counts: &mut [usize]) {
     let status = borrows_listing(sheet, out, counts);
-    print::next(status);
-    print::bytes(out);
-    print::all(counts);
+    print::next(rt, status);
+    print::bytes(rt, out);
+    print::all(rt, counts);
 }

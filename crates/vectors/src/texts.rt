@@ -10,7 +10,7 @@ use text::{Found, put_following, put_line, put_number, put_padded, put_text, rea
 // a number, a width, a record of words, and how long the lent slice is, at most 16,384. The number is for 1 and 2, the
 // width for 2, the record for the others; for 0 it is of bytes. The place that is answered, and all bytes of the slice,
 // which were dots.
-pub(crate) fn put(words: &[usize], at: usize) -> usize
+pub(crate) fn put(rt: &impl Print, words: &[usize], at: usize) -> usize
     requires { at ≤ length words.now }
     ensures { (at ≤ result) × (result ≤ length words.now) }
 {
@@ -20,6 +20,7 @@ pub(crate) fn put(words: &[usize], at: usize) -> usize
     let given = scan::behind(words, width);
     let room = scan::behind_record(words, given);
     print_room(
+        rt,
         scan::number(words, at),
         scan::number(words, place),
         scan::number(words, number),
@@ -27,13 +28,13 @@ pub(crate) fn put(words: &[usize], at: usize) -> usize
         scan::record(words, given),
         scan::least(scan::number(words, room), rooms::BYTES),
     );
-    print::end();
+    print::end(rt);
     scan::behind(words, room)
 }
 
 // Kind 29: a record of bytes, a place, and a limit. `read_number`: 0 for nothing; or 1, the value, and the place behind
 // its digits.
-pub(crate) fn read(words: &[usize], at: usize) -> usize
+pub(crate) fn read(rt: &impl Print, words: &[usize], at: usize) -> usize
     requires { at ≤ length words.now }
     ensures { (at ≤ result) × (result ≤ length words.now) }
 {
@@ -42,24 +43,34 @@ pub(crate) fn read(words: &[usize], at: usize) -> usize
     let mut bytes = rooms::bytes();
     let n = scan::lay(scan::record(words, at), &mut bytes);
     print_read(
+        rt,
         &bytes[..n],
         scan::number(words, place),
         scan::number(words, limit),
     );
-    print::end();
+    print::end(rt);
     scan::behind(words, limit)
 }
 
 // A printer with a slice of this length.
-fn print_room(which: usize, at: usize, number: usize, width: usize, given: &[usize], n: usize)
+fn print_room(
+    rt: &impl Print,
+    which: usize,
+    at: usize,
+    number: usize,
+    width: usize,
+    given: &[usize],
+    n: usize,
+)
     requires { n ≤ 16384 }
 {
     let mut out = rooms::bytes();
-    print_lent(which, at, number, width, given, &mut out[..n]);
+    print_lent(rt, which, at, number, width, given, &mut out[..n]);
 }
 
 // What a printer answers, and all bytes of the slice that it was lent.
 fn print_lent(
+    rt: &impl Print,
     which: usize,
     at: usize,
     number: usize,
@@ -68,8 +79,8 @@ fn print_lent(
     out: &mut [u8],
 ) {
     let behind = put_by(which, at, number, width, given, out);
-    print::first(behind);
-    print::bytes(out);
+    print::first(rt, behind);
+    print::bytes(rt, out);
 }
 
 // What the printer that is asked for answers.
@@ -98,14 +109,14 @@ fn put_bytes(out: &mut [u8], at: usize, given: &[usize]) -> usize {
 }
 
 // What is read at a place.
-fn print_read(bytes: &[u8], place: usize, limit: usize) {
+fn print_read(rt: &impl Print, bytes: &[u8], place: usize, limit: usize) {
     let found = read_number(bytes, place, limit);
     match found {
-        Found::Nothing => print::first(0),
+        Found::Nothing => print::first(rt, 0),
         Found::Number { value, at } => {
-            print::first(1);
-            print::next(value);
-            print::next(at);
+            print::first(rt, 1);
+            print::next(rt, value);
+            print::next(rt, at);
         }
     }
 }

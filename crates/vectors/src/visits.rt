@@ -10,7 +10,7 @@ use records::End;
 // Kind 13: an environment made by hand as in environments.rt, records structs, params, output, force, how many words
 // the lent slice has, at most 20,480, and the record of the params to visit. The number of `new` if it refuses; else 0,
 // for each visit what it answers, then how many edges are stored and all words of the slice, which were 99.
-pub(crate) fn visit_params(words: &[usize], at: usize) -> usize
+pub(crate) fn visit_params(rt: &impl Print, words: &[usize], at: usize) -> usize
     requires { at ≤ length words.now }
     ensures { (at ≤ result) × (result ≤ length words.now) }
 {
@@ -27,12 +27,12 @@ pub(crate) fn visit_params(words: &[usize], at: usize) -> usize
         scan::record(words, force),
     );
     let verdict = created.verdict;
-    print::first(print::number_of(verdict));
+    print::first(rt, print::number_of(verdict));
     if let Verdict::Accepted = verdict {
         let visitor = created.visitor;
-        print_visits(visitor, words, structs);
+        print_visits(rt, visitor, words, structs);
     }
-    print::end();
+    print::end(rt);
     behind_visits(words, lowered::behind_method(words, at))
 }
 
@@ -46,7 +46,7 @@ fn behind_visits(words: &[usize], at: usize) -> usize
 }
 
 // The visits that are asked for behind the records of the method.
-fn print_visits(visitor: BorrowingParamVisitor, words: &[usize], structs: usize)
+fn print_visits(rt: &impl Print, visitor: BorrowingParamVisitor, words: &[usize], structs: usize)
     requires { structs ≤ length words.now }
 {
     let params = scan::behind_record(words, structs);
@@ -55,6 +55,7 @@ fn print_visits(visitor: BorrowingParamVisitor, words: &[usize], structs: usize)
     let room = scan::behind_record(words, force);
     let visits = scan::behind(words, room);
     print_room(
+        rt,
         visitor,
         scan::record(words, structs),
         scan::record(words, params),
@@ -65,6 +66,7 @@ fn print_visits(visitor: BorrowingParamVisitor, words: &[usize], structs: usize)
 
 // The visits with a slice of this length.
 fn print_room(
+    rt: &impl Print,
     visitor: BorrowingParamVisitor,
     structs: &[usize],
     params: &[usize],
@@ -74,24 +76,26 @@ fn print_room(
     requires { n ≤ 20480 }
 {
     let mut edges = rooms::edges();
-    print_lent(visitor, structs, params, visits, &mut edges[..n]);
+    print_lent(rt, visitor, structs, params, visits, &mut edges[..n]);
 }
 
 // The visits, how many edges are stored, and all words of the slice that they were lent.
 fn print_lent(
+    rt: &impl Print,
     visitor: BorrowingParamVisitor,
     structs: &[usize],
     params: &[usize],
     visits: &[usize],
     edges: &mut [usize],
 ) {
-    let stored = print_answers(visitor, structs, params, visits, edges);
-    print::next(stored);
-    print::all(edges);
+    let stored = print_answers(rt, visitor, structs, params, visits, edges);
+    print::next(rt, stored);
+    print::all(rt, edges);
 }
 
 // What each visit answers, one after another. Answers how many edges are stored then.
 fn print_answers(
+    rt: &impl Print,
     visitor: BorrowingParamVisitor,
     structs: &[usize],
     params: &[usize],
@@ -103,7 +107,7 @@ fn print_answers(
     while i < visits.len() {
         let visited = state.visit_param(structs, params, visits[i], edges);
         let info = visited.info;
-        print_info(info);
+        print_info(rt, info);
         state = visited.visitor;
         i += 1;
     }
@@ -112,12 +116,12 @@ fn print_answers(
 
 // What a visit answers: the refusal's number or 0, the answer's number, and of how many definition lifetimes there are
 // pairs; for each of these it, how many used lifetimes it has, and they.
-fn print_info(info: ParamBorrowInfo) {
+fn print_info(rt: &impl Print, info: ParamBorrowInfo) {
     let verdict = info.verdict;
-    print::next(print::number_of(verdict));
-    print::next(info.number);
-    print::next(paired(info));
-    print_pairs(info);
+    print::next(rt, print::number_of(verdict));
+    print::next(rt, info.number);
+    print::next(rt, paired(info));
+    print_pairs(rt, info);
 }
 
 // How many definition lifetimes have pairs.
@@ -142,53 +146,53 @@ fn one(used: u64) -> usize
 }
 
 // Their pairs.
-fn print_pairs(info: ParamBorrowInfo) {
+fn print_pairs(rt: &impl Print, info: ParamBorrowInfo) {
     let mut i = 0;
     while i < End::MAX_LIST {
-        print_pair(i, info.pairs[i]);
+        print_pair(rt, i, info.pairs[i]);
         i += 1;
     }
 }
 
 // One definition lifetime and its used lifetimes; nothing for no used ones.
-fn print_pair(def: usize, used: u64) {
+fn print_pair(rt: &impl Print, def: usize, used: u64) {
     if used != 0 {
-        print::next(def);
-        print::next(set::count(used));
-        lowered::print_members(used);
+        print::next(rt, def);
+        print::next(rt, set::count(used));
+        lowered::print_members(rt, used);
     }
 }
 
 // Kind 27: a record of words, and a place. `edge_at`: 0 for none; or 1 and the values of the edge.
-pub(crate) fn edge(words: &[usize], at: usize) -> usize
+pub(crate) fn edge(rt: &impl Print, words: &[usize], at: usize) -> usize
     requires { at ≤ length words.now }
     ensures { (at ≤ result) × (result ≤ length words.now) }
 {
     let place = scan::behind_record(words, at);
     let found = edge_at(scan::record(words, at), scan::number(words, place));
     match found {
-        EdgeAt::Absent => print::first(0),
-        EdgeAt::Edge(edge) => print_edge(edge),
+        EdgeAt::Absent => print::first(rt, 0),
+        EdgeAt::Edge(edge) => print_edge(rt, edge),
     }
-    print::end();
+    print::end(rt);
     scan::behind(words, place)
 }
 
 // An edge that is there.
-fn print_edge(edge: LifetimeEdge) {
-    print::first(1);
-    print::next(edge.used);
-    print::next(edge.param);
-    print::next(edge.kind);
-    print::next(edge.def);
-    print::next(edge.option);
+fn print_edge(rt: &impl Print, edge: LifetimeEdge) {
+    print::first(rt, 1);
+    print::next(rt, edge.used);
+    print::next(rt, edge.param);
+    print::next(rt, edge.kind);
+    print::next(rt, edge.def);
+    print::next(rt, edge.option);
 }
 
 // Kind 30: a record of lifetimes, of which those below 64 are used, and a record of sets, one for each lifetime from 0
 // on, each as a number; the first 64 are taken, and the others are empty. `BorrowingParamVisitor::from_sets`: the set
 // of the used lifetimes as a number, how many edges are stored, and the drawn sets up to the last that is not empty,
 // with their number in front.
-pub(crate) fn from_sets(words: &[usize], at: usize) -> usize
+pub(crate) fn from_sets(rt: &impl Print, words: &[usize], at: usize) -> usize
     requires { at ≤ length words.now }
     ensures { (at ≤ result) × (result ≤ length words.now) }
 {
@@ -196,10 +200,10 @@ pub(crate) fn from_sets(words: &[usize], at: usize) -> usize
     let used = words::set_of(scan::record(words, at));
     let sets = sets_of(scan::record(words, given));
     let visitor = BorrowingParamVisitor::from_sets(used, &sets);
-    print::first(number_of(visitor.used));
-    print::next(visitor.stored);
-    print_drawn(visitor);
-    print::end();
+    print::first(rt, number_of(visitor.used));
+    print::next(rt, visitor.stored);
+    print_drawn(rt, visitor);
+    print::end(rt);
     scan::behind_record(words, given)
 }
 
@@ -226,10 +230,10 @@ fn number_of(members: u64) -> usize {
 }
 
 // The drawn sets up to the last that is not empty, with their number in front.
-fn print_drawn(visitor: BorrowingParamVisitor) {
+fn print_drawn(rt: &impl Print, visitor: BorrowingParamVisitor) {
     let n = drawn(visitor);
-    print::next(n);
-    print_sets(visitor, n);
+    print::next(rt, n);
+    print_sets(rt, visitor, n);
 }
 
 // How many drawn sets stand before those at the end that are empty.
@@ -247,12 +251,12 @@ fn drawn(visitor: BorrowingParamVisitor) -> usize
 }
 
 // The first drawn sets.
-fn print_sets(visitor: BorrowingParamVisitor, n: usize)
+fn print_sets(rt: &impl Print, visitor: BorrowingParamVisitor, n: usize)
     requires { n ≤ 64 }
 {
     let mut i = 0;
     while i < n {
-        print::next(number_of(visitor.draws[i]));
+        print::next(rt, number_of(visitor.draws[i]));
         i += 1;
     }
 }

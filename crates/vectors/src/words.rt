@@ -10,7 +10,7 @@ use records::copy_words;
 // Kind 19: 0 for `set::members`, 1 for `copy_words`; a record, a number, and how long the lent slice is. The set is
 // that of the record's lifetimes, those below 64; the copy is of so many of the record's words as the number says. The
 // refusal's number or 0, the count, and all words of the slice.
-pub(crate) fn list(words: &[usize], at: usize) -> usize
+pub(crate) fn list(rt: &impl Print, words: &[usize], at: usize) -> usize
     requires { at ≤ length words.now }
     ensures { (at ≤ result) × (result ≤ length words.now) }
 {
@@ -18,18 +18,19 @@ pub(crate) fn list(words: &[usize], at: usize) -> usize
     let count = scan::behind_record(words, given);
     let room = scan::behind(words, count);
     print_room(
+        rt,
         0 < scan::number(words, at),
         scan::record(words, given),
         scan::number(words, count),
         scan::least(scan::number(words, room), rooms::WORDS),
     );
-    print::end();
+    print::end(rt);
     scan::behind(words, room)
 }
 
 // Kind 20: 0 for static, 1 for the lifetime with the number behind it. Its lowered word as a lifetime of a method, and
 // as one of a definition: 0 and the word, or 1 and 0 where it has none.
-pub(crate) fn word(words: &[usize], at: usize) -> usize
+pub(crate) fn word(rt: &impl Print, words: &[usize], at: usize) -> usize
     requires { at ≤ length words.now }
     ensures { (at ≤ result) × (result ≤ length words.now) }
 {
@@ -38,28 +39,28 @@ pub(crate) fn word(words: &[usize], at: usize) -> usize
     let number = scan::number(words, place);
     let method = word_of(code, number);
     let definition = def_word_of(code, number);
-    print::first(absent(method));
-    print::next(value(method));
-    print::next(absent(definition));
-    print::next(value(definition));
-    print::end();
+    print::first(rt, absent(method));
+    print::next(rt, value(method));
+    print::next(rt, absent(definition));
+    print::next(rt, value(definition));
+    print::end(rt);
     scan::behind(words, place)
 }
 
 // A list with a slice of this length.
-fn print_room(copied: bool, given: &[usize], count: usize, n: usize)
+fn print_room(rt: &impl Print, copied: bool, given: &[usize], count: usize, n: usize)
     requires { n ≤ 8192 }
 {
     let mut out = rooms::words();
-    print_lent(copied, given, count, &mut out[..n]);
+    print_lent(rt, copied, given, count, &mut out[..n]);
 }
 
 // What a call answers, and all words of the slice that it was lent.
-fn print_lent(copied: bool, given: &[usize], count: usize, out: &mut [usize]) {
+fn print_lent(rt: &impl Print, copied: bool, given: &[usize], count: usize, out: &mut [usize]) {
     let listed = list_to(copied, given, count, out);
-    print::first(print::number_in(listed));
-    print::next(print::count_in(listed));
-    print::all(out);
+    print::first(rt, print::number_in(listed));
+    print::next(rt, print::count_in(listed));
+    print::all(rt, out);
 }
 
 // `copy_words`, or `set::members`.

@@ -4,4 +4,4 @@ use lib.Seq.{length-take-le}
 use Rattle.readings.proofs.answer.Goals as goal
 
 pub slice_bounds-ask-end-2 : goal.slice_bounds-ask-end-2
-slice_bounds-ask-end-2 c = sym (length-take-le _ _ c.lay_all-laid.ensures.size_in_bounds)
+slice_bounds-ask-end-2 g c = sym (length-take-le _ _ c.lay_all-laid.ensures.size_in_bounds)

@@ -4,4 +4,4 @@ use lib.Seq.{length-take-le}
 use Rattle.rewrite.proofs.answer.Goals as goal
 
 pub slice_bounds-write_all-end-2 : goal.slice_bounds-write_all-end-2
-slice_bounds-write_all-end-2 c = sym (length-take-le _ _ c.least-n.ensures.1)
+slice_bounds-write_all-end-2 g c = sym (length-take-le _ _ c.least-n.ensures.1)

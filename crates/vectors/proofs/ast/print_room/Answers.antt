@@ -4,4 +4,4 @@ use lib.Seq.{length-take-le}
 use Rattle.vectors.proofs.ast.print_room.Goals as goal
 
 pub slice_bounds-print_lent-end : goal.slice_bounds-print_lent-end
-slice_bounds-print_lent-end c = sym (length-take-le c.args.n _ c.requires)
+slice_bounds-print_lent-end g c = sym (length-take-le c.args.n _ c.requires)

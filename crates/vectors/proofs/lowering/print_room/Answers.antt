@@ -5,10 +5,10 @@ use borrow.Author.Rules.{rules}
 use Rattle.vectors.proofs.lowering.print_room.Goals as goal
 
 pub slice_bounds-print_lent-end : goal.slice_bounds-print_lent-end
-slice_bounds-print_lent-end c = sym (length-take-le _ _ (search rules))
+slice_bounds-print_lent-end g c = sym (length-take-le _ _ (search rules))
 
 pub slice_bounds-print_lent-end-2 : goal.slice_bounds-print_lent-end-2
-slice_bounds-print_lent-end-2 c = sym (length-take-le _ _ (search rules))
+slice_bounds-print_lent-end-2 g c = sym (length-take-le _ _ (search rules))
 
 pub slice_bounds-print_lent-end-3 : goal.slice_bounds-print_lent-end-3
-slice_bounds-print_lent-end-3 c = sym (length-take-le _ _ (search rules))
+slice_bounds-print_lent-end-3 g c = sym (length-take-le _ _ (search rules))

@@ -5,4 +5,4 @@ use borrow.Author.Rules.{rules}
 use Rattle.vectors.proofs.sheets.ask.Goals as goal
 
 pub slice_bounds-print_sheet-end : goal.slice_bounds-print_sheet-end
-slice_bounds-print_sheet-end c = sym (length-take-le _ _ (search rules))
+slice_bounds-print_sheet-end g c = sym (length-take-le _ _ (search rules))

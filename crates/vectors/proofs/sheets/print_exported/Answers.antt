@@ -5,13 +5,13 @@ use borrow.Author.Rules.{rules}
 use Rattle.vectors.proofs.sheets.print_exported.Goals as goal
 
 pub slice_bounds-lend_exported-end : goal.slice_bounds-lend_exported-end
-slice_bounds-lend_exported-end c = sym (length-take-le _ _ (search rules))
+slice_bounds-lend_exported-end g c = sym (length-take-le _ _ (search rules))
 
 pub slice_bounds-lend_exported-end-2 : goal.slice_bounds-lend_exported-end-2
-slice_bounds-lend_exported-end-2 c = sym (length-take-le _ _ (search rules))
+slice_bounds-lend_exported-end-2 g c = sym (length-take-le _ _ (search rules))
 
 pub slice_bounds-lend_exported-end-3 : goal.slice_bounds-lend_exported-end-3
-slice_bounds-lend_exported-end-3 c = sym (length-take-le _ _ (search rules))
+slice_bounds-lend_exported-end-3 g c = sym (length-take-le _ _ (search rules))
 
 pub slice_bounds-lend_exported-end-4 : goal.slice_bounds-lend_exported-end-4
-slice_bounds-lend_exported-end-4 c = sym (length-take-le _ _ (search rules))
+slice_bounds-lend_exported-end-4 g c = sym (length-take-le _ _ (search rules))

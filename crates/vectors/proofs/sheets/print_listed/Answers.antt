@@ -5,10 +5,10 @@ use borrow.Author.Rules.{rules}
 use Rattle.vectors.proofs.sheets.print_listed.Goals as goal
 
 pub slice_bounds-lend_listed-end : goal.slice_bounds-lend_listed-end
-slice_bounds-lend_listed-end c = sym (length-take-le _ _ (search rules))
+slice_bounds-lend_listed-end g c = sym (length-take-le _ _ (search rules))
 
 pub slice_bounds-lend_exported_listing-end : goal.slice_bounds-lend_exported_listing-end
-slice_bounds-lend_exported_listing-end c = sym (length-take-le _ _ (search rules))
+slice_bounds-lend_exported_listing-end g c = sym (length-take-le _ _ (search rules))
 
 pub slice_bounds-lend_exported_listing-end-2 : goal.slice_bounds-lend_exported_listing-end-2
-slice_bounds-lend_exported_listing-end-2 c = sym (length-take-le _ _ (search rules))
+slice_bounds-lend_exported_listing-end-2 g c = sym (length-take-le _ _ (search rules))

@@ -5,4 +5,4 @@ use borrow.Author.Rules.{rules}
 use Rattle.vectors.proofs.sheets.print_lowered.Goals as goal
 
 pub slice_bounds-lend_lowered-end : goal.slice_bounds-lend_lowered-end
-slice_bounds-lend_lowered-end c = sym (length-take-le _ _ (search rules))
+slice_bounds-lend_lowered-end g c = sym (length-take-le _ _ (search rules))

@@ -6,4 +6,4 @@ use borrow.Author.Rules.{rules}
 use Rattle.vectors.proofs.texts.read.Goals as goal
 
 pub slice_bounds-print_read-end : goal.slice_bounds-print_read-end
-slice_bounds-print_read-end c = sym (length-take-le _ _ (search rules))
+slice_bounds-print_read-end g c = sym (length-take-le _ _ (search rules))

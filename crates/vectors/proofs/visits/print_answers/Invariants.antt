@@ -5,7 +5,7 @@ use lib.ListN.{length}
 use Rattle.vectors.proofs.visits.print_answers.Given as goal
 
 abbrev pub invariant-loop-i : goal.invariant-loop-i
-invariant-loop-i l = (l.i ≤ length l.visits) × (length l.edges ≡ length l.initial.edges)
+invariant-loop-i g l = (l.i ≤ length l.visits) × (length l.edges ≡ length l.initial.edges)
 
 abbrev pub decreases-loop-i : goal.decreases-loop-i
-decreases-loop-i l = length l.visits - l.i
+decreases-loop-i g l = length l.visits - l.i

@@ -5,4 +5,4 @@ use borrow.Author.Rules.{rules}
 use Rattle.vectors.proofs.visits.print_room.Goals as goal
 
 pub slice_bounds-print_lent-end : goal.slice_bounds-print_lent-end
-slice_bounds-print_lent-end c = sym (length-take-le _ _ (search rules))
+slice_bounds-print_lent-end g c = sym (length-take-le _ _ (search rules))

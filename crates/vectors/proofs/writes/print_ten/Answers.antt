@@ -5,4 +5,4 @@ use borrow.Author.Rules.{rules}
 use Rattle.vectors.proofs.writes.print_ten.Goals as goal
 
 pub slice_bounds-lend_ten-end : goal.slice_bounds-lend_ten-end
-slice_bounds-lend_ten-end c = sym (length-take-le _ _ (search rules))
+slice_bounds-lend_ten-end g c = sym (length-take-le _ _ (search rules))
