@@ -9,7 +9,7 @@ returns-in_default c = let it = measured_refused c.args.sheet.now c.args.out.now
 
 pub returns-then-out-count : goal.returns-then-out-count
 returns-then-out-count c = let it = too_long c.args.sheet.now c.args.out.now c.list_sheet-measured.result [] c.list_sheet-measured.new.out c.list_sheet-measured.ensures
-    c.decreases.given.1 c.if-out-count.true in
+    c.in-Count.is c.if-out-count.true in
     record { value = it.0; fills = it.1 }
 
 pub returns : goal.returns
