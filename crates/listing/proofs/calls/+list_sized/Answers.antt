@@ -14,8 +14,10 @@ returns-then-bytes-le-SMALL t c =
 
 pub returns-in_default-tried : goal.returns-in_default-tried
 returns-in_default-tried t c =
-    tried_again c.args.sheet.now ⊥ c.list_1024-tried.result c.list_sized-in_default-tried.result c.args.out.now c.list_1024-tried.new.out
-    c.list_sized-in_default-tried.new.out c.list_1024-tried.ensures c.in_default-tried.is c.list_sized-in_default-tried.ensures
+    tried_again c.args.sheet.now ⊥ c.list_1024-tried.result c.list_sized-in_default-tried.result c.args.out.now
+    c.list_1024-tried.new.out
+    c.list_sized-in_default-tried.new.out c.list_1024-tried.ensures c.in_default-tried.is
+    c.list_sized-in_default-tried.ensures
 
 pub returns-then-bytes-le-MIDDLE : goal.returns-then-bytes-le-MIDDLE
 returns-then-bytes-le-MIDDLE t c =
@@ -24,8 +26,10 @@ returns-then-bytes-le-MIDDLE t c =
 
 pub returns-in_default-tried-2 : goal.returns-in_default-tried-2
 returns-in_default-tried-2 t c =
-    tried_again c.args.sheet.now ⊥ c.list_4096-tried.result c.list_sized-in_default-tried-2.result c.args.out.now c.list_4096-tried.new.out
-    c.list_sized-in_default-tried-2.new.out c.list_4096-tried.ensures c.in_default-tried-2.is c.list_sized-in_default-tried-2.ensures
+    tried_again c.args.sheet.now ⊥ c.list_4096-tried.result c.list_sized-in_default-tried-2.result c.args.out.now
+    c.list_4096-tried.new.out
+    c.list_sized-in_default-tried-2.new.out c.list_4096-tried.ensures c.in_default-tried-2.is
+    c.list_sized-in_default-tried-2.ensures
 
 pub returns-then-bytes-le-LARGE : goal.returns-then-bytes-le-LARGE
 returns-then-bytes-le-LARGE t c =
