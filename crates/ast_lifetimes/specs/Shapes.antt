@@ -38,7 +38,8 @@ pairs_of (l ∷ s ∷ words) = pair l s ∷ pairs_of words
 
 unfoldable pub bounds_in_shape : List ℕ → Bool
 bounds_in_shape [] = false
-bounds_in_shape (impls ∷ words) = few_words (impls ∷ words) && (eqb (length words % 2) 0 && leb impls (length words / 2))
+bounds_in_shape (impls ∷ words) =
+    few_words (impls ∷ words) && (eqb (length words % 2) 0 && leb impls (length words / 2))
 
 abbrev pub impl_pairs : List ℕ → List Pair
 impl_pairs [] = []

@@ -46,7 +46,8 @@ pub(crate) fn push_pair(
     pushed: usize,
 ) -> Verdict
     requires named_le_most_names { (named ≤ most_names) × (length names.now ≡ most_names) }
-    requires pushed_le_most_bounds { (pushed ≤ most_bounds) × (length longs.old ≡ most_bounds) × (length shorts.old ≡ most_bounds) }
+    requires pushed_le_most_bounds { (pushed ≤ most_bounds) × (length longs.old ≡ most_bounds)
+        × (length shorts.old ≡ most_bounds) }
     ensures { Pushes (take named names.now) (pair longer shorter ∷ []) (held longs) (held shorts) (left longs)
         (left shorts) pushed result }
 {
@@ -79,7 +80,8 @@ pub(crate) fn push_pairs(
 ) -> Verdict
     requires count_in_bounds { from + 2 * count ≤ length words.now }
     requires named_le_most_names { (named ≤ most_names) × (length names.now ≡ most_names) }
-    requires pushed_le_most_bounds { (pushed ≤ most_bounds) × (length longs.old ≡ most_bounds) × (length shorts.old ≡ most_bounds) }
+    requires pushed_le_most_bounds { (pushed ≤ most_bounds) × (length longs.old ≡ most_bounds)
+        × (length shorts.old ≡ most_bounds) }
     ensures { Pushes (take named names.now) (pairs_of (slice from (from + 2 * count) words.now))
         (held longs) (held shorts) (left longs) (left shorts) pushed result }
 {

@@ -7,7 +7,8 @@ ghost use Rattle.lifetimes.specs.Bounds.{all_below, bounds_from};
 ghost use Rattle.records.specs.Reading.{shape_verdict};
 ghost use Rattle.ast_lifetimes.specs.Shapes.{names_in_shape, bounds_in_shape};
 ghost use Rattle.ast_lifetimes.specs.Types.{types_in_shape};
-ghost use Rattle.ast_lifetimes.specs.Env.{all_pair_checks, named_env, env_checks, names_of, from_method_item, implied_on};
+ghost use Rattle.ast_lifetimes.specs.Env.{all_pair_checks, named_env, env_checks, names_of, from_method_item};
+ghost use Rattle.ast_lifetimes.specs.Env.{implied_on};
 ghost use Rattle.ast_lifetimes.specs.Env.{most_names, extended_with, extend_implied, list_than, made};
 ghost use Rattle.ast_lifetimes.specs.Inner.{sides_of, Splits, Built};
 ghost use Rattle.lifetimes.specs.Limits.{most_bounds};
@@ -339,7 +340,8 @@ fn assembled(
 
 // The first bounds of two arrays of sides.
 fn joined(longs: &[u8; Bounds::MAX], shorts: &[u8; Bounds::MAX], pushed: usize) -> Bounds
-    requires pushed_le_most_bounds { (pushed ≤ most_bounds) × (length longs.now ≡ most_bounds) × (length shorts.now ≡ most_bounds) }
+    requires pushed_le_most_bounds { (pushed ≤ most_bounds) × (length longs.now ≡ most_bounds)
+        × (length shorts.now ≡ most_bounds) }
     requires shorts_value { all_below 255 (sides_of pushed longs.now shorts.now) ≡ true }
     ensures { result ≡ bounds_from (sides_of pushed longs.now shorts.now) }
 {

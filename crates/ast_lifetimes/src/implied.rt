@@ -49,7 +49,8 @@ pub(crate) fn close(
     named: usize,
     reach: &mut [u64; LifetimeEnv::MAX_NAMES],
 )
-    requires named_le_most_names { (named ≤ most_names) × (pushed ≤ most_bounds) × SidesBelow named pushed longs.now shorts.now }
+    requires named_le_most_names { (named ≤ most_names) × (pushed ≤ most_bounds)
+        × SidesBelow named pushed longs.now shorts.now }
     requires longs_len { (length longs.now ≡ most_bounds) × (length shorts.now ≡ most_bounds)
         × (length reach.old ≡ most_names) }
     ensures { (length (left reach) ≡ most_names) × OutliveSets (sides_of pushed longs.now shorts.now) named
@@ -130,7 +131,8 @@ fn push_path(
 ) -> Implied
     requires from_le_to { (from ≤ to) × (to ≤ length words.now) }
     requires named_le_most_names { (named ≤ most_names) × (length names.now ≡ most_names) }
-    requires pushed_le_most_bounds { (pushed ≤ most_bounds) × (length longs.old ≡ most_bounds) × (length shorts.old ≡ most_bounds) }
+    requires pushed_le_most_bounds { (pushed ≤ most_bounds) × (length longs.old ≡ most_bounds)
+        × (length shorts.old ≡ most_bounds) }
     requires reach_len { (length reach.old ≡ most_names)
         × OutliveSets (sides_of pushed longs.old shorts.old) named reach.old }
     ensures { Extends (take named names.now)
@@ -177,7 +179,8 @@ pub(crate) fn push_types(
 ) -> Implied
     requires ts_value { (ts : List TypeName) × (encode_all ts ≡ types.now) }
     requires named_le_most_names { (named ≤ most_names) × (length names.now ≡ most_names) }
-    requires pushed_le_most_bounds { (pushed ≤ most_bounds) × (length longs.old ≡ most_bounds) × (length shorts.old ≡ most_bounds) }
+    requires pushed_le_most_bounds { (pushed ≤ most_bounds) × (length longs.old ≡ most_bounds)
+        × (length shorts.old ≡ most_bounds) }
     requires reach_len { (length reach.old ≡ most_names)
         × OutliveSets (sides_of pushed longs.old shorts.old) named reach.old }
     ensures { (ts : List TypeName) → encode_all ts ≡ types.now

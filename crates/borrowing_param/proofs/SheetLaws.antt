@@ -79,6 +79,7 @@ module _ (bytes : List ℕ) where
         none_of : FirstDue k (room_check (length scratch) (words_of sheet) ∷ [])
             → (room_check (length scratch) (words_of sheet)).due ≡ false → ⊥
         none_of (here d e) z = let y : ◌≡◌ {A = ℕ} 0 1 = cc in omega arith
+        none_of (later _ x7) z = elim x7 [ ]
 
         go : FirstDue k (shape.sheet_checks bytes)
             ⊎ (NoneDue (shape.sheet_checks bytes) × FirstDue k (room_check (length scratch) (words_of sheet) ∷ []))

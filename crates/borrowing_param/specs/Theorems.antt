@@ -69,7 +69,8 @@ Condition3 =
 -- are what `Consistent` says: in 01's order, each edge of one of the used lifetimes and of one of the parameters, its
 -- kind by the parameter's answer, and a parameter with an edge exactly if its answer is one that borrows
 abbrev pub ListingInOrder : Type 0
-ListingInOrder = (v : BorrowingParamVisitor) (structs params : List ℕ) → NoneDue (structs_and_params_checks structs params)
+ListingInOrder = (v : BorrowingParamVisitor) (structs params : List ℕ)
+    → NoneDue (structs_and_params_checks structs params)
     → Consistent (used_of v) (answers_from v 0 (types_in structs params)) (listed_edges v (types_in structs params))
 
 -- and small, of every method on which no refusal is due, so that memory can be sized by it: `Consistent`, which holds

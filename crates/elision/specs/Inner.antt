@@ -35,7 +35,8 @@ pub data StandsAt (words : List ℕ) (at : ℕ) : Reading Step → StepAt → Ty
   generics : {g from to : ℕ} {ls rest : List ℕ} → take (to - from) (drop from words) ≡ ls → drop to words ≡ rest
       → at < to → from ≤ to → to ≤ length words
       → StandsAt words at (Read (Generics g ls) rest) (standing.Generics g from to)
-  self_type : {from to : ℕ} {ls rest : List ℕ} → take (to - from) (drop from words) ≡ ls → drop to words ≡ rest → at < to
+  self_type : {from to : ℕ} {ls rest : List ℕ} → take (to - from) (drop from words) ≡ ls → drop to words ≡ rest
+      → at < to
       → from ≤ to → to ≤ length words
       → StandsAt words at (Read (SelfType ls) rest) (standing.SelfType from to)
   missing : StandsAt words at Fails standing.Missing

@@ -54,7 +54,8 @@ unfoldable pub finish_env : ast.LifetimeEnv → ℕ → Outcome hir.LifetimeEnv
 finish_env e count = unless (env_checks e ++ hirenv.env_checks (finished e count)) (finished e count)
 
 unfoldable pub measure_records : ast.LifetimeEnv → List ℕ → List ℕ → List ℕ → Outcome Method
-measure_records e self steps returns = unless (measure_checks e self steps returns) (lowered_records e self steps returns)
+measure_records e self steps returns =
+    unless (measure_checks e self steps returns) (lowered_records e self steps returns)
 
 unfoldable pub lower_records : ast.LifetimeEnv → List ℕ → List ℕ → List ℕ → ℕ → ℕ → ℕ → Outcome Method
 lower_records e self steps returns own given taken =

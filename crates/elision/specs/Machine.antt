@@ -1,7 +1,8 @@
 -- The lowerer's steps: how each leaves it for the next. Total on every lowerer: the lifetimes kept are the first n of
 -- 16 places, and a new lifetime at a count of 64 or more is 4. specs/Theorems.antt says that they give what
 -- specs/Rfc.antt says.
-use Rattle.std.specs.Prelude.{ℕ, ◌+◌, ◌-◌, Bool, true, false, cond, ◌&&◌, List, [], ◌∷◌, ◌++◌, map, eqb, leb, length, take, replicate}
+use Rattle.std.specs.Prelude.{ℕ, ◌+◌, ◌-◌, Bool, true, false, cond, ◌&&◌, List, [], ◌∷◌, ◌++◌, map, eqb, leb}
+use Rattle.std.specs.Prelude.{length, take, replicate}
 use Rattle.answers.specs.declared.Refusal.TheVariants.{Malformed, Undeclared, Full, NoSource, Ambiguous}
 use Rattle.answers.specs.declared.Verdict.TheVariants as verdict
 use Rattle.lifetimes.specs.declared.maybe_static.MaybeStatic.{MaybeStatic}

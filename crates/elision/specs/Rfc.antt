@@ -3,7 +3,8 @@
 --
 -- In order: occurrences of lifetimes in a method; the lifetimes that the inputs make; the source of elision; the value
 -- of each occurrence and the refusals due at it; steps; the whole method.
-use Rattle.std.specs.Prelude.{ℕ, ◌+◌, ◌-◌, Bool, true, false, cond, ◌&&◌, not, List, [], ◌∷◌, ◌++◌, map, eqb, leb, length, replicate}
+use Rattle.std.specs.Prelude.{ℕ, ◌+◌, ◌-◌, Bool, true, false, cond, ◌&&◌, not, List, [], ◌∷◌, ◌++◌, map, eqb}
+use Rattle.std.specs.Prelude.{leb, length, replicate}
 use Rattle.answers.specs.declared.Refusal.TheVariants.{Undeclared, Full, NoSource, Ambiguous}
 use Rattle.lifetimes.specs.declared.maybe_static.MaybeStatic.{MaybeStatic}
 use Rattle.lifetimes.specs.declared.maybe_static.MaybeStatic.TheVariants.{Static, NonStatic}

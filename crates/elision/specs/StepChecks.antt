@@ -1,5 +1,6 @@
 -- The refusals of one step on any lowerer, in order, from the step's words and the lowerer that it finds: as if nothing
--- before were refused. specs/Theorems.antt says that `one_step`, `worded_step` and `self_ref` of specs/Machine.antt refuse
+-- before were refused. specs/Theorems.antt says that `one_step`, `worded_step` and `self_ref` of
+-- specs/Machine.antt refuse
 -- by the first of them that is due.
 use Rattle.std.specs.Prelude.{ℕ, ◌+◌, Bool, true, false, cond, ◌&&◌, not, List, [], ◌∷◌, eqb, leb}
 use Rattle.answers.specs.declared.Refusal.TheVariants.{Malformed, Undeclared, Full, NoSource, Ambiguous}

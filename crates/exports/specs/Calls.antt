@@ -9,7 +9,8 @@ use Rattle.sheet.specs.Reading.{sheet_of}
 use Rattle.sheet.specs.Answer.{records_at}
 use Rattle.sheet_writer.specs.Laid.{laid_checks}
 use Rattle.borrowing_param.specs.SheetMethod.{sheet_refusals}
-use Rattle.borrowing_param.specs.Borrows.{Borrows, sheet_borrows, borrows_room_checks, used_words, answer_words, edges_words}
+use Rattle.borrowing_param.specs.Borrows.{Borrows, sheet_borrows, borrows_room_checks, used_words}
+use Rattle.borrowing_param.specs.Borrows.{answer_words, edges_words}
 use Rattle.listing.specs.Listing.{listing_of, listing_checks}
 
 -- 0, or the papers' number of the refusal

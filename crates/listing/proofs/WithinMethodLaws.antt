@@ -16,7 +16,7 @@ use Rattle.answers.specs.declared.Listed.TheVariants as listed
 use Rattle.answers.specs.declared.Verdict.TheVariants as verdict
 use Rattle.lifetimes.specs.declared.env.LifetimeEnv.{LifetimeEnv}
 use Rattle.lifetimes.specs.declared.reach.Lists as reach
-use Rattle.answers.specs.Refusals.{Check, Outcome, Gives, Refuses, FirstDue, here, NoneDue, next, end}
+use Rattle.answers.specs.Refusals.{Check, Outcome, Gives, Refuses, FirstDue, here, later, NoneDue, next, end}
 use Rattle.answers.specs.Lent.{written, verdict_of, result_or, room_check}
 use Rattle.answers.specs.Lists.{range}
 use Rattle.lifetimes.specs.Sets as sets
@@ -225,6 +225,7 @@ module _ {env : LifetimeEnv} {used : ℕ} {structs params own given taken : List
           where
             go : FirstDue k (edges_ask ∷ []) → length edges < width * length borrows.edges
             go (here d e) = omega (arith, ltb-true (length edges) (length (flat_map edge_words (listed_edges visitor types))) d, words_are)
+            go (later _ x6) = elim x6 [ ]
 
         pub map_refused : {k : Refusal} (w : Within) (out : List ℕ) → m.verdict ≡ verdict.Refused k → w ≡ edges_overflow (length edges₁)
             → ListsWithin listing ((lists_room ≤ length lists) × (edges_room ≤ length edges)) out w out

@@ -37,7 +37,8 @@ lowered_lines m = lowered_heading ++ (line (words m.self) ++ (line (words m.step
 
 -- "lifetime longer": each lifetime, then what outlives it, in the HIR's order
 abbrev pub longer_heading : List ℕ
-longer_heading = 108 ∷ 105 ∷ 102 ∷ 101 ∷ 116 ∷ 105 ∷ 109 ∷ 101 ∷ space ∷ 108 ∷ 111 ∷ 110 ∷ 103 ∷ 101 ∷ 114 ∷ newline ∷ []
+longer_heading =
+    108 ∷ 105 ∷ 102 ∷ 101 ∷ 116 ∷ 105 ∷ 109 ∷ 101 ∷ space ∷ 108 ∷ 111 ∷ 110 ∷ 103 ∷ 101 ∷ 114 ∷ newline ∷ []
 
 abbrev pub longer_line : LifetimeEnv → ℕ → List ℕ
 longer_line env l = line (l ∷ reach_list true env l)

@@ -1,6 +1,7 @@
 -- `compute_for_struct_field`: for one struct-typed field of a row, each lifetime of the field's definition with the
 -- outer row's lifetime that fills it.
-use Rattle.std.specs.Prelude.{ℕ, ◌-◌, Bool, true, false, cond, not, ◌&&◌, List, [], ◌∷◌, ◌++◌, ltb, length, get_or, replicate}
+use Rattle.std.specs.Prelude.{ℕ, ◌-◌, Bool, true, false, cond, not, ◌&&◌, List, [], ◌∷◌, ◌++◌, ltb, length}
+use Rattle.std.specs.Prelude.{get_or, replicate}
 use Rattle.answers.specs.declared.Refusal.TheVariants.{Malformed}
 use Rattle.lifetimes.specs.declared.maybe_static.MaybeStaticDef.{MaybeStaticDef}
 use Rattle.lifetimes.specs.declared.maybe_static.MaybeStaticDef.TheVariants.{Static, NonStatic}

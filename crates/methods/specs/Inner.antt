@@ -75,7 +75,8 @@ pub record Indexes (structs lifetimes : List ℕ) (r : Verdict) : Type 0 where
 
 -- the set with the numbers of some lifetimes put in, if none is past the count
 pub data CollectIs (count set : ℕ) (l : List MaybeStatic) : Collected → Type 0 where
-  within : {more : ℕ} → any_past count l ≡ false → more ≡ insert_all set (numbers_of l) → CollectIs count set l (Set more)
+  within : {more : ℕ} → any_past count l ≡ false → more ≡ insert_all set (numbers_of l)
+      → CollectIs count set l (Set more)
   past : any_past count l ≡ true → CollectIs count set l Past
 
 -- so many words from a place on are there, if any

@@ -49,7 +49,8 @@ pub record FieldFilled (declared : ℕ) (path : List ℕ) (pairs : List FieldPai
 -- `compute_for_struct_field` (01: "for one struct-typed field, under code 4 or not, ascending, each lifetime of the
 -- field's definition with the outer row's lifetime that fills it; static and numbers past the row's d are left out")
 abbrev pub FieldPairsAre : Type 0
-FieldPairsAre = (structs : List ℕ) (row field : ℕ) (pairs : List FieldPair) → field_pairs structs row field ≡ Gives pairs
+FieldPairsAre = (structs : List ℕ) (row field : ℕ) (pairs : List FieldPair) → field_pairs structs row field
+    ≡ Gives pairs
     → FieldFilled (row_at (rows_of structs) row).lifetimes (field_at (rows_of structs) row field).path pairs
 
 -- The examples

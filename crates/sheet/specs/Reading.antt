@@ -1,6 +1,7 @@
 -- Reading the bytes of a sheet. That this is the inverse of `text`, with 01's refusals, is TextIsOneToOne and
 -- ReadingIsInverse in specs/Theorems.antt.
-use Rattle.std.specs.Prelude.{ℕ, ◌+◌, ◌*◌, ◌-◌, Bool, true, false, cond, not, ◌&&◌, List, [], ◌∷◌, eqb, ltb, leb, length, get_or}
+use Rattle.std.specs.Prelude.{ℕ, ◌+◌, ◌*◌, ◌-◌, Bool, true, false, cond, not, ◌&&◌, List, [], ◌∷◌, eqb, ltb}
+use Rattle.std.specs.Prelude.{leb, length, get_or}
 use Rattle.std.proofs.Math.Option
 use Rattle.std.proofs.Math.Option.{Option, none, some}
 use Rattle.answers.specs.declared.Refusal.TheVariants.{Malformed, Unreadable}
@@ -102,7 +103,8 @@ all_short ls = all few_words ls
 
 -- The checks of a sheet's text, in 01's order: 10; then 1 for a record above 1,024 words, once the whole text is read
 unfoldable pub text_checks : List ℕ → List Check
-text_checks bytes = check (is_none (sheet_in bytes)) Unreadable ∷ check (not (all_short (lists (sheet_of bytes)))) Malformed
+text_checks bytes =
+    check (is_none (sheet_in bytes)) Unreadable ∷ check (not (all_short (lists (sheet_of bytes)))) Malformed
     ∷ []
 
 unfoldable pub read_text : List ℕ → Outcome Records

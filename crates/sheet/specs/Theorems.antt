@@ -47,7 +47,8 @@ pub record ReadsInShape (bytes : List ℕ) : Type 0 where
   pub given : (r : Records) → (read_sheet bytes ≡ Gives r)
       ↔ (IsSheet bytes r × (sheet_in_shape r ≡ true) × (forced r.force ≡ false))
   pub unreadable : (read_sheet bytes ≡ Refuses Unreadable) ↔ ((r : Records) → IsSheet bytes r → ⊥)
-  pub malformed : (read_sheet bytes ≡ Refuses Malformed) ↔ ((r : Records) × IsSheet bytes r × (sheet_in_shape r ≡ false))
+  pub malformed : (read_sheet bytes ≡ Refuses Malformed) ↔ ((r : Records) × IsSheet bytes r × (sheet_in_shape r
+      ≡ false))
   pub retired : (read_sheet bytes ≡ Refuses Retired)
       ↔ ((r : Records) × IsSheet bytes r × (sheet_in_shape r ≡ true) × (forced r.force ≡ true))
   pub refusals : (k : Refusal) → read_sheet bytes ≡ Refuses k

@@ -22,4 +22,5 @@ laid_checks words ends = check (not (are_ends (length words) ends)) Malformed �
 
 unfoldable pub write_laid : List ℕ → List ℕ → ℕ → Outcome (List ℕ)
 write_laid words ends room =
-    unless (laid_checks words ends ++ (room_check room (text (records_at words ends)) ∷ [])) (text (records_at words ends))
+    unless (laid_checks words ends ++ (room_check room (text (records_at words ends))
+    ∷ [])) (text (records_at words ends))

@@ -23,7 +23,8 @@ pub record Inverse : Type 0 where
   pub again : (bytes : List ℕ) (r : Records) (room : ℕ) → read_sheet bytes ≡ Gives r → length bytes ≤ room
       → write_sheet r room ≡ Gives bytes
   -- "no two sheets have the same records"
-  pub one : (bytes other : List ℕ) (r : Records) → read_sheet bytes ≡ Gives r → read_sheet other ≡ Gives r → bytes ≡ other
+  pub one : (bytes other : List ℕ) (r : Records) → read_sheet bytes ≡ Gives r → read_sheet other ≡ Gives r → bytes
+      ≡ other
   -- a written sheet has at most 61,506 bytes
   pub short : (r : Records) (room : ℕ) (bytes : List ℕ) → write_sheet r room ≡ Gives bytes → length bytes ≤ most_written
 
@@ -32,7 +33,8 @@ WritingIsInverse = Inverse
 
 -- With room for 61,506 bytes no refusal comes from what is lent
 abbrev pub RoomForAnyWritten : Type 0
-RoomForAnyWritten = (r : Records) (room : ℕ) → most_written ≤ room → write_sheet r room ≡ unless (write_checks r) (text r)
+RoomForAnyWritten = (r : Records) (room : ℕ) → most_written ≤ room → write_sheet r room
+    ≡ unless (write_checks r) (text r)
 
 -- The words and ends that reading a sheet gives are written as its records are, whatever is behind the words
 abbrev pub LaidAsRecords : Type 0

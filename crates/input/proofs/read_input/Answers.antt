@@ -8,7 +8,8 @@ use lib.Seq.{take-add, take-append-le}
 use Rattle.input.proofs.read_input.Goals as goal
 
 -- the front up to a place, and the part behind it up to another, are the front up to that
-take_split : (a b : ℕ) (old new : List ℕ) → a ≤ b → take a new ≡ take a old → take a old ++ slice_range new a b ≡ take b new
+take_split : (a b : ℕ) (old new : List ℕ) → a ≤ b → take a new ≡ take a old → take a old ++ slice_range new a b ≡
+    take b new
 take_split a b old new h front =
     let same : a + (b - a) ≡ b = omega arith in
     ap (λ l. l ++ slice_range new a b) (sym front)
@@ -30,7 +31,8 @@ loop-count-preserved g c =
     let from = c.loop-count.count in
     let room = length c.loop-count.bytes - from in
     let within = c.loop-count.invariant.1 in
-    let part = slice_range-put_mid from room c.in-Ok.more c.loop-count.bytes c.read-got.new.buf within c.in-Ok.ensures.bound.0 in
+    let part = slice_range-put_mid from room c.in-Ok.more c.loop-count.bytes c.read-got.new.buf within
+    c.in-Ok.ensures.bound.0 in
     let joined =
     take_split from (from + c.in-Ok.more) c.loop-count.bytes
     (put_mid from room c.loop-count.bytes c.read-got.new.buf)

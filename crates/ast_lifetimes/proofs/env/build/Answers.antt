@@ -37,12 +37,19 @@ overflow_add-impls c =
 pub declare_all-named-requires : goal.declare_all-named-requires
 declare_all-named-requires c =
     let shape : Shaped c.args.names.now c.args.bounds.now c.args.types.now = shaped _ _ _ c.requires.names_value in
-    record { from_le_to = (omega arith, shape.in_names.fits); named_le_most_names = (omega arith, c.requires.declared_len.0) }
+    record {
+      from_le_to = (omega arith, shape.in_names.fits);
+      named_le_most_names = (
+        omega arith,
+        c.requires.declared_len.0,
+      );
+    }
 
 pub returns-in_default : goal.returns-in_default
 returns-in_default c =
     let shape : Shaped c.args.names.now c.args.bounds.now c.args.types.now = shaped _ _ _ c.requires.names_value in
-    impl_names_refused shape c.declare_all-named.ensures c.requires.declared_len.1 c.requires.declared_len.2 c.in_default.is
+    impl_names_refused shape c.declare_all-named.ensures c.requires.declared_len.1 c.requires.declared_len.2
+    c.in_default.is
 
 pub push_pairs-bounded-requires : goal.push_pairs-bounded-requires
 push_pairs-bounded-requires c =
@@ -51,7 +58,11 @@ push_pairs-bounded-requires c =
     c.declare_all-named.new.names = impl_named shape c.declare_all-named.ensures c.in-Accepted.is in
     let o = one in
     let h = o.shaped.in_bounds in
-    record { count_in_bounds = omega (arith, h.fits, h.even); named_le_most_names = (o.named.few, o.named.size); pushed_le_most_bounds = (omega arith, c.requires.declared_len.1, c.requires.declared_len.2) }
+    record {
+      count_in_bounds = omega (arith, h.fits, h.even);
+      named_le_most_names = (o.named.few, o.named.size);
+      pushed_le_most_bounds = (omega arith, c.requires.declared_len.1, c.requires.declared_len.2);
+    }
 
 pub returns-in_default-bounded : goal.returns-in_default-bounded
 returns-in_default-bounded c =
@@ -67,7 +78,8 @@ overflow_add-impls-2 c =
     let one : ImplNamed c.args.names.now c.args.bounds.now c.args.types.now
     c.declare_all-named.new.names = impl_named shape c.declare_all-named.ensures c.in-Accepted.is in
     let two : ImplBound c.args.names.now c.args.bounds.now c.args.types.now
-    c.declare_all-named.new.names c.push_pairs-bounded.new.longs c.push_pairs-bounded.new.shorts = impl_bound one c.push_pairs-bounded.ensures c.in-Accepted-bounded.is in
+    c.declare_all-named.new.names c.push_pairs-bounded.new.longs c.push_pairs-bounded.new.shorts = impl_bound one
+    c.push_pairs-bounded.ensures c.in-Accepted-bounded.is in
     let h = two.shaped.in_names in omega (arith, h.few, h.fits)
 
 pub declare_all-renamed-requires : goal.declare_all-renamed-requires
@@ -76,10 +88,17 @@ declare_all-renamed-requires c =
     let one : ImplNamed c.args.names.now c.args.bounds.now c.args.types.now
     c.declare_all-named.new.names = impl_named shape c.declare_all-named.ensures c.in-Accepted.is in
     let two : ImplBound c.args.names.now c.args.bounds.now c.args.types.now
-    c.declare_all-named.new.names c.push_pairs-bounded.new.longs c.push_pairs-bounded.new.shorts = impl_bound one c.push_pairs-bounded.ensures c.in-Accepted-bounded.is in
+    c.declare_all-named.new.names c.push_pairs-bounded.new.longs c.push_pairs-bounded.new.shorts = impl_bound one
+    c.push_pairs-bounded.ensures c.in-Accepted-bounded.is in
     let t = two in
     let h = t.shaped.in_names in
-    record { from_le_to = (omega (arith, h.fits), omega (arith, h.some)); named_le_most_names = (t.named.few, t.named.size) }
+    record {
+      from_le_to = (omega (arith, h.fits), omega (arith, h.some));
+      named_le_most_names = (
+        t.named.few,
+        t.named.size,
+      );
+    }
 
 pub returns-in_default-renamed : goal.returns-in_default-renamed
 returns-in_default-renamed c =
@@ -87,7 +106,8 @@ returns-in_default-renamed c =
     let one : ImplNamed c.args.names.now c.args.bounds.now c.args.types.now
     c.declare_all-named.new.names = impl_named shape c.declare_all-named.ensures c.in-Accepted.is in
     let two : ImplBound c.args.names.now c.args.bounds.now c.args.types.now
-    c.declare_all-named.new.names c.push_pairs-bounded.new.longs c.push_pairs-bounded.new.shorts = impl_bound one c.push_pairs-bounded.ensures c.in-Accepted-bounded.is in
+    c.declare_all-named.new.names c.push_pairs-bounded.new.longs c.push_pairs-bounded.new.shorts = impl_bound one
+    c.push_pairs-bounded.ensures c.in-Accepted-bounded.is in
     method_names_refused two c.declare_all-renamed.ensures
     c.in_default-renamed.is
 
@@ -97,9 +117,11 @@ overflow_mul-first c =
     let one : ImplNamed c.args.names.now c.args.bounds.now c.args.types.now
     c.declare_all-named.new.names = impl_named shape c.declare_all-named.ensures c.in-Accepted.is in
     let two : ImplBound c.args.names.now c.args.bounds.now c.args.types.now
-    c.declare_all-named.new.names c.push_pairs-bounded.new.longs c.push_pairs-bounded.new.shorts = impl_bound one c.push_pairs-bounded.ensures c.in-Accepted-bounded.is in
+    c.declare_all-named.new.names c.push_pairs-bounded.new.longs c.push_pairs-bounded.new.shorts = impl_bound one
+    c.push_pairs-bounded.ensures c.in-Accepted-bounded.is in
     let three : AllNamed c.args.names.now c.args.bounds.now c.args.types.now
-    c.declare_all-renamed.new.names c.push_pairs-bounded.new.longs c.push_pairs-bounded.new.shorts = all_named two c.declare_all-renamed.ensures c.in-Accepted-renamed.is in
+    c.declare_all-renamed.new.names c.push_pairs-bounded.new.longs c.push_pairs-bounded.new.shorts = all_named two
+    c.declare_all-renamed.ensures c.in-Accepted-renamed.is in
     let h = three.shaped.in_bounds in omega (arith, h.few, h.fits, h.even)
 
 pub overflow_add-first : goal.overflow_add-first
@@ -108,9 +130,11 @@ overflow_add-first c =
     let one : ImplNamed c.args.names.now c.args.bounds.now c.args.types.now
     c.declare_all-named.new.names = impl_named shape c.declare_all-named.ensures c.in-Accepted.is in
     let two : ImplBound c.args.names.now c.args.bounds.now c.args.types.now
-    c.declare_all-named.new.names c.push_pairs-bounded.new.longs c.push_pairs-bounded.new.shorts = impl_bound one c.push_pairs-bounded.ensures c.in-Accepted-bounded.is in
+    c.declare_all-named.new.names c.push_pairs-bounded.new.longs c.push_pairs-bounded.new.shorts = impl_bound one
+    c.push_pairs-bounded.ensures c.in-Accepted-bounded.is in
     let three : AllNamed c.args.names.now c.args.bounds.now c.args.types.now
-    c.declare_all-renamed.new.names c.push_pairs-bounded.new.longs c.push_pairs-bounded.new.shorts = all_named two c.declare_all-renamed.ensures c.in-Accepted-renamed.is in
+    c.declare_all-renamed.new.names c.push_pairs-bounded.new.longs c.push_pairs-bounded.new.shorts = all_named two
+    c.declare_all-renamed.ensures c.in-Accepted-renamed.is in
     let h = three.shaped.in_bounds in omega (arith, h.few, h.fits, h.even)
 
 pub overflow_sub-pairs-2 : goal.overflow_sub-pairs-2
@@ -119,9 +143,11 @@ overflow_sub-pairs-2 c =
     let one : ImplNamed c.args.names.now c.args.bounds.now c.args.types.now
     c.declare_all-named.new.names = impl_named shape c.declare_all-named.ensures c.in-Accepted.is in
     let two : ImplBound c.args.names.now c.args.bounds.now c.args.types.now
-    c.declare_all-named.new.names c.push_pairs-bounded.new.longs c.push_pairs-bounded.new.shorts = impl_bound one c.push_pairs-bounded.ensures c.in-Accepted-bounded.is in
+    c.declare_all-named.new.names c.push_pairs-bounded.new.longs c.push_pairs-bounded.new.shorts = impl_bound one
+    c.push_pairs-bounded.ensures c.in-Accepted-bounded.is in
     let three : AllNamed c.args.names.now c.args.bounds.now c.args.types.now
-    c.declare_all-renamed.new.names c.push_pairs-bounded.new.longs c.push_pairs-bounded.new.shorts = all_named two c.declare_all-renamed.ensures c.in-Accepted-renamed.is in
+    c.declare_all-renamed.new.names c.push_pairs-bounded.new.longs c.push_pairs-bounded.new.shorts = all_named two
+    c.declare_all-renamed.ensures c.in-Accepted-renamed.is in
     three.shaped.in_bounds.fits
 
 pub push_pairs-rebounded-requires : goal.push_pairs-rebounded-requires
@@ -130,12 +156,18 @@ push_pairs-rebounded-requires c =
     let one : ImplNamed c.args.names.now c.args.bounds.now c.args.types.now
     c.declare_all-named.new.names = impl_named shape c.declare_all-named.ensures c.in-Accepted.is in
     let two : ImplBound c.args.names.now c.args.bounds.now c.args.types.now
-    c.declare_all-named.new.names c.push_pairs-bounded.new.longs c.push_pairs-bounded.new.shorts = impl_bound one c.push_pairs-bounded.ensures c.in-Accepted-bounded.is in
+    c.declare_all-named.new.names c.push_pairs-bounded.new.longs c.push_pairs-bounded.new.shorts = impl_bound one
+    c.push_pairs-bounded.ensures c.in-Accepted-bounded.is in
     let three : AllNamed c.args.names.now c.args.bounds.now c.args.types.now
-    c.declare_all-renamed.new.names c.push_pairs-bounded.new.longs c.push_pairs-bounded.new.shorts = all_named two c.declare_all-renamed.ensures c.in-Accepted-renamed.is in
+    c.declare_all-renamed.new.names c.push_pairs-bounded.new.longs c.push_pairs-bounded.new.shorts = all_named two
+    c.declare_all-renamed.ensures c.in-Accepted-renamed.is in
     let t = three in
     let h = t.shaped.in_bounds in
-    record { count_in_bounds = omega (arith, h.fits, h.even); named_le_most_names = (t.named.few, t.named.size); pushed_le_most_bounds = (t.sides.few, t.sides.size_longs, t.sides.size_shorts) }
+    record {
+      count_in_bounds = omega (arith, h.fits, h.even);
+      named_le_most_names = (t.named.few, t.named.size);
+      pushed_le_most_bounds = (t.sides.few, t.sides.size_longs, t.sides.size_shorts);
+    }
 
 pub returns-in_default-rebounded : goal.returns-in_default-rebounded
 returns-in_default-rebounded c =
@@ -143,9 +175,11 @@ returns-in_default-rebounded c =
     let one : ImplNamed c.args.names.now c.args.bounds.now c.args.types.now
     c.declare_all-named.new.names = impl_named shape c.declare_all-named.ensures c.in-Accepted.is in
     let two : ImplBound c.args.names.now c.args.bounds.now c.args.types.now
-    c.declare_all-named.new.names c.push_pairs-bounded.new.longs c.push_pairs-bounded.new.shorts = impl_bound one c.push_pairs-bounded.ensures c.in-Accepted-bounded.is in
+    c.declare_all-named.new.names c.push_pairs-bounded.new.longs c.push_pairs-bounded.new.shorts = impl_bound one
+    c.push_pairs-bounded.ensures c.in-Accepted-bounded.is in
     let three : AllNamed c.args.names.now c.args.bounds.now c.args.types.now
-    c.declare_all-renamed.new.names c.push_pairs-bounded.new.longs c.push_pairs-bounded.new.shorts = all_named two c.declare_all-renamed.ensures c.in-Accepted-renamed.is in
+    c.declare_all-renamed.new.names c.push_pairs-bounded.new.longs c.push_pairs-bounded.new.shorts = all_named two
+    c.declare_all-renamed.ensures c.in-Accepted-renamed.is in
     method_pairs_refused three
     c.push_pairs-rebounded.ensures c.in_default-rebounded.is
 
@@ -155,13 +189,23 @@ close-requires c =
     let one : ImplNamed c.args.names.now c.args.bounds.now c.args.types.now
     c.declare_all-named.new.names = impl_named shape c.declare_all-named.ensures c.in-Accepted.is in
     let two : ImplBound c.args.names.now c.args.bounds.now c.args.types.now
-    c.declare_all-named.new.names c.push_pairs-bounded.new.longs c.push_pairs-bounded.new.shorts = impl_bound one c.push_pairs-bounded.ensures c.in-Accepted-bounded.is in
+    c.declare_all-named.new.names c.push_pairs-bounded.new.longs c.push_pairs-bounded.new.shorts = impl_bound one
+    c.push_pairs-bounded.ensures c.in-Accepted-bounded.is in
     let three : AllNamed c.args.names.now c.args.bounds.now c.args.types.now
-    c.declare_all-renamed.new.names c.push_pairs-bounded.new.longs c.push_pairs-bounded.new.shorts = all_named two c.declare_all-renamed.ensures c.in-Accepted-renamed.is in
+    c.declare_all-renamed.new.names c.push_pairs-bounded.new.longs c.push_pairs-bounded.new.shorts = all_named two
+    c.declare_all-renamed.ensures c.in-Accepted-renamed.is in
     let four : AllBound c.args.names.now c.args.bounds.now c.args.types.now
-    c.declare_all-renamed.new.names c.push_pairs-rebounded.new.longs c.push_pairs-rebounded.new.shorts = all_bound three c.push_pairs-rebounded.ensures c.in-Accepted-rebounded.is in
+    c.declare_all-renamed.new.names c.push_pairs-rebounded.new.longs c.push_pairs-rebounded.new.shorts = all_bound
+    three c.push_pairs-rebounded.ensures c.in-Accepted-rebounded.is in
     let f = four in
-    record { named_le_most_names = (f.named.few, f.sides.few, bound_below f); longs_len = (f.sides.size_longs, f.sides.size_shorts, refl) }
+    record {
+      named_le_most_names = (f.named.few, f.sides.few, bound_below f);
+      longs_len = (
+        f.sides.size_longs,
+        f.sides.size_shorts,
+        refl,
+      );
+    }
 
 pub push_types-implied-requires : goal.push_types-implied-requires
 push_types-implied-requires c =
@@ -169,12 +213,21 @@ push_types-implied-requires c =
     let one : ImplNamed c.args.names.now c.args.bounds.now c.args.types.now
     c.declare_all-named.new.names = impl_named shape c.declare_all-named.ensures c.in-Accepted.is in
     let two : ImplBound c.args.names.now c.args.bounds.now c.args.types.now
-    c.declare_all-named.new.names c.push_pairs-bounded.new.longs c.push_pairs-bounded.new.shorts = impl_bound one c.push_pairs-bounded.ensures c.in-Accepted-bounded.is in
+    c.declare_all-named.new.names c.push_pairs-bounded.new.longs c.push_pairs-bounded.new.shorts = impl_bound one
+    c.push_pairs-bounded.ensures c.in-Accepted-bounded.is in
     let three : AllNamed c.args.names.now c.args.bounds.now c.args.types.now
-    c.declare_all-renamed.new.names c.push_pairs-bounded.new.longs c.push_pairs-bounded.new.shorts = all_named two c.declare_all-renamed.ensures c.in-Accepted-renamed.is in
+    c.declare_all-renamed.new.names c.push_pairs-bounded.new.longs c.push_pairs-bounded.new.shorts = all_named two
+    c.declare_all-renamed.ensures c.in-Accepted-renamed.is in
     let four : AllBound c.args.names.now c.args.bounds.now c.args.types.now
-    c.declare_all-renamed.new.names c.push_pairs-rebounded.new.longs c.push_pairs-rebounded.new.shorts = all_bound three c.push_pairs-rebounded.ensures c.in-Accepted-rebounded.is in
-    let f = four in record { ts_value = (type_names_of _, f.shaped.in_types); named_le_most_names = (f.named.few, f.named.size); pushed_le_most_bounds = (f.sides.few, f.sides.size_longs, f.sides.size_shorts); reach_len = c.close.ensures }
+    c.declare_all-renamed.new.names c.push_pairs-rebounded.new.longs c.push_pairs-rebounded.new.shorts = all_bound
+    three c.push_pairs-rebounded.ensures c.in-Accepted-rebounded.is in
+    let f = four in record {
+      ts_value = (type_names_of _, f.shaped.in_types);
+      named_le_most_names =
+          (f.named.few, f.named.size);
+      pushed_le_most_bounds = (f.sides.few, f.sides.size_longs, f.sides.size_shorts);
+      reach_len = c.close.ensures;
+    }
 
 pub returns : goal.returns
 returns c =
@@ -182,9 +235,12 @@ returns c =
     let one : ImplNamed c.args.names.now c.args.bounds.now c.args.types.now
     c.declare_all-named.new.names = impl_named shape c.declare_all-named.ensures c.in-Accepted.is in
     let two : ImplBound c.args.names.now c.args.bounds.now c.args.types.now
-    c.declare_all-named.new.names c.push_pairs-bounded.new.longs c.push_pairs-bounded.new.shorts = impl_bound one c.push_pairs-bounded.ensures c.in-Accepted-bounded.is in
+    c.declare_all-named.new.names c.push_pairs-bounded.new.longs c.push_pairs-bounded.new.shorts = impl_bound one
+    c.push_pairs-bounded.ensures c.in-Accepted-bounded.is in
     let three : AllNamed c.args.names.now c.args.bounds.now c.args.types.now
-    c.declare_all-renamed.new.names c.push_pairs-bounded.new.longs c.push_pairs-bounded.new.shorts = all_named two c.declare_all-renamed.ensures c.in-Accepted-renamed.is in
+    c.declare_all-renamed.new.names c.push_pairs-bounded.new.longs c.push_pairs-bounded.new.shorts = all_named two
+    c.declare_all-renamed.ensures c.in-Accepted-renamed.is in
     let four : AllBound c.args.names.now c.args.bounds.now c.args.types.now
-    c.declare_all-renamed.new.names c.push_pairs-rebounded.new.longs c.push_pairs-rebounded.new.shorts = all_bound three c.push_pairs-rebounded.ensures c.in-Accepted-rebounded.is in
+    c.declare_all-renamed.new.names c.push_pairs-rebounded.new.longs c.push_pairs-rebounded.new.shorts = all_bound
+    three c.push_pairs-rebounded.ensures c.in-Accepted-rebounded.is in
     all_built four c.push_types-implied.ensures

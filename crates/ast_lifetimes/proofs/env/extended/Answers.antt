@@ -18,7 +18,18 @@ pub push_types-implied-requires : goal.push_types-implied-requires
 push_types-implied-requires c =
     let full : length c.args.env.names ≡ 32 = search rules in
     let e = c.args.env in
-    let splits = c.split.ensures in record { ts_value = (type_names_of c.args.types.now, types_encoded c.args.types.now c.requires.1); named_le_most_names = (valid_named e c.requires.0, full); pushed_le_most_bounds = (valid_pushed e c.requires.0, splits.size_longs, splits.size_shorts); reach_len = c.close.ensures }
+    let splits = c.split.ensures in record {
+      ts_value =
+          (type_names_of c.args.types.now, types_encoded c.args.types.now c.requires.1);
+      named_le_most_names =
+          (valid_named e c.requires.0, full);
+      pushed_le_most_bounds = (
+        valid_pushed e c.requires.0,
+        splits.size_longs,
+        splits.size_shorts,
+      );
+      reach_len = c.close.ensures;
+    }
 
 pub returns-in_default : goal.returns-in_default
 returns-in_default c = extended_refused c.args.env c.args.types.now c.split.ensures
@@ -35,7 +46,15 @@ assembled-requires c =
     extended_small c.args.env c.args.types.now c.split.ensures
     (c.push_types-implied.ensures _ (types_encoded _ c.requires.1))
     c.in-Accepted.is c.requires.0 in
-    record { named_le_most_names = (valid_named c.args.env c.requires.0, all.0); declared_len = (full, all.1, all.2); shorts_value = small }
+    record {
+      named_le_most_names = (valid_named c.args.env c.requires.0, all.0);
+      declared_len = (
+        full,
+        all.1,
+        all.2,
+      );
+      shorts_value = small;
+    }
 
 pub returns : goal.returns
 returns c = extended_given c.args.env c.args.types.now c.split.ensures

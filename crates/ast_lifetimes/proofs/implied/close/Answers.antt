@@ -10,7 +10,12 @@ pub loop-i-init : goal.loop-i-init
 loop-i-init c = search (closing_start, rules)
 
 pub overflow_cast-long : goal.overflow_cast-long
-overflow_cast-long c = omega (arith, c.requires.named_le_most_names.0, (c.requires.named_le_most_names.2 c.loop-i.i c.loop-i-test.true).0)
+overflow_cast-long c = omega (
+  arith,
+  c.requires.named_le_most_names.0,
+  (c.requires.named_le_most_names.2 c.loop-i.i
+      c.loop-i-test.true).0,
+)
 
 pub overflow_cast-short : goal.overflow_cast-short
 overflow_cast-short c = omega (

@@ -7,8 +7,14 @@ use Rattle.ast_lifetimes.proofs.OutlivedLaws.{starting_more, reaches_none}
 use Rattle.ast_lifetimes.proofs.implied.each_itself.Goals as goal
 
 pub loop-x-preserved : goal.loop-x-preserved
-loop-x-preserved c = let e = c.new.ensures.answer in
-    (omega arith, starting_more c.loop-x.invariant.1 (omega arith) _ (c.insert.ensures.answer ∙ rw (e, lt-ltb c.loop-x.x 64 (omega arith))))
+loop-x-preserved c = let e = c.new.ensures.answer in (
+  omega arith,
+  starting_more c.loop-x.invariant.1 (omega arith) _ (c.insert.ensures.answer ∙ rw (
+    e,
+    lt-ltb
+        c.loop-x.x 64 (omega arith),
+  )),
+)
 
 pub returns : goal.returns
 returns c = (

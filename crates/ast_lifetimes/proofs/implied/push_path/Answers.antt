@@ -18,18 +18,21 @@ use Rattle.ast_lifetimes.proofs.implied.push_path.Goals as goal
 
 pub lifetimes-2-init : goal.lifetimes-2-init
 lifetimes-2-init c =
-    let named_long : length (take c.args.named c.args.names.now) ≡ c.args.named = length-take-le c.args.named c.args.names.now (omega (arith, c.requires.named_le_most_names)) in
+    let named_long : length (take c.args.named c.args.names.now) ≡ c.args.named =
+    length-take-le c.args.named c.args.names.now (omega (arith, c.requires.named_le_most_names)) in
     let reaches : OutliveSets (sides_of c.args.pushed c.args.longs.now c.args.shorts.now)
     (length (take c.args.named c.args.names.now)) c.args.reach.now = rw named_long c.requires.reach_len.1 in (
       omega arith,
       c.requires.from_le_to.0,
-      run_start (take c.args.named c.args.names.now) _ _ _ _ _ c.requires.pushed_le_most_bounds.0 c.requires.pushed_le_most_bounds.1
+      run_start (take c.args.named c.args.names.now) _ _ _ _ _ c.requires.pushed_le_most_bounds.0
+          c.requires.pushed_le_most_bounds.1
           c.requires.pushed_le_most_bounds.2 c.requires.reach_len.0 reaches,
     )
 
 pub lifetimes-2-preserved-then-not-is_implied : goal.lifetimes-2-preserved-then-not-is_implied
 lifetimes-2-preserved-then-not-is_implied c =
-    let named_long : length (take c.args.named c.args.names.now) ≡ c.args.named = length-take-le c.args.named c.args.names.now (omega (arith, c.requires.named_le_most_names)) in
+    let named_long : length (take c.args.named c.args.names.now) ≡ c.args.named =
+    length-take-le c.args.named c.args.names.now (omega (arith, c.requires.named_le_most_names)) in
     let reaches : OutliveSets (sides_of c.args.pushed c.args.longs.now c.args.shorts.now)
     (length (take c.args.named c.args.names.now)) c.args.reach.now = rw named_long c.requires.reach_len.1 in
     let tested : let w = get_or c.args.words.now c.lifetimes-2.at 0 in
@@ -38,7 +41,8 @@ lifetimes-2-preserved-then-not-is_implied c =
     ≡ (is_name w
     && not
     (among (take c.args.named c.args.names.now)
-    (sides_of c.args.pushed c.args.longs.now c.args.shorts.now) c.args.behind w)) = let w = get_or c.args.words.now c.lifetimes-2.at 0 in
+    (sides_of c.args.pushed c.args.longs.now c.args.shorts.now) c.args.behind w)) = let w = get_or c.args.words.now
+    c.lifetimes-2.at 0 in
     ap (λ (t : ℕ). is_implied (take c.args.named c.args.names.now) t w) c.outlived-taken.ensures
     ∙ implied_test (take c.args.named c.args.names.now)
     (sides_of c.args.pushed c.args.longs.now c.args.shorts.now) c.args.reach.now reaches
@@ -54,7 +58,8 @@ lifetimes-2-preserved-then-not-is_implied c =
 
 pub returns-in_default : goal.returns-in_default
 returns-in_default c =
-    let named_long : length (take c.args.named c.args.names.now) ≡ c.args.named = length-take-le c.args.named c.args.names.now (omega (arith, c.requires.named_le_most_names)) in
+    let named_long : length (take c.args.named c.args.names.now) ≡ c.args.named =
+    length-take-le c.args.named c.args.names.now (omega (arith, c.requires.named_le_most_names)) in
     let reaches : OutliveSets (sides_of c.args.pushed c.args.longs.now c.args.shorts.now)
     (length (take c.args.named c.args.names.now)) c.args.reach.now = rw named_long c.requires.reach_len.1 in
     let tested : let w = get_or c.args.words.now c.lifetimes-2.at 0 in
@@ -63,7 +68,8 @@ returns-in_default c =
     ≡ (is_name w
     && not
     (among (take c.args.named c.args.names.now)
-    (sides_of c.args.pushed c.args.longs.now c.args.shorts.now) c.args.behind w)) = let w = get_or c.args.words.now c.lifetimes-2.at 0 in
+    (sides_of c.args.pushed c.args.longs.now c.args.shorts.now) c.args.behind w)) = let w = get_or c.args.words.now
+    c.lifetimes-2.at 0 in
     ap (λ (t : ℕ). is_implied (take c.args.named c.args.names.now) t w) c.outlived-taken.ensures
     ∙ implied_test (take c.args.named c.args.names.now)
     (sides_of c.args.pushed c.args.longs.now c.args.shorts.now) c.args.reach.now reaches
@@ -85,7 +91,8 @@ returns-in_default c =
 
 pub join-requires : goal.join-requires
 join-requires c =
-    let named_long : length (take c.args.named c.args.names.now) ≡ c.args.named = length-take-le c.args.named c.args.names.now (omega (arith, c.requires.named_le_most_names)) in
+    let named_long : length (take c.args.named c.args.names.now) ≡ c.args.named =
+    length-take-le c.args.named c.args.names.now (omega (arith, c.requires.named_le_most_names)) in
     let sides = accepted_sides c.push_pair-verdict.ensures c.in-Accepted.is in (
       omega (arith, c.requires.named_le_most_names),
       omega (arith, named_long, sides, c.position-long.ensures),
@@ -95,7 +102,8 @@ join-requires c =
 
 pub lifetimes-2-preserved : goal.lifetimes-2-preserved
 lifetimes-2-preserved c =
-    let named_long : length (take c.args.named c.args.names.now) ≡ c.args.named = length-take-le c.args.named c.args.names.now (omega (arith, c.requires.named_le_most_names)) in
+    let named_long : length (take c.args.named c.args.names.now) ≡ c.args.named =
+    length-take-le c.args.named c.args.names.now (omega (arith, c.requires.named_le_most_names)) in
     let reaches : OutliveSets (sides_of c.args.pushed c.args.longs.now c.args.shorts.now)
     (length (take c.args.named c.args.names.now)) c.args.reach.now = rw named_long c.requires.reach_len.1 in
     let tested : let w = get_or c.args.words.now c.lifetimes-2.at 0 in
@@ -104,7 +112,8 @@ lifetimes-2-preserved c =
     ≡ (is_name w
     && not
     (among (take c.args.named c.args.names.now)
-    (sides_of c.args.pushed c.args.longs.now c.args.shorts.now) c.args.behind w)) = let w = get_or c.args.words.now c.lifetimes-2.at 0 in
+    (sides_of c.args.pushed c.args.longs.now c.args.shorts.now) c.args.behind w)) = let w = get_or c.args.words.now
+    c.lifetimes-2.at 0 in
     ap (λ (t : ℕ). is_implied (take c.args.named c.args.names.now) t w) c.outlived-taken.ensures
     ∙ implied_test (take c.args.named c.args.names.now)
     (sides_of c.args.pushed c.args.longs.now c.args.shorts.now) c.args.reach.now reaches
@@ -122,7 +131,8 @@ lifetimes-2-preserved c =
     (sym tested ∙ sym c.is_implied.ensures ∙ h) in
     let joined : Joins (length (take c.args.named c.args.names.now))
     (place (take c.args.named c.args.names.now) (get_or c.args.words.now c.lifetimes-2.at 0))
-    (place (take c.args.named c.args.names.now) c.args.behind) c.lifetimes-2.reach c.join.new.reach = rw (named_long, ← c.position-long.ensures, ← c.position-short.ensures) c.join.ensures in
+    (place (take c.args.named c.args.names.now) c.args.behind) c.lifetimes-2.reach c.join.new.reach = rw
+    (named_long, ← c.position-long.ensures, ← c.position-short.ensures) c.join.ensures in
     let e = c.in-Accepted.is in (
       omega arith,
       omega arith,

@@ -12,10 +12,12 @@ use Rattle.ast_lifetimes.proofs.implied.push_types.Goals as goal
 
 pub words-init : goal.words-init
 words-init c =
-    let named_long : length (take c.args.named c.args.names.now) ≡ c.args.named = length-take-le c.args.named c.args.names.now (omega (arith, c.requires.named_le_most_names)) in
+    let named_long : length (take c.args.named c.args.names.now) ≡ c.args.named =
+    length-take-le c.args.named c.args.names.now (omega (arith, c.requires.named_le_most_names)) in
     λ ts e.
     implying_start (take c.args.named c.args.names.now) ts c.args.types.now c.args.longs.now
-    c.args.shorts.now c.args.reach.now c.args.pushed e c.requires.pushed_le_most_bounds.0 c.requires.pushed_le_most_bounds.1
+    c.args.shorts.now c.args.reach.now c.args.pushed e c.requires.pushed_le_most_bounds.0
+    c.requires.pushed_le_most_bounds.1
     c.requires.pushed_le_most_bounds.2 c.requires.reach_len.0
     (rw named_long c.requires.reach_len.1)
 
@@ -25,7 +27,8 @@ offset_bounds-types-at-then-code-eq2 c = search (implying_reference, rules)
 pub bounds-types-at-then-code-eq2 : goal.bounds-types-at-then-code-eq2
 bounds-types-at-then-code-eq2 c =
     let held : Implying (take c.args.named c.args.names.now) c.requires.ts_value.0 c.args.types.now c.args.longs.now
-    c.args.shorts.now c.args.pushed c.words.longs c.words.shorts c.words.reach c.words.count c.words.behind c.words.at = c.words.invariant c.requires.ts_value.0 c.requires.ts_value.1 in
+    c.args.shorts.now c.args.pushed c.words.longs c.words.shorts c.words.reach c.words.count c.words.behind
+    c.words.at = c.words.invariant c.requires.ts_value.0 c.requires.ts_value.1 in
     (implying_reference held c.words-test.true
     c.if-code-eq2.true).0
 
@@ -47,14 +50,16 @@ offset_bounds-types-at-in-words c = search (implying_inside, rules)
 pub bounds-types-at-in-words : goal.bounds-types-at-in-words
 bounds-types-at-in-words c =
     let held : Implying (take c.args.named c.args.names.now) c.requires.ts_value.0 c.args.types.now c.args.longs.now
-    c.args.shorts.now c.args.pushed c.words.longs c.words.shorts c.words.reach c.words.count c.words.behind c.words.at = c.words.invariant c.requires.ts_value.0 c.requires.ts_value.1 in
+    c.args.shorts.now c.args.pushed c.words.longs c.words.shorts c.words.reach c.words.count c.words.behind
+    c.words.at = c.words.invariant c.requires.ts_value.0 c.requires.ts_value.1 in
     implying_inside held
     c.words-test.true c.if-code-ne1.false
 
 pub overflow_add-at-in-words-2 : goal.overflow_add-at-in-words-2
 overflow_add-at-in-words-2 c =
     let held : Implying (take c.args.named c.args.names.now) c.requires.ts_value.0 c.args.types.now c.args.longs.now
-    c.args.shorts.now c.args.pushed c.words.longs c.words.shorts c.words.reach c.words.count c.words.behind c.words.at = c.words.invariant c.requires.ts_value.0 c.requires.ts_value.1 in
+    c.args.shorts.now c.args.pushed c.words.longs c.words.shorts c.words.reach c.words.count c.words.behind
+    c.words.at = c.words.invariant c.requires.ts_value.0 c.requires.ts_value.1 in
     omega (
       arith,
       implying_fits held
@@ -68,9 +73,19 @@ words-preserved-then-behind-lt2 c = λ ts e. implying_free (c.words.invariant ts
 pub push_path-done-requires : goal.push_path-done-requires
 push_path-done-requires c =
     let held : Implying (take c.args.named c.args.names.now) c.requires.ts_value.0 c.args.types.now c.args.longs.now
-    c.args.shorts.now c.args.pushed c.words.longs c.words.shorts c.words.reach c.words.count c.words.behind c.words.at = c.words.invariant c.requires.ts_value.0 c.requires.ts_value.1 in
-    let named_long : length (take c.args.named c.args.names.now) ≡ c.args.named = length-take-le c.args.named c.args.names.now (omega (arith, c.requires.named_le_most_names)) in
-    let run = held.run in record { from_le_to = (omega arith, implying_fits held c.words-test.true c.if-code-ne1.false); named_le_most_names = c.requires.named_le_most_names; pushed_le_most_bounds = (run.few, run.size_longs, run.size_shorts); reach_len = (run.size_reach, rw named_long at run.reaches) }
+    c.args.shorts.now c.args.pushed c.words.longs c.words.shorts c.words.reach c.words.count c.words.behind
+    c.words.at = c.words.invariant c.requires.ts_value.0 c.requires.ts_value.1 in
+    let named_long : length (take c.args.named c.args.names.now) ≡ c.args.named =
+    length-take-le c.args.named c.args.names.now (omega (arith, c.requires.named_le_most_names)) in
+    let run = held.run in record {
+      from_le_to =
+          (omega arith, implying_fits held c.words-test.true c.if-code-ne1.false);
+      named_le_most_names =
+          c.requires.named_le_most_names;
+      pushed_le_most_bounds = (run.few, run.size_longs, run.size_shorts);
+      reach_len =
+          (run.size_reach, rw named_long at run.reaches);
+    }
 
 pub returns-in_default : goal.returns-in_default
 returns-in_default c = λ ts e. implying_refused (c.words.invariant ts e) c.words-test.true c.if-code-ne1.false

@@ -10,7 +10,8 @@ pub loop-i-init : goal.loop-i-init
 loop-i-init c = search (placing_start, rules)
 
 pub returns-then-names-i : goal.returns-then-names-i
-returns-then-names-i c = placing_found c.loop-i.invariant (omega (arith, c.requires)) c.loop-i-test.true c.if-names-i.true
+returns-then-names-i c = placing_found c.loop-i.invariant (omega (arith, c.requires)) c.loop-i-test.true
+    c.if-names-i.true
 
 pub loop-i-preserved : goal.loop-i-preserved
 loop-i-preserved c = placing_more c.loop-i.invariant (omega (arith, c.requires)) c.loop-i-test.true c.if-names-i.false

@@ -21,7 +21,11 @@ pub loop-at-smaller : goal.loop-at-smaller
 loop-at-smaller c = omega (arith, ends_past (ends_told c.type_end-end.ensures c.in-At.is))
 
 pub loop-at-preserved : goal.loop-at-preserved
-loop-at-preserved c = (_, shaping_more c.loop-at.invariant.1 c.loop-at-test.true (ends_told c.type_end-end.ensures c.in-At.is))
+loop-at-preserved c = (
+  _,
+  shaping_more c.loop-at.invariant.1 c.loop-at-test.true (ends_told c.type_end-end.ensures
+      c.in-At.is),
+)
 
 pub returns : goal.returns
 returns c = search (shaping_end, rules)

@@ -10,4 +10,5 @@ pub returns : goal.returns
 returns c = sheet_borrowed _ _ _ _ c.judge_sheet-method.ensures c.in_default.is
     c.record_words.ensures.answer c.record_words-2.ensures.answer
     c.record_words-3.ensures.answer c.record_words-4.ensures.answer
-    c.borrow_method.ensures.answer.counts c.borrow_method.ensures.answer.used_filled c.borrow_method.ensures.answer.answers_filled c.borrow_method.ensures.answer.edges_filled
+    c.borrow_method.ensures.answer.counts c.borrow_method.ensures.answer.used_filled
+    c.borrow_method.ensures.answer.answers_filled c.borrow_method.ensures.answer.edges_filled

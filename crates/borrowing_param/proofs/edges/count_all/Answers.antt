@@ -2,7 +2,6 @@
 -- lifetimes are to be looked at.
 use Prim.Native.Nat.{◌-◌}
 use mathlib.Core.Path.{◌≡◌, sym, ap, ◌∙◌}
-use mathlib.Core.Logic.{⊎_elim}
 use native.Mathlib.Omega.{arith}
 use Rattle.lifetimes.specs.declared.lifetime.Lifetime.{Lifetime}
 use Rattle.lifetimes.specs.Sets.{member}
@@ -11,6 +10,7 @@ use Rattle.borrowing_param.proofs.EdgesLoops.{below_64, counting_all, counted_fe
 use Rattle.borrowing_param.proofs.EdgesLoops.{counting_all_not, counting_all_end}
 use borrow.Author.Rules.{rules}
 use Rattle.borrowing_param.proofs.edges.count_all.Goals as goal
+use Rattle.borrowing_param.proofs.edges.count_all.Goals.{then-contains, else-contains}
 
 pub loop-l-init : goal.loop-l-init
 loop-l-init c = search (counting_all, rules)
@@ -30,18 +30,18 @@ loop-l-preserved c = let few = path_few c.args.words.now c.args.parts c.requires
     let test : c.contains.result ≡ member c.args.used c.loop-l.l =
     c.contains.ensures.answer ∙ ap (λ (x : Lifetime). member c.args.used x.0)
     c.new.ensures.answer in
-    ⊎_elim
-    (λ t. rw t.3 (
-      c.loop-l.invariant.0,
-      counting_all_more c.loop-l.invariant.1 few t.2.ensures
-          (below_64 c.loop-l.invariant.0 c.loop-l-test.true) (sym t.0.taken ∙ test),
-    ))
-    (λ t. rw t.1 (
-      c.loop-l.invariant.0,
-      counting_all_not c.loop-l.invariant.1 (below_64 c.loop-l.invariant.0 c.loop-l-test.true)
-          (sym t.0.left ∙ test),
-    ))
-    c.if-contains.branch
+    elim c.if-contains.branch [
+      | then-contains w ↦ rw w.n-is (
+        c.loop-l.invariant.0,
+        counting_all_more c.loop-l.invariant.1 few w.count_for-n.ensures
+            (below_64 c.loop-l.invariant.0 c.loop-l-test.true) (sym w.if-contains.true ∙ test),
+      )
+      | else-contains w ↦ rw w.n-is (
+        c.loop-l.invariant.0,
+        counting_all_not c.loop-l.invariant.1 (below_64 c.loop-l.invariant.0 c.loop-l-test.true)
+            (sym w.if-contains.false ∙ test),
+      )
+    ]
 
 pub returns : goal.returns
 returns c = search (counting_all_end, rules)

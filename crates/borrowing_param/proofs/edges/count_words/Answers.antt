@@ -2,11 +2,11 @@
 -- words are to be read.
 use Prim.Native.Nat.{◌-◌}
 use mathlib.Core.Path.{sym, ◌∙◌}
-use mathlib.Core.Logic.{⊎_elim}
 use Rattle.borrowing_param.proofs.EdgesLaws.{part_many, part_word, counting_start, counting_one}
 use Rattle.borrowing_param.proofs.EdgesLaws.{counting_none, counting_end}
 use borrow.Author.Rules.{rules}
 use Rattle.borrowing_param.proofs.edges.count_words.Goals as goal
+use Rattle.borrowing_param.proofs.edges.count_words.Goals.{then-draws, else-draws}
 
 pub loop-i-init : goal.loop-i-init
 loop-i-init c = search (counting_start, rules)
@@ -22,14 +22,12 @@ loop-i-preserved c = let word =
     c.args.count
     c.path_words-path.ensures.answer c.loop-i-test.true
     c.linked_lifetime.ensures in
-    ⊎_elim
-    (λ h. rw h.1
-    (counting_one c.loop-i.invariant c.requires
-    c.loop-i-test.true word (sym h.0.taken ∙ c.draws.ensures)))
-    (λ h. rw h.1
-    (counting_none c.loop-i.invariant c.requires
-    c.loop-i-test.true word (sym h.0.left ∙ c.draws.ensures)))
-    c.if-draws.branch
+    elim c.if-draws.branch [
+      | then-draws w ↦ rw w.n-is (counting_one c.loop-i.invariant c.requires c.loop-i-test.true word
+          (sym w.if-draws.true ∙ c.draws.ensures))
+      | else-draws w ↦ rw w.n-is (counting_none c.loop-i.invariant c.requires c.loop-i-test.true word
+          (sym w.if-draws.false ∙ c.draws.ensures))
+    ]
 
 pub returns : goal.returns
 returns c = search (counting_end, rules)

@@ -21,7 +21,8 @@ lifetimes-2-init c = let a = c.args in
     let all =
     struct_edges (draws_in a.set) a.used a.param c.option_number-option.result 0
     (all_path a.words.now a.parts.from a.parts.count) in
-    let room : width * (a.at + length all) ≤ length a.edges.now = rw c.option_number-option.ensures c.requires.parts_in_bounds in (
+    let room : width * (a.at + length all) ≤ length a.edges.now =
+    rw c.option_number-option.ensures c.requires.parts_in_bounds in (
       omega arith,
       storing_none (storing_start all a.at a.pairs.now a.edges.now c.requires.inside.3 room)
           (edges_all (draws_in a.set) a.used a.param c.option_number-option.result a.words.now

@@ -21,7 +21,8 @@ pub returns-then-edges-total : goal.returns-then-edges-total
 returns-then-edges-total c = search (no_room_edges, rules)
 
 pub slice_bounds-copy_words-end : goal.slice_bounds-copy_words-end
-slice_bounds-copy_words-end c = sym (numbers_size c.args.visitor (param_types c.args.params.now) c.count_params-counted.ensures refl)
+slice_bounds-copy_words-end c = sym (numbers_size c.args.visitor (param_types c.args.params.now)
+    c.count_params-counted.ensures refl)
 
 pub store_listed-stored-requires : goal.store_listed-stored-requires
 store_listed-stored-requires c =

@@ -7,7 +7,8 @@ pub returns-in-Refused : goal.returns-in-Refused
 returns-in-Refused c = search (judge_text, rules)
 
 pub lower_laid-made-requires : goal.lower_laid-made-requires
-lower_laid-made-requires c = judge_shape c.args.sheet.now c.args.scratch.now c.requires c.read_sheet-text.ensures.answer
+lower_laid-made-requires c = judge_shape c.args.sheet.now c.args.scratch.now c.requires
+    c.read_sheet-text.ensures.answer
     c.read_sheet-text.ensures.stored c.in_default.is
 
 pub returns-in-Refused-judged : goal.returns-in-Refused-judged

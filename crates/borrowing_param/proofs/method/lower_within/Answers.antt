@@ -3,11 +3,13 @@ use Rattle.borrowing_param.proofs.SheetLaws.{within_refused, within_short, withi
 use Rattle.borrowing_param.proofs.method.lower_within.Goals as goal
 
 pub returns-in-Refused : goal.returns-in-Refused
-returns-in-Refused c = let it = within_refused c.args.sheet.now c.judge_sheet-method.ensures c.args.words.now c.in-Refused.is in
+returns-in-Refused c = let it = within_refused c.args.sheet.now c.judge_sheet-method.ensures c.args.words.now
+    c.in-Refused.is in
     record { value = it.0; fills = it.1 }
 
 pub returns-in_default-copy_words : goal.returns-in_default-copy_words
-returns-in_default-copy_words c = let it = within_short c.args.sheet.now c.judge_sheet-method.ensures c.args.words.now c.in_default.is
+returns-in_default-copy_words c = let it = within_short c.args.sheet.now c.judge_sheet-method.ensures
+    c.args.words.now c.in_default.is
     c.copy_words.ensures.stored c.copy_words.ensures.answer c.in_default-copy_words.is
     c.refused_method.ensures in
     record { value = it.0; fills = it.1 }

@@ -12,13 +12,15 @@ pub returns-then-brought-eq0 : goal.returns-then-brought-eq0
 returns-then-brought-eq0 c = search (visit_nothing, rules)
 
 pub returns-then-room-brought : goal.returns-then-room-brought
-returns-then-room-brought c = let answer = ap (λ (x : Visited). outcome x.info (state x.visitor c.args.edges.now)) c.refused.ensures in
+returns-then-room-brought c = let answer = ap (λ (x : Visited). outcome x.info (state x.visitor c.args.edges.now))
+    c.refused.ensures in
     answer ∙ visit_no_room c.args.visitor c.args.edges.now (type_in c.args.params.now c.args.parts)
     c.args.param c.count_all-brought.ensures c.number_of-number.ensures
     c.if-brought-eq0.false (no_room_at_all _ _ _ _ refl c.if-room-brought.true)
 
 pub returns-then-room-brought-2 : goal.returns-then-room-brought-2
-returns-then-room-brought-2 c = let answer = ap (λ (x : Visited). outcome x.info (state x.visitor c.args.edges.now)) c.refused-then-room-brought-2.ensures in
+returns-then-room-brought-2 c = let answer = ap (λ (x : Visited). outcome x.info (state x.visitor c.args.edges.now))
+    c.refused-then-room-brought-2.ensures in
     answer ∙ visit_no_room c.args.visitor c.args.edges.now (type_in c.args.params.now c.args.parts)
     c.args.param c.count_all-brought.ensures c.number_of-number.ensures
     c.if-brought-eq0.false

@@ -8,7 +8,10 @@ use borrow.Author.Rules.{rules}
 use Rattle.elision.proofs.method.lower.Goals as goal
 
 pub returns-in-Refused : goal.returns-in-Refused
-returns-in-Refused c = record { answer = lower_refused _ _ _ _ _ _ _ c.measure-measured.ensures.answer c.in-Refused.is refl refl refl }
+returns-in-Refused c = record {
+  answer = lower_refused _ _ _ _ _ _ _ c.measure-measured.ensures.answer
+      c.in-Refused.is refl refl refl;
+}
 
 pub returns-then-own-measured : goal.returns-then-own-measured
 returns-then-own-measured c =
@@ -53,4 +56,7 @@ returns c =
     let measured : Measured c.args.env c.args.receiver.now c.args.steps.now c.args.returns.now
     c.measure-measured.result = measures _ _ _ _ c.measure-measured.ensures.answer c.in_default.is in
     let full : length c.args.env.names ≡ 32 = search rules in
-    record { answer = lower_all measured _ _ _ c.if-own-measured.false c.if-given-measured.false c.if-taken-measured.false full c.run.ensures }
+    record {
+      answer = lower_all measured _ _ _ c.if-own-measured.false c.if-given-measured.false
+          c.if-taken-measured.false full c.run.ensures;
+    }

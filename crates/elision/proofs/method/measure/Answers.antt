@@ -14,7 +14,8 @@ returns-in-Refused c = search (measure_shape, rules)
 
 pub returns-in-Refused-valid : goal.returns-in-Refused-valid
 returns-in-Refused-valid c =
-    let shaped : Shaped c.args.env c.args.receiver.now c.args.steps.now c.args.returns.now = shape_told _ _ _ _ c.shape_of-shape.ensures c.in_default.is in
+    let shaped : Shaped c.args.env c.args.receiver.now c.args.steps.now c.args.returns.now =
+    shape_told _ _ _ _ c.shape_of-shape.ensures c.in_default.is in
     record {
       answer = measure_env shaped
           (refused_first _ _ _ (sym c.check-valid.ensures.answer ∙ c.in-Refused-valid.is))
@@ -24,7 +25,8 @@ returns-in-Refused-valid c =
 pub slice_bounds-judge-end : goal.slice_bounds-judge-end
 slice_bounds-judge-end c =
     let full : length c.args.env.names ≡ 32 = search rules in
-    let shaped : Shaped c.args.env c.args.receiver.now c.args.steps.now c.args.returns.now = shape_told _ _ _ _ c.shape_of-shape.ensures c.in_default.is in
+    let shaped : Shaped c.args.env c.args.receiver.now c.args.steps.now c.args.returns.now =
+    shape_told _ _ _ _ c.shape_of-shape.ensures c.in_default.is in
     let valid : Valid c.args.env c.args.receiver.now c.args.steps.now c.args.returns.now = record {
       shaped = shaped;
       none = accepted_none _ _ (sym c.check-valid.ensures.answer
@@ -34,22 +36,28 @@ slice_bounds-judge-end c =
 
 pub judge-totals-requires : goal.judge-totals-requires
 judge-totals-requires c =
-    let shaped : Shaped c.args.env c.args.receiver.now c.args.steps.now c.args.returns.now = shape_told _ _ _ _ c.shape_of-shape.ensures c.in_default.is in
+    let shaped : Shaped c.args.env c.args.receiver.now c.args.steps.now c.args.returns.now =
+    shape_told _ _ _ _ c.shape_of-shape.ensures c.in_default.is in
     measure_shaped shaped
 
 pub returns-in-Refused-verdict : goal.returns-in-Refused-verdict
 returns-in-Refused-verdict c =
-    let shaped : Shaped c.args.env c.args.receiver.now c.args.steps.now c.args.returns.now = shape_told _ _ _ _ c.shape_of-shape.ensures c.in_default.is in
+    let shaped : Shaped c.args.env c.args.receiver.now c.args.steps.now c.args.returns.now =
+    shape_told _ _ _ _ c.shape_of-shape.ensures c.in_default.is in
     let valid : Valid c.args.env c.args.receiver.now c.args.steps.now c.args.returns.now = record {
       shaped = shaped;
       none = accepted_none _ _ (sym c.check-valid.ensures.answer
           ∙ c.in_default-valid.is);
     } in
-    record { answer = measure_refused valid c.judge-totals.ensures c.in-Refused-verdict.is c.refused_lowering-in-Refused-verdict.ensures }
+    record {
+      answer = measure_refused valid c.judge-totals.ensures c.in-Refused-verdict.is
+          c.refused_lowering-in-Refused-verdict.ensures;
+    }
 
 pub returns : goal.returns
 returns c =
-    let shaped : Shaped c.args.env c.args.receiver.now c.args.steps.now c.args.returns.now = shape_told _ _ _ _ c.shape_of-shape.ensures c.in_default.is in
+    let shaped : Shaped c.args.env c.args.receiver.now c.args.steps.now c.args.returns.now =
+    shape_told _ _ _ _ c.shape_of-shape.ensures c.in_default.is in
     let valid : Valid c.args.env c.args.receiver.now c.args.steps.now c.args.returns.now = record {
       shaped = shaped;
       none = accepted_none _ _ (sym c.check-valid.ensures.answer

@@ -15,7 +15,8 @@ returns-in-Refused c = search (all_first, rules)
 pub returns-in-Refused-two : goal.returns-in-Refused-two
 returns-in-Refused-two c =
     let one : Given (lower_self c.args.names.now (receiver_of c.args.receiver.now)) 0 (replicate 16 0) c.args.own.now
-    c.put_receiver-first.new.out c.put_receiver-first.result = (c.put_receiver-first.ensures.by_index (replicate 16 0) refl).accepted c.in_default.is in
+    c.put_receiver-first.new.out c.put_receiver-first.result = (c.put_receiver-first.ensures.by_index (replicate 16
+    0) refl).accepted c.in_default.is in
     all_second _ _ _ _ one c.put_record-second.ensures.lowers
     c.in-Refused-two.is c.refused_totals-in-Refused-two.ensures
 
@@ -28,10 +29,12 @@ put_record-third-requires c = (
 pub returns-in-Refused-three : goal.returns-in-Refused-three
 returns-in-Refused-three c =
     let one : Given (lower_self c.args.names.now (receiver_of c.args.receiver.now)) 0 (replicate 16 0) c.args.own.now
-    c.put_receiver-first.new.out c.put_receiver-first.result = (c.put_receiver-first.ensures.by_index (replicate 16 0) refl).accepted c.in_default.is in
+    c.put_receiver-first.new.out c.put_receiver-first.result = (c.put_receiver-first.ensures.by_index (replicate 16
+    0) refl).accepted c.in_default.is in
     let two : Given (run_steps c.args.names.now false (steps_of c.args.steps.now) one.it.left) 0
     c.put_record-second.new.list
-    c.args.given.now c.put_record-second.new.out c.put_record-second.result = (c.put_record-second.ensures.lowers one.it.left
+    c.args.given.now c.put_record-second.new.out c.put_record-second.result = (c.put_record-second.ensures.lowers
+    one.it.left
     one.shows).accepted c.in_default-two.is in
     all_third _ _ _ _ one two c.put_record-third.ensures.lowers
     c.in-Refused-three.is c.refused_totals-in-Refused-three.ensures
@@ -39,9 +42,11 @@ returns-in-Refused-three c =
 pub returns : goal.returns
 returns c =
     let one : Given (lower_self c.args.names.now (receiver_of c.args.receiver.now)) 0 (replicate 16 0) c.args.own.now
-    c.put_receiver-first.new.out c.put_receiver-first.result = (c.put_receiver-first.ensures.by_index (replicate 16 0) refl).accepted c.in_default.is in
+    c.put_receiver-first.new.out c.put_receiver-first.result = (c.put_receiver-first.ensures.by_index (replicate 16
+    0) refl).accepted c.in_default.is in
     let two : Given (run_steps c.args.names.now false (steps_of c.args.steps.now) one.it.left) 0
     c.put_record-second.new.list
-    c.args.given.now c.put_record-second.new.out c.put_record-second.result = (c.put_record-second.ensures.lowers one.it.left
+    c.args.given.now c.put_record-second.new.out c.put_record-second.result = (c.put_record-second.ensures.lowers
+    one.it.left
     one.shows).accepted c.in_default-two.is in
     all_given _ _ _ _ one two c.put_record-third.ensures.lowers c.in_default-three.is

@@ -13,7 +13,8 @@ pub put_step-took-requires : goal.put_step-took-requires
 put_step-took-requires c = search (recording_room, rules)
 
 pub returns-in-Refused : goal.returns-in-Refused
-returns-in-Refused c = let it = recording_refused c.loop-at.invariant c.put_step-took.ensures c.loop-at-test.true c.in-Refused.is in
+returns-in-Refused c = let it = recording_refused c.loop-at.invariant c.put_step-took.ensures c.loop-at-test.true
+    c.in-Refused.is in
     record { own_le_most_list = it.0; lowers = it.1 }
 
 pub loop-at-smaller : goal.loop-at-smaller

@@ -7,7 +7,10 @@ pub returns-then-words-at : goal.returns-then-words-at
 returns-then-words-at c = search (type_none, rules)
 
 pub returns-then-words-at-eq4 : goal.returns-then-words-at-eq4
-returns-then-words-at-eq4 c = record { answer = type_option _ _ c.if-words-at.false c.if-words-at-eq4.true c.bare_at.ensures }
+returns-then-words-at-eq4 c = record {
+  answer = type_option _ _ c.if-words-at.false c.if-words-at-eq4.true
+      c.bare_at.ensures;
+}
 
 pub returns : goal.returns
 returns c = record { answer = type_bare _ _ c.if-words-at.false c.if-words-at-eq4.false c.bare_at-2.ensures }

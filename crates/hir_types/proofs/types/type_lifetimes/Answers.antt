@@ -28,7 +28,8 @@ offset_bounds-words-from c = let s = c.args in
     omega (arith, path_inside f.stands s.index c.if-index-count.true)
 
 pub bounds-words-from : goal.bounds-words-from
-bounds-words-from c = let f = found_told (type_located c.args.words.now 0 c.type_at-found.ensures.answer) c.in-At.is in
+bounds-words-from c = let f = found_told (type_located c.args.words.now 0 c.type_at-found.ensures.answer)
+    c.in-At.is in
     omega (arith, path_inside f.stands c.args.index c.if-index-count.true)
 
 pub returns-then-index-count : goal.returns-then-index-count

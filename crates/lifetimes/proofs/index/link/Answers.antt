@@ -40,60 +40,83 @@ bounds-bounds-at c =
 
 pub offset_bounds-last-x : goal.offset_bounds-last-x
 offset_bounds-last-x c =
-    let fine : Fine (linked_in (order_of c.args.ast) (list_of c.args.bounds)) = linked_fine (order_of c.args.ast) c.requires.fine.0 in
-    let all : length (linked_in (order_of c.args.ast) (list_of c.args.bounds)) ≡ c.args.bounds.pushed = linked_length (order_of c.args.ast) (list_of c.args.bounds) ∙ c.requires.fine.1 in
+    let fine : Fine (linked_in (order_of c.args.ast) (list_of c.args.bounds)) =
+    linked_fine (order_of c.args.ast) c.requires.fine.0 in
+    let all : length (linked_in (order_of c.args.ast) (list_of c.args.bounds)) ≡ c.args.bounds.pushed =
+    linked_length (order_of c.args.ast) (list_of c.args.bounds) ∙ c.requires.fine.1 in
     let reads : get_or (linked_in (order_of c.args.ast) (list_of c.args.bounds)) c.loop-i.i (above 0 0)
-    ≡ get_or c.args.bounds.list c.place-at.result (above 0 0) = linked_at c.args.ast c.args.bounds c.loop-i.i c.place-at.result c.requires.fine.1 (search rules)
+    ≡ get_or c.args.bounds.list c.place-at.result (above 0 0) = linked_at c.args.ast c.args.bounds c.loop-i.i
+    c.place-at.result c.requires.fine.1 (search rules)
     c.place-at.ensures in
-    let small : c.near-x.result < 64 = rw c.near-x.ensures (linking_near c.loop-i.invariant fine all (search rules) reads) in
+    let small : c.near-x.result < 64 = rw c.near-x.ensures (linking_near c.loop-i.invariant fine all (search rules)
+    reads) in
     omega (arith, small)
 
 pub bounds-last-x : goal.bounds-last-x
 bounds-last-x c =
-    let fine : Fine (linked_in (order_of c.args.ast) (list_of c.args.bounds)) = linked_fine (order_of c.args.ast) c.requires.fine.0 in
-    let all : length (linked_in (order_of c.args.ast) (list_of c.args.bounds)) ≡ c.args.bounds.pushed = linked_length (order_of c.args.ast) (list_of c.args.bounds) ∙ c.requires.fine.1 in
+    let fine : Fine (linked_in (order_of c.args.ast) (list_of c.args.bounds)) =
+    linked_fine (order_of c.args.ast) c.requires.fine.0 in
+    let all : length (linked_in (order_of c.args.ast) (list_of c.args.bounds)) ≡ c.args.bounds.pushed =
+    linked_length (order_of c.args.ast) (list_of c.args.bounds) ∙ c.requires.fine.1 in
     let reads : get_or (linked_in (order_of c.args.ast) (list_of c.args.bounds)) c.loop-i.i (above 0 0)
-    ≡ get_or c.args.bounds.list c.place-at.result (above 0 0) = linked_at c.args.ast c.args.bounds c.loop-i.i c.place-at.result c.requires.fine.1 (search rules)
+    ≡ get_or c.args.bounds.list c.place-at.result (above 0 0) = linked_at c.args.ast c.args.bounds c.loop-i.i
+    c.place-at.result c.requires.fine.1 (search rules)
     c.place-at.ensures in
-    let small : c.near-x.result < 64 = rw c.near-x.ensures (linking_near c.loop-i.invariant fine all (search rules) reads) in
+    let small : c.near-x.result < 64 = rw c.near-x.ensures (linking_near c.loop-i.invariant fine all (search rules)
+    reads) in
     small
 
 pub overflow_cast-far : goal.overflow_cast-far
 overflow_cast-far c =
-    let fine : Fine (linked_in (order_of c.args.ast) (list_of c.args.bounds)) = linked_fine (order_of c.args.ast) c.requires.fine.0 in
-    let all : length (linked_in (order_of c.args.ast) (list_of c.args.bounds)) ≡ c.args.bounds.pushed = linked_length (order_of c.args.ast) (list_of c.args.bounds) ∙ c.requires.fine.1 in
+    let fine : Fine (linked_in (order_of c.args.ast) (list_of c.args.bounds)) =
+    linked_fine (order_of c.args.ast) c.requires.fine.0 in
+    let all : length (linked_in (order_of c.args.ast) (list_of c.args.bounds)) ≡ c.args.bounds.pushed =
+    linked_length (order_of c.args.ast) (list_of c.args.bounds) ∙ c.requires.fine.1 in
     let reads : get_or (linked_in (order_of c.args.ast) (list_of c.args.bounds)) c.loop-i.i (above 0 0)
-    ≡ get_or c.args.bounds.list c.place-at.result (above 0 0) = linked_at c.args.ast c.args.bounds c.loop-i.i c.place-at.result c.requires.fine.1 (search rules)
+    ≡ get_or c.args.bounds.list c.place-at.result (above 0 0) = linked_at c.args.ast c.args.bounds c.loop-i.i
+    c.place-at.result c.requires.fine.1 (search rules)
     c.place-at.ensures in
-    let low : c.far-y.result < 64 = rw c.far-y.ensures (linking_far c.loop-i.invariant fine all (search rules) reads) in
+    let low : c.far-y.result < 64 = rw c.far-y.ensures (linking_far c.loop-i.invariant fine all (search rules)
+    reads) in
     omega (arith, low)
 
 pub offset_bounds-last-x-in-loop-i : goal.offset_bounds-last-x-in-loop-i
 offset_bounds-last-x-in-loop-i c =
-    let fine : Fine (linked_in (order_of c.args.ast) (list_of c.args.bounds)) = linked_fine (order_of c.args.ast) c.requires.fine.0 in
-    let all : length (linked_in (order_of c.args.ast) (list_of c.args.bounds)) ≡ c.args.bounds.pushed = linked_length (order_of c.args.ast) (list_of c.args.bounds) ∙ c.requires.fine.1 in
+    let fine : Fine (linked_in (order_of c.args.ast) (list_of c.args.bounds)) =
+    linked_fine (order_of c.args.ast) c.requires.fine.0 in
+    let all : length (linked_in (order_of c.args.ast) (list_of c.args.bounds)) ≡ c.args.bounds.pushed =
+    linked_length (order_of c.args.ast) (list_of c.args.bounds) ∙ c.requires.fine.1 in
     let reads : get_or (linked_in (order_of c.args.ast) (list_of c.args.bounds)) c.loop-i.i (above 0 0)
-    ≡ get_or c.args.bounds.list c.place-at.result (above 0 0) = linked_at c.args.ast c.args.bounds c.loop-i.i c.place-at.result c.requires.fine.1 (search rules)
+    ≡ get_or c.args.bounds.list c.place-at.result (above 0 0) = linked_at c.args.ast c.args.bounds c.loop-i.i
+    c.place-at.result c.requires.fine.1 (search rules)
     c.place-at.ensures in
-    let small : c.near-x.result < 64 = rw c.near-x.ensures (linking_near c.loop-i.invariant fine all (search rules) reads) in
+    let small : c.near-x.result < 64 = rw c.near-x.ensures (linking_near c.loop-i.invariant fine all (search rules)
+    reads) in
     omega (arith, small)
 
 pub bounds-last-x-in-loop-i : goal.bounds-last-x-in-loop-i
 bounds-last-x-in-loop-i c =
-    let fine : Fine (linked_in (order_of c.args.ast) (list_of c.args.bounds)) = linked_fine (order_of c.args.ast) c.requires.fine.0 in
-    let all : length (linked_in (order_of c.args.ast) (list_of c.args.bounds)) ≡ c.args.bounds.pushed = linked_length (order_of c.args.ast) (list_of c.args.bounds) ∙ c.requires.fine.1 in
+    let fine : Fine (linked_in (order_of c.args.ast) (list_of c.args.bounds)) =
+    linked_fine (order_of c.args.ast) c.requires.fine.0 in
+    let all : length (linked_in (order_of c.args.ast) (list_of c.args.bounds)) ≡ c.args.bounds.pushed =
+    linked_length (order_of c.args.ast) (list_of c.args.bounds) ∙ c.requires.fine.1 in
     let reads : get_or (linked_in (order_of c.args.ast) (list_of c.args.bounds)) c.loop-i.i (above 0 0)
-    ≡ get_or c.args.bounds.list c.place-at.result (above 0 0) = linked_at c.args.ast c.args.bounds c.loop-i.i c.place-at.result c.requires.fine.1 (search rules)
+    ≡ get_or c.args.bounds.list c.place-at.result (above 0 0) = linked_at c.args.ast c.args.bounds c.loop-i.i
+    c.place-at.result c.requires.fine.1 (search rules)
     c.place-at.ensures in
-    let small : c.near-x.result < 64 = rw c.near-x.ensures (linking_near c.loop-i.invariant fine all (search rules) reads) in
+    let small : c.near-x.result < 64 = rw c.near-x.ensures (linking_near c.loop-i.invariant fine all (search rules)
+    reads) in
     small
 
 pub loop-i-preserved : goal.loop-i-preserved
 loop-i-preserved c =
-    let fine : Fine (linked_in (order_of c.args.ast) (list_of c.args.bounds)) = linked_fine (order_of c.args.ast) c.requires.fine.0 in
-    let all : length (linked_in (order_of c.args.ast) (list_of c.args.bounds)) ≡ c.args.bounds.pushed = linked_length (order_of c.args.ast) (list_of c.args.bounds) ∙ c.requires.fine.1 in
+    let fine : Fine (linked_in (order_of c.args.ast) (list_of c.args.bounds)) =
+    linked_fine (order_of c.args.ast) c.requires.fine.0 in
+    let all : length (linked_in (order_of c.args.ast) (list_of c.args.bounds)) ≡ c.args.bounds.pushed =
+    linked_length (order_of c.args.ast) (list_of c.args.bounds) ∙ c.requires.fine.1 in
     let reads : get_or (linked_in (order_of c.args.ast) (list_of c.args.bounds)) c.loop-i.i (above 0 0)
-    ≡ get_or c.args.bounds.list c.place-at.result (above 0 0) = linked_at c.args.ast c.args.bounds c.loop-i.i c.place-at.result c.requires.fine.1 (search rules)
+    ≡ get_or c.args.bounds.list c.place-at.result (above 0 0) = linked_at c.args.ast c.args.bounds c.loop-i.i
+    c.place-at.result c.requires.fine.1 (search rules)
     c.place-at.ensures in
     linking_more c.loop-i.invariant fine all (search rules) reads
     c.near-x.result c.far-y.result _ c.near-x.ensures
@@ -101,6 +124,8 @@ loop-i-preserved c =
 
 pub returns : goal.returns
 returns c =
-    let fine : Fine (linked_in (order_of c.args.ast) (list_of c.args.bounds)) = linked_fine (order_of c.args.ast) c.requires.fine.0 in
-    let all : length (linked_in (order_of c.args.ast) (list_of c.args.bounds)) ≡ c.args.bounds.pushed = linked_length (order_of c.args.ast) (list_of c.args.bounds) ∙ c.requires.fine.1 in
+    let fine : Fine (linked_in (order_of c.args.ast) (list_of c.args.bounds)) =
+    linked_fine (order_of c.args.ast) c.requires.fine.0 in
+    let all : length (linked_in (order_of c.args.ast) (list_of c.args.bounds)) ≡ c.args.bounds.pushed =
+    linked_length (order_of c.args.ast) (list_of c.args.bounds) ∙ c.requires.fine.1 in
     linking_end c.loop-i.invariant fine all (search rules)

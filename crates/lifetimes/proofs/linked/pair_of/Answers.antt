@@ -14,7 +14,12 @@ pub returns-then-place-count : goal.returns-then-place-count
 unfolding linked_pair unless
 returns-then-place-count c = let a = c.args in
     let same = c.if-words-count.false in
-    rw (eq-eqb (length a.words.now) a.count same, c.new-def.ensures.answer, lt-ltb a.place (length a.words.now) (omega arith))
+    rw (
+      eq-eqb (length a.words.now) a.count same,
+      c.new-def.ensures.answer,
+      lt-ltb a.place (length a.words.now)
+          (omega arith),
+    )
 
 pub returns : goal.returns
 unfolding linked_pair unless

@@ -27,7 +27,10 @@ copy_to-requires c =
     ≤ length c.loop-x.words = let (g, k, h, fits) = c.requires.layable.0 in
     let done = c.walk-walked.ensures.complete g k (λ b i. omega (arith, h b i, c.limit_of-limit.ensures)) in
     let n : c.walk-walked.result.count ≡ length (take c.walk-walked.result.count c.walk-walked.new.items) =
-    sym (length-take-le c.walk-walked.result.count _ (omega (arith, c.walk-walked.ensures.count_le_most_lifetimes))) in
+    sym (length-take-le c.walk-walked.result.count _ (omega (
+      arith,
+      c.walk-walked.ensures.count_le_most_lifetimes,
+    ))) in
     omega (
       arith,
       c.loop-x.invariant.1,
@@ -43,7 +46,10 @@ overflow_add-at c =
     ≤ length c.loop-x.words = let (g, k, h, fits) = c.requires.layable.0 in
     let done = c.walk-walked.ensures.complete g k (λ b i. omega (arith, h b i, c.limit_of-limit.ensures)) in
     let n : c.walk-walked.result.count ≡ length (take c.walk-walked.result.count c.walk-walked.new.items) =
-    sym (length-take-le c.walk-walked.result.count _ (omega (arith, c.walk-walked.ensures.count_le_most_lifetimes))) in
+    sym (length-take-le c.walk-walked.result.count _ (omega (
+      arith,
+      c.walk-walked.ensures.count_le_most_lifetimes,
+    ))) in
     omega (
       arith,
       c.loop-x.invariant.1,
@@ -64,7 +70,10 @@ loop-x-preserved c = let m = c.limit_of-limit.ensures in (
       let done = c.walk-walked.ensures.complete g k (λ b i. omega (arith, h b i, m)) in
       rw c.copy_to.ensures
       (laying_more (c.loop-x.invariant.5 g k h) c.loop-x-test.true _ _ _ done.items
-      (sym (length-take-le c.walk-walked.result.count _ (omega (arith, c.walk-walked.ensures.count_le_most_lifetimes))))
+      (sym (length-take-le c.walk-walked.result.count _ (omega (
+        arith,
+        c.walk-walked.ensures.count_le_most_lifetimes,
+      ))))
       done.seen),
 )
 

@@ -30,7 +30,10 @@ loop-x-preserved c = let m = c.limit_of-limit.ensures in (
   λ g k h.
       let done = c.walk-walked.ensures.complete g k (λ b i. omega (arith, h b i, m)) in
       measuring_more (c.loop-x.invariant.4 g k h) c.loop-x-test.true _ _
-      (sym (length-take-le c.walk-walked.result.count _ (omega (arith, c.walk-walked.ensures.count_le_most_lifetimes))) ∙ ap length done.items)
+      (sym (length-take-le c.walk-walked.result.count _ (omega (
+        arith,
+        c.walk-walked.ensures.count_le_most_lifetimes,
+      ))) ∙ ap length done.items)
       done.seen,
 )
 

@@ -55,5 +55,6 @@ returns c =
     (sym c.check-verdict.ensures.answer ∙ c.in_default.is) in
     let i = c.index-start.ensures.answer in
     let a = list_given c.args.env c.args.lifetime.0 asked c.args.out.now none
-    (omega (arith, i, c.if-env-start.false)) _ c.list-n.result (omega (arith, c.list-n.ensures)) (rw i at c.list-n.ensures.2) c.if-out-n.false in
+    (omega (arith, i, c.if-env-start.false)) _ c.list-n.result (omega (arith, c.list-n.ensures)) (rw i at
+    c.list-n.ensures.2) c.if-out-n.false in
     record { value = a.0; fills = c.copy_to.ensures ∙ a.1 }

@@ -7,7 +7,10 @@ use Rattle.lifetimes.proofs.SetLaws.{member_past}
 use Rattle.lifetimes.proofs.set.contains.Goals as goal
 
 pub returns-then-number-lt-CAPACITY : goal.returns-then-number-lt-CAPACITY
-returns-then-number-lt-CAPACITY c = record { answer = c.holds.ensures ∙ ap (λ (n : ℕ). member c.args.set n) c.index-number.ensures.answer }
+returns-then-number-lt-CAPACITY c = record {
+  answer = c.holds.ensures ∙ ap (λ (n : ℕ). member c.args.set n)
+      c.index-number.ensures.answer;
+}
 
 pub returns : goal.returns
 returns c = record {

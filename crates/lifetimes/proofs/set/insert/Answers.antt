@@ -10,4 +10,10 @@ returns-then-number-lt-CAPACITY c = record {
 }
 
 pub returns : goal.returns
-returns c = record { answer = rw (le-ltb c.args.lifetime.0 64 (omega (arith, c.index-number.ensures.answer, c.if-number-lt-CAPACITY.false))) }
+returns c = record {
+  answer = rw (le-ltb c.args.lifetime.0 64 (omega (
+    arith,
+    c.index-number.ensures.answer,
+    c.if-number-lt-CAPACITY.false,
+  )));
+}

@@ -23,8 +23,10 @@ pub loop-x-preserved : goal.loop-x-preserved
 loop-x-preserved c =
     let told = sym c.holds.ensures in
     elim c.if-holds.branch [
-      | then-holds w ↦ rw (w.out-is, w.at-is) (listing_member c.loop-x.invariant c.loop-x-test.true (told ∙ w.if-holds.true))
-      | else-holds w ↦ rw (w.out-is, w.at-is) (listing_other c.loop-x.invariant c.loop-x-test.true (told ∙ w.if-holds.false))
+      | then-holds w ↦ rw (w.out-is, w.at-is) (listing_member c.loop-x.invariant c.loop-x-test.true (told ∙
+          w.if-holds.true))
+      | else-holds w ↦ rw (w.out-is, w.at-is) (listing_other c.loop-x.invariant c.loop-x-test.true (told ∙
+          w.if-holds.false))
     ]
 
 pub returns : goal.returns

@@ -97,10 +97,12 @@ pending-smaller c =
 
 pub pending-preserved : goal.pending-preserved
 pending-preserved c = λ g ch r.
-    skipping_seen ch r (c.pending.invariant g ch r) (c.pending.at - 1) (omega arith) (sym c.holds.ensures ∙ c.if-not-holds.false)
+    skipping_seen ch r (c.pending.invariant g ch r) (c.pending.at - 1) (omega arith) (sym c.holds.ensures ∙
+    c.if-not-holds.false)
 
 pub returns-then-depth-eq0 : goal.returns-then-depth-eq0
-returns-then-depth-eq0 c = λ g ch r. skipping_end ch r (c.pending.invariant g ch r) c.if-at-eq0.true c.if-depth-eq0.true
+returns-then-depth-eq0 c = λ g ch r. skipping_end ch r (c.pending.invariant g ch r) c.if-at-eq0.true
+    c.if-depth-eq0.true
 
 pub returns-then-not-holds : goal.returns-then-not-holds
 returns-then-not-holds c = λ g ch r.

@@ -11,7 +11,8 @@ loop-i-init c = search (answering_start, rules)
 
 pub loop-i-preserved : goal.loop-i-preserved
 loop-i-preserved c = (
-  answering_more c.loop-i.invariant.0 (omega (arith, c.loop-i-test.true, c.loop-i.invariant.1)) (prints (c.put_number-start.ensures.answer, c.put_number-start.ensures.stored))
+  answering_more c.loop-i.invariant.0 (omega (arith, c.loop-i-test.true, c.loop-i.invariant.1)) (prints
+      (c.put_number-start.ensures.answer, c.put_number-start.ensures.stored))
       (prints (c.put_following-next.ensures.answer, c.put_following-next.ensures.stored)),
   c.loop-i.invariant.1,
 )

@@ -5,5 +5,8 @@ use borrow.Author.Rules.{rules}
 use Rattle.listing.proofs.sections.put_edges.Goals as goal
 
 pub returns : goal.returns
-returns c = prints_more {s = edge_heading} (search rules) (prints (c.put_text-next.ensures.answer, c.put_text-next.ensures.stored))
+returns c = prints_more {s = edge_heading} (search rules) (prints (
+  c.put_text-next.ensures.answer,
+  c.put_text-next.ensures.stored,
+))
     c.put_each_edge.ensures

@@ -17,7 +17,14 @@ returns c =
     let small : length c.args.out.now < 2 ^ 64 = search rules in
     let all = leaves_all (lowered_heading ++ (own ++ (given ++ taken))) c.args.at c.args.out.now
     small (omega (arith, c.ranges.at)) in
-    let lines = leaves_rest {s = lowered_heading} (own ++ (given ++ taken)) all (prints (c.put_text-first.ensures.answer, c.put_text-first.ensures.stored)) in
-    let two = leaves_rest {s = own} (given ++ taken) lines (prints (c.put_line-second.ensures.answer, c.put_line-second.ensures.stored)) in
-    let one = leaves_rest {s = given} taken two (prints (c.put_line-third.ensures.answer, c.put_line-third.ensures.stored)) in
+    let lines = leaves_rest {s = lowered_heading} (own ++ (given ++ taken)) all (prints
+    (c.put_text-first.ensures.answer, c.put_text-first.ensures.stored)) in
+    let two = leaves_rest {s = own} (given ++ taken) lines (prints (
+      c.put_line-second.ensures.answer,
+      c.put_line-second.ensures.stored,
+    )) in
+    let one = leaves_rest {s = given} taken two (prints (
+      c.put_line-third.ensures.answer,
+      c.put_line-third.ensures.stored,
+    )) in
     leaves_none {s = taken} one (prints (c.put_line.ensures.answer, c.put_line.ensures.stored))

@@ -17,7 +17,12 @@ pub bounds-ends-i : goal.bounds-ends-i
 bounds-ends-i c = search (numbering_there, rules)
 
 pub offset_bounds-words-from : goal.offset_bounds-words-from
-offset_bounds-words-from c = let p = numbering_inside c.loop-i.invariant c.loop-i-test.true in omega (arith, p.0, p.1, c.ranges)
+offset_bounds-words-from c = let p = numbering_inside c.loop-i.invariant c.loop-i-test.true in omega (
+  arith,
+  p.0,
+  p.1,
+  c.ranges,
+)
 
 pub slice_bounds-put_following-count : goal.slice_bounds-put_following-count
 slice_bounds-put_following-count c = omega (
@@ -41,7 +46,8 @@ slice_bounds-put_following-end c = omega (
 )
 
 pub loop-i-preserved : goal.loop-i-preserved
-loop-i-preserved c = numbering_more c.loop-i.invariant c.loop-i-test.true (prints (c.put_number-start.ensures.answer, c.put_number-start.ensures.stored))
+loop-i-preserved c = numbering_more c.loop-i.invariant c.loop-i-test.true (prints
+    (c.put_number-start.ensures.answer, c.put_number-start.ensures.stored))
     (prints (c.put_following-next.ensures.answer, c.put_following-next.ensures.stored))
 
 pub shape_of-out : goal.shape_of-out

@@ -5,5 +5,8 @@ use borrow.Author.Rules.{rules}
 use Rattle.listing.proofs.sections.put_refusal.Goals as goal
 
 pub returns : goal.returns
-returns c = prints_more {s = refusal_heading} (search rules) (prints (c.put_text-next.ensures.answer, c.put_text-next.ensures.stored))
+returns c = prints_more {s = refusal_heading} (search rules) (prints (
+  c.put_text-next.ensures.answer,
+  c.put_text-next.ensures.stored,
+))
     (prints (c.put_line.ensures.answer, c.put_line.ensures.stored))

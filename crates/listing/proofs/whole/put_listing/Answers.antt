@@ -16,14 +16,17 @@ pub returns : goal.returns
 unfolding sections
 returns c =
     let counts : List ℕ = count_heading ++ line c.args.counts.now in
-    let lowered : List ℕ = lowered_heading ++ (line c.args.own.now ++ (line c.args.given.now ++ line c.args.taken.now)) in
-    let longer : List ℕ = longer_heading ++ list_lines 0 (cut_from 0 c.args.lists.now c.args.ends.now (get_or c.args.counts.now 0 0)) in
+    let lowered : List ℕ = lowered_heading ++ (line c.args.own.now ++ (line c.args.given.now ++ line
+    c.args.taken.now)) in
+    let longer : List ℕ = longer_heading ++ list_lines 0 (cut_from 0 c.args.lists.now c.args.ends.now (get_or
+    c.args.counts.now 0 0)) in
     let answers : List ℕ = answer_lines c.args.answers.now in
     let edges : List ℕ = edge_lines (edges_in (get_or c.args.counts.now 3 0) c.args.edges.now) in
     let small : length c.args.out.now < 2 ^ 64 = search rules in
     let all = leaves_all (counts ++ (lowered ++ (longer ++ (answers ++ edges)))) 0 c.args.out.now
     small (omega arith) in
-    let four = leaves_rest {s = counts} (lowered ++ (longer ++ (answers ++ edges))) all c.put_counts-lowered.ensures in
+    let four = leaves_rest {s = counts} (lowered ++ (longer ++ (answers ++ edges))) all
+    c.put_counts-lowered.ensures in
     let three = leaves_rest {s = lowered} (longer ++ (answers ++ edges)) four c.put_lowered-longer.ensures in
     let two = leaves_rest {s = longer} (answers ++ edges) three c.put_longer-answered.ensures in
     let one = leaves_rest {s = answers} edges two c.put_answers-edged.ensures in

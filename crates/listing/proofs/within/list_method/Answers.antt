@@ -18,37 +18,98 @@ returns-then-lists-count c = lists_short c.requires.0 c.args.lists.now c.if-list
 pub returns-in-Refused : goal.returns-in-Refused
 returns-in-Refused c =
     let all_listed : AllListed c.args.env c.args.lists.now (replicate 64 0) c.all_lists-longer.result
-    c.all_lists-longer.new.words c.all_lists-longer.new.ends = record { places = refl; room = c.if-lists-count.false; is = c.all_lists-longer.ensures.answer; wrote = c.all_lists-longer.ensures.words_filled; ended = c.all_lists-longer.ensures.ends_filled } in
+    c.all_lists-longer.new.words c.all_lists-longer.new.ends = record {
+      places = refl;
+      room =
+          c.if-lists-count.false;
+      is = c.all_lists-longer.ensures.answer;
+      wrote = c.all_lists-longer.ensures.words_filled;
+      ended = c.all_lists-longer.ensures.ends_filled;
+    } in
     let mapped : Mapped c.from_sets-visitor.result c.args.structs.now c.args.params.now (replicate 16 0)
-    c.args.edges.now c.borrow_map-map.result c.borrow_map-map.new.answers c.borrow_map-map.new.edges = record { sixteen = refl; most = c.requires.1; maps = c.borrow_map-map.ensures.answer.counts; noted = c.borrow_map-map.ensures.answer.answers_filled; stored = c.borrow_map-map.ensures.answer.edges_filled } in
+    c.args.edges.now c.borrow_map-map.result c.borrow_map-map.new.answers c.borrow_map-map.new.edges = record {
+      sixteen = refl;
+      most = c.requires.1;
+      maps = c.borrow_map-map.ensures.answer.counts;
+      noted =
+          c.borrow_map-map.ensures.answer.answers_filled;
+      stored = c.borrow_map-map.ensures.answer.edges_filled;
+    } in
     map_refused c.requires.0 all_listed c.from_sets-visitor.ensures.answer mapped
     _ c.args.out.now c.in-Refused.is c.too_many.ensures
 
 pub slice_bounds-put_listing-end : goal.slice_bounds-put_listing-end
 slice_bounds-put_listing-end c =
     let all_listed : AllListed c.args.env c.args.lists.now (replicate 64 0) c.all_lists-longer.result
-    c.all_lists-longer.new.words c.all_lists-longer.new.ends = record { places = refl; room = c.if-lists-count.false; is = c.all_lists-longer.ensures.answer; wrote = c.all_lists-longer.ensures.words_filled; ended = c.all_lists-longer.ensures.ends_filled } in
+    c.all_lists-longer.new.words c.all_lists-longer.new.ends = record {
+      places = refl;
+      room =
+          c.if-lists-count.false;
+      is = c.all_lists-longer.ensures.answer;
+      wrote = c.all_lists-longer.ensures.words_filled;
+      ended = c.all_lists-longer.ensures.ends_filled;
+    } in
     let mapped : Mapped c.from_sets-visitor.result c.args.structs.now c.args.params.now (replicate 16 0)
-    c.args.edges.now c.borrow_map-map.result c.borrow_map-map.new.answers c.borrow_map-map.new.edges = record { sixteen = refl; most = c.requires.1; maps = c.borrow_map-map.ensures.answer.counts; noted = c.borrow_map-map.ensures.answer.answers_filled; stored = c.borrow_map-map.ensures.answer.edges_filled } in
+    c.args.edges.now c.borrow_map-map.result c.borrow_map-map.new.answers c.borrow_map-map.new.edges = record {
+      sixteen = refl;
+      most = c.requires.1;
+      maps = c.borrow_map-map.ensures.answer.counts;
+      noted =
+          c.borrow_map-map.ensures.answer.answers_filled;
+      stored = c.borrow_map-map.ensures.answer.edges_filled;
+    } in
     params_inside c.requires.0 all_listed
     c.from_sets-visitor.ensures.answer mapped c.in_default.is
 
 pub put_listing-length-requires : goal.put_listing-length-requires
 put_listing-length-requires c =
     let all_listed : AllListed c.args.env c.args.lists.now (replicate 64 0) c.all_lists-longer.result
-    c.all_lists-longer.new.words c.all_lists-longer.new.ends = record { places = refl; room = c.if-lists-count.false; is = c.all_lists-longer.ensures.answer; wrote = c.all_lists-longer.ensures.words_filled; ended = c.all_lists-longer.ensures.ends_filled } in
+    c.all_lists-longer.new.words c.all_lists-longer.new.ends = record {
+      places = refl;
+      room =
+          c.if-lists-count.false;
+      is = c.all_lists-longer.ensures.answer;
+      wrote = c.all_lists-longer.ensures.words_filled;
+      ended = c.all_lists-longer.ensures.ends_filled;
+    } in
     let mapped : Mapped c.from_sets-visitor.result c.args.structs.now c.args.params.now (replicate 16 0)
-    c.args.edges.now c.borrow_map-map.result c.borrow_map-map.new.answers c.borrow_map-map.new.edges = record { sixteen = refl; most = c.requires.1; maps = c.borrow_map-map.ensures.answer.counts; noted = c.borrow_map-map.ensures.answer.answers_filled; stored = c.borrow_map-map.ensures.answer.edges_filled } in
+    c.args.edges.now c.borrow_map-map.result c.borrow_map-map.new.answers c.borrow_map-map.new.edges = record {
+      sixteen = refl;
+      most = c.requires.1;
+      maps = c.borrow_map-map.ensures.answer.counts;
+      noted =
+          c.borrow_map-map.ensures.answer.answers_filled;
+      stored = c.borrow_map-map.ensures.answer.edges_filled;
+    } in
     let can = c.requires.0 in
     let all = all_listed in
-    record { counts_len = refl; ascend = lists_ascend can all; counts_in_bounds = edges_inside can all c.from_sets-visitor.ensures.answer mapped c.in_default.is }
+    record {
+      counts_len = refl;
+      ascend = lists_ascend can all;
+      counts_in_bounds = edges_inside can all
+          c.from_sets-visitor.ensures.answer mapped c.in_default.is;
+    }
 
 pub returns : goal.returns
 returns c =
     let all_listed : AllListed c.args.env c.args.lists.now (replicate 64 0) c.all_lists-longer.result
-    c.all_lists-longer.new.words c.all_lists-longer.new.ends = record { places = refl; room = c.if-lists-count.false; is = c.all_lists-longer.ensures.answer; wrote = c.all_lists-longer.ensures.words_filled; ended = c.all_lists-longer.ensures.ends_filled } in
+    c.all_lists-longer.new.words c.all_lists-longer.new.ends = record {
+      places = refl;
+      room =
+          c.if-lists-count.false;
+      is = c.all_lists-longer.ensures.answer;
+      wrote = c.all_lists-longer.ensures.words_filled;
+      ended = c.all_lists-longer.ensures.ends_filled;
+    } in
     let mapped : Mapped c.from_sets-visitor.result c.args.structs.now c.args.params.now (replicate 16 0)
-    c.args.edges.now c.borrow_map-map.result c.borrow_map-map.new.answers c.borrow_map-map.new.edges = record { sixteen = refl; most = c.requires.1; maps = c.borrow_map-map.ensures.answer.counts; noted = c.borrow_map-map.ensures.answer.answers_filled; stored = c.borrow_map-map.ensures.answer.edges_filled } in
+    c.args.edges.now c.borrow_map-map.result c.borrow_map-map.new.answers c.borrow_map-map.new.edges = record {
+      sixteen = refl;
+      most = c.requires.1;
+      maps = c.borrow_map-map.ensures.answer.counts;
+      noted =
+          c.borrow_map-map.ensures.answer.answers_filled;
+      stored = c.borrow_map-map.ensures.answer.edges_filled;
+    } in
     method_listed c.requires.0 all_listed
     c.from_sets-visitor.ensures.answer mapped c.in_default.is c.count.ensures.answer
     c.put_listing-length.ensures

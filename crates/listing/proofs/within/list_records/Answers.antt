@@ -38,8 +38,8 @@ slice_bounds-list_method-end c =
     c.lower-lowered.new.own c.lower-lowered.new.given
     c.lower-lowered.new.taken = record {
       first = c.requires.0;
-      steps_room = c.if-given-steps.left;
-      returns_room = c.if-taken-returns.left;
+      steps_room = c.if-given-steps.false;
+      returns_room = c.if-taken-returns.false;
       names = c.from_method_item-ast.ensures.answer;
       fine = c.in_default.is;
       lowers = c.lower-lowered.ensures.answer.answer;
@@ -61,8 +61,8 @@ slice_bounds-list_method-end-in-Set c =
     c.lower-lowered.new.own c.lower-lowered.new.given
     c.lower-lowered.new.taken = record {
       first = c.requires.0;
-      steps_room = c.if-given-steps.left;
-      returns_room = c.if-taken-returns.left;
+      steps_room = c.if-given-steps.false;
+      returns_room = c.if-taken-returns.false;
       names = c.from_method_item-ast.ensures.answer;
       fine = c.in_default.is;
       lowers = c.lower-lowered.ensures.answer.answer;
@@ -84,8 +84,8 @@ slice_bounds-list_method-end-in-Set-2 c =
     c.lower-lowered.new.own c.lower-lowered.new.given
     c.lower-lowered.new.taken = record {
       first = c.requires.0;
-      steps_room = c.if-given-steps.left;
-      returns_room = c.if-taken-returns.left;
+      steps_room = c.if-given-steps.false;
+      returns_room = c.if-taken-returns.false;
       names = c.from_method_item-ast.ensures.answer;
       fine = c.in_default.is;
       lowers = c.lower-lowered.ensures.answer.answer;
@@ -107,8 +107,8 @@ list_method-requires c =
     c.lower-lowered.new.own c.lower-lowered.new.given
     c.lower-lowered.new.taken = record {
       first = c.requires.0;
-      steps_room = c.if-given-steps.left;
-      returns_room = c.if-taken-returns.left;
+      steps_room = c.if-given-steps.false;
+      returns_room = c.if-taken-returns.false;
       names = c.from_method_item-ast.ensures.answer;
       fine = c.in_default.is;
       lowers = c.lower-lowered.ensures.answer.answer;
@@ -132,8 +132,8 @@ returns-in-Refused-used c =
     c.lower-lowered.new.own c.lower-lowered.new.given
     c.lower-lowered.new.taken = record {
       first = c.requires.0;
-      steps_room = c.if-given-steps.left;
-      returns_room = c.if-taken-returns.left;
+      steps_room = c.if-given-steps.false;
+      returns_room = c.if-taken-returns.false;
       names = c.from_method_item-ast.ensures.answer;
       fine = c.in_default.is;
       lowers = c.lower-lowered.ensures.answer.answer;
@@ -156,8 +156,8 @@ returns-in-Set c =
     c.lower-lowered.new.own c.lower-lowered.new.given
     c.lower-lowered.new.taken = record {
       first = c.requires.0;
-      steps_room = c.if-given-steps.left;
-      returns_room = c.if-taken-returns.left;
+      steps_room = c.if-given-steps.false;
+      returns_room = c.if-taken-returns.false;
       names = c.from_method_item-ast.ensures.answer;
       fine = c.in_default.is;
       lowers = c.lower-lowered.ensures.answer.answer;

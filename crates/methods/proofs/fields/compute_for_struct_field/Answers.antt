@@ -49,7 +49,8 @@ offset_bounds-lifetimes-row c =
     let in_order : let s = c.args.structs.now in
     (structs_in_shape s ≡ true) × (length (rows_of s) ≡ c.in-Count.rows) = let s = c.args.structs.now in
     counted_shape (structs_in_shape s) (rows_of s) c.structs_shape-shape.ensures.answer c.in-Count.is in
-    let indexed : let s = c.args in Indexed s.structs.now s.row s.field c.in-Struct.inner c.in-Struct.from c.in-Struct.count c.index_rows-verdict.new.lifetimes
+    let indexed : let s = c.args in Indexed s.structs.now s.row s.field c.in-Struct.inner c.in-Struct.from
+    c.in-Struct.count c.index_rows-verdict.new.lifetimes
     c.index_rows-verdict.result = let s = c.args in
     record {
       shape = in_order.0;
@@ -65,7 +66,8 @@ bounds-lifetimes-row c =
     let in_order : let s = c.args.structs.now in
     (structs_in_shape s ≡ true) × (length (rows_of s) ≡ c.in-Count.rows) = let s = c.args.structs.now in
     counted_shape (structs_in_shape s) (rows_of s) c.structs_shape-shape.ensures.answer c.in-Count.is in
-    let indexed : let s = c.args in Indexed s.structs.now s.row s.field c.in-Struct.inner c.in-Struct.from c.in-Struct.count c.index_rows-verdict.new.lifetimes
+    let indexed : let s = c.args in Indexed s.structs.now s.row s.field c.in-Struct.inner c.in-Struct.from
+    c.in-Struct.count c.index_rows-verdict.new.lifetimes
     c.index_rows-verdict.result = let s = c.args in
     record {
       shape = in_order.0;
@@ -81,7 +83,8 @@ offset_bounds-lifetimes-inner c =
     let in_order : let s = c.args.structs.now in
     (structs_in_shape s ≡ true) × (length (rows_of s) ≡ c.in-Count.rows) = let s = c.args.structs.now in
     counted_shape (structs_in_shape s) (rows_of s) c.structs_shape-shape.ensures.answer c.in-Count.is in
-    let indexed : let s = c.args in Indexed s.structs.now s.row s.field c.in-Struct.inner c.in-Struct.from c.in-Struct.count c.index_rows-verdict.new.lifetimes
+    let indexed : let s = c.args in Indexed s.structs.now s.row s.field c.in-Struct.inner c.in-Struct.from
+    c.in-Struct.count c.index_rows-verdict.new.lifetimes
     c.index_rows-verdict.result = let s = c.args in
     record {
       shape = in_order.0;
@@ -97,7 +100,8 @@ bounds-lifetimes-inner c =
     let in_order : let s = c.args.structs.now in
     (structs_in_shape s ≡ true) × (length (rows_of s) ≡ c.in-Count.rows) = let s = c.args.structs.now in
     counted_shape (structs_in_shape s) (rows_of s) c.structs_shape-shape.ensures.answer c.in-Count.is in
-    let indexed : let s = c.args in Indexed s.structs.now s.row s.field c.in-Struct.inner c.in-Struct.from c.in-Struct.count c.index_rows-verdict.new.lifetimes
+    let indexed : let s = c.args in Indexed s.structs.now s.row s.field c.in-Struct.inner c.in-Struct.from
+    c.in-Struct.count c.index_rows-verdict.new.lifetimes
     c.index_rows-verdict.result = let s = c.args in
     record {
       shape = in_order.0;
@@ -113,7 +117,8 @@ pairs_of-requires c =
     let in_order : let s = c.args.structs.now in
     (structs_in_shape s ≡ true) × (length (rows_of s) ≡ c.in-Count.rows) = let s = c.args.structs.now in
     counted_shape (structs_in_shape s) (rows_of s) c.structs_shape-shape.ensures.answer c.in-Count.is in
-    let indexed : let s = c.args in Indexed s.structs.now s.row s.field c.in-Struct.inner c.in-Struct.from c.in-Struct.count c.index_rows-verdict.new.lifetimes
+    let indexed : let s = c.args in Indexed s.structs.now s.row s.field c.in-Struct.inner c.in-Struct.from
+    c.in-Struct.count c.index_rows-verdict.new.lifetimes
     c.index_rows-verdict.result = let s = c.args in
     record {
       shape = in_order.0;
@@ -128,7 +133,8 @@ returns-in-Refused c =
     let in_order : let s = c.args.structs.now in
     (structs_in_shape s ≡ true) × (length (rows_of s) ≡ c.in-Count.rows) = let s = c.args.structs.now in
     counted_shape (structs_in_shape s) (rows_of s) c.structs_shape-shape.ensures.answer c.in-Count.is in
-    let indexed : let s = c.args in Indexed s.structs.now s.row s.field c.in-Struct.inner c.in-Struct.from c.in-Struct.count c.index_rows-verdict.new.lifetimes
+    let indexed : let s = c.args in Indexed s.structs.now s.row s.field c.in-Struct.inner c.in-Struct.from
+    c.in-Struct.count c.index_rows-verdict.new.lifetimes
     c.index_rows-verdict.result = let s = c.args in
     record {
       shape = in_order.0;
@@ -146,7 +152,8 @@ returns-in-Accepted c =
     let in_order : let s = c.args.structs.now in
     (structs_in_shape s ≡ true) × (length (rows_of s) ≡ c.in-Count.rows) = let s = c.args.structs.now in
     counted_shape (structs_in_shape s) (rows_of s) c.structs_shape-shape.ensures.answer c.in-Count.is in
-    let indexed : let s = c.args in Indexed s.structs.now s.row s.field c.in-Struct.inner c.in-Struct.from c.in-Struct.count c.index_rows-verdict.new.lifetimes
+    let indexed : let s = c.args in Indexed s.structs.now s.row s.field c.in-Struct.inner c.in-Struct.from
+    c.in-Struct.count c.index_rows-verdict.new.lifetimes
     c.index_rows-verdict.result = let s = c.args in
     record {
       shape = in_order.0;

@@ -21,7 +21,8 @@ returns-then-count-field c = search (field_past, rules)
 pub returns-in_default : goal.returns-in_default
 returns-in_default c =
     let stands : let s = c.args in
-    FieldStands s.structs.now s.row s.field c.skip_types-at.result = field_stands c.row_place-place.ensures c.if-count-field.false c.skip_types-at.ensures in
+    FieldStands s.structs.now s.row s.field c.skip_types-at.result = field_stands c.row_place-place.ensures
+    c.if-count-field.false c.skip_types-at.ensures in
     field_lost stands
     (missing_told
     (type_located c.args.structs.now c.skip_types-at.result c.type_at-found.ensures.answer)
@@ -30,7 +31,8 @@ returns-in_default c =
 pub returns-in-Struct : goal.returns-in-Struct
 returns-in-Struct c =
     let stands : let s = c.args in
-    FieldStands s.structs.now s.row s.field c.skip_types-at.result = field_stands c.row_place-place.ensures c.if-count-field.false c.skip_types-at.ensures in
+    FieldStands s.structs.now s.row s.field c.skip_types-at.result = field_stands c.row_place-place.ensures
+    c.if-count-field.false c.skip_types-at.ensures in
     field_struct stands
     (found_told (type_located _ _ c.type_at-found.ensures.answer) c.in-At.is)
     c.in-Struct.is
@@ -38,7 +40,8 @@ returns-in-Struct c =
 pub returns-in-Plain : goal.returns-in-Plain
 returns-in-Plain c =
     let stands : let s = c.args in
-    FieldStands s.structs.now s.row s.field c.skip_types-at.result = field_stands c.row_place-place.ensures c.if-count-field.false c.skip_types-at.ensures in
+    FieldStands s.structs.now s.row s.field c.skip_types-at.result = field_stands c.row_place-place.ensures
+    c.if-count-field.false c.skip_types-at.ensures in
     let not_struct : is_struct c.in-At.parts.kind ≡ false → let s = c.args in
     FieldIs s.structs.now s.row s.field Missing = λ e. field_other stands
     (found_told (type_located _ _ c.type_at-found.ensures.answer) c.in-At.is) e in
@@ -47,7 +50,8 @@ returns-in-Plain c =
 pub returns-in-Opaque : goal.returns-in-Opaque
 returns-in-Opaque c =
     let stands : let s = c.args in
-    FieldStands s.structs.now s.row s.field c.skip_types-at.result = field_stands c.row_place-place.ensures c.if-count-field.false c.skip_types-at.ensures in
+    FieldStands s.structs.now s.row s.field c.skip_types-at.result = field_stands c.row_place-place.ensures
+    c.if-count-field.false c.skip_types-at.ensures in
     let not_struct : is_struct c.in-At.parts.kind ≡ false → let s = c.args in
     FieldIs s.structs.now s.row s.field Missing = λ e. field_other stands
     (found_told (type_located _ _ c.type_at-found.ensures.answer) c.in-At.is) e in
@@ -56,7 +60,8 @@ returns-in-Opaque c =
 pub returns-in-Slice : goal.returns-in-Slice
 returns-in-Slice c =
     let stands : let s = c.args in
-    FieldStands s.structs.now s.row s.field c.skip_types-at.result = field_stands c.row_place-place.ensures c.if-count-field.false c.skip_types-at.ensures in
+    FieldStands s.structs.now s.row s.field c.skip_types-at.result = field_stands c.row_place-place.ensures
+    c.if-count-field.false c.skip_types-at.ensures in
     let not_struct : is_struct c.in-At.parts.kind ≡ false → let s = c.args in
     FieldIs s.structs.now s.row s.field Missing = λ e. field_other stands
     (found_told (type_located _ _ c.type_at-found.ensures.answer) c.in-At.is) e in

@@ -15,7 +15,13 @@ pub returns-then-number-ge-MAX_ROWS : goal.returns-then-number-ge-MAX_ROWS
 returns-then-number-ge-MAX_ROWS c = search (indexing_full, rules)
 
 pub offset_bounds-structs-at : goal.offset_bounds-structs-at
-offset_bounds-structs-at c = omega (arith, row_here c.loop-number.invariant (omega (arith, c.requires.structs_value.1)))
+offset_bounds-structs-at c = omega (
+  arith,
+  row_here c.loop-number.invariant (omega (
+    arith,
+    c.requires.structs_value.1,
+  )),
+)
 
 pub bounds-structs-at : goal.bounds-structs-at
 bounds-structs-at c = omega (

@@ -12,7 +12,11 @@ pub returns-in_default-listed : goal.returns-in_default-listed
 returns-in_default-listed c = search (alone_params, rules)
 
 pub index_rows-verdict-requires : goal.index_rows-verdict-requires
-index_rows-verdict-requires c = record { structs_value = counted_shape _ _ c.structs_shape-counted.ensures.answer c.in-Count.is; lifetimes_len = refl }
+index_rows-verdict-requires c = record {
+  structs_value = counted_shape _ _ c.structs_shape-counted.ensures.answer
+      c.in-Count.is;
+  lifetimes_len = refl;
+}
 
 pub returns-in_default-verdict : goal.returns-in_default-verdict
 returns-in_default-verdict c = search (alone_rows, rules)

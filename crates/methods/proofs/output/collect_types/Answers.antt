@@ -16,7 +16,8 @@ returns-in_default c = search (missing_told, collecting_lost, type_located, rule
 
 pub collect_path-path-requires : goal.collect_path-path-requires
 collect_path-path-requires c =
-    let reading : let s = c.args in Reading s.words.now s.types s.count c.loop-i.at c.loop-i.used c.loop-i.i c.in-At.parts = record {
+    let reading : let s = c.args in Reading s.words.now s.types s.count c.loop-i.at c.loop-i.used c.loop-i.i
+    c.in-At.parts = record {
       collecting = c.loop-i.invariant;
       left = c.loop-i-test.true;
       found = found_told (type_located _ _ c.type_at-found.ensures.answer) c.in-At.is;
@@ -25,7 +26,8 @@ collect_path-path-requires c =
 
 pub returns-in_default-path : goal.returns-in_default-path
 returns-in_default-path c =
-    let reading : let s = c.args in Reading s.words.now s.types s.count c.loop-i.at c.loop-i.used c.loop-i.i c.in-At.parts = record {
+    let reading : let s = c.args in Reading s.words.now s.types s.count c.loop-i.at c.loop-i.used c.loop-i.i
+    c.in-At.parts = record {
       collecting = c.loop-i.invariant;
       left = c.loop-i-test.true;
       found = found_told (type_located _ _ c.type_at-found.ensures.answer) c.in-At.is;
@@ -35,7 +37,8 @@ returns-in_default-path c =
 
 pub returns-in_default-last : goal.returns-in_default-last
 returns-in_default-last c =
-    let reading : let s = c.args in Reading s.words.now s.types s.count c.loop-i.at c.loop-i.used c.loop-i.i c.in-At.parts = record {
+    let reading : let s = c.args in Reading s.words.now s.types s.count c.loop-i.at c.loop-i.used c.loop-i.i
+    c.in-At.parts = record {
       collecting = c.loop-i.invariant;
       left = c.loop-i-test.true;
       found = found_told (type_located _ _ c.type_at-found.ensures.answer) c.in-At.is;
@@ -45,7 +48,8 @@ returns-in_default-last c =
 
 pub loop-i-preserved : goal.loop-i-preserved
 loop-i-preserved c =
-    let reading : let s = c.args in Reading s.words.now s.types s.count c.loop-i.at c.loop-i.used c.loop-i.i c.in-At.parts = record {
+    let reading : let s = c.args in Reading s.words.now s.types s.count c.loop-i.at c.loop-i.used c.loop-i.i
+    c.in-At.parts = record {
       collecting = c.loop-i.invariant;
       left = c.loop-i-test.true;
       found = found_told (type_located _ _ c.type_at-found.ensures.answer) c.in-At.is;

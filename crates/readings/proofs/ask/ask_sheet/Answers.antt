@@ -5,4 +5,8 @@ use lib.Seq.{length-take-le}
 use Rattle.readings.proofs.ask.ask_sheet.Goals as goal
 
 pub slice_bounds-lend_sheet-end : goal.slice_bounds-lend_sheet-end
-slice_bounds-lend_sheet-end g c = sym (length-take-le c.args.n _ (omega (arith, c.requires, c.unwritten-words.ensures)))
+slice_bounds-lend_sheet-end g c = sym (length-take-le c.args.n _ (omega (
+  arith,
+  c.requires,
+  c.unwritten-words.ensures,
+)))

@@ -9,4 +9,9 @@ pub slice_bounds-out-end : goal.slice_bounds-out-end
 slice_bounds-out-end g c = rw (c.respond-n.ensures.stored, length-append) (omega (arith, c.respond-n.ensures.answer))
 
 pub slice_bounds-counted-end : goal.slice_bounds-counted-end
-slice_bounds-counted-end g c = sym (length-take-le _ _ (omega (arith, c.respond-n.ensures.answer, rw length-append at (ap length c.respond-n.ensures.stored))))
+slice_bounds-counted-end g c = sym (length-take-le _ _ (omega (
+  arith,
+  c.respond-n.ensures.answer,
+  rw length-append
+      at (ap length c.respond-n.ensures.stored),
+)))

@@ -18,9 +18,18 @@ pub bounds-bytes-i : goal.bounds-bytes-i
 bounds-bytes-i c = search (comparing_here, rules)
 
 pub loop-i-preserved : goal.loop-i-preserved
-loop-i-preserved c = (comparing_more heading c.args.bytes.now c.loop-i.i c.loop-i.same c.loop-i.invariant.0 c.loop-i-test.true c.both-same.result c.both-same.ensures, refl)
+loop-i-preserved c = (
+  comparing_more heading c.args.bytes.now c.loop-i.i c.loop-i.same c.loop-i.invariant.0
+      c.loop-i-test.true c.both-same.result c.both-same.ensures,
+  refl,
+)
 
 pub returns : goal.returns
 returns c = let b = c.args.bytes.now in
-    let e : c.loop-i.i ≡ 66 = omega (arith, (comparing_here heading b c.loop-i.i c.loop-i.same c.loop-i.invariant.0).0, c.loop-i-test.false) in
+    let e : c.loop-i.i ≡ 66 = omega (
+      arith,
+      (comparing_here heading b c.loop-i.i c.loop-i.same
+          c.loop-i.invariant.0).0,
+      c.loop-i-test.false,
+    ) in
     comparing_end heading b c.loop-i.i c.loop-i.same c.loop-i.invariant.0 c.loop-i-test.false ∙ rw e

@@ -5,7 +5,8 @@ use Rattle.sheet.proofs.LaidLaws.{scanned_shape, scanned_short, scanned_wrote}
 use Rattle.sheet.proofs.sheet.read_within.Goals as goal
 
 pub returns-in_default : goal.returns-in_default
-returns-in_default c = let it = sheet_refused _ c.args.words.now c.scan-text.result c.scan-text.ensures.value c.in_default.is in
+returns-in_default c = let it = sheet_refused _ c.args.words.now c.scan-text.result c.scan-text.ensures.value
+    c.in_default.is in
     record { value = it.0; fills = it.1 }
 
 pub returns-in-Refused : goal.returns-in-Refused
@@ -17,7 +18,8 @@ returns-in-Refused c = let shape =
     record { value = c.refused.ensures ∙ a.0; fills = a.1 }
 
 pub returns-in_default-copy_words : goal.returns-in_default-copy_words
-returns-in_default-copy_words c = let a = scanned_short c.args.sheet.now c.args.scratch.now c.requires c.scan-text.ensures.value
+returns-in_default-copy_words c = let a = scanned_short c.args.sheet.now c.args.scratch.now c.requires
+    c.scan-text.ensures.value
     c.in-Accepted.is c.scan-text.ensures.scratch_value
     c.judge_laid-shape.ensures c.in_default-shape.is c.args.words.now
     c.copy_words.ensures.stored c.copy_words.ensures.answer c.in_default-copy_words.is in

@@ -11,5 +11,8 @@ returns c = let it = ten_written c.args.words.now c.args.ends c.args.out.now c.r
     c.record_words-5.ensures.answer
     c.record_words-6.ensures.answer
     c.record_words-7.ensures.answer c.record_words-8.ensures.answer
-    c.record_words-9.ensures.answer c.record_words-10.ensures.answer (c.write_sheet.ensures.answer, c.write_sheet.ensures.stored) in
+    c.record_words-9.ensures.answer c.record_words-10.ensures.answer (
+      c.write_sheet.ensures.answer,
+      c.write_sheet.ensures.stored,
+    ) in
     record { value = it.0; fills = it.1 }

@@ -17,7 +17,8 @@ returns c =
     let method : List ℕ = three c.args.structs.now c.args.params.now c.args.output.now in
     let last : List ℕ = line c.args.force.now in
     let small : length c.args.out.now < 2 ^ 64 = search rules in
-    let records : Records = ten_records c.args.names.now c.args.bounds.now c.args.types.now c.args.own.now c.args.steps.now
+    let records : Records = ten_records c.args.names.now c.args.bounds.now c.args.types.now c.args.own.now
+    c.args.steps.now
     c.args.returns.now c.args.structs.now c.args.params.now c.args.output.now c.args.force.now in
     let all = leaves_all (heading ++ (environment ++ (elision ++ (method ++ last)))) 0 c.args.out.now
     small (omega arith) in

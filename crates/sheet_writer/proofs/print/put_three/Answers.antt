@@ -16,6 +16,12 @@ returns c =
     let small : length c.args.out.now < 2 ^ 64 = search rules in
     let all = leaves_all (first ++ (second ++ third)) c.args.at c.args.out.now small
     (omega (arith, c.ranges.at)) in
-    let two = leaves_rest {s = first} (second ++ third) all (prints (c.put_line-next.ensures.answer, c.put_line-next.ensures.stored)) in
-    let one = leaves_rest {s = second} third two (prints (c.put_line-last.ensures.answer, c.put_line-last.ensures.stored)) in
+    let two = leaves_rest {s = first} (second ++ third) all (prints (
+      c.put_line-next.ensures.answer,
+      c.put_line-next.ensures.stored,
+    )) in
+    let one = leaves_rest {s = second} third two (prints (
+      c.put_line-last.ensures.answer,
+      c.put_line-last.ensures.stored,
+    )) in
     leaves_none {s = third} one (prints (c.put_line.ensures.answer, c.put_line.ensures.stored))

@@ -9,6 +9,9 @@ returns-then-words-eq0 c = let it = printed (line_end _ c.if-words-eq0.true c.pu
 
 pub returns : goal.returns
 returns c = let it = printed
-    (line_prints _ c.if-words-eq0.false (search rules) (prints (c.put_number-next.ensures.answer, c.put_number-next.ensures.stored))
+    (line_prints _ c.if-words-eq0.false (search rules) (prints (
+      c.put_number-next.ensures.answer,
+      c.put_number-next.ensures.stored,
+    ))
     (prints (c.put_following.ensures.answer, c.put_following.ensures.stored))) in
     record { answer = it.0; stored = it.1 }

@@ -7,6 +7,9 @@ use Rattle.text.proofs.print.put_padded.Goals as goal
 pub returns : goal.returns
 returns c = let it = printed
     (padded_prints c.args.width c.put_number-count.result c.less.result c.args.number (search rules)
-    (digits_measured c.args.number (omega (arith, c.ranges.number)) (prints (c.put_number-count.ensures.answer, c.put_number-count.ensures.stored)))
+    (digits_measured c.args.number (omega (arith, c.ranges.number)) (prints (
+      c.put_number-count.ensures.answer,
+      c.put_number-count.ensures.stored,
+    )))
     c.less.ensures c.put_blanks-next.ensures (prints (c.put_number.ensures.answer, c.put_number.ensures.stored))) in
     record { answer = it.0; stored = it.1 }

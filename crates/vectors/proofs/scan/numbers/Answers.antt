@@ -6,4 +6,9 @@ use borrow.Author.Rules.{rules}
 use Rattle.vectors.proofs.scan.numbers.Goals as goal
 
 pub loop-count-preserved : goal.loop-count-preserved
-loop-count-preserved c = (search rules, simp length-set (omega (arith, c.loop-count-test.true)), simp length-set c.loop-count.invariant.2)
+loop-count-preserved c = (
+  search rules,
+  simp length-set (omega (arith, c.loop-count-test.true)),
+  simp length-set
+      c.loop-count.invariant.2,
+)

@@ -7,10 +7,16 @@ use Rattle.ast_lifetimes.proofs.BuildLaws.{shape_refused, shape_given, place_ref
 use Rattle.ast_lifetimes.proofs.env.LifetimeEnv.from_method_item.Goals as goal
 
 pub returns-in_default : goal.returns-in_default
-returns-in_default c = record { answer = c.refused.ensures ∙ shape_refused _ _ _ c.shape_of-shape.ensures c.in_default.is }
+returns-in_default c = record {
+  answer = c.refused.ensures ∙ shape_refused _ _ _ c.shape_of-shape.ensures
+      c.in_default.is;
+}
 
 pub build-built-requires : goal.build-built-requires
-build-built-requires c = record { names_value = shape_given _ _ _ c.shape_of-shape.ensures c.in-Accepted.is; declared_len = (refl, refl, refl) }
+build-built-requires c = record {
+  names_value = shape_given _ _ _ c.shape_of-shape.ensures c.in-Accepted.is;
+  declared_len = (refl, refl, refl);
+}
 
 pub returns-in_default-verdict : goal.returns-in_default-verdict
 returns-in_default-verdict c = record {

@@ -28,4 +28,7 @@ lifetimes-2-preserved c = (
 )
 
 pub returns : goal.returns
-returns c = record { answer = keeping_end c.lifetimes-2.invariant.1 c.lifetimes-2.invariant.0 c.lifetimes-2-test.false }
+returns c = record {
+  answer = keeping_end c.lifetimes-2.invariant.1 c.lifetimes-2.invariant.0
+      c.lifetimes-2-test.false;
+}

@@ -4,7 +4,10 @@ use borrow.Author.Rules.{rules}
 use Rattle.elision.proofs.lowerer.Lowerer.is_self.Goals as goal
 
 pub returns-then-words-gt-MAX_LIST : goal.returns-then-words-gt-MAX_LIST
-returns-then-words-gt-MAX_LIST c = record { answer = rw c.refused.ensures (self_long _ _ _ _ c.if-words-gt-MAX_LIST.true) }
+returns-then-words-gt-MAX_LIST c = record {
+  answer = rw c.refused.ensures (self_long _ _ _ _
+      c.if-words-gt-MAX_LIST.true);
+}
 
 pub returns-then-self : goal.returns-then-self
 returns-then-self c = search (self_kept, rules)

@@ -4,10 +4,16 @@ use borrow.Author.Rules.{rules}
 use Rattle.elision.proofs.lowerer.Lowerer.lower_generics.Goals as goal
 
 pub returns-then-generics-gt-MAX_LIST : goal.returns-then-generics-gt-MAX_LIST
-returns-then-generics-gt-MAX_LIST c = record { answer = rw c.refused.ensures (generics_large _ _ _ _ _ c.if-generics-gt-MAX_LIST.true) }
+returns-then-generics-gt-MAX_LIST c = record {
+  answer = rw c.refused.ensures (generics_large _ _ _ _ _
+      c.if-generics-gt-MAX_LIST.true);
+}
 
 pub returns-then-words-gt-MAX_LIST : goal.returns-then-words-gt-MAX_LIST
-returns-then-words-gt-MAX_LIST c = record { answer = rw c.refused-then-words-gt-MAX_LIST.ensures (generics_long _ _ _ _ _ c.if-generics-gt-MAX_LIST.false c.if-words-gt-MAX_LIST.true) }
+returns-then-words-gt-MAX_LIST c = record {
+  answer = rw c.refused-then-words-gt-MAX_LIST.ensures (generics_long _ _
+      _ _ _ c.if-generics-gt-MAX_LIST.false c.if-words-gt-MAX_LIST.true);
+}
 
 pub returns-in-Refused : goal.returns-in-Refused
 returns-in-Refused c = record {

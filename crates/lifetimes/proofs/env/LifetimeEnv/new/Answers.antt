@@ -22,7 +22,8 @@ returns-then-count-declared c = search (new_declared, rules)
 pub returns-then-not-pairs_below : goal.returns-then-not-pairs_below
 returns-then-not-pairs_below c = record {
   answer = let a = c.args in
-      new_outside a.declared a.count a.pairs.now c.if-pairs-eq1.false c.if-count-gt-MAX_LIFETIMES.false c.if-pairs-gt-MAX.false
+      new_outside a.declared a.count a.pairs.now c.if-pairs-eq1.false c.if-count-gt-MAX_LIFETIMES.false
+      c.if-pairs-gt-MAX.false
       c.if-count-declared.false
       (sym c.pairs_below.ensures ∙ c.if-not-pairs_below.true)
       c.refused-then-not-pairs_below.ensures;
@@ -37,7 +38,8 @@ pub returns : goal.returns
 returns c = record {
   answer = let a = c.args in
       rw c.from_bounds.ensures.answer
-      (new_given a.declared a.count a.pairs.now c.if-pairs-eq1.false c.if-count-gt-MAX_LIFETIMES.false c.if-pairs-gt-MAX.false
+      (new_given a.declared a.count a.pairs.now c.if-pairs-eq1.false c.if-count-gt-MAX_LIFETIMES.false
+      c.if-pairs-gt-MAX.false
       c.if-count-declared.false
       (sym c.pairs_below.ensures ∙ c.if-not-pairs_below.false)
       c.filled.ensures);

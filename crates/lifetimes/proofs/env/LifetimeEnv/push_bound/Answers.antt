@@ -44,7 +44,12 @@ returns c =
       answer = let a = c.args in let t : both_below a.self.declared (above a.longer.0 a.shorter.0) ≡ true =
           rw (c.index-from.ensures.answer, c.index-to.ensures.answer)
           at (sym c.numbers_below.ensures ∙ c.if-not-numbers_below.false) in
-          rw (c.from_bounds.ensures.answer, c.bound_of.ensures, c.index-from.ensures.answer, c.index-to.ensures.answer)
+          rw (
+            c.from_bounds.ensures.answer,
+            c.bound_of.ensures,
+            c.index-from.ensures.answer,
+            c.index-to.ensures.answer,
+          )
           (push_given a.self (above a.longer.0 a.shorter.0) full c.if-at-ge-MAX.false c.check-verdict.ensures.answer
           c.in-Accepted.is t);
     }

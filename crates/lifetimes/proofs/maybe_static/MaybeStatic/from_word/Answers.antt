@@ -5,4 +5,7 @@ use Rattle.lifetimes.proofs.MaybeStaticLaws.{word_before_lem}
 use Rattle.lifetimes.proofs.maybe_static.MaybeStatic.from_word.Goals as goal
 
 pub returns : goal.returns
-returns c = record { answer = rw c.new.ensures.answer (ap from_word (word_before_lem c.args.word c.if-word-eq0.false)) }
+returns c = record {
+  answer = rw c.new.ensures.answer (ap from_word (word_before_lem c.args.word
+      c.if-word-eq0.false));
+}

@@ -6,4 +6,7 @@ pub returns-in-Static : goal.returns-in-Static
 returns-in-Static c = record { answer = rw c.in-Static.is }
 
 pub returns-in-NonStatic : goal.returns-in-NonStatic
-returns-in-NonStatic c = record { answer = rw c.in-NonStatic.is (word_above c.word_after.ensures c.index.ensures.answer) }
+returns-in-NonStatic c = record {
+  answer = rw c.in-NonStatic.is (word_above c.word_after.ensures
+      c.index.ensures.answer);
+}
