@@ -17,7 +17,6 @@ use Rattle.sheet.specs.declared.lines.Read.{Read}
 use Rattle.sheet.specs.declared.lines.Read.TheVariants as read
 use Rattle.sheet.specs.declared.lines.Judged.{Judged}
 use Rattle.sheet.specs.declared.lines.Judged.TheVariants.{Good, TooLong}
-use Rattle.text.specs.Decimal.{line}
 use Rattle.records.specs.Reading.{most_words}
 use Rattle.sheet.specs.Text.{most_word}
 use Rattle.sheet.specs.Reading.{LineStart, line_before, read_lines, ten, all_short}

@@ -12,7 +12,7 @@ use lib.Seq.{drop-cons, take_all}
 use Rattle.answers.specs.declared.Refusal.TheVariants.{Malformed}
 use Rattle.answers.specs.declared.Listed.{Listed}
 use Rattle.answers.specs.declared.Listed.TheVariants as listed
-use Rattle.answers.specs.Refusals.{here, unless, end}
+use Rattle.answers.specs.Refusals.{unless, end}
 use Rattle.answers.specs.Lent.{counted, written}
 use Rattle.answers.specs.Lists.{ends_from}
 use Rattle.answers.proofs.LentLaws.{answers_list, has_room}

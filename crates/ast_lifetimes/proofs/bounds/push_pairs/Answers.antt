@@ -1,6 +1,5 @@
 -- `push_pairs` meets its contract. The loop's invariant is `Pushing` of proofs/BoundsLaws.antt; the measure is how many
 -- pairs are to be pushed.
-use Prim.Native.Nat.{◌-◌}
 use borrow.Author.Rules.{rules}
 use Rattle.ast_lifetimes.proofs.BoundsLaws.{pushing_start, pushing_refused, pushing_more, pushing_end}
 use Rattle.ast_lifetimes.proofs.bounds.push_pairs.Goals as goal

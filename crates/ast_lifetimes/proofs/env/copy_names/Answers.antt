@@ -1,6 +1,5 @@
 -- `copy_names` meets its contract: each turn stores one name more. The loop's invariant is `Copying` of the crate
 -- lifetimes.
-use Prim.Native.Nat.{◌-◌}
 use native.Mathlib.Omega.{arith}
 use borrow.Author.Rules.{rules}
 use Rattle.answers.proofs.Copying.{copying_start, copying_end}

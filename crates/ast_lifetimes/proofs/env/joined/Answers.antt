@@ -1,6 +1,5 @@
 -- `joined` meets its contract. The loop's invariant is `Storing` of proofs/AssembledLaws.antt; the measure is how many
 -- sides are to be read.
-use Prim.Native.Nat.{◌-◌}
 use native.Mathlib.Omega.{arith}
 use borrow.Author.Rules.{rules}
 use Rattle.ast_lifetimes.proofs.AssembledLaws.{storing_start, storing_small, storing_more, joined_bounds}

@@ -1,6 +1,5 @@
 -- `split` meets its contract. The loop's invariant is `Splitting` of proofs/ExtendLaws.antt; the measure is how many
 -- bounds are to be read.
-use Prim.Native.Nat.{◌-◌}
 use mathlib.Core.Path.{◌≡◌, refl}
 use lib.ListN.{length}
 use borrow.Author.Rules.{rules}

@@ -1,5 +1,4 @@
 -- `close` meets its contract: each turn joins one bound more.
-use Prim.Native.Nat.{◌-◌}
 use mathlib.Core.Path.{◌≡◌}
 use native.Mathlib.Omega.{arith}
 use borrow.Author.Rules.{rules}

@@ -1,5 +1,4 @@
 -- `each_itself` meets its contract: each turn makes one set more.
-use Prim.Native.Nat.{◌-◌}
 use mathlib.Core.Path.{◌∙◌}
 use native.Mathlib.Omega.{arith}
 use borrow.Author.Tests.{lt-ltb}

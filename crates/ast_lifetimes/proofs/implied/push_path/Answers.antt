@@ -1,11 +1,10 @@
 -- `push_path` meets its contract: each turn passes over a lifetime, or pushes it and joins its bound.
-use Prim.Native.Nat.{ℕ, ◌+◌, ◌-◌}
-use mathlib.Core.Bool.{true, false, ◌&&◌, not}
+use Prim.Native.Nat.{ℕ, ◌+◌}
+use mathlib.Core.Bool.{true, ◌&&◌, not}
 use mathlib.Core.Path.{◌≡◌, sym, ap, ◌∙◌}
 use mathlib.Core.List.{[], ◌∷◌, ◌++◌}
 use native.Mathlib.Omega.{arith}
 use borrow.Author.Rules.{rules}
-use borrow.Author.Tests.{not-false}
 use lib.ListN.{length, take, get_or}
 use lib.Seq.{slice, length-take-le}
 use Rattle.ast_lifetimes.specs.Shapes.{is_name, pair}

@@ -1,5 +1,4 @@
 -- `push_types` meets its contract: each turn reads what stands in front of the types that are left.
-use Prim.Native.Nat.{◌-◌}
 use mathlib.Core.Path.{◌≡◌}
 use native.Mathlib.Omega.{arith}
 use borrow.Author.Rules.{rules}

@@ -1,6 +1,5 @@
 -- `all_names` meets its contract. The loop's invariant is `Naming` of proofs/ShapeLaws.antt; the measure is how many
 -- words are to be read.
-use Prim.Native.Nat.{◌-◌}
 use borrow.Author.Rules.{rules}
 use Rattle.ast_lifetimes.proofs.ShapeLaws.{naming_start, naming_refused, naming_more, naming_end}
 use Rattle.ast_lifetimes.proofs.names.all_names.Goals as goal

@@ -1,6 +1,5 @@
 -- `declare_all` meets its contract. The loop's invariant is `Declaring` of proofs/NamesLaws.antt; the measure is how
 -- many words are to be read.
-use Prim.Native.Nat.{◌-◌}
 use borrow.Author.Rules.{rules}
 use Rattle.ast_lifetimes.proofs.NamesLaws.{declaring_start, declaring_refused, declaring_more}
 use Rattle.ast_lifetimes.proofs.NamesLaws.{declaring_end}

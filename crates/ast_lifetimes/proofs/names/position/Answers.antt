@@ -1,6 +1,5 @@
 -- `position` meets its contract. The loop's invariant is `Placing` of proofs/NamesLaws.antt; the measure is how many
 -- names are to be read.
-use Prim.Native.Nat.{◌-◌}
 use native.Mathlib.Omega.{arith}
 use borrow.Author.Rules.{rules}
 use Rattle.ast_lifetimes.proofs.NamesLaws.{placing_start, placing_found, placing_more, placing_end}

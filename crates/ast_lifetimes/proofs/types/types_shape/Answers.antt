@@ -1,6 +1,5 @@
 -- `types_shape` meets its contract. The loop's invariant is `Shaping` of the crate `records`; the measure is how many
 -- words are to be read.
-use Prim.Native.Nat.{◌-◌}
 use native.Mathlib.Omega.{arith}
 use borrow.Author.Rules.{rules}
 use Rattle.records.proofs.EndLaws.{ends_told, ends_past}

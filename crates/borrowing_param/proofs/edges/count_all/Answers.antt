@@ -1,6 +1,5 @@
 -- `count_all` meets its contract. The loop's invariant is `CountingAll` of proofs/EdgesLoops.antt; the measure is how many
 -- lifetimes are to be looked at.
-use Prim.Native.Nat.{◌-◌}
 use mathlib.Core.Path.{◌≡◌, sym, ap, ◌∙◌}
 use native.Mathlib.Omega.{arith}
 use Rattle.lifetimes.specs.declared.lifetime.Lifetime.{Lifetime}

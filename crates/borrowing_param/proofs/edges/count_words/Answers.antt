@@ -1,6 +1,5 @@
 -- `count_words` meets its contract. The loop's invariant is `Counting` of proofs/EdgesLaws.antt; the measure is how many
 -- words are to be read.
-use Prim.Native.Nat.{◌-◌}
 use mathlib.Core.Path.{sym, ◌∙◌}
 use Rattle.borrowing_param.proofs.EdgesLaws.{part_many, part_word, counting_start, counting_one}
 use Rattle.borrowing_param.proofs.EdgesLaws.{counting_none, counting_end}

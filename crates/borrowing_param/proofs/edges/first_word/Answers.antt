@@ -1,6 +1,5 @@
 -- `first_word` meets its contract. The loop's invariant is `Searching` of proofs/EdgesLaws.antt; the measure is how many
 -- words are to be read.
-use Prim.Native.Nat.{◌-◌}
 use mathlib.Core.Path.{sym, ◌∙◌}
 use native.Mathlib.Omega.{arith}
 use Rattle.borrowing_param.proofs.EdgesLaws.{searching_start, searching_found, searching_more}

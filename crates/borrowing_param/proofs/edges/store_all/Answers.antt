@@ -1,6 +1,6 @@
 -- `store_all` meets its contract. The loop's invariant is `Storing` of proofs/EdgesLoops.antt, over the edges that are
 -- left; the measure is how many lifetimes are to be looked at.
-use Prim.Native.Nat.{◌+◌, ◌-◌}
+use Prim.Native.Nat.{◌+◌}
 use mathlib.Core.Path.{sym, ap, ◌∙◌}
 use lib.ListN.{get_or}
 use Rattle.lifetimes.specs.declared.lifetime.Lifetime.{Lifetime}

@@ -1,6 +1,6 @@
 -- `store_struct` meets its contract. The loop's invariant is `Storing` of proofs/EdgesLoops.antt, over the edges that are
 -- left; the measure is how many words are to be read.
-use Prim.Native.Nat.{ℕ, ◌+◌, ◌-◌, ◌*◌, ◌≤◌}
+use Prim.Native.Nat.{ℕ, ◌+◌, ◌*◌, ◌≤◌}
 use mathlib.Core.Path.{◌≡◌, refl, sym, ◌∙◌}
 use mathlib.Core.List.{List, [], ◌∷◌, ◌++◌}
 use native.Mathlib.Omega.{arith}

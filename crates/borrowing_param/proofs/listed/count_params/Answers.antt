@@ -1,6 +1,5 @@
 -- `count_params` meets its contract. The loop's invariant is `CountingParams` of proofs/ListedLaws.antt; the measure is
 -- how many words are to be read.
-use Prim.Native.Nat.{◌-◌}
 use native.Mathlib.Omega.{arith}
 use Rattle.hir_types.proofs.LocatedLaws.{type_coded}
 use Rattle.hir_types.proofs.FoundLaws.{code_told}

@@ -1,6 +1,5 @@
 -- `store_to` meets its contract. The loop's invariant is `StoringTo` of proofs/ListedLaws.antt; the measure is how many
 -- words are to be read.
-use Prim.Native.Nat.{◌-◌}
 use native.Mathlib.Omega.{arith}
 use Rattle.borrowing_param.proofs.ListedLaws.{to_start, to_end, to_fits, to_more, to_few}
 use Rattle.borrowing_param.proofs.ListedLaws.{passing_missing, passing_next}

@@ -1,6 +1,5 @@
 -- `param_at` meets its contract. The loop's invariant is `Finding` of proofs/VisitorLaws.antt; the measure is how many
 -- types are to be passed.
-use Prim.Native.Nat.{◌-◌}
 use Rattle.borrowing_param.proofs.VisitorLaws.{finding_start, finding_end, finding_missing, finding_more}
 use borrow.Author.Rules.{rules}
 use Rattle.borrowing_param.proofs.visitor.param_at.Goals as goal

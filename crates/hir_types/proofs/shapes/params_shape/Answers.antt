@@ -1,6 +1,5 @@
 -- `params_shape` meets its contract. The loop's invariant is `Counting`; the measure is how many words are to be read.
 use borrow.Author.Rules.{rules}
-use Prim.Native.Nat.{◌-◌}
 use native.Mathlib.Omega.{arith}
 use Rattle.records.proofs.EndLaws.{ends_told, ends_past}
 use Rattle.hir_types.proofs.ShapeLoops.{counting_start, counting_long, counting_end}

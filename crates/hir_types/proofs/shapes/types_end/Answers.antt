@@ -1,7 +1,6 @@
 -- `types_end` meets its contract. The loop's invariant is `Ending` of proofs/EndLaws.antt; the measure is how many
 -- types are to be read.
 use borrow.Author.Rules.{rules}
-use Prim.Native.Nat.{◌-◌}
 use Rattle.records.proofs.EndLaws.{ends_told}
 use Rattle.hir_types.proofs.EndLaws.{ending_start, ending_missing, ending_more, ending_end}
 use Rattle.hir_types.proofs.shapes.types_end.Goals as goal

@@ -1,7 +1,6 @@
 -- `filled` meets its contract. The loop's invariant is `Filling` of proofs/EnvLoops.antt; the measure is how many words
 -- are to be read.
 use borrow.Author.Rules.{rules}
-use Prim.Native.Nat.{◌-◌}
 use native.Mathlib.Omega.{arith}
 use Rattle.lifetimes.proofs.EnvLoops.{pair_second, filling_start, filling_small, filling_room}
 use Rattle.lifetimes.proofs.EnvLoops.{filling_more, filling_end}

@@ -1,7 +1,6 @@
 -- `pairs_below` meets its contract. The loop's invariant is `Below` of proofs/EnvLoops.antt; the measure is how many
 -- words are to be read.
 use borrow.Author.Rules.{rules}
-use Prim.Native.Nat.{◌-◌}
 use mathlib.Core.Path.{sym, ◌∙◌}
 use Rattle.lifetimes.proofs.EnvLoops.{pair_second, below_start, below_refused, below_more, below_end}
 use Rattle.lifetimes.proofs.env.pairs_below.Goals as goal

@@ -1,5 +1,4 @@
 -- `copy_to` meets its contract: each turn stores one item more.
-use Prim.Native.Nat.{◌-◌}
 use native.Mathlib.Omega.{arith}
 use borrow.Author.Rules.{rules}
 use Rattle.answers.proofs.Copying.{copying_start, copying_more, copying_end}

@@ -1,5 +1,4 @@
 -- `measure` meets its contract: each turn walks from one lifetime more.
-use Prim.Native.Nat.{◌-◌}
 use mathlib.Core.Path.{sym, ap, ◌∙◌}
 use native.Mathlib.Omega.{arith}
 use borrow.Author.Rules.{rules}

@@ -1,6 +1,5 @@
 -- `set::members` meets its contract. The loop's invariant is `Listing` of proofs/SetLoops.antt; the measure is how
 -- many lifetimes are to be looked at.
-use Prim.Native.Nat.{◌-◌}
 use mathlib.Core.Path.{sym, ◌∙◌}
 use borrow.Author.Rules.{rules}
 use Rattle.lifetimes.proofs.SetLoops.{too_short, listing_start, listing_room, listing_member}

@@ -1,5 +1,5 @@
 -- `advance` meets its contract: each turn passes over an entry that was seen, or takes the stack's last chain.
-use Prim.Native.Nat.{◌+◌, ◌*◌, ◌-◌}
+use Prim.Native.Nat.{◌+◌, ◌*◌}
 use Rattle.lifetimes.specs.Index.{Graph, Chained, Ready}
 use Rattle.lifetimes.proofs.AdvanceLoops.{Skipping}
 use Rattle.lifetimes.proofs.walk.advance.Given as goal

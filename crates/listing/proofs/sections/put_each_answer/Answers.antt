@@ -1,5 +1,4 @@
 -- `put_each_answer` meets its contract: each turn prints one parameter.
-use Prim.Native.Nat.{◌-◌}
 use native.Mathlib.Omega.{arith}
 use borrow.Author.Rules.{rules}
 use Rattle.listing.proofs.SectionsLaws.{answering_start, answering_end, answering_more, answering_size}

@@ -1,5 +1,4 @@
 -- `put_each_edge` meets its contract: each turn prints one edge.
-use Prim.Native.Nat.{◌-◌}
 use borrow.Author.Rules.{rules}
 use Rattle.listing.proofs.SectionsLaws.{edging_start, edging_end, edging_more, edging_size}
 use Rattle.text.proofs.PrintLaws.{prints}

@@ -1,5 +1,4 @@
 -- `put_numbered` meets its contract: each turn prints one numbered list.
-use Prim.Native.Nat.{◌-◌}
 use native.Mathlib.Omega.{arith}
 use borrow.Author.Rules.{rules}
 use Rattle.listing.proofs.SectionsLaws.{numbering_start, numbering_end, numbering_there}

@@ -1,8 +1,6 @@
 -- `pairs_of` meets its contract. The loop's invariant is `Pairing` of proofs/FieldsLaws.antt; the measure is how many
 -- words are left.
-use Prim.Native.Nat.{◌-◌}
 use borrow.Author.Rules.{rules}
-use mathlib.Core.Path.{refl}
 use native.Mathlib.Omega.{arith}
 use Rattle.lifetimes.proofs.LinkedLaws.{pair_only}
 use Rattle.methods.proofs.FieldsLaws.{pairing_start, Linking, linking, pairing_static, pairing_past}

@@ -1,6 +1,5 @@
 -- `row_place` meets its contract. The loop's invariant is `Placing` of proofs/FieldsLaws.antt; the measure is how many
 -- rows are left.
-use Prim.Native.Nat.{◌-◌}
 use borrow.Author.Rules.{rules}
 use native.Mathlib.Omega.{arith}
 use Rattle.methods.proofs.FieldsLaws.{placing_start, placing_here, placing_more, placing_end}

@@ -1,6 +1,5 @@
 -- `skip_types` meets its contract. The loop's invariant is `Skips` of proofs/FieldsLaws.antt; the measure is how many
 -- types are left.
-use Prim.Native.Nat.{◌-◌}
 use Rattle.hir_types.proofs.LocatedLaws.{type_located}
 use borrow.Author.Rules.{rules}
 use Rattle.hir_types.proofs.FoundLaws.{found_told, missing_told}

@@ -1,6 +1,5 @@
 -- `index_rows` meets its contract. The loop's invariant is `Indexing` of proofs/RowLaws.antt; the measure is how many
 -- rows are to be read.
-use Prim.Native.Nat.{◌-◌}
 use lib.ListN.{length-set}
 use native.Mathlib.Omega.{arith}
 use borrow.Author.Rules.{rules}

@@ -1,6 +1,5 @@
 -- `types_fit` meets its contract. The loop's invariant is `Fitting` of proofs/FitsLaws.antt; the measure is how many
 -- types are to be read.
-use Prim.Native.Nat.{◌-◌}
 use borrow.Author.Rules.{rules}
 use Rattle.methods.proofs.FitsLaws.{fitting_start, fitting_stops, fitting_more, fitting_end}
 use Rattle.methods.proofs.fits.types_fit.Goals as goal

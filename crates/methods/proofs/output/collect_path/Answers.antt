@@ -1,6 +1,5 @@
 -- `collect_path` meets its contract. The loop's invariant is `Pathing` of proofs/OutputLaws.antt; the measure is how
 -- many words are to be read.
-use Prim.Native.Nat.{◌-◌}
 use borrow.Author.Rules.{rules}
 use native.Mathlib.Omega.{arith}
 use Rattle.methods.proofs.OutputLaws.{pathing_start, pathing_stops, pathing_more, pathing_end}

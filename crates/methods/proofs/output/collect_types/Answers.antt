@@ -1,6 +1,5 @@
 -- `collect_types` meets its contract. The loop's invariant is `Collecting` of proofs/OutputLaws.antt; the measure is
 -- how many types are to be read.
-use Prim.Native.Nat.{◌-◌}
 use Rattle.hir_types.proofs.LocatedLaws.{type_located}
 use borrow.Author.Rules.{rules}
 use Rattle.hir_types.proofs.FoundLaws.{found_told, missing_told}

@@ -1,5 +1,4 @@
 -- `line` meets its contract: each turn of the loop takes one word more.
-use Prim.Native.Nat.{◌-◌}
 use mathlib.Core.Path.{◌∙◌}
 use mathlib.Core.Logic.{inl, inr}
 use native.Mathlib.Omega.{arith}

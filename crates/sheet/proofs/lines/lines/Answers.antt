@@ -1,5 +1,4 @@
 -- `lines` meets its contract: each turn of the loop takes one line more.
-use Prim.Native.Nat.{◌-◌}
 use mathlib.Core.Path.{◌∙◌}
 use borrow.Author.Rules.{rules}
 use Rattle.sheet.proofs.LinesLaws.{read_words_lem, read_nothing, lining_start, lining_size, lining_none, lining_many, lining_end, lining_sub, lining_more}

@@ -1,5 +1,4 @@
 -- `headed` meets its contract: the heading is compared byte by byte.
-use Prim.Native.Nat.{◌-◌}
 use mathlib.Core.Path.{◌≡◌, refl, ◌∙◌}
 use native.Mathlib.Omega.{arith}
 use borrow.Author.Rules.{rules}

@@ -1,5 +1,4 @@
 -- `ascend` meets its contract: each turn looks at one end more.
-use Prim.Native.Nat.{◌-◌}
 use borrow.Author.Rules.{rules}
 use Rattle.sheet_writer.proofs.LaidLaws.{ascending_start, ascending_not, ascending_more, ascending_end}
 use Rattle.sheet_writer.proofs.laid.ascend.Goals as goal

@@ -1,5 +1,4 @@
 -- `has_large` meets its contract: each turn looks at one word more.
-use Prim.Native.Nat.{◌-◌}
 use borrow.Author.Rules.{rules}
 use Rattle.sheet_writer.proofs.LargeLaws.{looking_start, looking_found, looking_more, looking_end}
 use Rattle.sheet_writer.proofs.large.has_large.Goals as goal

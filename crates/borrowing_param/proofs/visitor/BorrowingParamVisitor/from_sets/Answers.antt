@@ -1,6 +1,5 @@
 -- `from_sets` meets its contract. The loop's invariant is `Keeping` of proofs/NewLaws.antt; the measure is how many
 -- lifetimes are to be looked at.
-use Prim.Native.Nat.{◌-◌}
 use mathlib.Core.Path.{sym, ap, ◌∙◌}
 use Rattle.lifetimes.specs.declared.lifetime.Lifetime.{Lifetime}
 use Rattle.lifetimes.specs.Sets.{member}

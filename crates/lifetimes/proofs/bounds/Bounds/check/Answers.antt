@@ -1,6 +1,5 @@
 -- `Bounds::check` meets its contract. The loop's invariant is `Checking` of proofs/BoundsLaws.antt; the measure is how
 -- many bounds are to be read.
-use Prim.Native.Nat.{◌-◌}
 use mathlib.Core.Path.{◌≡◌, sym, ◌∙◌}
 use lib.ListN.{length}
 use borrow.Author.Rules.{rules}
