@@ -22,7 +22,6 @@ IMPORT = re.compile(r"^(?:ghost )?use ([^\s;{]+?)(?:\.\{([^}]*)\})?(?: as (\S+?)
 MADE = re.compile(r"\.(Tie|Statement|Goals|Given|Code|Reads|Kinds|Symbol|Met|Lts-\w+|declared|contracts)\b")
 
 # A law that would have its definition's name gets `_lem`, as in the kit; found by collect(). Those here had the new spelling already.
-ALIASES = {}
 LAWS = ["both_below", "digits_in", "is_digit", "line_before", "words_step"]
 APART = {name: name + "_lem" for name in LAWS}
 APART["noPairs"] = "empty_pairs"  # beside the field `no_pairs` of a record about it
@@ -91,7 +90,7 @@ def collect():
     return own, fields
 
 
-def turned_tokens(text, theirs, own, fields, camel_too=True, laws=True):
+def turned_tokens(text, theirs, own, fields, camel_too=True, laws=True, aliases=()):
     """The text with each of the repository's own tokens in its new spelling."""
     def turn(it):
         name, start = it[0], it.start()
@@ -101,7 +100,7 @@ def turned_tokens(text, theirs, own, fields, camel_too=True, laws=True):
         if not name or not is_turned(name) or name in theirs or (name in LAWS and not laws):
             return it[0]
         if start and text[start - 1] in ".+" and not path_of_import(text, start):
-            if name not in fields and qualifier(text, start) not in own_aliases(text):
+            if name not in fields and qualifier(text, start) not in aliases:
                 return it[0]
         if name in own or (camel_too and CAMEL.fullmatch(name)):
             return APART.get(name, snake(name)) + tail
@@ -117,10 +116,7 @@ def qualifier(text, start):
 
 def own_aliases(text):
     """The names under which a file has this repository's own modules, as a line `use .. as NAME` or `use ..NAME` gives them."""
-    if text not in ALIASES:
-        found = [it for it in IMPORT.finditer(text) if not it[2] and is_own(it[1])]
-        ALIASES[text] = {it[3] or it[1].split(".")[-1] for it in found}
-    return ALIASES[text]
+    return {it[3] or it[1].split(".")[-1] for it in IMPORT.finditer(text) if not it[2] and is_own(it[1])}
 
 
 def path_of_import(text, start):
@@ -133,21 +129,24 @@ def path_of_import(text, start):
 def antt(text, own, fields):
     """An antt file: import lists by the path that they name, all else by the file's own names."""
     theirs, mine = imports(text)
+    aliases = own_aliases(text)
     out, last = [], 0
     for it in IMPORT.finditer(text):
-        out.append(turned_tokens(text[last : it.start()], theirs, own, fields))
+        out.append(turned_tokens(text[last : it.start()], theirs, own, fields, aliases=aliases))
         line = it[0]
         if is_own(it[1]):
             line = turned_tokens(line, theirs - mine, own, fields)
         out.append(line)
         last = it.end()
-    out.append(turned_tokens(text[last:], theirs, own, fields))
+    out.append(turned_tokens(text[last:], theirs, own, fields, aliases=aliases))
     return "".join(out)
 
 
 def source(text, own, fields):
     """A source file: its ghost imports, its clauses and its comments; no string and no code."""
-    theirs, mine = imports("\n".join(l for l in text.splitlines() if l.startswith("ghost use")))
+    ghost = "\n".join(l for l in text.splitlines() if l.startswith("ghost use"))
+    theirs, mine = imports(ghost)
+    aliases = own_aliases(ghost)
     lines = []
     for line in text.splitlines(keepends=True):
         it = IMPORT.match(line.rstrip("\n"))
@@ -155,9 +154,9 @@ def source(text, own, fields):
             lines.append(turned_tokens(line, theirs - mine, own, fields, True, False) if is_own(it[1]) else line)
         elif '"' in line and not line.lstrip().startswith("//"):
             parts = re.split(r'("(?:[^"\\]|\\.)*")', line)
-            lines.append("".join(p if i % 2 else turned_tokens(p, theirs, own, fields, False, False) for i, p in enumerate(parts)))
+            lines.append("".join(p if i % 2 else turned_tokens(p, theirs, own, fields, False, False, aliases) for i, p in enumerate(parts)))
         else:
-            lines.append(turned_tokens(line, theirs, own, fields, False, False))
+            lines.append(turned_tokens(line, theirs, own, fields, False, False, aliases))
     return "".join(lines)
 
 
