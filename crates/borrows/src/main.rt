@@ -2,13 +2,19 @@
 //
 // It reads to the end of the input, in however many pieces it comes, or until it has a byte more than any sheet may
 // have. What cannot be read counts as not there. Nothing is written to standard output before the whole answer stands.
-// A read that fails, and an answer that cannot be written whole, are each told by a line on standard error.
+// A read that fails, and an answer that cannot be written whole, are each told by a line on standard error. Where the
+// answer's reader has gone nothing is said, and the status is what a shell gives for a program that SIGPIPE ended.
 #![tactic(auto)]
 
 ghost use Rattle.std.specs.Prelude.{◌≡◌, length};
 
 use input::read_input;
 use listing::respond;
+use std::io::ErrorKind;
+use std::process::ExitCode;
+
+// The status where the answer's reader has gone: 128 and the number of SIGPIPE.
+const READER_GONE: u8 = 141;
 
 // Room for a sheet, and for the byte that tells that it is too long.
 fn room_for_sheet() -> [u8; 65537]
@@ -24,7 +30,23 @@ fn report(rt: &impl Eprint, failed: bool, line: &str) {
     }
 }
 
-fn main(rt: HostRuntime) {
+// What the program ends with, once the answer was written or could not be.
+fn status(rt: &impl Eprint, written: Result<(), std::io::Error>) -> ExitCode {
+    let Err(error) = written else {
+        return ExitCode::SUCCESS;
+    };
+    if error.kind() == ErrorKind::BrokenPipe {
+        return ExitCode::from(READER_GONE);
+    }
+    report(
+        rt,
+        true,
+        "borrows: the answer could not be written whole to standard output",
+    );
+    ExitCode::SUCCESS
+}
+
+fn main(rt: HostRuntime) -> ExitCode {
     let mut sheet = room_for_sheet();
     let mut stdin = rt.stdin();
     let input = read_input(&mut stdin, &mut sheet);
@@ -36,10 +58,5 @@ fn main(rt: HostRuntime) {
     );
     let mut out = [0u8; listing::ROOM];
     let count = respond(&sheet[..read], &mut out);
-    let written = rt.write_all(&out[..count]);
-    report(
-        &rt,
-        written.is_err(),
-        "borrows: the answer could not be written whole to standard output",
-    );
+    status(&rt, rt.write_all(&out[..count]))
 }
