@@ -5,10 +5,21 @@
 // A read that fails, and an answer that cannot be written whole, are each told by a line on standard error.
 #![tactic(auto)]
 
-ghost use Rattle.std.specs.Prelude.{◌≡◌, length};
+ghost use Rattle.std.specs.Prelude.{◌≡◌, ℕ, List, length, false, IfSome};
+ghost use Rattle.std.specs.Io.KnownBytes.{Appends, Consumes};
+ghost use Rattle.listing.specs.Listing.{response};
 
 use input::read_input;
 use listing::respond;
+use std::io;
+use std::io::{Read, Write};
+
+// What failed: the reading of the sheet, the writing of the answer.
+#[derive(Clone, Copy)]
+struct Failed {
+    input: bool,
+    output: bool,
+}
 
 // Room for a sheet, and for the byte that tells that it is too long.
 fn room_for_sheet() -> [u8; 65537]
@@ -24,22 +35,40 @@ fn report(rt: &impl Eprint, failed: bool, line: &str) {
     }
 }
 
-fn main(rt: HostRuntime) {
+// Read a sheet and write the response to it: where nothing fails, to all that the reader has, however much that is;
+// where a read fails, to what was read before.
+fn answer<R: Read, W: Write>(rt: &impl Eprint, input: &mut R, output: &mut W) -> Failed
+    ensures written { result.output ≡ false → (front : List ℕ)
+        × Consumes (R.remaining input.old) (R.remaining input.new) front
+        × Appends (W.contents output.old) (W.contents output.new) (response front) }
+    ensures whole { result.input ≡ false → result.output ≡ false → IfSome (R.remaining input.old)
+        (λ sheet. Appends (W.contents output.old) (W.contents output.new) (response sheet)) }
+{
     let mut sheet = room_for_sheet();
-    let mut stdin = rt.stdin();
-    let input = read_input(&mut stdin, &mut sheet);
-    let read = input.count;
+    let got = read_input(input, &mut sheet);
+    let read = got.count;
     report(
-        &rt,
-        input.failed,
+        rt,
+        got.failed,
         "borrows: standard input could not be read to its end",
     );
     let mut out = [0u8; listing::ROOM];
     let count = respond(&sheet[..read], &mut out);
-    let written = rt.write_all(&out[..count]);
+    let written = output.write_all(&out[..count]);
+    let unwritten = written.is_err();
     report(
-        &rt,
-        written.is_err(),
+        rt,
+        unwritten,
         "borrows: the answer could not be written whole to standard output",
     );
+    Failed {
+        input: got.failed,
+        output: unwritten,
+    }
+}
+
+fn main(rt: HostRuntime) {
+    let mut stdin = rt.stdin();
+    let mut stdout = io::writer(&rt);
+    answer(&rt, &mut stdin, &mut stdout);
 }
