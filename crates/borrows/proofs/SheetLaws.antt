@@ -1,8 +1,8 @@
 -- What is read of a sheet settles what is answered to it. A sheet that has more bytes than any may have is answered as
 -- its front is, from the first byte too many on.
-use Rattle.std.proofs.Common.{ℕ, ◌<◌, ◌≤◌, ◌+◌, ◌≡◌, inl, inr, List, [], ◌++◌, length, take, drop, false, refl, sym, ap, ◌∙◌, subst, arith}
+use Rattle.std.proofs.Common.{ℕ, ◌<◌, ◌≤◌, ◌+◌, ◌≡◌, inl, inr, List, [], ◌++◌, length, take, drop, refl, sym, ap, ◌∙◌, subst, arith}
 use Rattle.std.proofs.Common.{Option, None, Some, IfSome, Result, Ok, Err}
-use Rattle.std.specs.Result.{is_err, OnOk}
+use Rattle.std.specs.Result.{OnOk}
 use Rattle.std.proofs.lemmas.Bool.{lt-leb, cases_lt}
 use Rattle.std.proofs.lemmas.List.{append-nil, length-append, length-take-le}
 use Rattle.std.proofs.Math.Option.{none}
@@ -35,7 +35,7 @@ front_answers front rest h =
     ]
 
 -- So the answer to what was read is that to all that the reader had, where no read failed.
-pub whole_answered : (old new contents after : Option (List ℕ)) (bytes : List ℕ) (count : ℕ)
+whole_answered : (old new contents after : Option (List ℕ)) (bytes : List ℕ) (count : ℕ)
     → count ≤ length bytes → length bytes ≡ most_bytes + 1
     → Consumes old new (take count bytes) → (count < length bytes → IsAtEnd new)
     → Appends contents after (response (take count bytes))
@@ -47,12 +47,17 @@ whole_answered (Some sheet) (Some rest) contents after bytes count within room r
     let at_end : length (take count bytes) ≤ most_bytes → rest ≡ [] = λ h. ends (omega (arith, h, size, room)) in
     subst (Appends contents after) (front_answers (take count bytes) rest at_end ∙ ap response (sym reads)) writes
 
--- What was written is the answer, where the writing did not fail: it stands in front of the slice that was lent for it.
-pub answer_written : {T E : Type 0} (written : Result T E) (contents after : Option (List ℕ)) (held left answer : List ℕ) (count : ℕ)
-    → is_err written ≡ false → OnOk written (Appends contents after (take count left))
-    → count ≡ length answer → left ≡ answer ++ drop (length answer) held
-    → Appends contents after answer
-answer_written (Ok value) contents after held left answer count fine writes size stored =
-    let whole : take count left ≡ answer = rw (size, stored) (take-append_seam answer (drop (length answer) held)) in
-    subst (Appends contents after) whole writes
-answer_written (Err error) contents after held left answer count fine writes size stored = cc
+-- an answer stands in front of the slice that was lent for it
+pub answer_in_front : (answer held left : List ℕ) (count : ℕ) → count ≡ length answer
+    → left ≡ answer ++ drop (length answer) held → take count left ≡ answer
+answer_in_front answer held left count size stored =
+    rw (size, stored) (take-append_seam answer (drop (length answer) held))
+
+pub whole_written : {T E : Type 0} (written : Result T E) (old new contents after : Option (List ℕ)) (bytes part : List ℕ) (count : ℕ)
+    → count ≤ length bytes → length bytes ≡ most_bytes + 1
+    → Consumes old new (take count bytes) → (count < length bytes → IsAtEnd new)
+    → part ≡ response (take count bytes) → OnOk written (Appends contents after part)
+    → OnOk written (IfSome old (λ sheet. Appends contents after (response sheet)))
+whole_written (Ok value) old new contents after bytes part count within room reads ends answers writes =
+    whole_answered old new contents after bytes count within room reads ends (subst (Appends contents after) answers writes)
+whole_written (Err error) old new contents after bytes part count within room reads ends answers writes = tt {0}

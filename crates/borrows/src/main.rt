@@ -2,24 +2,22 @@
 //
 // It reads to the end of the input, in however many pieces it comes, or until it has a byte more than any sheet may
 // have. What cannot be read counts as not there. Nothing is written to standard output before the whole answer stands.
-// A read that fails, and an answer that cannot be written whole, are each told by a line on standard error.
+// A read that fails, and an answer that cannot be written whole, are each told by a line on standard error. Where the
+// answer's reader has gone nothing is said, and the status is what a shell gives for a program that SIGPIPE ended.
 #![tactic(auto)]
 
-ghost use Rattle.std.specs.Prelude.{◌≡◌, ℕ, List, length, false, IfSome};
+ghost use Rattle.std.specs.Prelude.{◌≡◌, ℕ, List, length, false, IfSome, OnOk};
 ghost use Rattle.std.specs.Io.KnownBytes.{Appends, Consumes};
 ghost use Rattle.listing.specs.Listing.{response};
 
 use input::read_input;
 use listing::respond;
 use std::io;
-use std::io::{Read, Write};
+use std::io::{ErrorKind, Read, Write};
+use std::process::ExitCode;
 
-// What failed: the reading of the sheet, the writing of the answer.
-#[derive(Clone, Copy)]
-struct Failed {
-    input: bool,
-    output: bool,
-}
+// The status where the answer's reader has gone: 128 and the number of SIGPIPE.
+const READER_GONE: u8 = 141;
 
 // Room for a sheet, and for the byte that tells that it is too long.
 fn room_for_sheet() -> [u8; 65537]
@@ -35,14 +33,21 @@ fn report(rt: &impl Eprint, failed: bool, line: &str) {
     }
 }
 
-// Read a sheet and write the response to it: where nothing fails, to all that the reader has, however much that is;
-// where a read fails, to what was read before.
-fn answer<R: Read, W: Write>(rt: &impl Eprint, input: &mut R, output: &mut W) -> Failed
-    ensures written { result.output ≡ false → (front : List ℕ)
+// Whether reading the sheet failed, and what came of writing the answer.
+#[derive(Clone, Copy)]
+struct Answered {
+    unread: bool,
+    written: Result<(), io::Error>,
+}
+
+// Read a sheet and write the response to it: where no read fails, to all that the reader has, however much that is;
+// else to what was read before.
+fn answer<R: Read, W: Write>(rt: &impl Eprint, input: &mut R, output: &mut W) -> Answered
+    ensures front { OnOk result.written ((front : List ℕ)
         × Consumes (R.remaining input.old) (R.remaining input.new) front
-        × Appends (W.contents output.old) (W.contents output.new) (response front) }
-    ensures whole { result.input ≡ false → result.output ≡ false → IfSome (R.remaining input.old)
-        (λ sheet. Appends (W.contents output.old) (W.contents output.new) (response sheet)) }
+        × Appends (W.contents output.old) (W.contents output.new) (response front)) }
+    ensures whole { result.unread ≡ false → OnOk result.written (IfSome (R.remaining input.old)
+        (λ sheet. Appends (W.contents output.old) (W.contents output.new) (response sheet))) }
 {
     let mut sheet = room_for_sheet();
     let got = read_input(input, &mut sheet);
@@ -55,20 +60,31 @@ fn answer<R: Read, W: Write>(rt: &impl Eprint, input: &mut R, output: &mut W) ->
     let mut out = [0u8; listing::ROOM];
     let count = respond(&sheet[..read], &mut out);
     let written = output.write_all(&out[..count]);
-    let unwritten = written.is_err();
-    report(
-        rt,
-        unwritten,
-        "borrows: the answer could not be written whole to standard output",
-    );
-    Failed {
-        input: got.failed,
-        output: unwritten,
+    Answered {
+        unread: got.failed,
+        written,
     }
 }
 
-fn main(rt: HostRuntime) {
+// What the program ends with, once the answer was written or could not be.
+fn status(rt: &impl Eprint, written: Result<(), io::Error>) -> ExitCode {
+    let Err(error) = written else {
+        return ExitCode::SUCCESS;
+    };
+    if error.kind() == ErrorKind::BrokenPipe {
+        return ExitCode::from(READER_GONE);
+    }
+    report(
+        rt,
+        true,
+        "borrows: the answer could not be written whole to standard output",
+    );
+    ExitCode::SUCCESS
+}
+
+fn main(rt: HostRuntime) -> ExitCode {
     let mut stdin = rt.stdin();
     let mut stdout = io::writer(&rt);
-    answer(&rt, &mut stdin, &mut stdout);
+    let answered = answer(&rt, &mut stdin, &mut stdout);
+    status(&rt, answered.written)
 }

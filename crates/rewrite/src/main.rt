@@ -10,6 +10,8 @@ use answers::{Listed, Refusal, Verdict};
 use input::read_input;
 use sheet::{Text, read_sheet};
 use sheet_writer::{MAX_WRITTEN, write_laid};
+use std::io::ErrorKind;
+use std::process::ExitCode;
 use text::{put_line, put_text};
 
 // Room for a sheet, and for the byte that tells that it is too long.
@@ -18,6 +20,9 @@ fn room_for_sheet() -> [u8; 65537]
 {
     [0; 65537]
 }
+
+// The status where the answer's reader has gone, as a shell gives it for a program that SIGPIPE ended.
+const READER_GONE: u8 = 141;
 
 // Room for any sheet that is written.
 fn room_for_text() -> [u8; MAX_WRITTEN]
@@ -59,18 +64,29 @@ fn rewrite(sheet: &[u8], out: &mut [u8]) -> usize {
     }
 }
 
-// The answer to standard output, by way of a slice.
-fn answer(rt: &impl Print, sheet: &[u8], out: &mut [u8]) {
-    let count = rewrite(sheet, out);
-    let n = least(count, out.len());
-    let _ = rt.write_all(&out[..n]);
+// What the program ends with, once the answer was written or could not be.
+fn status(written: Result<(), std::io::Error>) -> ExitCode {
+    let Err(error) = written else {
+        return ExitCode::SUCCESS;
+    };
+    if error.kind() == ErrorKind::BrokenPipe {
+        return ExitCode::from(READER_GONE);
+    }
+    ExitCode::SUCCESS
 }
 
-fn main(rt: HostRuntime) {
+// The answer to standard output, by way of a slice.
+fn answer(rt: &impl Print, sheet: &[u8], out: &mut [u8]) -> ExitCode {
+    let count = rewrite(sheet, out);
+    let n = least(count, out.len());
+    status(rt.write_all(&out[..n]))
+}
+
+fn main(rt: HostRuntime) -> ExitCode {
     let mut sheet = room_for_sheet();
     let mut stdin = rt.stdin();
     let input = read_input(&mut stdin, &mut sheet);
     let read = input.count;
     let mut out = room_for_text();
-    answer(&rt, &sheet[..read], &mut out);
+    answer(&rt, &sheet[..read], &mut out)
 }
