@@ -2,7 +2,7 @@
  * borrows.h: which arguments a method's result has to keep alive, from a method sheet; and the sheet's text, from its
  * records.
  *
- * Link target/staticlib/libexports.a, which tools/staticlib writes (x86-64-v2, System V calling convention; besides itself
+ * Link target/staticlib/libexports.a, which tools/staticlib writes (x86-64, System V calling convention; besides itself
  * it needs memcpy and memset). Every function in it is proved to meet its contract: crates/exports/src says what each
  * call answers and what each slice holds afterwards, crates/exports/specs what that means.
  *
