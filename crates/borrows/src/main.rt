@@ -6,11 +6,14 @@
 // answer's reader has gone nothing is said, and the status is what a shell gives for a program that SIGPIPE ended.
 #![tactic(auto)]
 
-ghost use Rattle.std.specs.Prelude.{◌≡◌, length};
+ghost use Rattle.std.specs.Prelude.{◌≡◌, ℕ, List, length, false, IfSome, OnOk};
+ghost use Rattle.std.specs.Io.KnownBytes.{Appends, Consumes};
+ghost use Rattle.listing.specs.Listing.{response};
 
 use input::read_input;
 use listing::respond;
-use std::io::ErrorKind;
+use std::io;
+use std::io::{ErrorKind, Read, Write};
 use std::process::ExitCode;
 
 // The status where the answer's reader has gone: 128 and the number of SIGPIPE.
@@ -30,8 +33,41 @@ fn report(rt: &impl Eprint, failed: bool, line: &str) {
     }
 }
 
+// Whether reading the sheet failed, and what came of writing the answer.
+#[derive(Clone, Copy)]
+struct Answered {
+    unread: bool,
+    written: Result<(), io::Error>,
+}
+
+// Read a sheet and write the response to it: where no read fails, to all that the reader has, however much that is;
+// else to what was read before.
+fn answer<R: Read, W: Write>(rt: &impl Eprint, input: &mut R, output: &mut W) -> Answered
+    ensures front { OnOk result.written ((front : List ℕ)
+        × Consumes (R.remaining input.old) (R.remaining input.new) front
+        × Appends (W.contents output.old) (W.contents output.new) (response front)) }
+    ensures whole { result.unread ≡ false → OnOk result.written (IfSome (R.remaining input.old)
+        (λ sheet. Appends (W.contents output.old) (W.contents output.new) (response sheet))) }
+{
+    let mut sheet = room_for_sheet();
+    let got = read_input(input, &mut sheet);
+    let read = got.count;
+    report(
+        rt,
+        got.failed,
+        "borrows: standard input could not be read to its end",
+    );
+    let mut out = [0u8; listing::ROOM];
+    let count = respond(&sheet[..read], &mut out);
+    let written = output.write_all(&out[..count]);
+    Answered {
+        unread: got.failed,
+        written,
+    }
+}
+
 // What the program ends with, once the answer was written or could not be.
-fn status(rt: &impl Eprint, written: Result<(), std::io::Error>) -> ExitCode {
+fn status(rt: &impl Eprint, written: Result<(), io::Error>) -> ExitCode {
     let Err(error) = written else {
         return ExitCode::SUCCESS;
     };
@@ -47,16 +83,8 @@ fn status(rt: &impl Eprint, written: Result<(), std::io::Error>) -> ExitCode {
 }
 
 fn main(rt: HostRuntime) -> ExitCode {
-    let mut sheet = room_for_sheet();
     let mut stdin = rt.stdin();
-    let input = read_input(&mut stdin, &mut sheet);
-    let read = input.count;
-    report(
-        &rt,
-        input.failed,
-        "borrows: standard input could not be read to its end",
-    );
-    let mut out = [0u8; listing::ROOM];
-    let count = respond(&sheet[..read], &mut out);
-    status(&rt, rt.write_all(&out[..count]))
+    let mut stdout = io::writer(&rt);
+    let answered = answer(&rt, &mut stdin, &mut stdout);
+    status(&rt, answered.written)
 }

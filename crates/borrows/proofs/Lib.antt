@@ -1,0 +1,2 @@
+-- Laws: what is read of a sheet settles what is answered to it.
+pub mod SheetLaws
