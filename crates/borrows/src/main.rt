@@ -41,7 +41,8 @@ struct Answered {
 }
 
 // Read a sheet and write the response to it: where no read fails, to all that the reader has, however much that is;
-// else to what was read before.
+// else to what was read before. The clauses say so where it is known which bytes the reader has and the writer got. Of
+// standard input and output no proof can know that; this function does to them what it does to any.
 fn answer<R: Read, W: Write>(rt: &impl Eprint, input: &mut R, output: &mut W) -> Answered
     ensures front { OnOk result.written ((front : List ℕ)
         × Consumes (R.remaining input.old) (R.remaining input.new) front
