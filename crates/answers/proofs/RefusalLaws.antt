@@ -1,44 +1,44 @@
 -- Laws of the checks: the refusal that `unless` gives is the first due, and both ways; what none being due says; what a
 -- verdict says; more checks at the end.
+use Rattle.std.specs.Prelude.{Ok, Err}
 use mathlib.Core.Bool.{Bool, true, false, cond}
 use mathlib.Core.Path.{◌≡◌, refl, ap, ◌∙◌}
 use mathlib.Core.List.{List, [], ◌∷◌, ◌++◌}
 use Prim.Native.Nat.{ℕ}
 use native.Mathlib.Omega.{arith}
 use Rattle.answers.specs.declared.Refusal.{Refusal}
-use Rattle.answers.specs.declared.Verdict.TheVariants as verdict
-use Rattle.answers.specs.Refusals.{Check, Outcome, Gives, Refuses, unless, FirstDue, here, later, NoneDue, end}
+use Rattle.answers.specs.Refusals.{Check, Outcome, unless, FirstDue, here, later, NoneDue, end}
 use Rattle.answers.specs.Refusals.{next}
 use Rattle.answers.specs.Lent.{verdict_of}
 
 module _ {A : Type 0} (a : A) where
-  pub due_given : {checks : List Check} → NoneDue checks → unless checks a ≡ Gives a
+  pub due_given : {checks : List Check} → NoneDue checks → unless checks a ≡ Ok a
   unfolding unless
   due_given end = refl
   due_given (next {c} {cs} h n) = rw h (due_given n)
 
-  pub due_refused : {r : Refusal} {checks : List Check} → FirstDue r checks → unless checks a ≡ Refuses r
+  pub due_refused : {r : Refusal} {checks : List Check} → FirstDue r checks → unless checks a ≡ Err r
   unfolding unless
   due_refused (here {c} {cs} h e) = rw (h, e)
   due_refused (later {c} {cs} h f) = rw h (due_refused f)
 
-  pub refused_due : (r : Refusal) (checks : List Check) → unless checks a ≡ Refuses r → FirstDue r checks
+  pub refused_due : (r : Refusal) (checks : List Check) → unless checks a ≡ Err r → FirstDue r checks
   unfolding unless
   refused_due r [] e = let z : ◌≡◌ {A = ℕ} 0 1 = cc in absurd (omega arith)
   refused_due r (c ∷ cs) e = go c.due refl (refused_due r cs) e
     where
-      go : (t : Bool) → c.due ≡ t → (unless cs a ≡ Refuses r → FirstDue r cs)
-          → cond t (Refuses c.refusal) (unless cs a) ≡ Refuses r → FirstDue r (c ∷ cs)
+      go : (t : Bool) → c.due ≡ t → (unless cs a ≡ Err r → FirstDue r cs)
+          → cond t (Err c.refusal) (unless cs a) ≡ Err r → FirstDue r (c ∷ cs)
       go true h f e = here {c = c} {cs = cs} h (cc)
       go false h f e = later h (f e)
 
-  pub given_due : (b : A) (checks : List Check) → unless checks a ≡ Gives b → NoneDue checks × (a ≡ b)
+  pub given_due : (b : A) (checks : List Check) → unless checks a ≡ Ok b → NoneDue checks × (a ≡ b)
   unfolding unless
   given_due b [] e = (end, cc)
   given_due b (c ∷ cs) e = go c.due refl (given_due b cs) e
     where
-      go : (t : Bool) → c.due ≡ t → (unless cs a ≡ Gives b → NoneDue cs × (a ≡ b))
-          → cond t (Refuses c.refusal) (unless cs a) ≡ Gives b → NoneDue (c ∷ cs) × (a ≡ b)
+      go : (t : Bool) → c.due ≡ t → (unless cs a ≡ Ok b → NoneDue cs × (a ≡ b))
+          → cond t (Err c.refusal) (unless cs a) ≡ Ok b → NoneDue (c ∷ cs) × (a ≡ b)
       go true h f e = let z : ◌≡◌ {A = ℕ} 0 1 = cc in absurd (omega arith)
       go false h f e = (next h (f e).0, (f e).1)
 
@@ -51,19 +51,19 @@ none_rest (next h n) = n
 
 -- what a verdict on the outcome says of the checks
 module _ {A : Type 0} (a : A) where
-  pub refused_first : (r : Refusal) (checks : List Check) → verdict_of (unless checks a) ≡ verdict.Refused r → FirstDue r checks
+  pub refused_first : (r : Refusal) (checks : List Check) → verdict_of (unless checks a) ≡ Err r → FirstDue r checks
   refused_first r checks e = refused_due a r checks (go (unless checks a) e)
     where
-      go : (o : Outcome A) → verdict_of o ≡ verdict.Refused r → o ≡ Refuses r
-      go (Gives b) e = let z : ◌≡◌ {A = ℕ} 0 1 = cc in absurd (omega arith)
-      go (Refuses s) e = cc
+      go : (o : Outcome A) → verdict_of o ≡ Err r → o ≡ Err r
+      go (Ok b) e = let z : ◌≡◌ {A = ℕ} 0 1 = cc in absurd (omega arith)
+      go (Err s) e = cc
 
-  pub accepted_none : (checks : List Check) → verdict_of (unless checks a) ≡ verdict.Accepted → NoneDue checks
+  pub accepted_none : (checks : List Check) → verdict_of (unless checks a) ≡ Ok (tt {0}) → NoneDue checks
   accepted_none checks e = go (unless checks a) refl e
     where
-      go : (o : Outcome A) → unless checks a ≡ o → verdict_of o ≡ verdict.Accepted → NoneDue checks
-      go (Gives b) u e = (given_due a b checks u).0
-      go (Refuses r) u e = let z : ◌≡◌ {A = ℕ} 0 1 = cc in absurd (omega arith)
+      go : (o : Outcome A) → unless checks a ≡ o → verdict_of o ≡ Ok (tt {0}) → NoneDue checks
+      go (Ok b) u e = (given_due a b checks u).0
+      go (Err r) u e = let z : ◌≡◌ {A = ℕ} 0 1 = cc in absurd (omega arith)
 
 -- more checks at the end
 pub first_more : {r : Refusal} {checks : List Check} (more : List Check) → FirstDue r checks → FirstDue r (checks ++ more)
@@ -95,5 +95,5 @@ pub further : {A : Type 0} (a : A) (checks more : List Check) → (NoneDue check
 further {A} a checks more f = go (unless checks a) refl
   where
     go : (o : Outcome A) → unless checks a ≡ o → unless (checks ++ more) a ≡ o
-    go (Gives b) e = let n = given_due a b checks e in due_given a (none_more n.0 (f n.0)) ∙ ap (λ (x : A). Gives x) n.1
-    go (Refuses k) e = due_refused a (first_more more (refused_due a k checks e))
+    go (Ok b) e = let n = given_due a b checks e in due_given a (none_more n.0 (f n.0)) ∙ ap (λ (x : A). Ok x) n.1
+    go (Err k) e = due_refused a (first_more more (refused_due a k checks e))

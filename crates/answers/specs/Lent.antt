@@ -1,15 +1,11 @@
 -- What is lent, and the convention for answers in a lent slice. A call gives a list of words or a refusal. Given, the
 -- words stand in the slice's first places, what follows stays, and the answer is how many they are. Refused, the answer
 -- is the refusal and the slice stays as it was.
-use Rattle.std.specs.Prelude.{ℕ, Bool, true, false, ◌≡◌, List, ◌++◌, ltb, length, drop}
+use Rattle.std.specs.Prelude.{ℕ, Bool, true, false, ◌≡◌, List, ◌++◌, ltb, length, drop, Ok, Err}
 use Rattle.std.specs.Borrow.{MutBor}
 use denote.Triple.Both.{Both}
 use Rattle.answers.specs.declared.Refusal.TheVariants.{NoRoom}
-use Rattle.answers.specs.declared.Verdict.{Verdict}
-use Rattle.answers.specs.declared.Verdict.TheVariants as verdict
-use Rattle.answers.specs.declared.Listed.{Listed}
-use Rattle.answers.specs.declared.Listed.TheVariants as listed
-use Rattle.answers.specs.Refusals.{Check, check, Outcome, Gives, Refuses, unless}
+use Rattle.answers.specs.Refusals.{Check, check, Outcome, Verdict, unless, over}
 
 -- what a call borrows, at its entry and at its exit; a slice of words or of bytes
 abbrev pub Lent : Type 0 → Type 0
@@ -30,14 +26,13 @@ abbrev pub room : Slice → ℕ
 room s = length (held s)
 
 -- what a call answers that lists words
-abbrev pub counted : Outcome (List ℕ) → Listed
-counted (Gives l) = listed.Count (length l)
-counted (Refuses r) = listed.Refused r
+abbrev pub counted : Outcome (List ℕ) → Outcome ℕ
+counted = over length
 
 -- what a slice holds afterwards: given, the words in front and the rest as it was; refused, all as it was
 abbrev pub written : Outcome (List ℕ) → List ℕ → List ℕ
-written (Gives l) slice = l ++ drop (length l) slice
-written (Refuses r) slice = slice
+written (Ok l) slice = l ++ drop (length l) slice
+written (Err r) slice = slice
 
 abbrev pub Fills : Outcome (List ℕ) → Slice → Type 0
 Fills o s = left s ≡ written o (held s)
@@ -48,21 +43,21 @@ Stays s = left s ≡ held s
 
 -- whether a call is refused, where its result is beside the answer
 abbrev pub verdict_of : {A : Type 0} → Outcome A → Verdict
-verdict_of (Gives a) = verdict.Accepted
-verdict_of (Refuses r) = verdict.Refused r
+verdict_of (Ok a) = Ok (tt {0})
+verdict_of (Err r) = Err r
 
 -- the verdict of some checks alone
 abbrev pub judged : List Check → Verdict
 judged checks = verdict_of (unless checks (tt {0}))
 
 abbrev pub is_accepted : Verdict → Bool
-is_accepted verdict.Accepted = true
-is_accepted (verdict.Refused r) = false
+is_accepted (Ok u) = true
+is_accepted (Err r) = false
 
 -- the result beside a verdict: what the call gives, or what it has beside a refusal
 abbrev pub result_or : {A : Type 0} → A → Outcome A → A
-result_or other (Gives a) = a
-result_or other (Refuses r) = other
+result_or other (Ok a) = a
+result_or other (Err r) = other
 
 -- the check for room: the slice is too short for the words (9)
 abbrev pub room_check : ℕ → List ℕ → Check

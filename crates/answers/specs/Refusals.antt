@@ -1,6 +1,6 @@
 -- Refusals: the number of each (01's, from 11 on 02's), and which one a call gives: the first that is due in one
 -- ordered list of checks.
-use Rattle.std.specs.Prelude.{ℕ, Bool, true, false, cond, ◌≡◌, List, [], ◌∷◌}
+use Rattle.std.specs.Prelude.{ℕ, Bool, true, false, cond, ◌≡◌, List, [], ◌∷◌, Result, Ok, Err}
 use Rattle.answers.specs.declared.Refusal.{Refusal}
 use Rattle.answers.specs.declared.Refusal.TheVariants.{Malformed, Duplicate, Undeclared, Full, NoSource}
 use Rattle.answers.specs.declared.Refusal.TheVariants.{Ambiguous, Mismatch, OutOfRange, NoRoom}
@@ -27,25 +27,28 @@ pub record Check : Type 0 where
 abbrev pub check : Bool → Refusal → Check
 check t r = record { due = t; refusal = r }
 
--- what a call gives: its result, or a refusal
-pub data Outcome (A : Type 0) : Type 0 where
-  Gives : A → Outcome A
-  Refuses : Refusal → Outcome A
+-- what a call gives: its result (`Ok`), or a refusal (`Err`); a call with an outcome of its own answers it as it is
+abbrev pub Outcome : Type 0 → Type 0
+Outcome A = Result A Refusal
+
+-- the outcome of a call that only judges
+abbrev pub Verdict : Type 0
+Verdict = Outcome (Unit {0})
 
 -- the result, unless a check is due; then the first such check's refusal
 unfoldable pub unless : {A : Type 0} → List Check → A → Outcome A
-unless [] a = Gives a
-unless (c ∷ cs) a = cond c.due (Refuses c.refusal) (unless cs a)
+unless [] a = Ok a
+unless (c ∷ cs) a = cond c.due (Err c.refusal) (unless cs a)
 
 -- what is given, made into something else; a refusal stays
 abbrev pub over : {A B : Type 0} → (A → B) → Outcome A → Outcome B
-over f (Gives a) = Gives (f a)
-over f (Refuses r) = Refuses r
+over f (Ok a) = Ok (f a)
+over f (Err r) = Err r
 
 -- one thing after another, to the first refusal
 abbrev pub bind : {A B : Type 0} → Outcome A → (A → Outcome B) → Outcome B
-bind (Gives a) next = next a
-bind (Refuses r) next = Refuses r
+bind (Ok a) next = next a
+bind (Err r) next = Err r
 
 -- r is the refusal of the first check that is due
 pub data FirstDue (r : Refusal) : List Check → Type 0 where

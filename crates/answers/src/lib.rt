@@ -57,16 +57,3 @@ impl Refusal {
     }
 }
 
-// Whether a call is refused.
-#[derive(Clone, Copy)]
-pub enum Verdict {
-    Accepted,
-    Refused(Refusal),
-}
-
-// How many words or bytes a call wrote to a lent slice, or how many items it counted; or why it is refused.
-#[derive(Clone, Copy)]
-pub enum Listed {
-    Count(usize),
-    Refused(Refusal),
-}

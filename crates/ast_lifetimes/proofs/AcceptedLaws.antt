@@ -1,5 +1,6 @@
 -- What `from_method_item` gives is an environment on which nothing is due: the names are at most 32, the bounds at most
 -- 256, each between names.
+use Rattle.std.specs.Prelude.{Ok}
 use Prim.Native.Nat.{ℕ, suc, ◌+◌, ◌≤◌}
 use mathlib.Core.Bool.{true, not}
 use mathlib.Core.Path.{◌≡◌, sym, ◌∙◌, ap}
@@ -11,7 +12,6 @@ use lib.Seq.{take-append_seam}
 use Rattle.answers.specs.Refusals.{NoneDue, next, end}
 use Rattle.lifetimes.specs.Bounds.{all_below, bounds_from}
 use Rattle.answers.proofs.RefusalLaws.{accepted_none, none_first, none_rest, none_split}
-use Rattle.answers.specs.declared.Verdict.TheVariants.{Accepted}
 use Rattle.ast_lifetimes.specs.declared.env.Counts.{Counts}
 use Rattle.ast_lifetimes.specs.Inner.{sides_of, Built}
 use Rattle.ast_lifetimes.specs.Shapes.{impl_names, method_names, Pair, impl_pairs, method_pairs}
@@ -100,7 +100,7 @@ module _ (names bounds types : List ℕ) (n : NoneDue (item_place_checks names b
 
 -- the sides that `build` leaves in its arrays
 pub built_small : {names bounds types declared longs shorts : List ℕ} {r : Counts}
-    → Built names bounds types declared longs shorts r → r.verdict ≡ Accepted
+    → Built names bounds types declared longs shorts r → r.verdict ≡ Ok (tt {0})
     → all_below 255 (sides_of r.pushed longs shorts) ≡ true
 built_small {names} {bounds} {types} b e =
     rw (b.bounded e)

@@ -1,5 +1,6 @@
 -- Pairs of names pushed as bounds: their checks, the bounds that two arrays of sides hold, the answers of `push_pair`
 -- and the loop of `push_pairs`.
+use Rattle.std.specs.Prelude.{Ok, Err}
 use Prim.Native.Nat.{ℕ, zero, suc, ◌+◌, ◌*◌, ◌≤◌, ◌<◌}
 use mathlib.Core.Path.{◌≡◌, refl, sym, ap, ◌∙◌}
 use mathlib.Core.List.{List, [], ◌∷◌, ◌++◌, map, map-append, append-nil, append_assoc}
@@ -11,11 +12,9 @@ use lib.ListN.{length, get_or, set, length-set}
 use lib.Seq.{get_or-set_same, get_or-set_other, slice, slice_empty, slice-cons}
 use Rattle.answers.specs.declared.Refusal.{Refusal}
 use Rattle.answers.specs.declared.Refusal.TheVariants.{Undeclared, Full}
-use Rattle.answers.specs.declared.Verdict.{Verdict}
-use Rattle.answers.specs.declared.Verdict.TheVariants.{Accepted, Refused}
 use Rattle.lifetimes.specs.declared.bounds.Bound.{Bound}
 use Rattle.answers.specs.Lists.{range}
-use Rattle.answers.specs.Refusals.{unless}
+use Rattle.answers.specs.Refusals.{unless, Verdict}
 use Rattle.lifetimes.specs.Bounds.{above}
 use Rattle.answers.proofs.ListLaws.{range_snoc}
 use Rattle.ast_lifetimes.specs.Shapes.{Pair, pair, pairs_of}
@@ -64,28 +63,28 @@ sides_more n longs shorts l s h k =
 
 module _ {names longs shorts : List ℕ} {named pushed : ℕ} (size : length names ≡ named) (sl : length longs ≡ 256)
     (ss : length shorts ≡ 256) where
-  refused : {r : Refusal} {new : List Pair} → Refused r ≡ judged (all_pair_checks names pushed new)
-      → Pushes names new longs shorts longs shorts pushed (Refused r)
+  refused : {r : Refusal} {new : List Pair} → Err r ≡ judged (all_pair_checks names pushed new)
+      → Pushes names new longs shorts longs shorts pushed (Err r)
   refused e = record { verdict = e; size_longs = sl; size_shorts = ss; bounds = refused_accepted; few = refused_accepted }
 
   module _ {longer shorter long : ℕ} (a : long ≡ place names longer) where
-    pub push_longer : named ≤ long → Pushes names (pair longer shorter ∷ []) longs shorts longs shorts pushed (Refused Undeclared)
+    pub push_longer : named ≤ long → Pushes names (pair longer shorter ∷ []) longs shorts longs shorts pushed (Err Undeclared)
     unfolding all_pair_checks unless
     push_longer h = refused (rw (size, ← a, le-ltb long named h))
 
     module _ (known : long < named) {short : ℕ} (b : short ≡ place names shorter) where
-      pub push_shorter : named ≤ short → Pushes names (pair longer shorter ∷ []) longs shorts longs shorts pushed (Refused Undeclared)
+      pub push_shorter : named ≤ short → Pushes names (pair longer shorter ∷ []) longs shorts longs shorts pushed (Err Undeclared)
       unfolding all_pair_checks unless
       push_shorter h = refused (rw (size, ← a, ← b, lt-ltb long named known, le-ltb short named h))
 
       pub push_full : short < named → 256 ≤ pushed
-          → Pushes names (pair longer shorter ∷ []) longs shorts longs shorts pushed (Refused Full)
+          → Pushes names (pair longer shorter ∷ []) longs shorts longs shorts pushed (Err Full)
       unfolding all_pair_checks unless
       push_full h k = refused (rw (size, ← a, ← b, lt-ltb long named known, lt-ltb short named h, le-leb 256 pushed k))
 
       pub push_given : short < named → pushed < 256
           → Pushes names (pair longer shorter ∷ []) longs shorts (set longs pushed long) (set shorts pushed short)
-          pushed Accepted
+          pushed (Ok (tt {0}))
       unfolding all_pair_checks unless
       push_given h k = record {
         verdict = rw (size, ← a, ← b, lt-ltb long named known, lt-ltb short named h, lt-leb 256 pushed k);
@@ -132,7 +131,7 @@ pushing_start names words from count longs shorts pushed few l s = record {
 
 module _ {names words : List ℕ} {from count : ℕ} {longs₀ shorts₀ : List ℕ} {pushed : ℕ} {longs shorts : List ℕ} {at done : ℕ}
     (inv : Pushing names words from count longs₀ shorts₀ pushed longs shorts at done) where
-  pub pushing_end : count ≤ done → Pushes names (pairs_from words (from + 2 * count) from) longs₀ shorts₀ longs shorts pushed Accepted
+  pub pushing_end : count ≤ done → Pushes names (pairs_from words (from + 2 * count) from) longs₀ shorts₀ longs shorts pushed (Ok (tt {0}))
   unfolding all_pair_checks unless pairs_of
   pushing_end h =
       let e : at ≡ from + 2 * count = omega arith in
@@ -171,7 +170,7 @@ module _ {names words : List ℕ} {from count : ℕ} {longs₀ shorts₀ : List 
           )
           inv.judges
 
-      pub pushing_refused : {r : Refusal} → v ≡ Refused r
+      pub pushing_refused : {r : Refusal} → v ≡ Err r
           → Pushes names (pairs_from words (from + 2 * count) from) longs₀ shorts₀ longs₁ shorts₁ pushed v
       pushing_refused e = record {
         verdict = e ∙ sym (judged_stays _ _ (sym one.verdict ∙ e)) ∙ split;
@@ -181,7 +180,7 @@ module _ {names words : List ℕ} {from count : ℕ} {longs₀ shorts₀ : List 
         few = λ a. refused_accepted (sym e ∙ a);
       }
 
-      pub pushing_more : v ≡ Accepted → Pushing names words from count longs₀ shorts₀ pushed longs₁ shorts₁ (at + 2) (done + 1)
+      pub pushing_more : v ≡ Ok (tt {0}) → Pushing names words from count longs₀ shorts₀ pushed longs₁ shorts₁ (at + 2) (done + 1)
       pushing_more e =
           let step : pushed + (done + 1) ≡ pushed + done + 1 = omega arith in
           record {

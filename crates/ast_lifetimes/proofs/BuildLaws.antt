@@ -1,5 +1,6 @@
 -- `build` stage by stage: what records in shape say, what stands in the arrays after each stage and which checks are
 -- left then; and the answers of `from_method_item`.
+use Rattle.std.specs.Prelude.{Ok, Err}
 use Prim.Native.Nat.{ℕ, zero, suc, ◌+◌, ◌-◌, ◌*◌, ◌/◌, ◌%◌, ◌≤◌, ◌<◌}
 use mathlib.Core.Bool.{Bool, true, false, ◌&&◌, and-eq-true_iff}
 use mathlib.Core.Path.{◌≡◌, refl, sym, ap, ◌∙◌}
@@ -12,13 +13,11 @@ use lib.ListN.{length, get_or, take, drop, length-append, length-drop}
 use lib.Seq.{slice, take-length, take-nil, drop-nil, length-take-le}
 use Rattle.answers.specs.declared.Refusal.{Refusal}
 use Rattle.answers.specs.declared.Refusal.TheVariants.{Malformed}
-use Rattle.answers.specs.declared.Verdict.{Verdict}
-use Rattle.answers.specs.declared.Verdict.TheVariants.{Accepted, Refused}
 use Rattle.lifetimes.specs.declared.bounds.Bound.{Bound}
 use Rattle.answers.specs.Lists.{range, all}
 use Rattle.answers.proofs.ListLaws.{range_has, in_map}
 use Rattle.lifetimes.proofs.BoundsLaws.{all_below_lem, below_larger, below_append}
-use Rattle.answers.specs.Refusals.{Check, unless, FirstDue, NoneDue, next}
+use Rattle.answers.specs.Refusals.{Check, unless, FirstDue, NoneDue, next, Verdict}
 use Rattle.lifetimes.specs.Bounds.{above, all_below}
 use Rattle.answers.proofs.RefusalLaws.{due_given, due_refused, refused_first, accepted_none}
 use Rattle.ast_lifetimes.specs.declared.implied.Implied.{Implied}
@@ -174,13 +173,13 @@ pub record Sides (bs : List Bound) (pushed : ℕ) (longs shorts : List ℕ) : Ty
   pub few : pushed ≤ 256
 
 stand_declared : {new ns declared declared₁ : List ℕ} {named all : ℕ} {v : Verdict} → take named declared ≡ ns
-    → named + length new ≡ all → Declares new declared declared₁ named v → v ≡ Accepted
+    → named + length new ≡ all → Declares new declared declared₁ named v → v ≡ Ok (tt {0})
     → Stand (ns ++ new) all declared₁
 stand_declared s n d e = record { size = d.size; names = rw (← n, ← s) (d.names e); few = rw (← n) (d.few e) }
 
 sides_pushed : {names : List ℕ} {new : List Pair} {bs : List Bound} {longs shorts longs₁ shorts₁ : List ℕ}
     {pushed all : ℕ} {v : Verdict} → sides_of pushed longs shorts ≡ bs → pushed + length new ≡ all
-    → Pushes names new longs shorts longs₁ shorts₁ pushed v → v ≡ Accepted → Sides (bs ++ bounds_for names new) all longs₁ shorts₁
+    → Pushes names new longs shorts longs₁ shorts₁ pushed v → v ≡ Ok (tt {0}) → Sides (bs ++ bounds_for names new) all longs₁ shorts₁
 sides_pushed s n p e =
     record {
       size_longs = p.size_longs;
@@ -192,10 +191,10 @@ sides_pushed s n p e =
 -- ---- the checks that are left after each stage
 
 module _ (all checks more : List Check) {v : Verdict} (left : judged all ≡ judged (checks ++ more)) (is : v ≡ judged checks) where
-  stage_refused : {r : Refusal} → v ≡ Refused r → v ≡ judged all
+  stage_refused : {r : Refusal} → v ≡ Err r → v ≡ judged all
   stage_refused e = e ∙ sym (judged_stays checks more (sym is ∙ e)) ∙ sym left
 
-  stage_accepted : v ≡ Accepted → judged all ≡ judged more
+  stage_accepted : v ≡ Ok (tt {0}) → judged all ≡ judged more
   stage_accepted e = left ∙ judged_after checks more (sym is ∙ e)
 
 module _ (names bounds types : List ℕ) where
@@ -247,7 +246,7 @@ stopped v = record { verdict = v; named = 0; pushed = 0 }
 module _ {names bounds types : List ℕ} where
   built_refused : {declared longs shorts : List ℕ} {v : Verdict} {r : Refusal}
       → (length declared ≡ 32) × (length longs ≡ 256) × (length shorts ≡ 256)
-      → v ≡ judged (item_place_checks names bounds types) → v ≡ Refused r
+      → v ≡ judged (item_place_checks names bounds types) → v ≡ Err r
       → Built names bounds types declared longs shorts (stopped v)
   built_refused sizes is e = record {
     verdict = is;
@@ -264,11 +263,11 @@ module _ {names bounds types : List ℕ} where
     impl_names_lem = rw sh.in_names.impl at d
 
     pub impl_names_refused : {longs shorts : List ℕ} {r : Refusal} → length longs ≡ 256 → length shorts ≡ 256
-        → v ≡ Refused r → Built names bounds types declared₁ longs shorts (stopped v)
+        → v ≡ Err r → Built names bounds types declared₁ longs shorts (stopped v)
     impl_names_refused l s e =
         built_refused (d.size, l, s) (stage_refused _ _ (left₁ names bounds types) refl impl_names_lem.verdict e) e
 
-    pub impl_named : v ≡ Accepted → ImplNamed names bounds types declared₁
+    pub impl_named : v ≡ Ok (tt {0}) → ImplNamed names bounds types declared₁
     impl_named e = record {
       shaped = sh;
       named = stand_declared refl (zero-add _ ∙ sh.in_names.impls) impl_names_lem e;
@@ -282,12 +281,12 @@ module _ {names bounds types : List ℕ} where
     impl_pairs_lem : Pushes (impl_names names) (impl_pairs bounds) longs shorts longs₁ shorts₁ 0 v
     impl_pairs_lem = rw (i.named.names, i.shaped.in_bounds.impl) at p
 
-    pub impl_pairs_refused : {r : Refusal} → v ≡ Refused r → Built names bounds types declared longs₁ shorts₁ (stopped v)
+    pub impl_pairs_refused : {r : Refusal} → v ≡ Err r → Built names bounds types declared longs₁ shorts₁ (stopped v)
     impl_pairs_refused e =
         built_refused (i.named.size, p.size_longs, p.size_shorts)
         (stage_refused _ _ _ i.left impl_pairs_lem.verdict e) e
 
-    pub impl_bound : v ≡ Accepted → ImplBound names bounds types declared longs₁ shorts₁
+    pub impl_bound : v ≡ Ok (tt {0}) → ImplBound names bounds types declared longs₁ shorts₁
     unfolding range
     impl_bound e = record {
       shaped = i.shaped;
@@ -306,12 +305,12 @@ module _ {names bounds types : List ℕ} where
     method_verdict_lem : v ≡ judged (name_checks (impl_names names) (method_names names))
     method_verdict_lem = rw i.named.names at method_names_lem.verdict
 
-    pub method_names_refused : {r : Refusal} → v ≡ Refused r → Built names bounds types declared₁ longs shorts (stopped v)
+    pub method_names_refused : {r : Refusal} → v ≡ Err r → Built names bounds types declared₁ longs shorts (stopped v)
     method_names_refused e =
         built_refused (d.size, i.sides.size_longs, i.sides.size_shorts)
         (stage_refused _ _ _ i.left method_verdict_lem e) e
 
-    pub all_named : v ≡ Accepted → AllNamed names bounds types declared₁ longs shorts
+    pub all_named : v ≡ Ok (tt {0}) → AllNamed names bounds types declared₁ longs shorts
     all_named e = record {
       shaped = i.shaped;
       named = stand_declared i.named.names i.shaped.in_names.all method_names_lem e;
@@ -331,11 +330,11 @@ module _ {names bounds types : List ℕ} where
     pairs_verdict : v ≡ judged (all_pair_checks (all_names_of names) (length (impl_pairs bounds)) (method_pairs bounds))
     pairs_verdict = rw i.shaped.in_bounds.impls method_pairs_lem.verdict
 
-    pub method_pairs_refused : {r : Refusal} → v ≡ Refused r → Built names bounds types declared longs₁ shorts₁ (stopped v)
+    pub method_pairs_refused : {r : Refusal} → v ≡ Err r → Built names bounds types declared longs₁ shorts₁ (stopped v)
     method_pairs_refused e =
         built_refused (i.named.size, p.size_longs, p.size_shorts) (stage_refused _ _ _ i.left pairs_verdict e) e
 
-    pub all_bound : v ≡ Accepted → AllBound names bounds types declared longs₁ shorts₁
+    pub all_bound : v ≡ Ok (tt {0}) → AllBound names bounds types declared longs₁ shorts₁
     all_bound e =
         let many : length (all_names_of names) ≡ length names - 1 =
         rw (length-append (impl_names names) (method_names names), i.shaped.in_names.impls)
@@ -388,34 +387,34 @@ module _ (names bounds types : List ℕ) where
   abbrev in_shape : Bool
   in_shape = names_in_shape names && (bounds_in_shape bounds && types_in_shape types)
 
-  pub shape_refused : {v : Verdict} {r : Refusal} → v ≡ shape_verdict in_shape → v ≡ Refused r
+  pub shape_refused : {v : Verdict} {r : Refusal} → v ≡ shape_verdict in_shape → v ≡ Err r
       → record { verdict = v; env = named_env [] [] } ≡ made (named_env [] []) (from_method_item names bounds types)
   unfolding from_method_item unless
   shape_refused {v} {r} is e = go in_shape refl
     where
       go : (b : Bool) → in_shape ≡ b
           → record { verdict = v; env = named_env [] [] } ≡ made (named_env [] []) (from_method_item names bounds types)
-      go true h = let f : v ≡ Accepted = rw h at is in refused_accepted (sym e ∙ f)
+      go true h = let f : v ≡ (Ok (tt {0})) = rw h at is in refused_accepted (sym e ∙ f)
       go false h = rw (is, h)
 
-  shape_holds : {v : Verdict} → v ≡ shape_verdict in_shape → v ≡ Accepted → in_shape ≡ true
+  shape_holds : {v : Verdict} → v ≡ shape_verdict in_shape → v ≡ Ok (tt {0}) → in_shape ≡ true
   shape_holds {v} is e = go in_shape refl
     where
       go : (b : Bool) → in_shape ≡ b → in_shape ≡ true
       go true h = h
-      go false h = let f : v ≡ Refused Malformed = rw h at is in refused_accepted (sym f ∙ e)
+      go false h = let f : v ≡ Err Malformed = rw h at is in refused_accepted (sym f ∙ e)
 
-  pub shape_given : {v : Verdict} → v ≡ shape_verdict in_shape → v ≡ Accepted → (names_in_shape names ≡ true)
+  pub shape_given : {v : Verdict} → v ≡ shape_verdict in_shape → v ≡ Ok (tt {0}) → (names_in_shape names ≡ true)
       × (bounds_in_shape bounds ≡ true) × (types_in_shape types ≡ true)
   shape_given is e =
       let p = (and-eq-true_iff (names_in_shape names) (bounds_in_shape bounds && types_in_shape types)).0 (shape_holds is e) in
       let q = (and-eq-true_iff (bounds_in_shape bounds) (types_in_shape types)).0 p.1 in
       (p.0, q.0, q.1)
 
-  module _ {shape : Verdict} (is : shape ≡ shape_verdict in_shape) (ok : shape ≡ Accepted)
+  module _ {shape : Verdict} (is : shape ≡ shape_verdict in_shape) (ok : shape ≡ Ok (tt {0}))
       {declared longs shorts : List ℕ} {counts : Counts}
       (b : Built names bounds types declared longs shorts counts) where
-    pub place_refused : {r : Refusal} → counts.verdict ≡ Refused r
+    pub place_refused : {r : Refusal} → counts.verdict ≡ Err r
         → record { verdict = counts.verdict; env = named_env [] [] }
         ≡ made (named_env [] []) (from_method_item names bounds types)
     unfolding from_method_item unless
@@ -424,9 +423,9 @@ module _ (names bounds types : List ℕ) where
         refused_first (tt {0}) r (item_place_checks names bounds types) (sym b.verdict ∙ e) in
         rw (shape_holds is ok, due_refused (named_env (all_names_of names) (method_bounds names bounds types)) due, e)
 
-    pub method_given : counts.verdict ≡ Accepted → {env : LifetimeEnv}
+    pub method_given : counts.verdict ≡ Ok (tt {0}) → {env : LifetimeEnv}
         → env ≡ named_env (take counts.named declared) (sides_of counts.pushed longs shorts)
-        → record { verdict = Accepted; env = env } ≡ made (named_env [] []) (from_method_item names bounds types)
+        → record { verdict = Ok (tt {0}); env = env } ≡ made (named_env [] []) (from_method_item names bounds types)
     unfolding from_method_item unless
     method_given e {env} q =
         let none : NoneDue (item_place_checks names bounds types) =

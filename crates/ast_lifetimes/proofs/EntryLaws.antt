@@ -1,5 +1,6 @@
 -- Building entry by entry: a run of entries gives its result unless one of its checks is due, so all entries give what
 -- `from_method_item` gives.
+use Rattle.std.specs.Prelude.{Ok, Err}
 use Prim.Native.Nat.{ℕ, suc, ◌+◌}
 use mathlib.Core.Bool.{Bool, true, false, cond, ◌&&◌}
 use mathlib.Core.Path.{◌≡◌, refl, sym, ◌∙◌}
@@ -7,7 +8,7 @@ use mathlib.Core.List.{List, [], ◌∷◌, ◌++◌, map, map-append, append-ni
 use native.Mathlib.Omega.{arith}
 use lib.ListN.{length, length-append, length-map}
 use Rattle.lifetimes.specs.declared.bounds.Bound.{Bound}
-use Rattle.answers.specs.Refusals.{Check, Outcome, Gives, Refuses, unless, bind}
+use Rattle.answers.specs.Refusals.{Check, Outcome, unless, bind}
 use Rattle.ast_lifetimes.specs.Shapes.{names_in_shape, impl_names, method_names, Pair, bounds_in_shape, impl_pairs}
 use Rattle.ast_lifetimes.specs.Shapes.{method_pairs}
 use Rattle.ast_lifetimes.specs.Types.{TypeName, Other, Named, Reference, Option, Result, types_in_shape, type_names_of}
@@ -26,7 +27,7 @@ after_unless [] more a b f e = e
 after_unless (c ∷ cs) more a b f e = go c.due (after_unless cs more a b f e)
   where
     go : (t : Bool) → bind (unless cs a) f ≡ unless (cs ++ more) b
-        → bind (cond t (Refuses c.refusal) (unless cs a)) f ≡ cond t (Refuses c.refusal) (unless (cs ++ more) b)
+        → bind (cond t (Err c.refusal) (unless cs a)) f ≡ cond t (Err c.refusal) (unless (cs ++ more) b)
     go true h = refl
     go false h = h
 
@@ -37,8 +38,8 @@ fold_append {A = A} f a (x ∷ l) m = go (f a x) (λ b. fold_append f b l m)
   where
     go : (o : Outcome A) → ((b : A) → fold f b (l ++ m) ≡ bind (fold f b l) (λ c. fold f c m))
         → bind o (λ b. fold f b (l ++ m)) ≡ bind (bind o (λ b. fold f b l)) (λ c. fold f c m)
-    go (Gives b) h = h b
-    go (Refuses r) h = refl
+    go (Ok b) h = h b
+    go (Err r) h = refl
 
 -- one run after another
 fold_both : (s t u : SoFar) (checks more : List Check) (l m : List Entry) → fold step s l ≡ unless checks t
@@ -74,12 +75,12 @@ fold_bounded s (p ∷ l) = go (push_pair s p) (λ t. fold_bounded t l)
   where
     go : (o : Outcome SoFar) → ((t : SoFar) → fold step t (map Bounded l) ≡ fold push_pair t l)
         → bind o (λ next. fold step next (map Bounded l)) ≡ bind o (λ next. fold push_pair next l)
-    go (Gives t) h = h t
-    go (Refuses r) h = refl
+    go (Ok t) h = h t
+    go (Err r) h = refl
 
-after_gives : {A : Type 0} (o : Outcome A) → bind o (λ a. Gives a) ≡ o
-after_gives (Gives a) = refl
-after_gives (Refuses r) = refl
+after_gives : {A : Type 0} (o : Outcome A) → bind o (λ a. Ok a) ≡ o
+after_gives (Ok a) = refl
+after_gives (Err r) = refl
 
 -- two runs of pairs, the second on the bounds that the first left
 pairs_both : (names : List ℕ) (bs : List Bound) (l m : List Entry) (ps qs : List Pair)
@@ -155,6 +156,6 @@ built_in_order names bounds types shape =
     let more : unless (item_place_checks names bounds types ++ []) all ≡ built names bounds types =
     sym (rw (← fold_entries names bounds types)
     at (after_unless (item_place_checks names bounds types) []
-    (so_far (all_names_of names) (method_bounds names bounds types)) all (λ s. Gives (named_env s.names s.bounds))
+    (so_far (all_names_of names) (method_bounds names bounds types)) all (λ s. Ok (named_env s.names s.bounds))
     refl)) in
     rw shape (rw (append-nil (item_place_checks names bounds types)) at more)

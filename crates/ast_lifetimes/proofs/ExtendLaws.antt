@@ -1,5 +1,6 @@
 -- `extend_implicit_lifetime_bounds`: the loop of `split`, what an environment that was checked says of its sides, and
 -- the answers.
+use Rattle.std.specs.Prelude.{Ok, Err}
 use Prim.Native.Nat.{ℕ, ◌+◌, ◌≤◌, ◌<◌}
 use mathlib.Core.Bool.{Bool, true, false, not}
 use mathlib.Core.Path.{◌≡◌, refl, sym, ap, ◌∙◌}
@@ -11,12 +12,10 @@ use lib.ListN.{length, get_or, take, set, length-set, length-take}
 use lib.Seq.{take-suc}
 use Rattle.answers.specs.declared.Refusal.{Refusal}
 use Rattle.answers.specs.declared.Refusal.TheVariants.{Malformed}
-use Rattle.answers.specs.declared.Verdict.{Verdict}
-use Rattle.answers.specs.declared.Verdict.TheVariants.{Accepted, Refused}
 use Rattle.lifetimes.specs.declared.bounds.Bounds.{Bounds}
 use Rattle.answers.specs.Lists as lists
 use Rattle.answers.specs.Refusals as refusals
-use Rattle.answers.specs.Refusals.{unless, FirstDue, here, later, NoneDue, next}
+use Rattle.answers.specs.Refusals.{unless, FirstDue, here, later, NoneDue, next, Verdict}
 use Rattle.lifetimes.specs.Bounds.{above, all_below}
 use Rattle.answers.proofs.RefusalLaws.{due_given, due_refused, refused_first, accepted_none, none_first, none_rest}
 use Rattle.answers.proofs.RefusalLaws.{first_more}
@@ -85,7 +84,7 @@ module _ (e : LifetimeEnv) (valid : NoneDue (env_checks e)) where
       sides_below e.named e.bounds.pushed longs shorts u i (omega arith)
 
 -- an environment that was checked
-pub valid : (e : LifetimeEnv) {v : Verdict} → v ≡ judged (env_checks e) → v ≡ Accepted → NoneDue (env_checks e)
+pub valid : (e : LifetimeEnv) {v : Verdict} → v ≡ judged (env_checks e) → v ≡ Ok (tt {0}) → NoneDue (env_checks e)
 valid e p q = accepted_none (tt {0}) (env_checks e) (sym p ∙ q)
 
 -- the answers of `extended`
@@ -97,7 +96,7 @@ module _ (e : LifetimeEnv) (types : List ℕ) {longs shorts longs₁ shorts₁ r
   ext : Extends (names_of e) (implied_on e types) longs shorts longs₁ shorts₁ reach₁ e.bounds.pushed r
   ext = rw splits.sides at given
 
-  pub extended_refused : {x : Refusal} → r.verdict ≡ Refused x
+  pub extended_refused : {x : Refusal} → r.verdict ≡ Err x
       → record { verdict = r.verdict; env = e }
       ≡ made e (unless (all_pair_checks (names_of e) e.bounds.pushed (implied_on e types)) (extended_with e types))
   extended_refused {x} q =
@@ -105,17 +104,17 @@ module _ (e : LifetimeEnv) (types : List ℕ) {longs shorts longs₁ shorts₁ r
       refused_first (tt {0}) x _ (sym ext.pushes.verdict ∙ q) in
       rw (due_refused (extended_with e types) due, q)
 
-  pub extended_few : r.verdict ≡ Accepted → (r.pushed ≤ 256) × (length longs₁ ≡ 256) × (length shorts₁ ≡ 256)
+  pub extended_few : r.verdict ≡ Ok (tt {0}) → (r.pushed ≤ 256) × (length longs₁ ≡ 256) × (length shorts₁ ≡ 256)
   extended_few a = (rw (ext.pushed a) (ext.pushes.few a), ext.pushes.size_longs, ext.pushes.size_shorts)
 
-  extended_sides : r.verdict ≡ Accepted
+  extended_sides : r.verdict ≡ Ok (tt {0})
       → sides_of r.pushed longs₁ shorts₁ ≡ bounds_of e ++ bounds_for (names_of e) (implied_on e types)
   extended_sides a = rw (ext.pushed a, ext.pushes.bounds a, splits.sides)
 
-  extended_free : r.verdict ≡ Accepted → NoneDue (all_pair_checks (names_of e) e.bounds.pushed (implied_on e types))
+  extended_free : r.verdict ≡ Ok (tt {0}) → NoneDue (all_pair_checks (names_of e) e.bounds.pushed (implied_on e types))
   extended_free a = accepted_none (tt {0}) _ (sym ext.pushes.verdict ∙ a)
 
-  pub extended_small : r.verdict ≡ Accepted → NoneDue (env_checks e) → all_below 255 (sides_of r.pushed longs₁ shorts₁) ≡ true
+  pub extended_small : r.verdict ≡ Ok (tt {0}) → NoneDue (env_checks e) → all_below 255 (sides_of r.pushed longs₁ shorts₁) ≡ true
   extended_small a v =
       let few = valid_named e v in
       let names : length (names_of e) ≤ 255 = rw length-take (omega (arith, few)) in
@@ -123,15 +122,15 @@ module _ (e : LifetimeEnv) (types : List ℕ) {longs shorts longs₁ shorts₁ r
       (below_append _ _ _ (below_larger e.named 255 (omega (arith, few)) _ (valid_below e v))
       (below_larger _ 255 names _ (pairs_below (names_of e) e.bounds.pushed (implied_on e types) (extended_free a))))
 
-  pub extended_given : r.verdict ≡ Accepted → {env : LifetimeEnv} → env ≡ named_env (names_of e) (sides_of r.pushed longs₁ shorts₁)
-      → record { verdict = Accepted; env = env }
+  pub extended_given : r.verdict ≡ Ok (tt {0}) → {env : LifetimeEnv} → env ≡ named_env (names_of e) (sides_of r.pushed longs₁ shorts₁)
+      → record { verdict = Ok (tt {0}); env = env }
       ≡ made e (unless (all_pair_checks (names_of e) e.bounds.pushed (implied_on e types)) (extended_with e types))
   extended_given a {env} is =
       rw (due_given (extended_with e types) (extended_free a), is, extended_sides a)
 
 -- the answers of `extend_implicit_lifetime_bounds`
 module _ (e : LifetimeEnv) (types : List ℕ) {v : Verdict} (shape : v ≡ shape_verdict (types_in_shape types)) where
-  pub extend_malformed : {x : Refusal} → v ≡ Refused x → record { verdict = v; env = e } ≡ made e (extend_implied e types)
+  pub extend_malformed : {x : Refusal} → v ≡ Err x → record { verdict = v; env = e } ≡ made e (extend_implied e types)
   unfolding extend_implied unless
   extend_malformed {x} q = go (types_in_shape types) refl
     where
@@ -140,7 +139,7 @@ module _ (e : LifetimeEnv) (types : List ℕ) {v : Verdict} (shape : v ≡ shape
       go true h = refused_accepted (sym q ∙ shape ∙ rw h)
       go false h = rw (shape, h)
 
-  module _ (good : v ≡ Accepted) where
+  module _ (good : v ≡ Ok (tt {0})) where
     pub extend_shaped : types_in_shape types ≡ true
     extend_shaped = go (types_in_shape types) refl
       where
@@ -148,7 +147,7 @@ module _ (e : LifetimeEnv) (types : List ℕ) {v : Verdict} (shape : v ≡ shape
         go true h = h
         go false h = refused_accepted {r = Malformed} (sym (rw h at shape) ∙ good)
 
-    pub extend_invalid : {w : Verdict} {x : Refusal} → w ≡ judged (env_checks e) → w ≡ Refused x
+    pub extend_invalid : {w : Verdict} {x : Refusal} → w ≡ judged (env_checks e) → w ≡ Err x
         → record { verdict = w; env = e } ≡ made e (extend_implied e types)
     unfolding extend_implied
     extend_invalid {w} {x} p q =

@@ -1,5 +1,6 @@
 -- What types imply, word by word: the types that are still to be read, the first of them behind a reference or not. The
 -- loop of `push_types`.
+use Rattle.std.specs.Prelude.{Ok, Err}
 use Prim.Native.Nat.{ℕ, zero, suc, ◌+◌, ◌-◌, ◌≤◌, ◌<◌}
 use mathlib.Core.Path.{◌≡◌, refl, sym, ap, ◌∙◌}
 use mathlib.Core.List.{List, [], ◌∷◌, ◌++◌, append_assoc, append-nil, map-append, flat_map}
@@ -10,7 +11,6 @@ use borrow.Author.Tests.{le-leb, lt-leb}
 use lib.ListN.{length, get_or, take, drop, length-append, length-drop}
 use lib.Seq.{drop-cons, drop-drop, drop_at, take_at, take-nil, slice}
 use Rattle.answers.specs.declared.Refusal.{Refusal}
-use Rattle.answers.specs.declared.Verdict.TheVariants.{Accepted, Refused}
 use Rattle.lifetimes.specs.declared.bounds.Bound.{Bound}
 use Rattle.ast_lifetimes.specs.declared.implied.Implied.{Implied}
 use Rattle.ast_lifetimes.specs.Shapes.{Pair}
@@ -212,7 +212,7 @@ module _ {names : List ℕ} {ts : List TypeName} {words longs₀ shorts₀ : Lis
     {longs shorts reach : List ℕ} {count word at : ℕ}
     (inv : Implying names ts words longs₀ shorts₀ pushed longs shorts reach count word at) where
   pub implying_end : length words ≤ at → Extends names (all_implied names (sides_of pushed longs₀ shorts₀) ts) longs₀
-      shorts₀ longs shorts reach pushed (record { verdict = Accepted; pushed = count })
+      shorts₀ longs shorts reach pushed (record { verdict = Ok (tt {0}); pushed = count })
   unfolding pending_pairs
   implying_end h = run_end inv.run (rw (pending_none words at h inv.pending inv.stand))
 
@@ -272,12 +272,12 @@ module _ {names : List ℕ} {ts : List TypeName} {words longs₀ shorts₀ : Lis
         unfolding implied rest
         splits = turned.is ∙ rw (le-leb 2 word named, turned.slices)
 
-        pub implying_refused : {x : Refusal} → r.verdict ≡ Refused x
+        pub implying_refused : {x : Refusal} → r.verdict ≡ Err x
             → Extends names (all_implied names (sides_of pushed longs₀ shorts₀) ts) longs₀ shorts₀ longs₁ shorts₁ reach₁
             pushed r
         implying_refused e = run_refused inv.run _ rest splits ext e
 
-        pub implying_path : r.verdict ≡ Accepted
+        pub implying_path : r.verdict ≡ Ok (tt {0})
             → Implying names ts words longs₀ shorts₀ pushed longs₁ shorts₁ reach₁ r.pushed 0
             (at + 2 + get_or words (at + 1) 0)
         unfolding rest

@@ -1,5 +1,6 @@
 -- Pairs pushed part after part, while the sets of outliving are kept: what is left, pushed from here, gives what all
 -- gives from the start. The loops of `push_path` and `push_types` are such runs.
+use Rattle.std.specs.Prelude.{Ok, Err}
 use Prim.Native.Nat.{ℕ, ◌+◌, ◌≤◌, ◌<◌}
 use mathlib.Core.Path.{◌≡◌, refl, sym, subst, ◌∙◌}
 use mathlib.Core.List.{List, [], ◌∷◌, ◌++◌, append_assoc, append-nil, map-append}
@@ -8,10 +9,8 @@ use native.Mathlib.Omega.{arith}
 use borrow.Author.Tests.{ltb-true, not-false}
 use lib.ListN.{length, length-append}
 use Rattle.answers.specs.declared.Refusal.{Refusal}
-use Rattle.answers.specs.declared.Verdict.{Verdict}
-use Rattle.answers.specs.declared.Verdict.TheVariants.{Accepted, Refused}
 use Rattle.lifetimes.specs.declared.bounds.Bound.{Bound}
-use Rattle.answers.specs.Refusals.{unless}
+use Rattle.answers.specs.Refusals.{unless, Verdict}
 use Rattle.answers.proofs.RefusalLaws.{accepted_none, none_first, none_rest}
 use Rattle.ast_lifetimes.specs.declared.implied.Implied.{Implied}
 use Rattle.ast_lifetimes.specs.Shapes.{Pair}
@@ -50,7 +49,7 @@ run_start names all longs shorts reach pushed few a b c r =
 
 -- one pair pushed and joined is a part
 pub extends_one : {names : List ℕ} {p : Pair} {longs shorts longs₁ shorts₁ reach reach₁ : List ℕ} {count : ℕ}
-    {v : Verdict} → Pushes names (p ∷ []) longs shorts longs₁ shorts₁ count v → v ≡ Accepted
+    {v : Verdict} → Pushes names (p ∷ []) longs shorts longs₁ shorts₁ count v → v ≡ Ok (tt {0})
     → Joins (length names) (place names p.longer) (place names p.shorter) reach reach₁
     → OutliveSets (sides_of count longs shorts) (length names) reach
     → Extends names (p ∷ []) longs shorts longs₁ shorts₁ reach₁ count (record { verdict = v; pushed = count + 1 })
@@ -63,7 +62,7 @@ extends_one {names} {p} {longs} {shorts} {count = count} pushes e joins r = reco
 
 -- both sides of a pair that was pushed are declared
 pub accepted_sides : {names : List ℕ} {p : Pair} {longs shorts longs₁ shorts₁ : List ℕ} {count : ℕ} {v : Verdict}
-    → Pushes names (p ∷ []) longs shorts longs₁ shorts₁ count v → v ≡ Accepted
+    → Pushes names (p ∷ []) longs shorts longs₁ shorts₁ count v → v ≡ Ok (tt {0})
     → (place names p.longer < length names) × (place names p.shorter < length names)
 unfolding all_pair_checks
 accepted_sides {names} {p} {count = count} pushes e =
@@ -72,7 +71,7 @@ accepted_sides {names} {p} {count = count} pushes e =
 
 -- a part that is refused
 pub extends_refused : {names : List ℕ} {part : List Pair} {longs shorts longs₁ shorts₁ : List ℕ} {count : ℕ}
-    {v : Verdict} {x : Refusal} → Pushes names part longs shorts longs₁ shorts₁ count v → v ≡ Refused x
+    {v : Verdict} {x : Refusal} → Pushes names part longs shorts longs₁ shorts₁ count v → v ≡ Err x
     → {reach : List ℕ} → length reach ≡ 32
     → Extends names part longs shorts longs₁ shorts₁ reach count (record { verdict = v; pushed = count })
 extends_refused pushes e size =
@@ -89,7 +88,7 @@ module _ {names : List ℕ} {all left : List Pair} {longs₀ shorts₀ : List �
   pub run_same : {other : List Pair} → left ≡ other → Run names all other longs₀ shorts₀ pushed longs shorts reach count
   run_same e = subst (λ (l : List Pair). Run names all l longs₀ shorts₀ pushed longs shorts reach count) e run
 
-  pub run_end : left ≡ [] → Extends names all longs₀ shorts₀ longs shorts reach pushed (record { verdict = Accepted; pushed = count })
+  pub run_end : left ≡ [] → Extends names all longs₀ shorts₀ longs shorts reach pushed (record { verdict = Ok (tt {0}); pushed = count })
   unfolding all_pair_checks unless
   run_end e =
       let n : pushed + length all ≡ count = sym (rw (e, add-zero) at run.counted) in
@@ -115,7 +114,7 @@ module _ {names : List ℕ} {all left : List Pair} {longs₀ shorts₀ : List �
         ≡ judged (all_pair_checks names pushed all)
     apart = rw (is, all_pair_checks_append names count part rest) at run.judges
 
-    pub run_refused : {x : Refusal} → r.verdict ≡ Refused x → Extends names all longs₀ shorts₀ longs₁ shorts₁ reach₁ pushed r
+    pub run_refused : {x : Refusal} → r.verdict ≡ Err x → Extends names all longs₀ shorts₀ longs₁ shorts₁ reach₁ pushed r
     run_refused {x} e =
         record {
           pushes = record {
@@ -133,7 +132,7 @@ module _ {names : List ℕ} {all left : List Pair} {longs₀ shorts₀ : List �
           reach = λ a. refused_accepted (sym e ∙ a);
         }
 
-    pub run_more : r.verdict ≡ Accepted → Run names all rest longs₀ shorts₀ pushed longs₁ shorts₁ reach₁ r.pushed
+    pub run_more : r.verdict ≡ Ok (tt {0}) → Run names all rest longs₀ shorts₀ pushed longs₁ shorts₁ reach₁ r.pushed
     run_more a =
         let n : r.pushed ≡ count + length part = ext.pushed a in
         let b : sides_of (count + length part) longs₁ shorts₁ ≡ sides_of count longs shorts ++ bounds_for names part =

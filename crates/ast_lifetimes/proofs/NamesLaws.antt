@@ -1,5 +1,6 @@
 -- Names in an array: the loop of `position`, the checks of names, the answers of `declare` and the loop of
 -- `declare_all`.
+use Rattle.std.specs.Prelude.{Ok, Err}
 use Prim.Native.Nat.{ℕ, suc, ◌+◌, ◌≤◌, ◌<◌}
 use mathlib.Core.Path.{◌≡◌, refl, sym, ap, ◌∙◌}
 use mathlib.Core.List.{List, [], ◌∷◌, ◌++◌, append-nil, append_assoc}
@@ -11,9 +12,7 @@ use lib.ListN.{length, get_or, take, set, length-set}
 use lib.Seq.{length-take-le, take-suc-set, slice, slice_empty, slice-cons}
 use Rattle.answers.specs.declared.Refusal.{Refusal}
 use Rattle.answers.specs.declared.Refusal.TheVariants.{Duplicate, Full}
-use Rattle.answers.specs.declared.Verdict.{Verdict}
-use Rattle.answers.specs.declared.Verdict.TheVariants.{Accepted, Refused}
-use Rattle.answers.specs.Refusals.{unless}
+use Rattle.answers.specs.Refusals.{unless, Verdict}
 use Rattle.ast_lifetimes.specs.Env.{place, name_checks}
 use Rattle.answers.specs.Lent.{judged}
 use Rattle.ast_lifetimes.specs.Inner.{Declares}
@@ -62,7 +61,7 @@ module _ (names : List ℕ) (named word : ℕ) (few : named ≤ 32) (size : leng
   count_taken : length (take named names) ≡ named
   count_taken = length-take-le named names (omega arith)
 
-  pub declare_full : 32 ≤ named → Declares (word ∷ []) names names named (Refused Full)
+  pub declare_full : 32 ≤ named → Declares (word ∷ []) names names named (Err Full)
   unfolding name_checks unless
   declare_full h = record {
     verdict = rw (count_taken, le-leb 32 named h);
@@ -72,7 +71,7 @@ module _ (names : List ℕ) (named word : ℕ) (few : named ≤ 32) (size : leng
   }
 
   module _ (room : named < 32) {at : ℕ} (placed : at ≡ place (take named names) word) where
-    pub declare_again : at < named → Declares (word ∷ []) names names named (Refused Duplicate)
+    pub declare_again : at < named → Declares (word ∷ []) names names named (Err Duplicate)
     unfolding name_checks unless
     declare_again h = record {
       verdict = rw (count_taken, lt-leb 32 named room, ← placed, lt-ltb at named h);
@@ -81,7 +80,7 @@ module _ (names : List ℕ) (named word : ℕ) (few : named ≤ 32) (size : leng
       few = refused_accepted;
     }
 
-    pub declare_given : named ≤ at → Declares (word ∷ []) names (set names named word) named Accepted
+    pub declare_given : named ≤ at → Declares (word ∷ []) names (set names named word) named (Ok (tt {0}))
     unfolding name_checks unless
     declare_given h = record {
       verdict = rw (count_taken, lt-leb 32 named room, ← placed, le-ltb at named h);
@@ -108,7 +107,7 @@ declaring_start words from to names named h few size =
 
 module _ {words : List ℕ} {from to : ℕ} {names₀ : List ℕ} {named : ℕ} {names : List ℕ} {at count : ℕ}
     (inv : Declaring words from to names₀ named names at count) where
-  pub declaring_end : to ≤ at → Declares (slice from to words) names₀ names named Accepted
+  pub declaring_end : to ≤ at → Declares (slice from to words) names₀ names named (Ok (tt {0}))
   unfolding name_checks unless
   declaring_end h =
       let e : at ≡ to = omega arith in
@@ -133,7 +132,7 @@ module _ {words : List ℕ} {from to : ℕ} {names₀ : List ℕ} {named : ℕ} 
         ≡ judged (name_checks (take named names₀) (slice from to words))
     split = rw (← name_checks_append (take count names) (get_or words at 0 ∷ []) (slice (suc at) to words), ← first) inv.judges
 
-    pub declaring_refused : {r : Refusal} → v ≡ Refused r → Declares (slice from to words) names₀ names₁ named v
+    pub declaring_refused : {r : Refusal} → v ≡ Err r → Declares (slice from to words) names₀ names₁ named v
     declaring_refused e = record {
       verdict = e ∙ sym (judged_stays _ _ (sym declared.verdict ∙ e)) ∙ split;
       size = declared.size;
@@ -141,7 +140,7 @@ module _ {words : List ℕ} {from to : ℕ} {names₀ : List ℕ} {named : ℕ} 
       few = λ a. refused_accepted (sym e ∙ a);
     }
 
-    pub declaring_more : v ≡ Accepted → Declaring words from to names₀ named names₁ (at + 1) (count + 1)
+    pub declaring_more : v ≡ Ok (tt {0}) → Declaring words from to names₀ named names₁ (at + 1) (count + 1)
     declaring_more e =
         let one : take (count + 1) names₁ ≡ take count names ++ (get_or words at 0 ∷ []) = declared.names e in
         record {

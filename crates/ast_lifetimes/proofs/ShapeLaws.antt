@@ -1,5 +1,6 @@
 -- The shape of the records `names` and `bounds`, test by test, and the loop of `all_names`: the words that were read
 -- are names, so what is left decides.
+use Rattle.std.specs.Prelude.{Ok, Err}
 use Prim.Native.Nat.{ℕ, ◌+◌, ◌-◌, ◌/◌, ◌%◌, ◌≤◌, ◌<◌}
 use mathlib.Core.Bool.{Bool, true, false}
 use mathlib.Core.Path.{◌≡◌, refl, ◌∙◌}
@@ -11,7 +12,6 @@ use lib.Dec.{eqb, leb}
 use lib.ListN.{length, get_or, drop, drop_of_length-le}
 use lib.Seq.{drop-cons}
 use Rattle.answers.specs.declared.Refusal.TheVariants.{Malformed}
-use Rattle.answers.specs.declared.Verdict.TheVariants.{Accepted, Refused}
 use Rattle.records.specs.Reading.{shape_verdict}
 use Rattle.answers.specs.Lists.{all}
 use Rattle.ast_lifetimes.specs.Shapes.{is_name, names_in_shape, bounds_in_shape}
@@ -41,18 +41,18 @@ module _ {words : List ℕ} {i : ℕ} (inv : Naming words i) where
 
 -- ---- `names_shape`
 
-pub names_empty : (words : List ℕ) → length words ≡ 0 → Refused Malformed ≡ shape_verdict (names_in_shape words)
+pub names_empty : (words : List ℕ) → length words ≡ 0 → Err Malformed ≡ shape_verdict (names_in_shape words)
 unfolding names_in_shape
 names_empty [] h = refl
 names_empty (w ∷ words) h = absurd (omega arith)
 
-pub names_many : (words : List ℕ) → 1024 < length words → Refused Malformed ≡ shape_verdict (names_in_shape words)
+pub names_many : (words : List ℕ) → 1024 < length words → Err Malformed ≡ shape_verdict (names_in_shape words)
 unfolding names_in_shape
 names_many [] h = refl
 names_many (w ∷ words) h = rw (lt-leb (length (w ∷ words)) 1024 h)
 
 pub names_over : (words : List ℕ) → length words ≤ 1024 → length words - 1 < get_or words 0 0
-    → Refused Malformed ≡ shape_verdict (names_in_shape words)
+    → Err Malformed ≡ shape_verdict (names_in_shape words)
 unfolding names_in_shape
 names_over [] few h = refl
 names_over (w ∷ words) few h = rw (le-leb (length (w ∷ words)) 1024 few, lt-leb w (length words) (omega arith))
@@ -67,18 +67,18 @@ names_decide (w ∷ words) some few h e = rw (le-leb (length (w ∷ words)) 1024
 
 -- ---- `bounds_shape`
 
-pub bounds_empty : (words : List ℕ) → length words ≡ 0 → Refused Malformed ≡ shape_verdict (bounds_in_shape words)
+pub bounds_empty : (words : List ℕ) → length words ≡ 0 → Err Malformed ≡ shape_verdict (bounds_in_shape words)
 unfolding bounds_in_shape
 bounds_empty [] h = refl
 bounds_empty (w ∷ words) h = absurd (omega arith)
 
-pub bounds_many : (words : List ℕ) → 1024 < length words → Refused Malformed ≡ shape_verdict (bounds_in_shape words)
+pub bounds_many : (words : List ℕ) → 1024 < length words → Err Malformed ≡ shape_verdict (bounds_in_shape words)
 unfolding bounds_in_shape
 bounds_many [] h = refl
 bounds_many (w ∷ words) h = rw (lt-leb (length (w ∷ words)) 1024 h)
 
 pub bounds_half : (words : List ℕ) → length words ≤ 1024 → (length words - 1) % 2 ≡ 1
-    → Refused Malformed ≡ shape_verdict (bounds_in_shape words)
+    → Err Malformed ≡ shape_verdict (bounds_in_shape words)
 unfolding bounds_in_shape
 bounds_half [] few h = refl
 bounds_half (w ∷ words) few h = rw (le-leb (length (w ∷ words)) 1024 few, ne_eqb (length words % 2) 0 (λ e. omega arith))
@@ -93,13 +93,13 @@ module _ (w : ℕ) (words : List ℕ) (few : length (w ∷ words) ≤ 1024) (pai
   bounds_pairs = rw (le-leb (length (w ∷ words)) 1024 few, whole)
 
 pub bounds_over : (words : List ℕ) → length words ≤ 1024 → ((length words - 1) % 2 ≡ 1 → ⊥) → (length words - 1) / 2 < get_or words 0 0
-    → Refused Malformed ≡ shape_verdict (bounds_in_shape words)
+    → Err Malformed ≡ shape_verdict (bounds_in_shape words)
 unfolding bounds_in_shape
 bounds_over [] few pairs h = refl
 bounds_over (w ∷ words) few pairs h = rw (bounds_pairs w words few pairs, lt-leb w (length words / 2) (omega arith))
 
 pub bounds_given : (words : List ℕ) → (length words ≡ 0 → ⊥) → length words ≤ 1024 → ((length words - 1) % 2 ≡ 1 → ⊥)
     → get_or words 0 0 ≤ (length words - 1) / 2
-    → Accepted ≡ shape_verdict (bounds_in_shape words)
+    → Ok (tt {0}) ≡ shape_verdict (bounds_in_shape words)
 bounds_given [] some few pairs h = absurd (some refl)
 bounds_given (w ∷ words) some few pairs h = rw (bounds_pairs w words few pairs, le-leb w (length words / 2) (omega arith))

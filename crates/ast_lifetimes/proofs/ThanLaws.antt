@@ -1,5 +1,6 @@
 -- What `longer_than` and `shorter_than` answer, by what their tests show: a refusal of the environment, nothing for an
 -- unknown name, or what the traversal of the same bounds answers, whose other checks are then not due.
+use Rattle.std.specs.Prelude.{Ok, Err}
 use Prim.Native.Nat.{ℕ, ◌≤◌, ◌<◌}
 use mathlib.Core.Bool.{Bool}
 use mathlib.Core.Path.{◌≡◌}
@@ -9,12 +10,10 @@ use borrow.Author.Tests.{lt-ltb, le-ltb, lt-leb, ltb-false, not-false}
 use lib.ListN.{length}
 use lib.Seq.{length-take-le}
 use Rattle.answers.specs.declared.Refusal.{Refusal}
-use Rattle.answers.specs.declared.Listed.{Listed}
-use Rattle.answers.specs.declared.Listed.TheVariants as listed
 use Rattle.lifetimes.specs.declared.lifetime.Lifetime.{Lifetime}
 use Rattle.lifetimes.specs.declared.env.LifetimeEnv as hir
 use Rattle.lifetimes.specs.Numbers.{lifetime}
-use Rattle.answers.specs.Refusals.{FirstDue, NoneDue, end, next}
+use Rattle.answers.specs.Refusals.{FirstDue, NoneDue, end, next, Outcome}
 use Rattle.answers.specs.Lent.{counted, written, room_check}
 use Rattle.lifetimes.specs.Env as lifetimes
 use Rattle.lifetimes.specs.Walk.{FirstFirst, traversal}
@@ -41,7 +40,7 @@ module _ (e : LifetimeEnv) (none : NoneDue (env_checks e)) where
 
 module _ (d : Bool) (e : LifetimeEnv) (word : ℕ) (slice : List ℕ) where
   pub than_refused : {r : Refusal} → FirstDue r (env_checks e)
-      → (listed.Refused r ≡ counted (list_than d e word (length slice))) × (slice ≡ written (list_than d e word (length slice)) slice)
+      → (Err r ≡ counted (list_than d e word (length slice))) × (slice ≡ written (list_than d e word (length slice)) slice)
   unfolding list_than
   than_refused f = answers_refusal _ slice (first_more _ f)
 
@@ -55,7 +54,7 @@ module _ (d : Bool) (e : LifetimeEnv) (word : ℕ) (slice : List ℕ) where
     known : at < e.named → reach_of d (names_of e) (bounds_of e) word ≡ traversal FirstFirst d (bounds_of e) at
     known h = rw (count_named, ← placed, lt-ltb at e.named h)
 
-    pub than_unknown : e.named ≤ at → (listed.Count 0 ≡ counted (list_than d e word (length slice)))
+    pub than_unknown : e.named ≤ at → (Ok 0 ≡ counted (list_than d e word (length slice)))
         × (slice ≡ written (list_than d e word (length slice)) slice)
     unfolding list_than
     than_unknown h = rw (unknown h) (answers_list [] slice (none_more none (has_room (length slice) [] (omega arith) end)))
@@ -69,7 +68,7 @@ module _ (d : Bool) (e : LifetimeEnv) (word : ℕ) (slice : List ℕ) where
         rw (known h, unless_after l (room_check (length slice) l ∷ []) none) (unless_after l (room_check (length slice) l ∷ []) checked)
 
     pub than_traversal : at < e.named → {made : hir.LifetimeEnv} → made ≡ hir_of e → {l : Lifetime} → l ≡ lifetime at
-        → {r : Listed} {after : List ℕ}
+        → {r : Outcome ℕ} {after : List ℕ}
         → (r ≡ counted (list_depth_first d made l.0 (length slice)))
         × (after ≡ written (list_depth_first d made l.0 (length slice)) slice)
         → (r ≡ counted (list_than d e word (length slice))) × (after ≡ written (list_than d e word (length slice)) slice)

@@ -1,4 +1,5 @@
 -- The main theorems, proved: for each statement of specs/Theorems.antt a term of exactly its type.
+use Rattle.std.specs.Prelude.{Ok}
 use mathlib.Core.Bool.{Bool, true, false, cond}
 use mathlib.Core.Path.{◌≡◌, refl, sym, ap, ◌∙◌}
 use mathlib.Core.List.{[], Nodup, Nodup-nil}
@@ -31,7 +32,7 @@ built_in_order names bounds types = record {
       ∙ bounds_made (env.method_bounds names bounds types);
 }
   where
-    given : (e : LifetimeEnv) → env.from_method_item names bounds types ≡ refusals.Gives e
+    given : (e : LifetimeEnv) → env.from_method_item names bounds types ≡ Ok e
         → env.named_env (env.all_names_of names) (env.method_bounds names bounds types) ≡ e
     given e h =
         (given_due (env.named_env (env.all_names_of names) (env.method_bounds names bounds types)) e

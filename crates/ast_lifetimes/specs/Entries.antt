@@ -1,10 +1,10 @@
 -- A method's environment built entry by entry, each in view of what the entries before it left, to the first refusal.
 -- Theorems.BuiltInOrder: this is what `from_method_item` gives.
-use Rattle.std.specs.Prelude.{ℕ, leb, length}
+use Rattle.std.specs.Prelude.{ℕ, leb, length, Ok}
 use mathlib.Core.List.{List, [], ◌∷◌, ◌++◌, map, flat_map}
 use Rattle.answers.specs.declared.Refusal.TheVariants.{Duplicate, Full}
 use Rattle.lifetimes.specs.declared.bounds.Bound.{Bound}
-use Rattle.answers.specs.Refusals.{check, Outcome, Gives, bind, unless}
+use Rattle.answers.specs.Refusals.{check, Outcome, bind, unless}
 use Rattle.ast_lifetimes.specs.declared.env.LifetimeEnv.{LifetimeEnv}
 use Rattle.ast_lifetimes.specs.Shapes.{impl_names, method_names, Pair, impl_pairs, method_pairs}
 use Rattle.ast_lifetimes.specs.Types.{TypeName, Other, Named, Reference, Option, Result, type_names_of}
@@ -49,7 +49,7 @@ so_far names bs = record { names = names; bounds = bs }
 
 -- one thing after another, to the first refusal
 unfoldable pub fold : {A B : Type 0} → (A → B → Outcome A) → A → List B → Outcome A
-fold step a [] = Gives a
+fold step a [] = Ok a
 fold step a (b ∷ bs) = bind (step a b) (λ next. fold step next bs)
 
 -- one name more: refused as a 33rd (4) or declared again (2)
@@ -71,4 +71,4 @@ step s (Path r lifetimes) = fold push_pair s (path_pairs s.names s.bounds r life
 
 abbrev pub built : List ℕ → List ℕ → List ℕ → Outcome LifetimeEnv
 built names bounds types =
-    bind (fold step (so_far [] []) (entries names bounds types)) (λ s. Gives (named_env s.names s.bounds))
+    bind (fold step (so_far [] []) (entries names bounds types)) (λ s. Ok (named_env s.names s.bounds))

@@ -1,9 +1,9 @@
 -- 01's starred examples about AST environments, as one list of questions and answers. Theorems.ExamplesHold: each
 -- question has its answer.
-use Rattle.std.specs.Prelude.{ℕ, true, ◌≡◌, List, [], ◌∷◌}
+use Rattle.std.specs.Prelude.{ℕ, true, ◌≡◌, List, [], ◌∷◌, Ok, Err}
 use Rattle.answers.specs.declared.Refusal.TheVariants.{Duplicate}
 use Rattle.lifetimes.specs.declared.bounds.Bound.{Bound}
-use Rattle.answers.specs.Refusals.{Outcome, Gives, Refuses, over}
+use Rattle.answers.specs.Refusals.{Outcome, over}
 use Rattle.lifetimes.specs.Bounds.{above}
 use Rattle.ast_lifetimes.specs.declared.env.LifetimeEnv.{LifetimeEnv}
 use Rattle.ast_lifetimes.specs.Env.{bounds_of, named_env, from_method_item, list_than}
@@ -35,12 +35,12 @@ asked q a = record { question = q; expected = a }
 abbrev pub starred : List Example
 starred =
     -- `2 7 1 2 9 9` pushes two equal bounds; `2 7 1 1 7` none
-    asked (Bounds (0 ∷ 7 ∷ 9 ∷ []) (0 ∷ []) (2 ∷ 7 ∷ 1 ∷ 2 ∷ 9 ∷ 9 ∷ [])) (Pushed (Gives (above 1 0 ∷ above 1 0 ∷ [])))
-    ∷ asked (Bounds (0 ∷ 7 ∷ []) (0 ∷ []) (2 ∷ 7 ∷ 1 ∷ 1 ∷ 7 ∷ [])) (Pushed (Gives []))
+    asked (Bounds (0 ∷ 7 ∷ 9 ∷ []) (0 ∷ []) (2 ∷ 7 ∷ 1 ∷ 2 ∷ 9 ∷ 9 ∷ [])) (Pushed (Ok (above 1 0 ∷ above 1 0 ∷ [])))
+    ∷ asked (Bounds (0 ∷ 7 ∷ []) (0 ∷ []) (2 ∷ 7 ∷ 1 ∷ 1 ∷ 7 ∷ [])) (Pushed (Ok []))
     -- names `0 7 7`: 2
-    ∷ asked (Bounds (0 ∷ 7 ∷ 7 ∷ []) (0 ∷ []) []) (Pushed (Refuses Duplicate))
+    ∷ asked (Bounds (0 ∷ 7 ∷ 7 ∷ []) (0 ∷ []) []) (Pushed (Err Duplicate))
     -- bounds 1 above 0, 2 above 0: AST longer of 0 is 0 1 2
-    ∷ asked (LongerThan (5 ∷ 6 ∷ 7 ∷ []) (above 1 0 ∷ above 2 0 ∷ []) 5) (Listed (Gives (0 ∷ 1 ∷ 2 ∷ [])))
+    ∷ asked (LongerThan (5 ∷ 6 ∷ 7 ∷ []) (above 1 0 ∷ above 2 0 ∷ []) 5) (Listed (Ok (0 ∷ 1 ∷ 2 ∷ [])))
     ∷ []
 
 -- each question of a list has its expected answer

@@ -1,9 +1,7 @@
 -- For private functions only: what the arrays hold in which an environment is built. No public contract cites this
 -- file.
-use Rattle.std.specs.Prelude.{ℕ, ◌+◌, ◌≤◌, ◌<◌, Bool, true, cond, ◌&&◌, not, ◌≡◌, ◌↔◌, length, get_or, take}
+use Rattle.std.specs.Prelude.{ℕ, ◌+◌, ◌≤◌, ◌<◌, Bool, true, cond, ◌&&◌, not, ◌≡◌, ◌↔◌, length, get_or, take, Ok}
 use mathlib.Core.List.{List, [], ◌∷◌, ◌++◌, map, flat_map}
-use Rattle.answers.specs.declared.Verdict.{Verdict}
-use Rattle.answers.specs.declared.Verdict.TheVariants.{Accepted}
 use Rattle.lifetimes.specs.declared.bounds.Bound.{Bound}
 use Rattle.answers.specs.Lists.{range}
 use Rattle.answers.specs.Lent.{judged}
@@ -19,6 +17,7 @@ use Rattle.ast_lifetimes.specs.Env.{place, is_declared, name_checks, all_pair_ch
 use Rattle.ast_lifetimes.specs.Env.{item_place_checks, method_bounds}
 use Rattle.lifetimes.specs.Limits.{most_bounds}
 use Rattle.ast_lifetimes.specs.Env.{most_names}
+use Rattle.answers.specs.Refusals.{Verdict}
 
 -- the first n bounds, from their longer and their shorter sides
 abbrev pub sides_of : ℕ → List ℕ → List ℕ → List Bound
@@ -28,8 +27,8 @@ sides_of n longs shorts = map (λ i. above (get_or longs i 0) (get_or shorts i 0
 pub record Declares (new before after : List ℕ) (named : ℕ) (r : Verdict) : Type 0 where
   pub verdict : r ≡ judged (name_checks (take named before) new)
   pub size : length after ≡ most_names
-  pub names : r ≡ Accepted → take (named + length new) after ≡ take named before ++ new
-  pub few : r ≡ Accepted → named + length new ≤ most_names
+  pub names : r ≡ Ok (tt {0}) → take (named + length new) after ≡ take named before ++ new
+  pub few : r ≡ Ok (tt {0}) → named + length new ≤ most_names
 
 -- pairs pushed behind the first `pushed` bounds of two arrays of sides: the verdict is that of their checks; accepted,
 -- they stand there
@@ -38,9 +37,9 @@ pub record Pushes (names : List ℕ) (new : List Pair) (longs shorts longs₁ sh
   pub verdict : r ≡ judged (all_pair_checks names pushed new)
   pub size_longs : length longs₁ ≡ most_bounds
   pub size_shorts : length shorts₁ ≡ most_bounds
-  pub bounds : r ≡ Accepted → sides_of (pushed + length new) longs₁ shorts₁ ≡ sides_of pushed longs shorts
+  pub bounds : r ≡ Ok (tt {0}) → sides_of (pushed + length new) longs₁ shorts₁ ≡ sides_of pushed longs shorts
       ++ bounds_for names new
-  pub few : r ≡ Accepted → pushed + length new ≤ most_bounds
+  pub few : r ≡ Ok (tt {0}) → pushed + length new ≤ most_bounds
 
 -- the words of a type, and of types one after another
 unfoldable pub encode : types.TypeName → List ℕ
@@ -79,8 +78,8 @@ pub record Extends (names : List ℕ) (new : List Pair) (longs shorts longs₁ s
     (r : Implied) : Type 0 where
   pub pushes : Pushes names new longs shorts longs₁ shorts₁ before r.verdict
   pub size : length reach₁ ≡ most_names
-  pub pushed : r.verdict ≡ Accepted → r.pushed ≡ before + length new
-  pub reach : r.verdict ≡ Accepted
+  pub pushed : r.verdict ≡ Ok (tt {0}) → r.pushed ≡ before + length new
+  pub reach : r.verdict ≡ Ok (tt {0})
       → OutliveSets (sides_of before longs shorts ++ bounds_for names new) (length names) reach₁
 
 -- what `build` gives of records in shape: the verdict of all their checks but the shape's; accepted, the method's names
@@ -88,9 +87,9 @@ pub record Extends (names : List ℕ) (new : List Pair) (longs shorts longs₁ s
 pub record Built (names bounds types declared longs shorts : List ℕ) (r : Counts) : Type 0 where
   pub verdict : r.verdict ≡ judged (item_place_checks names bounds types)
   pub sizes : (length declared ≡ most_names) × (length longs ≡ most_bounds) × (length shorts ≡ most_bounds)
-  pub few : r.verdict ≡ Accepted → (r.named ≤ most_names) × (r.pushed ≤ most_bounds)
-  pub named : r.verdict ≡ Accepted → take r.named declared ≡ all_names_of names
-  pub bounded : r.verdict ≡ Accepted → sides_of r.pushed longs shorts ≡ method_bounds names bounds types
+  pub few : r.verdict ≡ Ok (tt {0}) → (r.named ≤ most_names) × (r.pushed ≤ most_bounds)
+  pub named : r.verdict ≡ Ok (tt {0}) → take r.named declared ≡ all_names_of names
+  pub bounded : r.verdict ≡ Ok (tt {0}) → sides_of r.pushed longs shorts ≡ method_bounds names bounds types
 
 -- the sides of bounds, in two arrays
 pub record Splits (b : Bounds) (longs shorts : List ℕ) : Type 0 where

@@ -1,9 +1,9 @@
 -- The main theorems of this crate, stated. Each has its proof, a term of exactly this type and of the same name in
 -- small letters, in proofs/Theorems.antt.
-use Rattle.std.specs.Prelude.{ℕ, Bool, true, false, ◌&&◌, ◌≡◌, ◌↔◌}
+use Rattle.std.specs.Prelude.{ℕ, Bool, true, false, ◌&&◌, ◌≡◌, ◌↔◌, Ok}
 use mathlib.Core.List.{List, [], ◌∷◌, ◌++◌, Memᴰ, Nodup}
 use Rattle.lifetimes.specs.declared.bounds.Bound.{Bound}
-use Rattle.answers.specs.Refusals.{Gives, NoneDue}
+use Rattle.answers.specs.Refusals.{NoneDue}
 use Rattle.lifetimes.specs.Sets.{empty}
 use Rattle.lifetimes.specs.Walk.{LastFirst, traversal}
 use Rattle.lifetimes.specs.Outlives.{Toward}
@@ -22,9 +22,9 @@ use Rattle.ast_lifetimes.specs.Examples.{starred, Right}
 pub record InOrder (names bounds types : List ℕ) : Type 0 where
   pub folded : names_in_shape names && (bounds_in_shape bounds && types_in_shape types) ≡ true
       → from_method_item names bounds types ≡ built names bounds types
-  pub names_first : (e : LifetimeEnv) → from_method_item names bounds types ≡ Gives e
+  pub names_first : (e : LifetimeEnv) → from_method_item names bounds types ≡ Ok e
       → names_of e ≡ impl_names names ++ method_names names
-  pub bounds_then : (e : LifetimeEnv) → from_method_item names bounds types ≡ Gives e
+  pub bounds_then : (e : LifetimeEnv) → from_method_item names bounds types ≡ Ok e
       → bounds_of e ≡ explicit_bounds names bounds ++ bounds_for (all_names_of names) (implied_pairs names bounds types)
 
 abbrev pub BuiltInOrder : Type 0
@@ -32,7 +32,7 @@ BuiltInOrder = (names bounds types : List ℕ) → InOrder names bounds types
 
 -- What is given is an environment on which no refusal is due, as the calls ask that take one
 abbrev pub AcceptedIsValid : Type 0
-AcceptedIsValid = (names bounds types : List ℕ) (e : LifetimeEnv) → from_method_item names bounds types ≡ Gives e
+AcceptedIsValid = (names bounds types : List ℕ) (e : LifetimeEnv) → from_method_item names bounds types ≡ Ok e
     → NoneDue (env_checks e)
 
 -- `longer_than` and `shorter_than`: nothing for an unknown name; of a declared one exactly what outlives it (what it

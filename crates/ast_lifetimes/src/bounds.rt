@@ -10,28 +10,28 @@ ghost use Rattle.ast_lifetimes.specs.Env.{most_names};
 
 use super::env::LifetimeEnv;
 use super::names::position;
-use answers::{Refusal, Verdict};
+use answers::Refusal;
 use lifetimes::Bounds;
-use records::End;
+use records::MAX_WORDS;
 
 // Whether the record `bounds` is in shape: how many pairs are the impl's, then pairs. Refused by 1.
-pub fn bounds_shape(bounds: &[usize]) -> Verdict
+pub fn bounds_shape(bounds: &[usize]) -> Result<(), Refusal>
     ensures answer { result ≡ shape_verdict (bounds_in_shape bounds.now) }
 {
     let n = bounds.len();
     if n == 0 {
-        return Verdict::Refused(Refusal::Malformed);
+        return Err(Refusal::Malformed);
     }
-    if End::MAX_WORDS < n {
-        return Verdict::Refused(Refusal::Malformed);
+    if MAX_WORDS < n {
+        return Err(Refusal::Malformed);
     }
     if (n - 1) % 2 == 1 {
-        return Verdict::Refused(Refusal::Malformed);
+        return Err(Refusal::Malformed);
     }
     if (n - 1) / 2 < bounds[0] {
-        return Verdict::Refused(Refusal::Malformed);
+        return Err(Refusal::Malformed);
     }
-    Verdict::Accepted
+    Ok(())
 }
 
 // Push one pair of names behind the first `pushed` bounds. Refused by 3 for a side that is not declared, longer before
@@ -44,7 +44,7 @@ pub(crate) fn push_pair(
     longs: &mut [u8; Bounds::MAX],
     shorts: &mut [u8; Bounds::MAX],
     pushed: usize,
-) -> Verdict
+) -> Result<(), Refusal>
     requires named_le_most_names { (named ≤ most_names) × (length names.now ≡ most_names) }
     requires pushed_le_most_bounds { (pushed ≤ most_bounds) × (length longs.old ≡ most_bounds)
         × (length shorts.old ≡ most_bounds) }
@@ -53,18 +53,18 @@ pub(crate) fn push_pair(
 {
     let long = position(names, named, longer);
     if named <= long {
-        return Verdict::Refused(Refusal::Undeclared);
+        return Err(Refusal::Undeclared);
     }
     let short = position(names, named, shorter);
     if named <= short {
-        return Verdict::Refused(Refusal::Undeclared);
+        return Err(Refusal::Undeclared);
     }
     if Bounds::MAX <= pushed {
-        return Verdict::Refused(Refusal::Full);
+        return Err(Refusal::Full);
     }
     longs[pushed] = long as u8;
     shorts[pushed] = short as u8;
-    Verdict::Accepted
+    Ok(())
 }
 
 // Push some words, pair after pair: `count` pairs from the place `from` on. Refused at the first bad place.
@@ -77,7 +77,7 @@ pub(crate) fn push_pairs(
     longs: &mut [u8; Bounds::MAX],
     shorts: &mut [u8; Bounds::MAX],
     pushed: usize,
-) -> Verdict
+) -> Result<(), Refusal>
     requires count_in_bounds { from + 2 * count ≤ length words.now }
     requires named_le_most_names { (named ≤ most_names) × (length names.now ≡ most_names) }
     requires pushed_le_most_bounds { (pushed ≤ most_bounds) × (length longs.old ≡ most_bounds)
@@ -97,11 +97,11 @@ pub(crate) fn push_pairs(
             shorts,
             pushed + done,
         );
-        let Verdict::Accepted = verdict else {
+        let Ok(()) = verdict else {
             return verdict;
         };
         at += 2;
         done += 1;
     }
-    Verdict::Accepted
+    Ok(())
 }

@@ -17,7 +17,7 @@ use super::bounds::{bounds_shape, push_pairs};
 use super::implied::{close, push_types};
 use super::names::{declare_all, names_shape, position};
 use super::types::types_shape;
-use answers::{Listed, Refusal, Verdict};
+use answers::Refusal;
 use lifetimes::{Bound, Bounds, Lifetime};
 
 // The names of a method in order of declaration, the first `named` of the array: a name's number is its place. And the
@@ -32,14 +32,14 @@ pub struct LifetimeEnv {
 // An environment; beside a refusal, the one that the call says.
 #[derive(Clone, Copy)]
 pub struct Made {
-    pub verdict: Verdict,
+    pub verdict: Result<(), Refusal>,
     pub env: LifetimeEnv,
 }
 
 // How far building came: the verdict, and how many names and bounds there are.
 #[derive(Clone, Copy)]
 struct Counts {
-    verdict: Verdict,
+    verdict: Result<(), Refusal>,
     named: usize,
     pushed: usize,
 }
@@ -69,7 +69,7 @@ impl LifetimeEnv {
         ensures answer { result ≡ made (named_env [] []) (from_method_item names.now bounds.now types.now) }
     {
         let shape = shape_of(names, bounds, types);
-        let Verdict::Accepted = shape else {
+        let Ok(()) = shape else {
             return refused(shape);
         };
         let mut declared = [0usize; LifetimeEnv::MAX_NAMES];
@@ -77,13 +77,13 @@ impl LifetimeEnv {
         let mut shorts = [0u8; Bounds::MAX];
         let built = build(names, bounds, types, &mut declared, &mut longs, &mut shorts);
         let verdict = built.verdict;
-        let Verdict::Accepted = verdict else {
+        let Ok(()) = verdict else {
             return refused(verdict);
         };
         let named = built.named;
         let pushed = built.pushed;
         Made {
-            verdict: Verdict::Accepted,
+            verdict: Ok(()),
             env: assembled(&declared, named, &longs, &shorts, pushed),
         }
     }
@@ -94,14 +94,14 @@ impl LifetimeEnv {
         ensures answer { result ≡ made self (extend_implied self types.now) }
     {
         let shape = types_shape(types);
-        let Verdict::Accepted = shape else {
+        let Ok(()) = shape else {
             return Made {
                 verdict: shape,
                 env: self,
             };
         };
         let valid = self.check();
-        let Verdict::Accepted = valid else {
+        let Ok(()) = valid else {
             return Made {
                 verdict: valid,
                 env: self,
@@ -112,15 +112,15 @@ impl LifetimeEnv {
 
     // Whether this can be an environment: refused by 4 (33rd name, 257th bound) or 8 (a bound past the names). A caller
     // can build any value.
-    pub fn check(self) -> Verdict
+    pub fn check(self) -> Result<(), Refusal>
         ensures answer { result ≡ judged (env_checks self) }
     {
         let named = self.named;
         if LifetimeEnv::MAX_NAMES < named {
-            return Verdict::Refused(Refusal::Full);
+            return Err(Refusal::Full);
         }
         if self.bounds.pushed == 0 {
-            return Verdict::Accepted;
+            return Ok(());
         }
         self.bounds.check(named)
     }
@@ -128,7 +128,7 @@ impl LifetimeEnv {
     // Write the numbers of the names that outlive a name to a slice, itself first, depth first in list order; nothing
     // for an unknown name. Refused by 4 and 8 as the environment is, by 9 where the slice is too short. In the Rust
     // this call and the next are of `LifetimeTransitivity`.
-    pub fn longer_than(self, name: usize, out: &mut [usize]) -> Listed
+    pub fn longer_than(self, name: usize, out: &mut [usize]) -> Result<usize, Refusal>
         ensures answer { result ≡ counted (list_than true self name (room out)) }
         ensures stored { Fills (list_than true self name (room out)) out }
     {
@@ -136,7 +136,7 @@ impl LifetimeEnv {
     }
 
     // Write the numbers of the names that a name outlives, in the same way.
-    pub fn shorter_than(self, name: usize, out: &mut [usize]) -> Listed
+    pub fn shorter_than(self, name: usize, out: &mut [usize]) -> Result<usize, Refusal>
         ensures answer { result ≡ counted (list_than false self name (room out)) }
         ensures stored { Fills (list_than false self name (room out)) out }
     {
@@ -145,19 +145,19 @@ impl LifetimeEnv {
 }
 
 // The list of one name in one direction.
-fn list_than(env: LifetimeEnv, name: usize, longer: bool, out: &mut [usize]) -> Listed
+fn list_than(env: LifetimeEnv, name: usize, longer: bool, out: &mut [usize]) -> Result<usize, Refusal>
     ensures value { result ≡ counted (list_than longer env name (room out)) }
     ensures fills { Fills (list_than longer env name (room out)) out }
 {
     let verdict = env.check();
-    if let Verdict::Refused(refusal) = verdict {
-        return Listed::Refused(refusal);
+    if let Err(refusal) = verdict {
+        return Err(refusal);
     }
     let names = env.names;
     let named = env.named;
     let at = position(&names, named, name);
     if named <= at {
-        return Listed::Count(0);
+        return Ok(0);
     }
     let hir = lifetimes::LifetimeEnv::from_bounds(named, named, env.bounds);
     hir.depth_first_lifetimes(Lifetime::new(at), longer, out)
@@ -190,12 +190,12 @@ fn extended(env: LifetimeEnv, types: &[usize]) -> Made
         &mut reach,
     );
     let verdict = implied.verdict;
-    let Verdict::Accepted = verdict else {
+    let Ok(()) = verdict else {
         return Made { verdict, env };
     };
     let all = implied.pushed;
     Made {
-        verdict: Verdict::Accepted,
+        verdict: Ok(()),
         env: assembled(&names, named, &longs, &shorts, all),
     }
 }
@@ -217,16 +217,16 @@ fn split(bounds: Bounds, longs: &mut [u8; Bounds::MAX], shorts: &mut [u8; Bounds
 }
 
 // The shape of the three records.
-fn shape_of(names: &[usize], bounds: &[usize], types: &[usize]) -> Verdict
+fn shape_of(names: &[usize], bounds: &[usize], types: &[usize]) -> Result<(), Refusal>
     ensures { result
         ≡ shape_verdict (names_in_shape names.now && (bounds_in_shape bounds.now && types_in_shape types.now)) }
 {
     let first = names_shape(names);
-    let Verdict::Accepted = first else {
+    let Ok(()) = first else {
         return first;
     };
     let second = bounds_shape(bounds);
-    let Verdict::Accepted = second else {
+    let Ok(()) = second else {
         return second;
     };
     types_shape(types)
@@ -252,7 +252,7 @@ fn build(
     let first = bounds[0];
     let pairs = (bounds.len() - 1) / 2;
     let named = declare_all(names, 1, 1 + impls, declared, 0);
-    let Verdict::Accepted = named else {
+    let Ok(()) = named else {
         return Counts {
             verdict: named,
             named: 0,
@@ -260,7 +260,7 @@ fn build(
         };
     };
     let bounded = push_pairs(bounds, 1, first, declared, impls, longs, shorts, 0);
-    let Verdict::Accepted = bounded else {
+    let Ok(()) = bounded else {
         return Counts {
             verdict: bounded,
             named: 0,
@@ -268,7 +268,7 @@ fn build(
         };
     };
     let renamed = declare_all(names, 1 + impls, 1 + all, declared, impls);
-    let Verdict::Accepted = renamed else {
+    let Ok(()) = renamed else {
         return Counts {
             verdict: renamed,
             named: 0,
@@ -285,7 +285,7 @@ fn build(
         shorts,
         first,
     );
-    let Verdict::Accepted = rebounded else {
+    let Ok(()) = rebounded else {
         return Counts {
             verdict: rebounded,
             named: 0,
@@ -305,7 +305,7 @@ fn build(
 }
 
 // A refusal, beside an environment without names.
-fn refused(verdict: Verdict) -> Made
+fn refused(verdict: Result<(), Refusal>) -> Made
     ensures { result ≡ record { verdict = verdict; env = named_env [] [] } }
 {
     Made {

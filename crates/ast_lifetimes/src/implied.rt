@@ -15,13 +15,13 @@ ghost use Rattle.lifetimes.specs.Limits.{most_bounds};
 use super::bounds::push_pair;
 use super::env::LifetimeEnv;
 use super::names::position;
-use answers::Verdict;
+use answers::Refusal;
 use lifetimes::{Bounds, Lifetime, set};
 
 // How far pushing came: the verdict, and how many bounds there are.
 #[derive(Clone, Copy)]
 pub(crate) struct Implied {
-    pub(crate) verdict: Verdict,
+    pub(crate) verdict: Result<(), Refusal>,
     pub(crate) pushed: usize,
 }
 
@@ -150,7 +150,7 @@ fn push_path(
             continue 'lifetimes;
         }
         let verdict = push_pair(names, named, word, behind, longs, shorts, count);
-        let Verdict::Accepted = verdict else {
+        let Ok(()) = verdict else {
             return Implied {
                 verdict,
                 pushed: count,
@@ -161,7 +161,7 @@ fn push_path(
         count += 1;
     }
     Implied {
-        verdict: Verdict::Accepted,
+        verdict: Ok(()),
         pushed: count,
     }
 }
@@ -213,14 +213,14 @@ pub(crate) fn push_types(
             types, from, at, behind, names, named, longs, shorts, count, reach,
         );
         let verdict = done.verdict;
-        let Verdict::Accepted = verdict else {
+        let Ok(()) = verdict else {
             return done;
         };
         count = done.pushed;
         behind = 0;
     }
     Implied {
-        verdict: Verdict::Accepted,
+        verdict: Ok(()),
         pushed: count,
     }
 }

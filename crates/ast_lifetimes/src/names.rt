@@ -9,28 +9,28 @@ ghost use Rattle.ast_lifetimes.specs.Env.{place, most_names};
 ghost use Rattle.ast_lifetimes.specs.Inner.{Declares};
 
 use super::env::LifetimeEnv;
-use answers::{Refusal, Verdict};
-use records::End;
+use answers::Refusal;
+use records::MAX_WORDS;
 
 // Whether the record `names` is in shape: how many names are the impl's, then all names, each 2 or more. Refused by 1.
 // Reads each word once.
-pub fn names_shape(names: &[usize]) -> Verdict
+pub fn names_shape(names: &[usize]) -> Result<(), Refusal>
     ensures answer { result ≡ shape_verdict (names_in_shape names.now) }
 {
     let n = names.len();
     if n == 0 {
-        return Verdict::Refused(Refusal::Malformed);
+        return Err(Refusal::Malformed);
     }
-    if End::MAX_WORDS < n {
-        return Verdict::Refused(Refusal::Malformed);
+    if MAX_WORDS < n {
+        return Err(Refusal::Malformed);
     }
     if n - 1 < names[0] {
-        return Verdict::Refused(Refusal::Malformed);
+        return Err(Refusal::Malformed);
     }
     if all_names(names) {
-        return Verdict::Accepted;
+        return Ok(());
     }
-    Verdict::Refused(Refusal::Malformed)
+    Err(Refusal::Malformed)
 }
 
 // Whether all words but the first are names.
@@ -63,18 +63,18 @@ pub(crate) fn position(names: &[usize; LifetimeEnv::MAX_NAMES], named: usize, na
 }
 
 // Declare one name behind the first `named`. Refused by 4 for a 33rd, by 2 for one that is declared.
-fn declare(names: &mut [usize; LifetimeEnv::MAX_NAMES], named: usize, name: usize) -> Verdict
+fn declare(names: &mut [usize; LifetimeEnv::MAX_NAMES], named: usize, name: usize) -> Result<(), Refusal>
     requires { (named ≤ most_names) × (length names.old ≡ most_names) }
     ensures { Declares (name ∷ []) (held names) (left names) named result }
 {
     if LifetimeEnv::MAX_NAMES <= named {
-        return Verdict::Refused(Refusal::Full);
+        return Err(Refusal::Full);
     }
     if position(names, named, name) < named {
-        return Verdict::Refused(Refusal::Duplicate);
+        return Err(Refusal::Duplicate);
     }
     names[named] = name;
-    Verdict::Accepted
+    Ok(())
 }
 
 // Declare some words one after another. Refused at the first bad place.
@@ -84,7 +84,7 @@ pub(crate) fn declare_all(
     to: usize,
     names: &mut [usize; LifetimeEnv::MAX_NAMES],
     named: usize,
-) -> Verdict
+) -> Result<(), Refusal>
     requires from_le_to { (from ≤ to) × (to ≤ length words.now) }
     requires named_le_most_names { (named ≤ most_names) × (length names.old ≡ most_names) }
     ensures { Declares (slice from to words.now) (held names) (left names) named result }
@@ -93,11 +93,11 @@ pub(crate) fn declare_all(
     let mut count = named;
     while at < to {
         let verdict = declare(names, count, words[at]);
-        let Verdict::Accepted = verdict else {
+        let Ok(()) = verdict else {
             return verdict;
         };
         count += 1;
         at += 1;
     }
-    Verdict::Accepted
+    Ok(())
 }

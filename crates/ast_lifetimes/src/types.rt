@@ -6,51 +6,51 @@ ghost use Rattle.records.specs.Ends.{EndsAt};
 ghost use Rattle.ast_lifetimes.specs.Types.{read_type, types_in_shape};
 
 use super::env::LifetimeEnv;
-use answers::{Refusal, Verdict};
-use records::{End, lifetimes_end};
+use answers::Refusal;
+use records::{MAX_WORDS, lifetimes_end};
 
 // Whether the record `types` is in shape: types one after another to its end. Refused by 1. Reads each word once.
-pub fn types_shape(types: &[usize]) -> Verdict
+pub fn types_shape(types: &[usize]) -> Result<(), Refusal>
     ensures answer { result ≡ shape_verdict (types_in_shape types.now) }
 {
-    if End::MAX_WORDS < types.len() {
-        return Verdict::Refused(Refusal::Malformed);
+    if MAX_WORDS < types.len() {
+        return Err(Refusal::Malformed);
     }
     let mut at = 0;
     while at < types.len() {
         let end = type_end(types, at, LifetimeEnv::MAX_NESTING);
-        let End::At(next) = end else {
-            return Verdict::Refused(Refusal::Malformed);
+        let Some(next) = end else {
+            return Err(Refusal::Malformed);
         };
         at = next;
     }
-    Verdict::Accepted
+    Ok(())
 }
 
 // Where the type ends that stands at a place, with nesting at most this.
-fn type_end(words: &[usize], at: usize, nesting: usize) -> End
+fn type_end(words: &[usize], at: usize, nesting: usize) -> Option<usize>
     requires { at ≤ length words.now }
     ensures { EndsAt words.now at (read_type nesting (drop at words.now)) result }
 {
     if nesting == 0 {
-        return End::Missing;
+        return None;
     }
     let n = words.len();
     if n <= at {
-        return End::Missing;
+        return None;
     }
     let code = words[at];
     let inside = nesting - 1;
     let next = at + 1;
     if code == 0 {
-        return End::At(next);
+        return Some(next);
     }
     if code == 1 {
         return lifetimes_end(words, next);
     }
     if code == 2 {
         if n <= next {
-            return End::Missing;
+            return None;
         }
         return type_end(words, next + 1, inside);
     }
@@ -59,10 +59,10 @@ fn type_end(words: &[usize], at: usize, nesting: usize) -> End
     }
     if code == 4 {
         let first = type_end(words, next, inside);
-        let End::At(second) = first else {
-            return End::Missing;
+        let Some(second) = first else {
+            return None;
         };
         return type_end(words, second, inside);
     }
-    End::Missing
+    None
 }

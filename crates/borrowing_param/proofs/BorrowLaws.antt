@@ -1,5 +1,6 @@
 -- A whole method and a whole sheet: what `borrow_method` and `borrow_sheet` answer and write, by what their tests and
 -- calls show.
+use Rattle.std.specs.Prelude.{Ok, Err}
 use Prim.Native.Nat.{ℕ, ◌≤◌, ◌<◌}
 use mathlib.Core.Bool.{false}
 use mathlib.Core.Path.{◌≡◌, refl, sym, ap, ◌∙◌}
@@ -10,9 +11,8 @@ use lib.ListN.{length, get_or, take, drop}
 use lib.Seq.{take-append_seam}
 use Rattle.answers.specs.declared.Refusal.{Refusal}
 use Rattle.answers.specs.declared.Refusal.TheVariants.{NoRoom}
-use Rattle.answers.specs.declared.Verdict.TheVariants as verdict
 use Rattle.lifetimes.specs.declared.env.LifetimeEnv.{LifetimeEnv}
-use Rattle.answers.specs.Refusals.{Check, Outcome, Gives, Refuses, unless, FirstDue, here, later, NoneDue, next, end}
+use Rattle.answers.specs.Refusals.{Check, Outcome, unless, FirstDue, here, later, NoneDue, next, end}
 use Rattle.answers.specs.Lent.{Slice, left, room, Fills, Stays, verdict_of, room_check}
 use Rattle.lifetimes.specs.Sets as sets
 use Rattle.answers.proofs.RefusalLaws.{due_given, due_refused, none_split, first_more, first_behind, refused_first}
@@ -48,7 +48,7 @@ use Rattle.borrowing_param.proofs.SheetLaws.{read_parts}
 
 -- a refusal leaves the slices
 left_alone : {o : Outcome Borrows} {k : Refusal} {r : answer.Borrows} {used answers edges : Slice}
-    → o ≡ Refuses k → r ≡ borrows_answer (Refuses k) → Stays used → Stays answers → Stays edges
+    → o ≡ Err k → r ≡ borrows_answer (Err k) → Stays used → Stays answers → Stays edges
     → BorrowsTo o r used answers edges
 left_alone e h u a w = record { counts = rw e h; used_filled = rw e u; answers_filled = rw e a; edges_filled = rw e w }
 
@@ -71,7 +71,7 @@ module _ (v : BorrowingParamVisitor) (structs params : List ℕ) (used answers e
   abbrev given : Outcome Borrows
   given = borrow_by v structs params (room used) (room answers) (room edges)
 
-  refuses : {k : Refusal} → FirstDue k rooms → given ≡ Refuses k
+  refuses : {k : Refusal} → FirstDue k rooms → given ≡ Err k
   unfolding borrow_by
   refuses f = due_refused all f
 
@@ -79,7 +79,7 @@ module _ (v : BorrowingParamVisitor) (structs params : List ℕ) (used answers e
   unfolding sets.cardinality
   how_many_lem = counts
 
-  pub by_used : {r : answer.Borrows} → room used < count → r ≡ borrows_answer (Refuses NoRoom) → Stays used
+  pub by_used : {r : answer.Borrows} → room used < count → r ≡ borrows_answer (Err NoRoom) → Stays used
       → Stays answers → Stays edges
       → BorrowsTo given r used answers edges
   by_used l h = left_alone (refuses (here (lt-ltb (room used) (length all.used) (omega (arith, how_many_lem))) refl)) h
@@ -98,39 +98,39 @@ module _ (v : BorrowingParamVisitor) (structs params : List ℕ) (used answers e
     map_verdict = ap (λ (x : BorrowMap). x.verdict) maps ∙ go mapped
       where
         go : (o : Outcome map.Mapping) → (map.map_answer o).verdict ≡ verdict_of o
-        go (Gives x) = refl
-        go (Refuses k) = refl
+        go (Ok x) = refl
+        go (Err k) = refl
 
-    pub by_map_refused : {k : Refusal} {r : answer.Borrows} → m.verdict ≡ verdict.Refused k
-        → r ≡ borrows_answer (Refuses k) → Stays used
+    pub by_map_refused : {k : Refusal} {r : answer.Borrows} → m.verdict ≡ Err k
+        → r ≡ borrows_answer (Err k) → Stays used
         → BorrowsTo given r used answers edges
     unfolding map.borrow_map
     by_map_refused {k} w h u =
         let f = refused_first (map.mapping_of v (types_in structs params)) k
         (map.map_checks v structs params (room answers) (room edges)) (sym map_verdict ∙ w) in
         let g : FirstDue k rooms = later fit_used (first_behind of f) in
-        let e : mapped ≡ Refuses k = due_refused (map.mapping_of v (types_in structs params)) f in
+        let e : mapped ≡ Err k = due_refused (map.mapping_of v (types_in structs params)) f in
         left_alone (refuses g) h u (answered ∙ rw e) (stored ∙ rw e)
 
-    module _ (fine : m.verdict ≡ verdict.Accepted) where
+    module _ (fine : m.verdict ≡ Ok (tt {0})) where
       map_none : NoneDue (map.map_checks v structs params (room answers) (room edges))
       unfolding map.borrow_map
       map_none =
           accepted_none (map.mapping_of v (types_in structs params))
           (map.map_checks v structs params (room answers) (room edges)) (sym map_verdict ∙ fine)
 
-      map_is : mapped ≡ Gives (map.mapping_of v (types_in structs params))
+      map_is : mapped ≡ Ok (map.mapping_of v (types_in structs params))
       unfolding map.borrow_map
       map_is = due_given (map.mapping_of v (types_in structs params)) map_none
 
-      all_is : given ≡ Gives all
+      all_is : given ≡ Ok all
       unfolding borrow_by
       all_is =
           let n : NoneDue rooms = next fit_used (none_split (structs_and_params_checks structs params) (drop 1 rooms) map_none).1 in
           due_given all n
 
       pub by_given : Fills (sets.list_members v.used (room used)) used
-          → BorrowsTo given (record { verdict = verdict.Accepted; used = count; params = m.params; edges = m.edges })
+          → BorrowsTo given (record { verdict = Ok (tt {0}); used = count; params = m.params; edges = m.edges })
           used answers edges
       unfolding sets.list_members
       by_given e =
@@ -159,11 +159,11 @@ module _ (env : LifetimeEnv) (structs params output force : List ℕ) {c : Creat
   created_verdict = ap (λ (x : Created). x.verdict) is ∙ go (used_set env structs params output force)
     where
       go : (o : Outcome ℕ) → (created_by env o).verdict ≡ verdict_of o
-      go (Gives x) = refl
-      go (Refuses k) = refl
+      go (Ok x) = refl
+      go (Err k) = refl
 
   pub method_unborrowed : {k : Refusal} {r : answer.Borrows} {used answers edges : Slice}
-      → c.verdict ≡ verdict.Refused k → r ≡ borrows_answer (Refuses k) → Stays used → Stays answers → Stays edges
+      → c.verdict ≡ Err k → r ≡ borrows_answer (Err k) → Stays used → Stays answers → Stays edges
       → BorrowsTo (outcome (room used) (room answers) (room edges)) r used answers edges
   unfolding used_set borrow_method
   method_unborrowed {k} w h =
@@ -171,7 +171,7 @@ module _ (env : LifetimeEnv) (structs params output force : List ℕ) {c : Creat
       (method_checks env structs params output force) (sym created_verdict ∙ w) in
       left_alone (due_refused whole (first_more _ f)) h
 
-  module _ (fine : c.verdict ≡ verdict.Accepted) where
+  module _ (fine : c.verdict ≡ Ok (tt {0})) where
     method_none : NoneDue (method_checks env structs params output force)
     unfolding used_set
     method_none =
@@ -221,21 +221,21 @@ module _ (bytes : List ℕ) (used answers edges : Slice) where
     judged_verdict = ap (λ (x : SheetMethod). x.verdict) judges.answers ∙ go (unless (sheet_refusals bytes) sheet)
       where
         go : (o : Outcome Records) → (method_answer o).verdict ≡ verdict_of o
-        go (Gives r) = refl
-        go (Refuses k) = refl
+        go (Ok r) = refl
+        go (Err k) = refl
 
-    pub sheet_unborrowed : {k : Refusal} {r : answer.Borrows} → m.verdict ≡ verdict.Refused k → r ≡ borrows_answer (Refuses k)
+    pub sheet_unborrowed : {k : Refusal} {r : answer.Borrows} → m.verdict ≡ Err k → r ≡ borrows_answer (Err k)
         → Stays used → Stays answers → Stays edges → BorrowsTo borrowed r used answers edges
     unfolding borrow_sheet
     sheet_unborrowed {k} w h =
         let f = refused_first sheet k (sheet_refusals bytes) (sym judged_verdict ∙ w) in
         left_alone (due_refused (sheet_borrows sheet) (first_more _ f)) h
 
-    module _ (fine : m.verdict ≡ verdict.Accepted) where
+    module _ (fine : m.verdict ≡ Ok (tt {0})) where
       sheet_none : NoneDue (sheet_refusals bytes)
       sheet_none = accepted_none sheet (sheet_refusals bytes) (sym judged_verdict ∙ fine)
 
-      is_given : m ≡ method_answer (Gives sheet)
+      is_given : m ≡ method_answer (Ok sheet)
       is_given = judges.answers ∙ ap method_answer (due_given sheet sheet_none)
 
       laid : Laid scratch m.ends
@@ -268,7 +268,7 @@ module _ (bytes : List ℕ) (used answers edges : Slice) where
 
   -- what a crate above may rely on
   consistent : {r : answer.Borrows} → r ≡ borrows_answer borrowed → Fills (used_words borrowed) used
-      → Fills (answer_words borrowed) answers → Fills (edges_words borrowed) edges → r.verdict ≡ verdict.Accepted
+      → Fills (answer_words borrowed) answers → Fills (edges_words borrowed) edges → r.verdict ≡ Ok (tt {0})
       → Consistent (take r.used (left used)) (take r.params (left answers)) (edges_in r.edges (left edges))
   unfolding borrow_sheet
   consistent {r} q u a w fine =
@@ -277,36 +277,36 @@ module _ (bytes : List ℕ) (used answers edges : Slice) where
       let checks = sheet_refusals bytes ++ borrows_room_checks whole (room used) (room answers) (room edges) in
       let n = accepted_none whole checks
       (sym (verdict_of_lem (unless checks whole)) ∙ sym (ap (λ (x : answer.Borrows). x.verdict) q) ∙ fine) in
-      let e : borrowed ≡ Gives whole = due_given whole n in
+      let e : borrowed ≡ Ok whole = due_given whole n in
       let of = params_none (env_of_sheet sheet) sheet.structs sheet.params sheet.output sheet.force
       (sheet_method bytes (none_split (sheet_refusals bytes) _ n).0) in
-      let k : r ≡ borrows_answer (Gives whole) = q ∙ ap borrows_answer e in
+      let k : r ≡ borrows_answer (Ok whole) = q ∙ ap borrows_answer e in
       let x : take r.used (left used) ≡ whole.used = rw (k, u, e) (take-append_seam whole.used _) in
       let y : take r.params (left answers) ≡ whole.answers = rw (k, a, e) (take-append_seam whole.answers _) in
       let z : edges_in r.edges (left edges) ≡ whole.edges = rw (k, w, e) (words_read whole.edges _) in
       rw (x, y, z) (listing_consistent v sheet.structs sheet.params of)
     where
       verdict_of_lem : (o : Outcome Borrows) → (borrows_answer o).verdict ≡ verdict_of o
-      verdict_of_lem (Gives x) = refl
-      verdict_of_lem (Refuses k) = refl
+      verdict_of_lem (Ok x) = refl
+      verdict_of_lem (Err k) = refl
 
   few : {r : answer.Borrows} → r ≡ borrows_answer borrowed → (r.used ≤ most_used) × (r.edges ≤ most_listed)
   unfolding borrow_sheet
   few {r} q = rw q (go borrowed refl)
     where
       go : (o : Outcome Borrows) → borrowed ≡ o → ((borrows_answer o).used ≤ most_used) × ((borrows_answer o).edges ≤ most_listed)
-      go (Gives b) e =
+      go (Ok b) e =
           let whole = sheet_borrows sheet in
           let n = given_due whole b (sheet_refusals bytes ++ borrows_room_checks whole (room used) (room answers) (room edges)) e in
           let s = method_small (env_of_sheet sheet) sheet.structs sheet.params sheet.output sheet.force
           (sheet_method bytes (none_split (sheet_refusals bytes) _ n.0).0) in
           rw (← n.1) (s.few_used, s.few_edges)
-      go (Refuses k) e = (omega arith, omega arith)
+      go (Err k) e = (omega arith, omega arith)
 
   pub sheet_says : {r : answer.Borrows} → r ≡ borrows_answer borrowed → Fills (used_words borrowed) used
       → Fills (answer_words borrowed) answers → Fills (edges_words borrowed) edges
       → BorrowsTo borrowed r used answers edges
-      × ((r.verdict ≡ verdict.Accepted
+      × ((r.verdict ≡ Ok (tt {0})
       → Consistent (take r.used (left used)) (take r.params (left answers)) (edges_in r.edges (left edges)))
       × ((r.used ≤ most_used) × (r.edges ≤ most_listed)))
   sheet_says q u a w =

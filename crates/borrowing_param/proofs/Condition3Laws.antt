@@ -1,5 +1,6 @@
 -- Condition 3: the test by which a new visitor's visits go is that of the numberings, and its visits are those of
 -- `visit_param`.
+use Rattle.std.specs.Prelude.{Ok}
 use Prim.Native.Nat.{ℕ, zero, suc, ◌≤◌, ◌<◌}
 use mathlib.Core.Bool.{Bool, true, false, cond, not, ◌&&◌, and-eq-true_iff}
 use mathlib.Core.Path.{◌≡◌, refl, sym, subst, ◌∙◌}
@@ -12,8 +13,7 @@ use lib.Dec.{ltb}
 use lib.ListN.{length, get_or, get_or-eq_default}
 use Rattle.lifetimes.specs.declared.env.LifetimeEnv.{LifetimeEnv}
 use Rattle.answers.specs.declared.Refusal.TheVariants.{Malformed}
-use Rattle.answers.specs.declared.Verdict.TheVariants.{Accepted}
-use Rattle.answers.specs.Refusals.{check, Gives, NoneDue, next}
+use Rattle.answers.specs.Refusals.{check, NoneDue, next}
 use Rattle.answers.specs.Lists.{range, filter}
 use Rattle.lifetimes.specs.Sets.{empty, member, members, set_of}
 use Rattle.lifetimes.specs.Env.{bounds_of, env_checks}
@@ -159,7 +159,7 @@ module _ (env : LifetimeEnv) (structs params output force : List ℕ)
   abbrev used : ℕ
   used = set_of (output_numbers structs output)
 
-  used_given : used_set env structs params output force ≡ Gives used
+  used_given : used_set env structs params output force ≡ Ok used
   unfolding used_set
   used_given = due_given used none
 
@@ -167,7 +167,7 @@ module _ (env : LifetimeEnv) (structs params output force : List ℕ)
   new = new_visitor used env
 
   abbrev made : Created
-  made = record { verdict = Accepted; visitor = new }
+  made = record { verdict = Ok (tt {0}); visitor = new }
 
   created_is : created env structs params output force ≡ made
   unfolding created

@@ -1,6 +1,7 @@
 -- Which lifetimes of a parameter draw: the first one, how many, and how many edges that makes. In order: one lifetime;
 -- the words that are left to a loop over path words; the first that draws; the path words of a struct, linked; how many
 -- draw; edges counted.
+use Rattle.std.specs.Prelude.{Some, None, Option}
 use Prim.Native.Nat.{ℕ, zero, suc, ◌+◌, ◌-◌, ◌≤◌, ◌<◌}
 use mathlib.Core.Bool.{Bool, true, false, cond, ◌||◌}
 use mathlib.Core.Path.{◌≡◌, refl, sym, ap, ◌∙◌}
@@ -23,12 +24,8 @@ use Rattle.lifetimes.specs.Sets.{member}
 use Rattle.hir_types.specs.declared.types.Kind.{Kind}
 use Rattle.hir_types.specs.declared.types.Kind.TheVariants.{Plain, Opaque, Struct, Slice}
 use Rattle.hir_types.specs.declared.types.Parts.{Parts}
-use Rattle.hir_types.specs.declared.types.OwnLifetime.{OwnLifetime}
-use Rattle.hir_types.specs.declared.types.OwnLifetime.TheVariants as behind
 use Rattle.hir_types.specs.LoweredTypes.{LoweredType, lifetimes_of, own_lifetimes, own_lifetime}
 use Rattle.hir_types.proofs.LifetimeLaws.{own_one, own_none}
-use Rattle.borrowing_param.specs.declared.edges.First.{First}
-use Rattle.borrowing_param.specs.declared.edges.First.TheVariants.{At, Absent}
 use Rattle.borrowing_param.specs.declared.visitor.LifetimeEdge.{LifetimeEdge}
 use Rattle.borrowing_param.specs.Edges.{edge}
 use Rattle.borrowing_param.specs.Brings.{drawn, any_drawn, struct_edges, option_of, bring_as, bring}
@@ -89,15 +86,15 @@ pub searching_start : (draws : ℕ → Bool) (words : List ℕ) (from count : �
 searching_start draws words from count = record { here = omega arith; search = ap (first_from draws 0) (left_all_lem words from count) }
 
 module _ {draws : ℕ → Bool} {words : List ℕ} {from count i : ℕ} (inv : Searching draws words from count i) where
-  pub searching_end : count ≤ i → Absent ≡ first_from draws 0 (all_path words from count)
+  pub searching_end : count ≤ i → None ≡ first_from draws 0 (all_path words from count)
   unfolding first_from
   searching_end h = rw (left_none words from count i h) at inv.search
 
   module _ (fits : Inside words from count) (h : i < count) {m : MaybeStatic} (is : m ≡ from_word (get_or words (from + i) 0)) where
-    pub searching_found : true ≡ drawn draws m → At i ≡ first_from draws 0 (all_path words from count)
+    pub searching_found : true ≡ drawn draws m → Some i ≡ first_from draws 0 (all_path words from count)
     unfolding first_from
     searching_found q =
-        let e : first_from draws i (left words from count i) ≡ At i = rw (left_next words from count fits i h, ← is, ← q) in
+        let e : first_from draws i (left words from count i) ≡ Some i = rw (left_next words from count fits i h, ← is, ← q) in
         sym e ∙ inv.search
 
     pub searching_more : false ≡ drawn draws m → Searching draws words from count (i + 1)
@@ -108,81 +105,81 @@ module _ {draws : ℕ → Bool} {words : List ℕ} {from count i : ℕ} (inv : S
         record { here = omega arith; search = sym e ∙ inv.search }
 
 -- among some, then among others
-first_path : (draws : ℕ → Bool) (i k : ℕ) (l m : List MaybeStatic) → first_from draws i l ≡ At k → first_from draws i (l ++ m) ≡ At k
+first_path : (draws : ℕ → Bool) (i k : ℕ) (l m : List MaybeStatic) → first_from draws i l ≡ Some k → first_from draws i (l ++ m) ≡ Some k
 unfolding first_from
 first_path draws i k [] m e = let z : ◌≡◌ {A = ℕ} 0 1 = cc in absurd (omega arith)
 first_path draws i k (x ∷ l) m e = go (drawn draws x) (first_path draws (suc i) k l m) e
   where
-    go : (t : Bool) → (first_from draws (suc i) l ≡ At k → first_from draws (suc i) (l ++ m) ≡ At k)
-        → cond t (At i) (first_from draws (suc i) l) ≡ At k
-        → cond t (At i) (first_from draws (suc i) (l ++ m)) ≡ At k
+    go : (t : Bool) → (first_from draws (suc i) l ≡ Some k → first_from draws (suc i) (l ++ m) ≡ Some k)
+        → cond t (Some i) (first_from draws (suc i) l) ≡ Some k
+        → cond t (Some i) (first_from draws (suc i) (l ++ m)) ≡ Some k
     go true r e = e
     go false r e = r e
 
-first_behind : (draws : ℕ → Bool) (i : ℕ) (l m : List MaybeStatic) → first_from draws i l ≡ Absent
+first_behind : (draws : ℕ → Bool) (i : ℕ) (l m : List MaybeStatic) → first_from draws i l ≡ None
     → first_from draws i (l ++ m) ≡ first_from draws (i + length l) m
 unfolding first_from
 first_behind draws i [] m e = rw (add-zero i)
 first_behind draws i (x ∷ l) m e = go (drawn draws x) (first_behind draws (suc i) l m) e
   where
     go : (t : Bool)
-        → (first_from draws (suc i) l ≡ Absent → first_from draws (suc i) (l ++ m) ≡ first_from draws (suc i + length l) m)
-        → cond t (At i) (first_from draws (suc i) l) ≡ Absent
-        → cond t (At i) (first_from draws (suc i) (l ++ m)) ≡ first_from draws (i + suc (length l)) m
+        → (first_from draws (suc i) l ≡ None → first_from draws (suc i) (l ++ m) ≡ first_from draws (suc i + length l) m)
+        → cond t (Some i) (first_from draws (suc i) l) ≡ None
+        → cond t (Some i) (first_from draws (suc i) (l ++ m)) ≡ first_from draws (i + suc (length l)) m
     go true r e = let z : ◌≡◌ {A = ℕ} 0 1 = cc in absurd (omega arith)
     go false r e = let s : suc i + length l ≡ i + suc (length l) = omega arith in rw s at (r e)
 
 -- one lifetime, if it draws
-pub one_first : (draws : ℕ → Bool) (m : MaybeStatic) (i : ℕ) → true ≡ drawn draws m → At i ≡ first_from draws i (m ∷ [])
+pub one_first : (draws : ℕ → Bool) (m : MaybeStatic) (i : ℕ) → true ≡ drawn draws m → Some i ≡ first_from draws i (m ∷ [])
 unfolding first_from
 one_first draws m i q = rw (← q)
 
-pub one_absent : (draws : ℕ → Bool) (m : MaybeStatic) (i : ℕ) → false ≡ drawn draws m → Absent ≡ first_from draws i (m ∷ [])
+pub one_absent : (draws : ℕ → Bool) (m : MaybeStatic) (i : ℕ) → false ≡ drawn draws m → None ≡ first_from draws i (m ∷ [])
 unfolding first_from
 one_absent draws m i q = rw (← q)
 
-module _ (draws : ℕ → Bool) (words : List ℕ) (p : Parts) {first : First}
+module _ (draws : ℕ → Bool) (words : List ℕ) (p : Parts) {first : Option ℕ}
     (is : first ≡ first_from draws 0 (all_path words p.from p.count)) where
   abbrev all : List MaybeStatic
   all = all_path words p.from p.count ++ own_lifetimes p.own
 
-  pub drawn_path : {k : ℕ} → first ≡ At k → At k ≡ first_from draws 0 all
+  pub drawn_path : {k : ℕ} → first ≡ Some k → Some k ≡ first_from draws 0 all
   drawn_path {k} e = sym (first_path draws 0 k (all_path words p.from p.count) (own_lifetimes p.own) (sym is ∙ e))
 
-  module _ (fits : Inside words p.from p.count) (none : first ≡ Absent) where
+  module _ (fits : Inside words p.from p.count) (none : first ≡ None) where
     drawn_behind : first_from draws 0 all ≡ first_from draws p.count (own_lifetimes p.own)
     drawn_behind =
         let size : 0 + length (all_path words p.from p.count) ≡ p.count =
         rw (zero-add, path_many words p.from p.count fits) in
         rw size at (first_behind draws 0 (all_path words p.from p.count) (own_lifetimes p.own) (sym is ∙ none))
 
-    module _ {last : OwnLifetime} (a : last ≡ own_lifetime p.own) where
-      pub drawn_own : {m : MaybeStatic} → last ≡ behind.Lifetime m → {r : First}
+    module _ {last : Option MaybeStatic} (a : last ≡ own_lifetime p.own) where
+      pub drawn_own : {m : MaybeStatic} → last ≡ Some m → {r : Option ℕ}
           → r ≡ first_from draws p.count (m ∷ []) → r ≡ first_from draws 0 all
       drawn_own e q = q ∙ rw (drawn_behind, own_one p.own a e)
 
-      pub drawn_absent : last ≡ behind.Absent → Absent ≡ first_from draws 0 all
+      pub drawn_absent : last ≡ None → None ≡ first_from draws 0 all
       unfolding first_from
       drawn_absent e = rw (drawn_behind, own_none p.own a e)
 
 -- whether there is a first one is whether any draws
-pub first_any : (draws : ℕ → Bool) (i : ℕ) {k : ℕ} (ms : List MaybeStatic) → At k ≡ first_from draws i ms → any_drawn draws ms ≡ true
+pub first_any : (draws : ℕ → Bool) (i : ℕ) {k : ℕ} (ms : List MaybeStatic) → Some k ≡ first_from draws i ms → any_drawn draws ms ≡ true
 unfolding first_from any
 first_any draws i [] e = let z : ◌≡◌ {A = ℕ} 0 1 = cc in absurd (omega arith)
 first_any draws i {k} (m ∷ ms) e = go (drawn draws m) (first_any draws (suc i) ms) e
   where
-    go : (t : Bool) → (At k ≡ first_from draws (suc i) ms → any_drawn draws ms ≡ true)
-        → At k ≡ cond t (At i) (first_from draws (suc i) ms) → t || any_drawn draws ms ≡ true
+    go : (t : Bool) → (Some k ≡ first_from draws (suc i) ms → any_drawn draws ms ≡ true)
+        → Some k ≡ cond t (Some i) (first_from draws (suc i) ms) → t || any_drawn draws ms ≡ true
     go true r e = refl
     go false r e = r e
 
-pub none_any : (draws : ℕ → Bool) (i : ℕ) (ms : List MaybeStatic) → Absent ≡ first_from draws i ms → any_drawn draws ms ≡ false
+pub none_any : (draws : ℕ → Bool) (i : ℕ) (ms : List MaybeStatic) → None ≡ first_from draws i ms → any_drawn draws ms ≡ false
 unfolding first_from any
 none_any draws i [] e = refl
 none_any draws i (m ∷ ms) e = go (drawn draws m) (none_any draws (suc i) ms) e
   where
-    go : (t : Bool) → (Absent ≡ first_from draws (suc i) ms → any_drawn draws ms ≡ false)
-        → Absent ≡ cond t (At i) (first_from draws (suc i) ms) → t || any_drawn draws ms ≡ false
+    go : (t : Bool) → (None ≡ first_from draws (suc i) ms → any_drawn draws ms ≡ false)
+        → None ≡ cond t (Some i) (first_from draws (suc i) ms) → t || any_drawn draws ms ≡ false
     go true r e = let z : ◌≡◌ {A = ℕ} 0 1 = cc in absurd (omega arith)
     go false r e = r e
 

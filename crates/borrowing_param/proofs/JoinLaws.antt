@@ -1,5 +1,6 @@
 -- Lists joined from parts, their rearrangements, and the words of edges. In order: members and joins; rearrangements;
 -- storing one list behind another; edges and their words; the edges of one lifetime.
+use Rattle.std.specs.Prelude.{Some, None}
 use Prim.Native.Nat.{ℕ, zero, suc, ◌+◌, ◌*◌, ◌/◌, ◌≤◌, ◌<◌}
 use mathlib.Core.Path.{◌≡◌, refl, sym, ap, subst, ◌∙◌}
 use mathlib.Core.Logic.{⊎_elim, ite}
@@ -14,7 +15,6 @@ use borrow.Author.Tests.{le-ltb, lt-ltb}
 use lib.ListN.{length, get_or, drop, set}
 use lib.Seq.{sets, get_or-drop, drop-drop}
 use Rattle.borrowing_param.specs.declared.visitor.LifetimeEdge.{LifetimeEdge}
-use Rattle.borrowing_param.specs.declared.edges.EdgeAt.TheVariants.{Edge, Absent}
 use Rattle.borrowing_param.specs.Edges.{edge, width, edge_words, edge_at, edges_in, edge_in, edges_of}
 
 -- ---- members and joins
@@ -95,11 +95,11 @@ words_read (e ∷ es) rest = rw (words_read es rest)
 -- ---- an edge by its place
 
 module _ (words : List ℕ) (place : ℕ) where
-  pub edge_absent : length words / 5 ≤ place → Absent ≡ edge_in words place
+  pub edge_absent : length words / 5 ≤ place → None ≡ edge_in words place
   edge_absent h = rw (le-ltb place (length words / 5) h)
 
   pub edge_there : place < length words / 5
-      → Edge (edge (get_or words (5 * place) 0) (get_or words (5 * place + 1) 0) (get_or words (5 * place + 2) 0)
+      → Some (edge (get_or words (5 * place) 0) (get_or words (5 * place + 1) 0) (get_or words (5 * place + 2) 0)
       (get_or words (5 * place + 3) 0) (get_or words (5 * place + 4) 0))
       ≡ edge_in words place
   edge_there h =
@@ -116,7 +116,7 @@ edges_at (suc n) (suc k) words other h =
     edges_at n k (drop width words) other (omega arith) ∙ ap edge_at (drop-drop (width * k) width words) ∙ rw next
 
 pub edge_by_place : (words : List ℕ) (n k : ℕ) (other : LifetimeEdge) → width * n ≤ length words → k < n
-    → edge_in words k ≡ Edge (get_or (edges_in n words) k other)
+    → edge_in words k ≡ Some (get_or (edges_in n words) k other)
 edge_by_place words n k other h l =
     let inside : k < length words / 5 = omega (arith, div-add-mod' (length words) 5, mod-lt (length words) {m = 5} (omega arith)) in
     rw (lt-ltb k (length words / 5) inside, edges_at n k words other l)

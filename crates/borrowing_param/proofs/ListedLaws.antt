@@ -1,6 +1,7 @@
 -- Edges in listing order: passing over all parameters, counting their edges and noting their answers, storing them by
 -- used lifetime, and the answers of `borrow_map`. In order: the types of a record; passing over them; how many edges
 -- there are; the loops of `store_to`, `store_listed` and `count_params`; the answers.
+use Rattle.std.specs.Prelude.{Ok, Err, Some, None, Option}
 use Prim.Native.Nat.{ℕ, zero, suc, ◌+◌, ◌*◌, ◌/◌, ◌≤◌, ◌<◌}
 use mathlib.Core.Bool.{Bool, true, false, and-eq-true_iff}
 use mathlib.Core.Path.{◌≡◌, refl, sym, ap, ◌∙◌}
@@ -14,9 +15,7 @@ use lib.ListN.{length, get_or, take, drop, set, length-append, length-set, lengt
 use lib.Seq.{sets, length-sets, take_at}
 use Rattle.answers.specs.declared.Refusal.{Refusal}
 use Rattle.answers.specs.declared.Refusal.TheVariants.{NoRoom}
-use Rattle.answers.specs.declared.Verdict.{Verdict}
-use Rattle.answers.specs.declared.Verdict.TheVariants.{Accepted, Refused}
-use Rattle.answers.specs.Refusals.{Check, Outcome, Gives, Refuses, unless, FirstDue, here, later, NoneDue, end, next}
+use Rattle.answers.specs.Refusals.{Check, Outcome, unless, FirstDue, here, later, NoneDue, end, next, Verdict}
 use Rattle.answers.specs.Lent.{Slice, held, left, room, Fills, Stays}
 use Rattle.lifetimes.specs.Limits.{most_lifetimes}
 use Rattle.lifetimes.specs.Sets.{member, members}
@@ -29,8 +28,6 @@ use Rattle.records.proofs.CopyLaws.{copied_stores}
 use Rattle.records.specs.Reading.{Read, Fails, read_all, read_or, few_words, in_shape, items_of}
 use Rattle.records.proofs.ReadingLaws.{Holds, read, fails, holds_onward, holds_or, fails_read}
 use Rattle.hir_types.specs.declared.types.Parts.{Parts}
-use Rattle.hir_types.specs.declared.types.Located.{Located}
-use Rattle.hir_types.specs.declared.types.Located.TheVariants.{At, Missing}
 use Rattle.hir_types.specs.LoweredTypes.{LoweredType, read_lowered, located}
 use Rattle.hir_types.specs.Rows.{Row, rows_of, read_known, types_of, structs_in_shape, params_in_shape}
 use Rattle.hir_types.proofs.LocatedLaws.{type_located}
@@ -157,13 +154,13 @@ module _ {words : List ℕ} {types left : List LoweredType} {at number : ℕ} (i
   pub passing_end : length words ≤ at → left ≡ []
   passing_end h = lists_none inv.reads (drop_of_length-le words {i = at} h)
 
-  module _ (h : at < length words) {r : Located} (l : r ≡ located at (length words) (read_lowered (drop at words))) where
-    pub passing_missing : r ≡ Missing → ⊥
+  module _ (h : at < length words) {r : Option Parts} (l : r ≡ located at (length words) (read_lowered (drop at words))) where
+    pub passing_missing : r ≡ None → ⊥
     passing_missing e =
         lists_missing inv.reads (λ z. omega (arith, ap length z, length-drop at words))
         (missing_told (type_located words at l) e)
 
-    pub passing_next : {p : Parts} → r ≡ At p → Passed words types left at number p
+    pub passing_next : {p : Parts} → r ≡ Some p → Passed words types left at number p
     passing_next {p} e =
         let f = found_told (type_located words at l) e in
         let s = f.stands in
@@ -408,7 +405,7 @@ module _ {used : ℕ} {drawn words : List ℕ} {types : List LoweredType} {numbe
 -- ---- the answers of `map_params`
 
 maps_refused : {o : Outcome Mapping} {r : Refusal} {b : BorrowMap} {answers edges : Slice}
-    → o ≡ Refuses r → b ≡ map_answer (Refuses r) → Stays answers → Stays edges → MapsTo o b answers edges
+    → o ≡ Err r → b ≡ map_answer (Err r) → Stays answers → Stays edges → MapsTo o b answers edges
 maps_refused e q a w = record { counts = rw e q; answers_filled = rw e a; edges_filled = rw e w }
 
 module _ (v : BorrowingParamVisitor) (types : List LoweredType) {numbers₀ : List ℕ} {n : Counted} {numbers : List ℕ}
@@ -425,7 +422,7 @@ module _ (v : BorrowingParamVisitor) (types : List LoweredType) {numbers₀ : Li
   edges_size : length (flat_map edge_words (listed_edges v types)) ≡ width * n.edges
   edges_size = words_many (listed_edges v types) ∙ ap (λ (k : ℕ). width * k) (sym (c.edges ∙ ap length edges_are))
 
-  pub no_room_answers : {answers edges : Slice} → room answers < n.params → {b : BorrowMap} → b ≡ map_answer (Refuses NoRoom)
+  pub no_room_answers : {answers edges : Slice} → room answers < n.params → {b : BorrowMap} → b ≡ map_answer (Err NoRoom)
       → Stays answers → Stays edges → MapsTo (map_of v types (room answers) (room edges)) b answers edges
   no_room_answers {answers} {edges} h q a w =
       let due : FirstDue NoRoom (map_room_checks v types (room answers) (room edges)) =
@@ -436,7 +433,7 @@ module _ (v : BorrowingParamVisitor) (types : List LoweredType) {numbers₀ : Li
   first_none a h = le-ltb a (length (answers_from v 0 types)) (omega (arith, answers_size))
 
   pub no_room_edges : {answers edges : Slice} → n.params ≤ room answers → room edges / 5 < n.edges → {b : BorrowMap}
-      → b ≡ map_answer (Refuses NoRoom) → Stays answers → Stays edges
+      → b ≡ map_answer (Err NoRoom) → Stays answers → Stays edges
       → MapsTo (map_of v types (room answers) (room edges)) b answers edges
   no_room_edges {answers} {edges} k h q a w =
       let past : room edges < length (flat_map edge_words (listed_edges v types)) =
@@ -452,13 +449,13 @@ module _ (v : BorrowingParamVisitor) (types : List LoweredType) {numbers₀ : Li
       → {stored : ℕ} → Fills (copied numbers n.params (room answers)) answers
       → length types ≤ 16 → StoresWords (listed_edges (visitor_in v.used v.draws) types) 0 (held edges) stored (left edges)
       → MapsTo (map_of v types (room answers) (room edges))
-      (record { verdict = Accepted; params = n.params; edges = stored }) answers edges
+      (record { verdict = Ok (tt {0}); params = n.params; edges = stored }) answers edges
   mapped {answers} {edges} k fits size {stored} a few s =
       let past : length (flat_map edge_words (listed_edges v types)) ≤ room edges =
       omega (arith, edges_size, div-add-mod' (room edges) 5) in
       let none : NoneDue (map_room_checks v types (room answers) (room edges)) =
       next (first_none (room answers) k) (next (le-ltb (room edges) (length (flat_map edge_words (listed_edges v types))) past) end) in
-      let given : map_of v types (room answers) (room edges) ≡ Gives (mapping_of v types) = due_given (mapping_of v types) none in
+      let given : map_of v types (room answers) (room edges) ≡ Ok (mapping_of v types) = due_given (mapping_of v types) none in
       let named : numbers ≡ answers_from v 0 types ++ drop (length (answers_from v 0 types)) numbers₀ =
       c.noted ∙ ap (sets numbers₀ 0) (answers_holding v 0 0 types)
       ∙ sets_front numbers₀ (answers_from v 0 types) (omega (arith, answers_many v 0 types)) in
@@ -490,10 +487,10 @@ after_none a others (next h n) = rw h (after_none a others n)
 
 module _ (v : BorrowingParamVisitor) (structs params : List ℕ) {verdict : Verdict}
     (judged : verdict ≡ structs_and_params_verdict structs params) where
-  pub map_none : verdict ≡ Accepted → NoneDue (structs_and_params_checks structs params)
+  pub map_none : verdict ≡ Ok (tt {0}) → NoneDue (structs_and_params_checks structs params)
   map_none e = accepted_none (tt {0}) (structs_and_params_checks structs params) (sym judged ∙ e)
 
-  pub map_torn : {r : Refusal} {b : BorrowMap} {answers edges : Slice} → verdict ≡ Refused r → b ≡ map_answer (Refuses r)
+  pub map_torn : {r : Refusal} {b : BorrowMap} {answers edges : Slice} → verdict ≡ Err r → b ≡ map_answer (Err r)
       → Stays answers → Stays edges → MapsTo (borrow_map v structs params (room answers) (room edges)) b answers edges
   unfolding borrow_map
   map_torn {r} {b} {answers} {edges} e q =
@@ -502,7 +499,7 @@ module _ (v : BorrowingParamVisitor) (structs params : List ℕ) {verdict : Verd
       (due_refused (mapping_of v (types_in structs params))
       (first_more (map_room_checks v (types_in structs params) (room answers) (room edges)) due)) q
 
-  pub map_listed : {b : BorrowMap} {answers edges : Slice} → verdict ≡ Accepted
+  pub map_listed : {b : BorrowMap} {answers edges : Slice} → verdict ≡ Ok (tt {0})
       → b ≡ map_answer (map_of v (param_types params) (room answers) (room edges))
       → Fills (map_answers (map_of v (param_types params) (room answers) (room edges))) answers
       → Fills (map_edges (map_of v (param_types params) (room answers) (room edges))) edges

@@ -1,5 +1,6 @@
 -- A sheet's method: the first refusal due on ten records that were read is that of the stage which refuses them; if
 -- none is due, the method is accepted.
+use Rattle.std.specs.Prelude.{Ok, Err}
 use Prim.Native.Nat.{ℕ, ◌≤◌}
 use mathlib.Core.Bool.{true, false, ◌&&◌, not}
 use mathlib.Core.Path.{◌≡◌, refl, sym, ap, ◌∙◌}
@@ -9,10 +10,8 @@ use borrow.Author.Tests.{le-ltb, not-false}
 use lib.ListN.{length, take, drop}
 use Rattle.answers.specs.declared.Refusal.{Refusal}
 use Rattle.answers.specs.declared.Refusal.TheVariants.{OutOfRange}
-use Rattle.answers.specs.declared.Verdict.{Verdict}
-use Rattle.answers.specs.declared.Verdict.TheVariants as verdict
 use Rattle.lifetimes.specs.declared.env.Made.{Made}
-use Rattle.answers.specs.Refusals.{Check, check, Outcome, Gives, Refuses, FirstDue, here, later, NoneDue, next, end}
+use Rattle.answers.specs.Refusals.{Check, check, Outcome, FirstDue, here, later, NoneDue, next, end, Verdict}
 use Rattle.answers.specs.Lent.{verdict_of, result_or}
 use Rattle.lifetimes.specs.Env.{env_checks, env_of, made}
 use Rattle.answers.proofs.RefusalLaws.{due_given, due_refused, none_first, none_rest, none_split, none_more}
@@ -99,14 +98,14 @@ module _ (r : Records) where
     of_method = next (ap not shapes.2) (none_rest first)
 
     -- refused somewhere
-    refuses : {k : Refusal} {m : Made} → FirstDue k (lowering_checks r) → m ≡ made (env_of 0 0 []) (Refuses k)
+    refuses : {k : Refusal} {m : Made} → FirstDue k (lowering_checks r) → m ≡ made (env_of 0 0 []) (Err k)
         → m ≡ made (env_of 0 0 []) (lowered_env r)
     unfolding lowered_env
     refuses f h = rw (due_refused (env_of_sheet r) f) h
 
     -- names, bounds and types
     module _ {a : ast-made.Made} (is : a ≡ ast.made (ast.named_env [] []) (ast.from_method_item r.names r.bounds r.types)) where
-      pub names_first : {k : Refusal} → a.verdict ≡ verdict.Refused k → FirstDue k (lowering_checks r)
+      pub names_first : {k : Refusal} → a.verdict ≡ Err k → FirstDue k (lowering_checks r)
       unfolding lowering_checks ast.from_method_item
       names_first {k} v =
           let d = refused_first (ast_env_of r) k (ast.item_checks r.names r.bounds r.types)
@@ -114,11 +113,11 @@ module _ (r : Records) where
           let s : not (names_in_shape r.names && (bounds_in_shape r.bounds && types_in_shape r.types)) ≡ false = rw shapes.0 in
           first_more _ (first_behind (next s end) d)
 
-      pub names_refused : {k : Refusal} {m : Made} → a.verdict ≡ verdict.Refused k
-          → m ≡ made (env_of 0 0 []) (Refuses k) → m ≡ made (env_of 0 0 []) (lowered_env r)
+      pub names_refused : {k : Refusal} {m : Made} → a.verdict ≡ Err k
+          → m ≡ made (env_of 0 0 []) (Err k) → m ≡ made (env_of 0 0 []) (lowered_env r)
       names_refused v h = refuses (names_first v) h
 
-      module _ (fine : a.verdict ≡ verdict.Accepted) where
+      module _ (fine : a.verdict ≡ Ok (tt {0})) where
         ast_none : NoneDue (ast.item_checks r.names r.bounds r.types)
         unfolding ast.from_method_item
         ast_none =
@@ -144,13 +143,13 @@ module _ (r : Records) where
           verdict_is = ap (λ (x : Lowering). x.verdict) measured ∙ go (measure_records (ast_env_of r) r.self r.steps r.returns)
             where
               go : (o : Outcome rfc.Method) → (answered (ast_env_of r) o).verdict ≡ verdict_of o
-              go (Gives m) = refl
-              go (Refuses k) = refl
+              go (Ok m) = refl
+              go (Err k) = refl
 
           in_shape_not : not (in_shape_all r.self r.steps r.returns) ≡ false
           in_shape_not = rw shapes.1
 
-          pub steps_first : {k : Refusal} → l.verdict ≡ verdict.Refused k → FirstDue k (lowering_checks r)
+          pub steps_first : {k : Refusal} → l.verdict ≡ Err k → FirstDue k (lowering_checks r)
           unfolding lowering_checks measure_records
           steps_first {k} v =
               let e = ast_env_of r in
@@ -161,11 +160,11 @@ module _ (r : Records) where
               let g : FirstDue k elision_checks = rw names_are at f in
               first_after placed (first_more _ g)
 
-          pub steps_refused : {k : Refusal} {m : Made} → l.verdict ≡ verdict.Refused k
-              → m ≡ made (env_of 0 0 []) (Refuses k) → m ≡ made (env_of 0 0 []) (lowered_env r)
+          pub steps_refused : {k : Refusal} {m : Made} → l.verdict ≡ Err k
+              → m ≡ made (env_of 0 0 []) (Err k) → m ≡ made (env_of 0 0 []) (lowered_env r)
           steps_refused v h = refuses (steps_first v) h
 
-          module _ (given : l.verdict ≡ verdict.Accepted) where
+          module _ (given : l.verdict ≡ Ok (tt {0})) where
             pub measure_none : NoneDue (measure_checks (ast_env_of r) r.self r.steps r.returns)
             unfolding measure_records
             measure_none =
@@ -207,16 +206,16 @@ module _ (r : Records) where
                 none_more placed (none_more elided (none_more q.0 s.1))
 
             module _ {v : Verdict} (judges : v ≡ method_verdict l.env r.structs r.params r.output r.force) where
-              pub method_refused : {k : Refusal} {m : Made} → v ≡ verdict.Refused k
-                  → m ≡ made (env_of 0 0 []) (Refuses k) → m ≡ made (env_of 0 0 []) (lowered_env r)
+              pub method_refused : {k : Refusal} {m : Made} → v ≡ Err k
+                  → m ≡ made (env_of 0 0 []) (Err k) → m ≡ made (env_of 0 0 []) (lowered_env r)
               method_refused {k} w h =
                   refuses
                   (method_first
                   (refused_first (tt {0}) k (method_checks l.env r.structs r.params r.output r.force)
                   (sym judges ∙ w))) h
 
-              pub method_given : v ≡ verdict.Accepted
-                  → record { verdict = verdict.Accepted; env = l.env } ≡ made (env_of 0 0 []) (lowered_env r)
+              pub method_given : v ≡ Ok (tt {0})
+                  → record { verdict = Ok (tt {0}); env = l.env } ≡ made (env_of 0 0 []) (lowered_env r)
               unfolding lowered_env
               method_given w =
                   let due =

@@ -1,4 +1,5 @@
 -- A new visitor: the loop of `from_sets`, what an accepted method says, and the answers of `new`.
+use Rattle.std.specs.Prelude.{Ok, Err}
 use Prim.Native.Nat.{ℕ, zero, suc, ◌+◌, ◌-◌, ◌≤◌, ◌<◌}
 use mathlib.Core.Bool.{Bool, true, false, ◌||◌, true≢false}
 use mathlib.Core.Path.{◌≡◌, refl, sym, ap, ◌∙◌}
@@ -14,14 +15,13 @@ use lib.ListN.{get_or-append}
 use lib.Seq.{ext_get_or, get_or-set_same, get_or-set_other}
 use Rattle.answers.specs.declared.Refusal.{Refusal}
 use Rattle.answers.specs.declared.Refusal.TheVariants.{OutOfRange}
-use Rattle.answers.specs.declared.Verdict.TheVariants.{Accepted, Refused}
 use Rattle.lifetimes.specs.declared.maybe_static.MaybeStatic.{MaybeStatic}
 use Rattle.lifetimes.specs.declared.maybe_static.MaybeStatic.TheVariants.{NonStatic}
 use Rattle.lifetimes.specs.declared.env.LifetimeEnv.{LifetimeEnv}
 use Rattle.lifetimes.specs.declared.reach.ReachSets.{ReachSets}
 use Rattle.lifetimes.specs.Numbers.{lifetime}
 use Rattle.answers.specs.Lists.{range, any}
-use Rattle.answers.specs.Refusals.{Check, check, Outcome, Gives, Refuses, FirstDue, NoneDue}
+use Rattle.answers.specs.Refusals.{Check, check, Outcome, FirstDue, NoneDue}
 use Rattle.lifetimes.specs.Sets.{member, empty}
 use Rattle.lifetimes.specs.Env.{env_checks}
 use Rattle.lifetimes.specs.Reach.{all_sets, no_sets, reach_sets, reach_set}
@@ -29,8 +29,6 @@ use Rattle.answers.proofs.RefusalLaws.{due_given, given_due, refused_due, none_f
 use Rattle.answers.proofs.RefusalLaws.{none_more}
 use Rattle.answers.proofs.ListLaws.{length_range}
 use Rattle.lifetimes.proofs.IndexLaws.{zeros}
-use Rattle.methods.specs.declared.used.UsedLifetimes.{UsedLifetimes}
-use Rattle.methods.specs.declared.used.UsedLifetimes.TheVariants as answer
 use Rattle.methods.specs.Method.{output_lifetimes, is_past, any_past, place_checks, method_checks}
 use Rattle.methods.specs.Used.{used_set, used_answer}
 use Rattle.methods.proofs.Theorems.{used_lifetimes_are}
@@ -141,7 +139,7 @@ module _ (env : LifetimeEnv) (structs params output force : List ℕ)
   pub few_lifetimes : env.count ≤ 64
   few_lifetimes = ltb-false 64 env.count (none_first env_none)
 
-  pub used_below : (set : ℕ) → used_set env structs params output force ≡ Gives set → (k : ℕ) → member set k ≡ true → k < env.count
+  pub used_below : (set : ℕ) → used_set env structs params output force ≡ Ok set → (k : ℕ) → member set k ≡ true → k < env.count
   used_below set e k m =
       not_past env.count (output_lifetimes structs output) (none_first after_env.1) k
       (((used_lifetimes_are env structs params output force set e).members_are k).0 m)
@@ -157,44 +155,44 @@ set_there env i below =
     ∙ at_place (reach_set true env) 0 env.count i below
     ∙ ap (reach_set true env) (zero-add i)
 
-set_same : {u v : ℕ} → answer.Set u ≡ answer.Set v → u ≡ v
+set_same : {u v : ℕ} → Ok u ≡ Ok v → u ≡ v
 set_same e = cc
 
-set_refused : {r : Refusal} {v : ℕ} {A : Type 0} → answer.Refused r ≡ answer.Set v → A
+set_refused : {r : Refusal} {v : ℕ} {A : Type 0} → Err r ≡ Ok v → A
 set_refused e = let z : ◌≡◌ {A = ℕ} 0 1 = cc in absurd (omega arith)
 
-module _ (env : LifetimeEnv) (structs params output force : List ℕ) {a : UsedLifetimes}
+module _ (env : LifetimeEnv) (structs params output force : List ℕ) {a : Outcome ℕ}
     (is : a ≡ used_answer (used_set env structs params output force)) where
-  refuses : {r : Refusal} → a ≡ answer.Refused r → used_set env structs params output force ≡ Refuses r
+  refuses : {r : Refusal} → a ≡ Err r → used_set env structs params output force ≡ Err r
   refuses {r} e = go (used_set env structs params output force) (sym is ∙ e)
     where
-      go : (o : Outcome ℕ) → used_answer o ≡ answer.Refused r → o ≡ Refuses r
-      go (Gives u) q = let z : ◌≡◌ {A = ℕ} 0 1 = cc in absurd (omega arith)
-      go (Refuses x) q = cc
+      go : (o : Outcome ℕ) → used_answer o ≡ Err r → o ≡ Err r
+      go (Ok u) q = let z : ◌≡◌ {A = ℕ} 0 1 = cc in absurd (omega arith)
+      go (Err x) q = cc
 
-  pub used_refused : {r : Refusal} → a ≡ answer.Refused r → FirstDue r (method_checks env structs params output force)
+  pub used_refused : {r : Refusal} → a ≡ Err r → FirstDue r (method_checks env structs params output force)
   unfolding used_set
   used_refused {r} e = refused_due _ r (method_checks env structs params output force) (refuses e)
 
-  pub new_refused : {r : Refusal} → a ≡ answer.Refused r → {v : BorrowingParamVisitor} → v ≡ no_visitor
-      → record { verdict = Refused r; visitor = v } ≡ created env structs params output force
+  pub new_refused : {r : Refusal} → a ≡ Err r → {v : BorrowingParamVisitor} → v ≡ no_visitor
+      → record { verdict = Err r; visitor = v } ≡ created env structs params output force
   unfolding created
   new_refused e {v} is = rw (refuses e, is)
 
-  module _ {used : ℕ} (e : a ≡ answer.Set used) where
-    pub gives : used_set env structs params output force ≡ Gives used
+  module _ {used : ℕ} (e : a ≡ Ok used) where
+    pub gives : used_set env structs params output force ≡ Ok used
     gives = go (used_set env structs params output force) refl
       where
-        go : (o : Outcome ℕ) → used_set env structs params output force ≡ o → used_set env structs params output force ≡ Gives used
-        go (Gives u) q = let same : u ≡ used = set_same (sym (ap used_answer q) ∙ sym is ∙ e) in q ∙ ap Gives same
-        go (Refuses x) q = set_refused (sym (ap used_answer q) ∙ sym is ∙ e)
+        go : (o : Outcome ℕ) → used_set env structs params output force ≡ o → used_set env structs params output force ≡ Ok used
+        go (Ok u) q = let same : u ≡ used = set_same (sym (ap used_answer q) ∙ sym is ∙ e) in q ∙ ap Ok same
+        go (Err x) q = set_refused (sym (ap used_answer q) ∙ sym is ∙ e)
 
     pub accepted : NoneDue (method_checks env structs params output force)
     unfolding used_set
     accepted = (given_due _ used (method_checks env structs params output force) gives).0
 
     pub new_given : {r : ReachSets} → r ≡ reach_sets true env → {v : BorrowingParamVisitor} → v ≡ visitor_from used r.sets
-        → record { verdict = Accepted; visitor = v } ≡ created env structs params output force
+        → record { verdict = Ok (tt {0}); visitor = v } ≡ created env structs params output force
     unfolding created reach_sets
     new_given {r} q {v} is =
         let all : r.sets ≡ all_sets true env =

@@ -1,4 +1,5 @@
 -- A sheet judged in scratch: what reading it says, where its records are found, and what the call answers and writes.
+use Rattle.std.specs.Prelude.{Ok, Err}
 use Prim.Native.Nat.{ℕ, ◌≤◌}
 use mathlib.Core.Bool.{false}
 use mathlib.Core.Logic.{◌⊎◌, inl, inr}
@@ -10,11 +11,8 @@ use lib.ListN.{length, get_or, take, drop, length-append}
 use lib.Seq.{sets, take-append_seam}
 use Rattle.answers.specs.declared.Refusal.{Refusal}
 use Rattle.answers.specs.declared.Refusal.TheVariants.{NoRoom}
-use Rattle.answers.specs.declared.Verdict.TheVariants as verdict
-use Rattle.answers.specs.declared.Listed.{Listed}
-use Rattle.answers.specs.declared.Listed.TheVariants.{Count, Refused}
 use Rattle.lifetimes.specs.declared.env.Made.{Made}
-use Rattle.answers.specs.Refusals.{Check, Outcome, Gives, Refuses, unless, FirstDue, here, later, NoneDue}
+use Rattle.answers.specs.Refusals.{Check, Outcome, unless, FirstDue, here, later, NoneDue}
 use Rattle.answers.specs.Refusals.{next, end}
 use Rattle.answers.specs.Lent.{counted, verdict_of, result_or, room_check, written}
 use Rattle.lifetimes.specs.Env.{env_of, made}
@@ -69,7 +67,7 @@ module _ (bytes : List ℕ) where
     unfolding sheet_answer
     verdict_is = ap (λ (x : Text). x.verdict) read
 
-    pub text_first : {k : Refusal} → t.verdict ≡ verdict.Refused k → FirstDue k (sheet_refusals bytes)
+    pub text_first : {k : Refusal} → t.verdict ≡ Err k → FirstDue k (sheet_refusals bytes)
     unfolding sheet_ends sheet_refusals
     text_first {k} v =
         go
@@ -89,14 +87,14 @@ module _ (bytes : List ℕ) where
             absurd
             (none_of f (le-ltb (length scratch) (length (words_of sheet)) (roomy_fits bytes roomy (read_parts n).0)))
 
-    pub judge_text : {k : Refusal} {m : SheetMethod} → t.verdict ≡ verdict.Refused k → m ≡ method_answer (Refuses k)
+    pub judge_text : {k : Refusal} {m : SheetMethod} → t.verdict ≡ Err k → m ≡ method_answer (Err k)
         → JudgesSheet bytes m scratch₁
     judge_text v h = record {
       answers = rw (due_refused sheet (text_first v)) h;
       leaves = λ a. refused_accepted (sym (ap (λ (x : SheetMethod). x.verdict) h) ∙ a);
     }
 
-    module _ (fine : t.verdict ≡ verdict.Accepted) where
+    module _ (fine : t.verdict ≡ Ok (tt {0})) where
       call_none : NoneDue (call_checks bytes (length scratch))
       unfolding sheet_ends
       call_none = accepted_none _ (call_checks bytes (length scratch)) (sym verdict_is ∙ fine)
@@ -131,8 +129,8 @@ module _ (bytes : List ℕ) where
         verdict_of_lem : a.verdict ≡ verdict_of (lowered_env sheet)
         verdict_of_lem = ap (λ (x : Made). x.verdict) at_sheet
 
-        pub judge_refused : {k : Refusal} {m : SheetMethod} → a.verdict ≡ verdict.Refused k
-            → m ≡ method_answer (Refuses k) → JudgesSheet bytes m scratch₁
+        pub judge_refused : {k : Refusal} {m : SheetMethod} → a.verdict ≡ Err k
+            → m ≡ method_answer (Err k) → JudgesSheet bytes m scratch₁
         unfolding lowered_env sheet_refusals
         judge_refused {k} {m} v h =
             let f = refused_first (env_of_sheet sheet) k (lowering_checks sheet) (sym verdict_of_lem ∙ v) in
@@ -142,8 +140,8 @@ module _ (bytes : List ℕ) where
               leaves = λ x. refused_accepted (sym (ap (λ (x : SheetMethod). x.verdict) h) ∙ x);
             }
 
-        pub judge_given : a.verdict ≡ verdict.Accepted
-            → JudgesSheet bytes (record { verdict = verdict.Accepted; ends = t.ends; env = a.env }) scratch₁
+        pub judge_given : a.verdict ≡ Ok (tt {0})
+            → JudgesSheet bytes (record { verdict = Ok (tt {0}); ends = t.ends; env = a.env }) scratch₁
         unfolding lowered_env sheet_refusals read_laid
         judge_given v =
             let n = accepted_none (env_of_sheet sheet) (lowering_checks sheet) (sym verdict_of_lem ∙ v) in
@@ -163,7 +161,7 @@ module _ (bytes : List ℕ) where
     abbrev Answers : SheetMethod → List ℕ → Type 0
     Answers x words₁ = (x ≡ method_answer given) × (words₁ ≡ written (method_words given) words)
 
-    refused_answers : {k : Refusal} {x : SheetMethod} → x ≡ method_answer (Refuses k)
+    refused_answers : {k : Refusal} {x : SheetMethod} → x ≡ method_answer (Err k)
         → FirstDue k (sheet_refusals bytes ++ (room_check (length words) (words_of sheet) ∷ [])) → Answers x words
     unfolding lower_sheet
     refused_answers h f = rw (due_refused sheet f) (h, refl)
@@ -172,19 +170,19 @@ module _ (bytes : List ℕ) where
     judged_verdict = ap (λ (x : SheetMethod). x.verdict) judges.answers ∙ go (unless (sheet_refusals bytes) sheet)
       where
         go : (o : Outcome Records) → (method_answer o).verdict ≡ verdict_of o
-        go (Gives r) = refl
-        go (Refuses k) = refl
+        go (Ok r) = refl
+        go (Err k) = refl
 
-    pub within_refused : {k : Refusal} → m.verdict ≡ verdict.Refused k → Answers m words
+    pub within_refused : {k : Refusal} → m.verdict ≡ Err k → Answers m words
     within_refused {k} v =
         let f = refused_first sheet k (sheet_refusals bytes) (sym judged_verdict ∙ v) in
         refused_answers (judges.answers ∙ ap method_answer (due_refused sheet f)) (first_more _ f)
 
-    module _ (fine : m.verdict ≡ verdict.Accepted) where
+    module _ (fine : m.verdict ≡ Ok (tt {0})) where
       none : NoneDue (sheet_refusals bytes)
       none = accepted_none sheet (sheet_refusals bytes) (sym judged_verdict ∙ fine)
 
-      is_given : m ≡ method_answer (Gives sheet)
+      is_given : m ≡ method_answer (Ok sheet)
       is_given = judges.answers ∙ ap method_answer (due_given sheet none)
 
       total : get_or m.ends 9 0 ≡ length (words_of sheet)
@@ -194,8 +192,8 @@ module _ (bytes : List ℕ) where
       within_inside = let p = judges.leaves fine in rw (p.1, length-append) (omega (arith, total))
 
       module _ {words₁ : List ℕ} (left : words₁ ≡ written (copied scratch (get_or m.ends 9 0) (length words)) words)
-          {r : Listed} (told : r ≡ counted (copied scratch (get_or m.ends 9 0) (length words))) where
-        pub within_short : {k : Refusal} → r ≡ Refused k → {x : SheetMethod} → x ≡ method_answer (Refuses NoRoom) → Answers x words₁
+          {r : Outcome ℕ} (told : r ≡ counted (copied scratch (get_or m.ends 9 0) (length words))) where
+        pub within_short : {k : Refusal} → r ≡ Err k → {x : SheetMethod} → x ≡ method_answer (Err NoRoom) → Answers x words₁
         within_short c h =
             let no = copied_none scratch (get_or m.ends 9 0) words within_inside left told c in
             let a = refused_answers h
@@ -203,7 +201,7 @@ module _ (bytes : List ℕ) where
             (here (lt-ltb (length words) (length (words_of sheet)) (omega (arith, total, no.0))) refl)) in
             (a.0, no.1 ∙ a.1)
 
-        pub within_all : {n : ℕ} → r ≡ Count n → Answers m words₁
+        pub within_all : {n : ℕ} → r ≡ Ok n → Answers m words₁
         unfolding lower_sheet
         within_all c =
             let fits : get_or m.ends 9 0 ≤ length words = copied_all scratch (get_or m.ends 9 0) words within_inside left told c in

@@ -1,6 +1,7 @@
 -- A visit of one parameter: finding it, the answers of `visit_parts` and of `visit_param`.
 -- In order: the type with a number; its path is short; the records of a method and the parameter; what stands there; the
 -- answer's number; room and the answers.
+use Rattle.std.specs.Prelude.{Ok, Err, Some, None, Option}
 use Prim.Native.Nat.{ℕ, zero, suc, ◌+◌, ◌-◌, ◌*◌, ◌/◌, ◌≤◌, ◌<◌}
 use mathlib.Core.Bool.{Bool, true, false, cond, ◌&&◌, not, true≢false, and-eq-true_iff}
 use mathlib.Core.Path.{◌≡◌, refl, sym, ap, ◌∙◌}
@@ -15,21 +16,17 @@ use lib.Dec.{eqb, leb}
 use lib.ListN.{length, drop}
 use Rattle.answers.specs.declared.Refusal.{Refusal}
 use Rattle.answers.specs.declared.Refusal.TheVariants.{Malformed, NoRoom}
-use Rattle.answers.specs.declared.Verdict.{Verdict}
-use Rattle.answers.specs.declared.Verdict.TheVariants.{Accepted, Refused}
 use Rattle.lifetimes.specs.declared.env.Made.{Made}
 use Rattle.answers.specs.Lent.{result_or}
 use Rattle.lifetimes.specs.Env.{env_of, bounds_of_pairs, new_env, made}
 use Rattle.answers.specs.Refusals as refusals
-use Rattle.answers.specs.Refusals.{check, unless, FirstDue, here, later, NoneDue, next}
+use Rattle.answers.specs.Refusals.{check, unless, FirstDue, here, later, NoneDue, next, Verdict}
 use Rattle.answers.proofs.RefusalLaws.{due_given, due_refused, refused_first, accepted_none, none_first}
 use Rattle.records.specs.Reading.{Reading, Read, Fails, onward, read_all, few_words, in_shape, items_of}
 use Rattle.records.proofs.ReadingLaws.{Holds, read, fails, holds_read, holds_cond, holds_onward, holds_or, fails_read}
 use Rattle.hir_types.specs.declared.types.Kind.{Kind}
 use Rattle.hir_types.specs.declared.types.Kind.TheVariants.{Plain, Opaque, Struct, Slice}
 use Rattle.hir_types.specs.declared.types.Parts.{Parts}
-use Rattle.hir_types.specs.declared.types.Located.{Located}
-use Rattle.hir_types.specs.declared.types.Located.TheVariants.{At, Missing}
 use Rattle.hir_types.specs.LoweredTypes.{LoweredType, read_lowered, knows, located}
 use Rattle.hir_types.specs.Rows.{rows_of, read_known, types_of, params_in_shape, structs_in_shape}
 use Rattle.hir_types.specs.Places.{Stands, nowhere, code_of, code_in, Coded}
@@ -56,24 +53,24 @@ pub finding_start : (words : List ℕ) (n : ℕ) → Finding words n 0 0
 finding_start words n = record { here = omega arith; left = rw sub-zero }
 
 module _ {words : List ℕ} {n at i : ℕ} (inv : Finding words n at i) where
-  pub finding_end : n ≤ i → {r : Located} → r ≡ located at (length words) (read_lowered (drop at words)) → FoundAt words n r
+  pub finding_end : n ≤ i → {r : Option Parts} → r ≡ located at (length words) (read_lowered (drop at words)) → FoundAt words n r
   unfolding nth_type
   finding_end h l =
       let e : n - i ≡ 0 = omega arith in
       let same : nth_type n words ≡ read_lowered (drop at words) = rw e at inv.left in
       record { at = at; found = rw same (type_located words at l); coded = type_coded words at l }
 
-  module _ (h : i < n) {r : Located} (l : r ≡ located at (length words) (read_lowered (drop at words))) where
+  module _ (h : i < n) {r : Option Parts} (l : r ≡ located at (length words) (read_lowered (drop at words))) where
     one_on : nth_type n words ≡ onward (read_lowered (drop at words)) (λ t rest. nth_type (n - (i + 1)) rest)
     unfolding nth_type
     one_on = let e : n - i ≡ suc (n - (i + 1)) = omega arith in rw e at inv.left
 
-    pub finding_missing : r ≡ Missing → FoundAt words n Missing
+    pub finding_missing : r ≡ None → FoundAt words n None
     finding_missing e =
         let none : nth_type n words ≡ Fails = one_on ∙ rw (missing_told (type_located words at l) e) in
         record { at = at; found = rw none nowhere; coded = tt }
 
-    pub finding_more : {p : Parts} → r ≡ At p → Finding words n p.next (i + 1)
+    pub finding_more : {p : Parts} → r ≡ Some p → Finding words n p.next (i + 1)
     finding_more {p} e =
         let f = found_told (type_located words at l) e in
         let same : nth_type n words ≡ nth_type (n - (i + 1)) (drop p.next words) = one_on ∙ rw (f.reads, f.stands.left) in
@@ -182,7 +179,7 @@ module _ (structs params : List ℕ) (n : ℕ) where
         go (yes h) = let k = (is_nth e).inside h in (h, read_same (sym found ∙ k.1))
         go (no h) = fails_read (sym ((is_nth e).past (omega arith)) ∙ found)
 
-    pub records_refused : {v : Verdict} {r : Refusal} → v ≡ structs_and_params_verdict structs params → v ≡ Refused r
+    pub records_refused : {v : Verdict} {r : Refusal} → v ≡ structs_and_params_verdict structs params → v ≡ Err r
         → FirstDue r (visit_checks structs params n)
     records_refused {v} {r} a b = go Shape refl (leb (length Types) n) refl
       where
@@ -194,7 +191,7 @@ module _ (structs params : List ℕ) (n : ℕ) where
         go true e true f = let k = (there e).0 in absurd (omega (arith, leb-true (length Types) n f))
         go false e true f = here f (first_is (rw e) due)
 
-    pub records_accepted : {v : Verdict} → v ≡ structs_and_params_verdict structs params → v ≡ Accepted
+    pub records_accepted : {v : Verdict} → v ≡ structs_and_params_verdict structs params → v ≡ Ok (tt {0})
         → NoneDue (visit_checks structs params n) × (t ≡ type_at Types n)
     records_accepted {v} a b =
         let none : NoneDue Rest = accepted_none (tt {0}) Rest (sym a ∙ b) in
@@ -209,7 +206,7 @@ pub parts_type : {words : List ℕ} {at : ℕ} {t : LoweredType} {rest : List �
 parts_type s = rw (s.option, s.kind, s.path, s.own)
 
 -- the parameter that was found: its path words are there and not many, and so is its code
-pub parts_there : {n : ℕ} {words : List ℕ} {r : Located} {p : Parts} → FoundAt words n r → r ≡ At p
+pub parts_there : {n : ℕ} {words : List ℕ} {r : Option Parts} {p : Parts} → FoundAt words n r → r ≡ Some p
     → Inside words p.from p.count × (p.count ≤ 16) × Coded words p
 parts_there f e =
     let s = (found_told f.found e).stands in
@@ -283,7 +280,7 @@ number_worked f g borrowed-slice borrowed-opaque false false = omega arith
 
 -- a visit that brings nothing leaves all as it was
 stays : (v : BorrowingParamVisitor) (words : List ℕ) (k : Kind) (l : List LifetimeEdge) → length l ≡ 0
-    → outcome (record { verdict = Accepted; number = answer_number k l; pairs = empty_pairs }) (state v words)
+    → outcome (record { verdict = Ok (tt {0}); number = answer_number k l; pairs = empty_pairs }) (state v words)
     ≡ visit_with (state v words) (answer_of k l) l
 unfolding flat_map notes
 stays v words k [] e = rw (add-zero v.stored)
@@ -317,7 +314,7 @@ module _ (v : BorrowingParamVisitor) (words : List ℕ) (t : LoweredType) (param
   named : number ≡ answer_number t.kind es
   named = q ∙ ap (number_by t.kind) many ∙ number_is t.kind es
 
-  pub visit_nothing : n ≡ 0 → outcome (record { verdict = Accepted; number = number; pairs = empty_pairs }) (state v words)
+  pub visit_nothing : n ≡ 0 → outcome (record { verdict = Ok (tt {0}); number = number; pairs = empty_pairs }) (state v words)
       ≡ visit (state v words) t param
   unfolding visit
   visit_nothing z = rw named (stays v words t.kind es (sym many ∙ z))
@@ -330,7 +327,7 @@ module _ (v : BorrowingParamVisitor) (words : List ℕ) (t : LoweredType) (param
 
     pub visit_room : width * (v.stored + n) ≤ length words → {next : ℕ} {pairs words₁ : List ℕ}
         → Stores es v.stored empty_pairs words next pairs words₁
-        → outcome (record { verdict = Accepted; number = number; pairs = pairs }) (state (holding v next) words₁)
+        → outcome (record { verdict = Ok (tt {0}); number = number; pairs = pairs }) (state (holding v next) words₁)
         ≡ visit (state v words) t param
     unfolding visit
     visit_room h s =
@@ -343,7 +340,7 @@ unfolding unless
 either_way a [] = refl
 either_way a (c ∷ cs) = go c.due (either_way a cs)
   where
-    go : (t : Bool) → result_or a (unless cs a) ≡ a → result_or a (cond t (refusals.Refuses c.refusal) (unless cs a)) ≡ a
+    go : (t : Bool) → result_or a (unless cs a) ≡ a → result_or a (cond t (Err c.refusal) (unless cs a)) ≡ a
     go true h = refl
     go false h = h
 

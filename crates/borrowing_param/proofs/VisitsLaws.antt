@@ -1,4 +1,5 @@
 -- A run of visits in one equation, and all that Visits says.
+use Rattle.std.specs.Prelude.{Ok, Err}
 use Prim.Native.Nat.{ℕ, zero, suc, ◌+◌, ◌*◌, ◌≤◌, ◌<◌}
 use mathlib.Core.Bool.{Bool, true, false, cond}
 use mathlib.Core.Path.{◌≡◌, refl, sym, ap, subst, ◌∙◌}
@@ -15,7 +16,6 @@ use lib.Dec.{leb}
 use lib.ListN.{length, get_or, take, drop, length-append}
 use lib.Seq.{sets, sets-eq, length-sets, split_at}
 use Rattle.answers.specs.declared.Refusal.TheVariants.{NoRoom}
-use Rattle.answers.specs.declared.Verdict.TheVariants.{Accepted, Refused}
 use Rattle.answers.specs.Lent.{is_accepted}
 use Rattle.answers.proofs.VerdictLaws.{refused_accepted}
 use Rattle.borrowing_param.specs.declared.visitor.LifetimeEdge.{LifetimeEdge}
@@ -260,9 +260,9 @@ module _ (visits : State → ℕ → VisitOutcome) (v : BorrowingParamVisitor) (
 
   -- ---- where none is refused there is room for all, and the other way round
 
-  module _ (accepted : (p : ℕ) → p < few → (answer p).verdict ≡ Accepted) where
+  module _ (accepted : (p : ℕ) → p < few → (answer p).verdict ≡ Ok (tt {0})) where
     room_for_all : (e : ℕ) (words ps : List ℕ) → width * e ≤ length words → Within ps
-        → ((i : ℕ) → i < length ps → (visit_at visits (state (holding v e) words) ps i).info.verdict ≡ Accepted)
+        → ((i : ℕ) → i < length ps → (visit_at visits (state (holding v e) words) ps i).info.verdict ≡ Ok (tt {0}))
         → width * (e + length (flat_map F ps)) ≤ length words
     unfolding after_visits flat_map
     room_for_all e words [] h w a = omega arith
@@ -281,7 +281,7 @@ module _ (visits : State → ℕ → VisitOutcome) (v : BorrowingParamVisitor) (
             → (width * (e + κ p) ≤ length words
             → ((i : ℕ) → i < length ps
             → (visit_at visits (state (holding v (e + κ p)) (sets words (width * e) (flat_map edge_words (F p)))) ps
-            i).info.verdict ≡ Accepted)
+            i).info.verdict ≡ Ok (tt {0}))
             → width * (e + κ p + length (flat_map F ps)) ≤ length (sets words (width * e) (flat_map edge_words (F p))))
             → width * (e + length (F p ++ flat_map F ps)) ≤ length words
         go (yes k) r =
@@ -289,13 +289,13 @@ module _ (visits : State → ℕ → VisitOutcome) (v : BorrowingParamVisitor) (
             let fits =
             rw size
             at (r k
-            (λ i l. subst (λ (t : State). (visit_at visits t ps i).info.verdict ≡ Accepted) m
+            (λ i l. subst (λ (t : State). (visit_at visits t ps i).info.verdict ≡ Ok (tt {0})) m
             (a (suc i) (omega arith)))) in
             rw length-append (omega arith)
         go (no k) r =
             let m = ap (λ (o : VisitOutcome). o.info.verdict)
             (seen ∙ visit_refused (state (holding v e) words) (answer p) (F p) h (omega arith)) in
-            let z : Refused NoRoom ≡ Accepted = sym m ∙ a 0 (omega arith) in
+            let z : Err NoRoom ≡ (Ok (tt {0})) = sym m ∙ a 0 (omega arith) in
             refused_accepted z
 
     -- the visits that find room are those that answer `Accepted`

@@ -1,9 +1,8 @@
 -- The edges in listing order (01: by used lifetime, parameter, def), and the answers by parameter: of a visitor and the
 -- types of the parameters.
-use Rattle.std.specs.Prelude.{ℕ, ◌≡◌, length}
+use Rattle.std.specs.Prelude.{ℕ, ◌≡◌, length, Ok, Err}
 use mathlib.Core.List.{List, [], ◌∷◌, ◌++◌, flat_map}
-use Rattle.answers.specs.declared.Verdict.TheVariants as verdict
-use Rattle.answers.specs.Refusals.{Check, Outcome, Gives, Refuses, unless, over}
+use Rattle.answers.specs.Refusals.{Check, Outcome, unless, over}
 use Rattle.answers.specs.Lent.{Slice, Fills, room_check}
 use Rattle.hir_types.specs.LoweredTypes.{LoweredType}
 use Rattle.methods.specs.Method.{types_in, structs_and_params_checks}
@@ -50,9 +49,9 @@ borrow_map v structs params answers edges =
 
 -- what the call answers: how many parameters and edges there are, beside a refusal none
 abbrev pub map_answer : Outcome Mapping → BorrowMap
-map_answer (Gives m) =
-    record { verdict = verdict.Accepted; params = length m.answers; edges = length m.edges }
-map_answer (Refuses r) = record { verdict = verdict.Refused r; params = 0; edges = 0 }
+map_answer (Ok m) =
+    record { verdict = Ok (tt {0}); params = length m.answers; edges = length m.edges }
+map_answer (Err r) = record { verdict = Err r; params = 0; edges = 0 }
 
 -- what it writes
 abbrev pub map_answers : Outcome Mapping → Outcome (List ℕ)

@@ -1,9 +1,8 @@
 -- A whole method, and a whole sheet: the used lifetimes, the answers by parameter, and the edges in listing order.
-use Rattle.std.specs.Prelude.{ℕ, ◌*◌, ◌≡◌, length}
+use Rattle.std.specs.Prelude.{ℕ, ◌*◌, ◌≡◌, length, Ok, Err}
 use mathlib.Core.List.{List, [], ◌∷◌, ◌++◌, flat_map}
-use Rattle.answers.specs.declared.Verdict.TheVariants as verdict
 use Rattle.lifetimes.specs.declared.env.LifetimeEnv.{LifetimeEnv}
-use Rattle.answers.specs.Refusals.{Check, Outcome, Gives, Refuses, unless, over}
+use Rattle.answers.specs.Refusals.{Check, Outcome, unless, over}
 use Rattle.answers.specs.Lent.{Slice, Fills, room_check}
 use Rattle.methods.specs.Method.{most_params, types_in, method_checks}
 use Rattle.methods.specs.Used.{most_used}
@@ -64,14 +63,14 @@ borrow_sheet bytes used answers edges =
 
 -- what the calls answer: how many of each there are, beside a refusal none
 abbrev pub borrows_answer : Outcome Borrows → answer.Borrows
-borrows_answer (Gives b) =
+borrows_answer (Ok b) =
     record {
-      verdict = verdict.Accepted;
+      verdict = Ok (tt {0});
       used = length b.used;
       params = length b.answers;
       edges = length b.edges;
     }
-borrows_answer (Refuses r) = record { verdict = verdict.Refused r; used = 0; params = 0; edges = 0 }
+borrows_answer (Err r) = record { verdict = Err r; used = 0; params = 0; edges = 0 }
 
 -- what they write
 abbrev pub used_words : Outcome Borrows → Outcome (List ℕ)

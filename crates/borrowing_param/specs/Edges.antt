@@ -1,9 +1,7 @@
 -- An edge, and its words in a lent slice. `width` is how many they are; in the code it is `EDGE_WORDS`.
-use Rattle.std.specs.Prelude.{ℕ, zero, suc, ◌*◌, ◌/◌, cond, ltb, length, get_or, drop}
+use Rattle.std.specs.Prelude.{ℕ, zero, suc, ◌*◌, ◌/◌, cond, ltb, length, get_or, drop, Some, None, Option}
 use mathlib.Core.List.{List, [], ◌∷◌, filter}
 use Rattle.std.proofs.Math.Decide.{ℕ_discrete}
-use Rattle.borrowing_param.specs.declared.edges.EdgeAt.{EdgeAt}
-use Rattle.borrowing_param.specs.declared.edges.EdgeAt.TheVariants.{Edge, Absent}
 use Rattle.borrowing_param.specs.declared.visitor.LifetimeEdge.{LifetimeEdge}
 
 -- 01: "An edge is the values of its listing line": used lifetime, parameter, kind (1 opaque, 2 slice, 3 struct),
@@ -31,8 +29,8 @@ edges_in zero words = []
 edges_in (suc n) words = edge_at words ∷ edges_in n (drop width words)
 
 -- the edge with a number, from 0, of those that a slice has room for
-abbrev pub edge_in : List ℕ → ℕ → EdgeAt
-edge_in words place = cond (ltb place (length words / width)) (Edge (edge_at (drop (width * place) words))) Absent
+abbrev pub edge_in : List ℕ → ℕ → Option LifetimeEdge
+edge_in words place = cond (ltb place (length words / width)) (Some (edge_at (drop (width * place) words))) None
 
 -- the edges of a used lifetime, in order
 abbrev pub edges_of : ℕ → List LifetimeEdge → List LifetimeEdge

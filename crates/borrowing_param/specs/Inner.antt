@@ -1,6 +1,6 @@
 -- For private functions only: searching, counting and storing the edges of one parameter. No public contract cites this
 -- file.
-use Rattle.std.specs.Prelude.{ℕ, zero, suc, ◌+◌, ◌*◌, ◌^◌, ◌≤◌, ◌<◌, Bool, true, false, cond, ◌≡◌, eqb}
+use Rattle.std.specs.Prelude.{ℕ, zero, suc, ◌+◌, ◌*◌, ◌^◌, ◌≤◌, ◌<◌, Bool, true, false, cond, ◌≡◌, eqb, Some, None, Option}
 use Rattle.std.specs.Prelude.{length, get_or, take, drop}
 use mathlib.Core.List.{List, [], ◌∷◌, ◌++◌, map, flat_map}
 use Rattle.std.proofs.lemmas.List.Edits.{sets}
@@ -12,11 +12,8 @@ use Rattle.records.specs.Reading.{Reading, onward}
 use Rattle.hir_types.specs.declared.types.Kind.{Kind}
 use Rattle.hir_types.specs.declared.types.Kind.TheVariants.{Plain, Opaque, Struct, Slice}
 use Rattle.hir_types.specs.declared.types.Parts.{Parts}
-use Rattle.hir_types.specs.declared.types.Located.{Located}
 use Rattle.hir_types.specs.LoweredTypes.{LoweredType, own_lifetimes, read_lowered}
 use Rattle.hir_types.specs.Places.{Locates, CodedAt}
-use Rattle.borrowing_param.specs.declared.edges.First.{First}
-use Rattle.borrowing_param.specs.declared.edges.First.TheVariants.{At, Absent}
 use Rattle.borrowing_param.specs.declared.visitor.LifetimeEdge.{LifetimeEdge}
 use Rattle.borrowing_param.specs.Edges.{width, edge_words}
 use Rattle.borrowing_param.specs.Brings.{drawn, struct_edges, option_of, bring, notes}
@@ -33,11 +30,11 @@ type_in words p =
     record { option = p.option; kind = p.kind; path = take p.count (drop p.from words); own = p.own }
 
 -- the first lifetime that draws, counted from a number on
-unfoldable pub first_from : (ℕ → Bool) → ℕ → List MaybeStatic → First
-first_from draws i [] = Absent
-first_from draws i (m ∷ ms) = cond (drawn draws m) (At i) (first_from draws (suc i) ms)
+unfoldable pub first_from : (ℕ → Bool) → ℕ → List MaybeStatic → Option ℕ
+first_from draws i [] = None
+first_from draws i (m ∷ ms) = cond (drawn draws m) (Some i) (first_from draws (suc i) ms)
 
-abbrev pub FirstDrawn : (ℕ → Bool) → List ℕ → Parts → First → Type 0
+abbrev pub FirstDrawn : (ℕ → Bool) → List ℕ → Parts → Option ℕ → Type 0
 FirstDrawn draws words p r =
     r ≡ first_from draws 0 (map from_word (take p.count (drop p.from words)) ++ own_lifetimes p.own)
 
@@ -83,7 +80,7 @@ unfoldable pub nth_type : ℕ → List ℕ → Reading LoweredType
 nth_type zero words = read_lowered words
 nth_type (suc n) words = onward (read_lowered words) (λ t rest. nth_type n rest)
 
-pub record FoundAt (words : List ℕ) (n : ℕ) (r : Located) : Type 0 where
+pub record FoundAt (words : List ℕ) (n : ℕ) (r : Option Parts) : Type 0 where
   pub at : ℕ
   pub found : Locates words at (nth_type n words) r
   pub coded : CodedAt words r

@@ -1,10 +1,9 @@
 -- A new visitor: the used lifetimes, for each of them the lifetimes that draw an edge to it, and no edges. `from_sets`
 -- makes one of any sets, `new` of a method's.
-use Rattle.std.specs.Prelude.{ℕ, true, cond, List, map, get_or}
-use Rattle.answers.specs.declared.Verdict.TheVariants as verdict
+use Rattle.std.specs.Prelude.{ℕ, true, cond, List, map, get_or, Ok, Err}
 use Rattle.lifetimes.specs.declared.env.LifetimeEnv.{LifetimeEnv}
 use Rattle.answers.specs.Lists.{range}
-use Rattle.answers.specs.Refusals.{Outcome, Gives, Refuses}
+use Rattle.answers.specs.Refusals.{Outcome}
 use Rattle.lifetimes.specs.Limits.{most_lifetimes}
 use Rattle.lifetimes.specs.Sets.{empty, member}
 use Rattle.lifetimes.specs.Reach.{all_sets, no_sets}
@@ -29,8 +28,8 @@ no_visitor = visitor_from empty no_sets
 
 -- refused as the method is
 abbrev pub created_by : LifetimeEnv → Outcome ℕ → Created
-created_by env (Gives used) = record { verdict = verdict.Accepted; visitor = new_visitor used env }
-created_by env (Refuses r) = record { verdict = verdict.Refused r; visitor = no_visitor }
+created_by env (Ok used) = record { verdict = Ok (tt {0}); visitor = new_visitor used env }
+created_by env (Err r) = record { verdict = Err r; visitor = no_visitor }
 
 unfoldable pub created : LifetimeEnv → List ℕ → List ℕ → List ℕ → List ℕ → Created
 created env structs params output force = created_by env (used_set env structs params output force)

@@ -1,10 +1,9 @@
 -- A sheet's *method* (01's word): its environment beside the records structs, params, output and force; and the
 -- refusals of a sheet, one list in the papers' order.
-use Rattle.std.specs.Prelude.{ℕ, List, [], ◌∷◌, ◌++◌, replicate}
+use Rattle.std.specs.Prelude.{ℕ, List, [], ◌∷◌, ◌++◌, replicate, Ok, Err}
 use Rattle.answers.specs.declared.Refusal.TheVariants.{OutOfRange}
-use Rattle.answers.specs.declared.Verdict.TheVariants as verdict
 use Rattle.lifetimes.specs.declared.env.LifetimeEnv.{LifetimeEnv}
-use Rattle.answers.specs.Refusals.{Check, check, Outcome, Gives, Refuses, unless, over}
+use Rattle.answers.specs.Refusals.{Check, check, Outcome, unless, over}
 use Rattle.lifetimes.specs.Env.{env_of}
 use Rattle.ast_lifetimes.specs.declared.env.LifetimeEnv as ast-env
 use Rattle.ast_lifetimes.specs.Env as ast
@@ -50,8 +49,8 @@ lower_sheet bytes room = unless (with_room (sheet_refusals bytes) room (sheet_of
 
 -- what the call answers, and what it writes
 abbrev pub method_answer : Outcome Records → SheetMethod
-method_answer (Gives r) = record { verdict = verdict.Accepted; ends = ends_from 0 (lists r); env = env_of_sheet r }
-method_answer (Refuses k) = record { verdict = verdict.Refused k; ends = replicate record_count 0; env = env_of 0 0 [] }
+method_answer (Ok r) = record { verdict = Ok (tt {0}); ends = ends_from 0 (lists r); env = env_of_sheet r }
+method_answer (Err k) = record { verdict = Err k; ends = replicate record_count 0; env = env_of 0 0 [] }
 
 abbrev pub method_words : Outcome Records → Outcome (List ℕ)
 method_words o = over words_of o

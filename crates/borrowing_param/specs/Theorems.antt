@@ -1,17 +1,15 @@
 -- The main theorems of this crate, stated. Each has its proof, a term of exactly this type and of the same name in
 -- small letters, in proofs/Theorems.antt.
-use Rattle.std.specs.Prelude.{ℕ, ◌*◌, ◌≤◌, ◌<◌, true, ◌≡◌, ◌↔◌, length, get_or}
+use Rattle.std.specs.Prelude.{ℕ, ◌*◌, ◌≤◌, ◌<◌, true, ◌≡◌, ◌↔◌, length, get_or, Ok, Some}
 use mathlib.Core.List.{List, Memᴰ}
 use Rattle.lifetimes.specs.declared.env.LifetimeEnv.{LifetimeEnv}
 use Rattle.answers.specs.declared.Refusal.TheVariants.{NoRoom}
-use Rattle.answers.specs.declared.Verdict.TheVariants.{Accepted}
 use Rattle.answers.specs.Lists.{range}
-use Rattle.answers.specs.Refusals.{Gives, NoneDue}
+use Rattle.answers.specs.Refusals.{NoneDue}
 use Rattle.lifetimes.specs.Sets.{empty}
 use Rattle.methods.specs.Method.{types_in, structs_and_params_checks, method_checks}
 use Rattle.methods.specs.Used.{used_set, most_used}
 use Rattle.sheet.specs.Reading.{sheet_of}
-use Rattle.borrowing_param.specs.declared.edges.EdgeAt.TheVariants.{Edge}
 use Rattle.borrowing_param.specs.declared.visitor.ParamBorrowInfo.{ParamBorrowInfo}
 use Rattle.borrowing_param.specs.declared.visitor.BorrowingParamVisitor.{BorrowingParamVisitor}
 use Rattle.borrowing_param.specs.declared.visitor.Created.{Created}
@@ -31,8 +29,8 @@ use Rattle.borrowing_param.specs.Examples.{starred, further, Right}
 -- The new visitor of a method on which no refusal is due: the used lifetimes; for each of them exactly the lifetimes
 -- that are forced above it draw, for a lifetime that is not used none; no edges
 pub record IsNew (env : LifetimeEnv) (structs params output force : List ℕ) (c : Created) : Type 0 where
-  pub accepted : c.verdict ≡ Accepted
-  pub used : used_set env structs params output force ≡ Gives c.visitor.used
+  pub accepted : c.verdict ≡ Ok (tt {0})
+  pub used : used_set env structs params output force ≡ Ok c.visitor.used
   pub draws : (used : ℕ) → Memᴰ used (used_of c.visitor) → (b : ℕ) → (draws_of c.visitor used b ≡ true)
       ↔ Above env b used
   pub draws_none : (other : ℕ) → (Memᴰ other (used_of c.visitor) → ⊥) → get_or c.visitor.draws other 0 ≡ empty
@@ -104,7 +102,7 @@ RoomForAll structs params v words = width * length (listed_edges v (types_in str
 pub record AsVisited (structs params : List ℕ) (v : BorrowingParamVisitor) (words : List ℕ) : Type 0 where
   -- with room for all edges no visit is refused, and each answers the number in the listing
   pub answered : RoomForAll structs params v words → (p : ℕ) → p < length (types_in structs params)
-      → ((visit_of structs params v words p).verdict ≡ Accepted)
+      → ((visit_of structs params v words p).verdict ≡ Ok (tt {0}))
       × ((visit_of structs params v words p).number ≡ get_or (answers_from v 0 (types_in structs params)) p 0)
   -- and each lifetime has the edges that it has in the listing, in the same order
   pub edges : RoomForAll structs params v words → (used : ℕ)
@@ -127,7 +125,7 @@ ListingIsVisits = (env : LifetimeEnv) (structs params output force : List ℕ)
 abbrev pub EdgesByPlace : Type 0
 EdgesByPlace =
     (words : List ℕ) (n k : ℕ) → width * n ≤ length words → k < n
-    → edge_in words k ≡ Edge (get_or (edges_in n words) k (edge 0 0 0 0 0))
+    → edge_in words k ≡ Some (get_or (edges_in n words) k (edge 0 0 0 0 0))
 
 -- Sheets give accepted methods: on a sheet's method no refusal is due, if none is on the sheet, so that condition 3 and
 -- the listing speak of it

@@ -1,7 +1,7 @@
 -- `visit_param`: a visit of one parameter of the records `structs` and `params`, total on all words.
-use Rattle.std.specs.Prelude.{ℕ, false, List, [], ◌∷◌, leb, length, get_or}
+use Rattle.std.specs.Prelude.{ℕ, false, List, [], ◌∷◌, leb, length, get_or, Ok, Err}
 use Rattle.answers.specs.declared.Refusal.TheVariants.{Malformed}
-use Rattle.answers.specs.Refusals.{Check, check, Outcome, Gives, Refuses, unless}
+use Rattle.answers.specs.Refusals.{Check, check, Outcome, unless}
 use Rattle.hir_types.specs.declared.types.Kind.TheVariants.{Plain}
 use Rattle.hir_types.specs.declared.types.Own.TheVariants.{Absent}
 use Rattle.hir_types.specs.LoweredTypes.{LoweredType, lowered_type}
@@ -21,8 +21,8 @@ visit_checks structs params param =
 
 -- refused by these the visit leaves all as it was; else it goes on
 abbrev pub visit_if : Outcome (Unit {0}) → State → LoweredType → ℕ → VisitOutcome
-visit_if (Gives u) s t param = visit s t param
-visit_if (Refuses r) s t param = outcome (refuse r) s
+visit_if (Ok u) s t param = visit s t param
+visit_if (Err r) s t param = outcome (refuse r) s
 
 unfoldable pub visit_param : List ℕ → List ℕ → State → ℕ → VisitOutcome
 visit_param structs params s param =

@@ -1,9 +1,8 @@
 -- What any list of visits answers, stores and leaves. For condition 3 (specs/Condition3.antt): this part does not ask
 -- why an edge is drawn.
-use Rattle.std.specs.Prelude.{ℕ, ◌+◌, ◌*◌, ◌≤◌, ◌<◌, cond, ◌≡◌, length, get_or, take, drop}
+use Rattle.std.specs.Prelude.{ℕ, ◌+◌, ◌*◌, ◌≤◌, ◌<◌, cond, ◌≡◌, length, get_or, take, drop, Ok}
 use mathlib.Core.List.{List, [], ◌∷◌, ◌++◌, flat_map, Memᴰ, Permᴰ}
 use Rattle.answers.specs.declared.Refusal.TheVariants.{NoRoom}
-use Rattle.answers.specs.declared.Verdict.TheVariants.{Accepted}
 use Rattle.answers.specs.Lent.{is_accepted}
 use Rattle.borrowing_param.specs.declared.visitor.LifetimeEdge.{LifetimeEdge}
 use Rattle.borrowing_param.specs.declared.visitor.ParamBorrowInfo.{ParamBorrowInfo}
@@ -52,7 +51,7 @@ module _ (visits : State → ℕ → VisitOutcome) (v : BorrowingParamVisitor)
   edges_after words ps = edges_in (leaves words ps).visitor.stored (leaves words ps).words
 
   abbrev pub NoneRefused : List ℕ → List ℕ → Type 0
-  NoneRefused words ps = (i : ℕ) → i < length ps → (visit_number words ps i).info.verdict ≡ Accepted
+  NoneRefused words ps = (i : ℕ) → i < length ps → (visit_number words ps i).info.verdict ≡ Ok (tt {0})
 
   pub record Visits (words ps : List ℕ) : Type 0 where
     -- 1. A visit is refused if there is no room for its edges behind those before it; then it answers 9 alone, and
@@ -62,7 +61,7 @@ module _ (visits : State → ℕ → VisitOutcome) (v : BorrowingParamVisitor)
     -- 2. else it is not refused, and its answer depends on the parameter only
     pub answered : (i : ℕ) → i < length ps → wanted words ps i ≤ length words
         → (visit_number words ps i).info ≡ answer (get_or ps i 0)
-    pub accepted : (i : ℕ) → i < length ps → (answer (get_or ps i 0)).verdict ≡ Accepted
+    pub accepted : (i : ℕ) → i < length ps → (answer (get_or ps i 0)).verdict ≡ Ok (tt {0})
     -- 3. Afterwards the words of all that the unrefused visits brought stand in front, in order; what follows is as it
     -- was; the visitor counts the edges and is else the same
     pub words_after : (leaves words ps).words

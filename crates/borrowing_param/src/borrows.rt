@@ -13,14 +13,14 @@ ghost use Rattle.borrowing_param.specs.InnerSheet.{OfMethod, small_bytes, borrow
 
 use super::method::judge_sheet;
 use super::visitor::BorrowingParamVisitor;
-use answers::{Refusal, Verdict};
+use answers::Refusal;
 use lifetimes::{LifetimeEnv, set};
 use sheet::{Text, record_words};
 
 // How many used lifetimes, parameters and edges there are, or why the call is refused; beside a refusal none.
 #[derive(Clone, Copy)]
 pub struct Borrows {
-    pub verdict: Verdict,
+    pub verdict: Result<(), Refusal>,
     pub used: usize,
     pub params: usize,
     pub edges: usize,
@@ -38,7 +38,7 @@ pub fn borrow_sheet(
 ) -> Borrows
     ensures answer { BorrowsTo (borrow_sheet sheet.now (room used) (room answers) (room edges))
         result used answers edges }
-    ensures consistent { result.verdict ≡ Verdict.Accepted → Consistent (take result.used (left used))
+    ensures consistent { result.verdict ≡ Ok (tt {0}) → Consistent (take result.used (left used))
         (take result.params (left answers)) (edges_in result.edges (left edges)) }
     ensures few { (result.used ≤ most_used) × (result.edges ≤ most_listed) }
 {
@@ -90,7 +90,7 @@ fn borrow_within(
 {
     let method = judge_sheet(sheet, scratch);
     let verdict = method.verdict;
-    if let Verdict::Refused(refusal) = verdict {
+    if let Err(refusal) = verdict {
         return unborrowed(refusal);
     }
     let ends = method.ends;
@@ -125,7 +125,7 @@ pub fn borrow_method(
 {
     let created = BorrowingParamVisitor::new(env, structs, params, output, force);
     let verdict = created.verdict;
-    if let Verdict::Refused(refusal) = verdict {
+    if let Err(refusal) = verdict {
         return unborrowed(refusal);
     }
     let visitor = created.visitor;
@@ -152,12 +152,12 @@ fn borrow_by(
     }
     let map = visitor.borrow_map(structs, params, answers, edges);
     let verdict = map.verdict;
-    if let Verdict::Refused(refusal) = verdict {
+    if let Err(refusal) = verdict {
         return unborrowed(refusal);
     }
     set::members(members, used);
     Borrows {
-        verdict: Verdict::Accepted,
+        verdict: Ok(()),
         used: count,
         params: map.params,
         edges: map.edges,
@@ -169,7 +169,7 @@ fn unborrowed(refusal: Refusal) -> Borrows
     ensures { result ≡ borrows_answer (Refuses refusal) }
 {
     Borrows {
-        verdict: Verdict::Refused(refusal),
+        verdict: Err(refusal),
         used: 0,
         params: 0,
         edges: 0,

@@ -14,23 +14,16 @@ ghost use Rattle.borrowing_param.specs.Inner.{SetBelow, Inside, type_in, first_f
 ghost use Rattle.borrowing_param.specs.Inner.{CountsFor, CountsAll, struct_of, all_in, Stores, StoresWords};
 
 use super::visitor::{BorrowingParamVisitor, LifetimeEdge, ParamBorrowInfo};
-use hir_types::{Kind, OwnLifetime, Parts, path_words};
+use hir_types::{Kind, Parts, path_words};
 use lifetimes::{DefLifetime, Lifetime, LifetimeEnv, LinkedWord, MaybeStatic, linked_word, set};
 
-// The edge at a place of a slice of edges. Absent past its last whole edge.
-#[derive(Clone, Copy)]
-pub enum EdgeAt {
-    Edge(LifetimeEdge),
-    Absent,
-}
-
 // The edge with a number, from 0, of those that a slice has room for: how a call's edges are read again.
-pub fn edge_at(edges: &[usize], place: usize) -> EdgeAt
+pub fn edge_at(edges: &[usize], place: usize) -> Option<LifetimeEdge>
     ensures answer { result ≡ edge_in edges.now place }
 {
     let room = edges.len() / BorrowingParamVisitor::EDGE_WORDS;
     if room <= place {
-        return EdgeAt::Absent;
+        return None;
     }
     let from = BorrowingParamVisitor::EDGE_WORDS * place;
     let used = edges[from];
@@ -38,20 +31,13 @@ pub fn edge_at(edges: &[usize], place: usize) -> EdgeAt
     let kind = edges[from + 2];
     let def = edges[from + 3];
     let option = edges[from + 4];
-    EdgeAt::Edge(LifetimeEdge {
+    Some(LifetimeEdge {
         used,
         param,
         kind,
         def,
         option,
     })
-}
-
-// The first lifetime of a type that draws, by its index.
-#[derive(Clone, Copy)]
-enum First {
-    At(usize),
-    Absent,
 }
 
 // Whether a lifetime draws: 'static never does.
@@ -75,46 +61,46 @@ fn is_in(set: u64, lifetime: Lifetime) -> bool
 }
 
 // The first of some lowered words that draws.
-fn first_word(set: u64, words: &[usize], from: usize, count: usize) -> First
+fn first_word(set: u64, words: &[usize], from: usize, count: usize) -> Option<usize>
     requires { Inside words.now from count }
     ensures { result ≡ first_from (draws_in set) 0 (map from_word (take count (drop from words.now))) }
 {
     let mut i = 0;
     while i < count {
         if draws(set, MaybeStatic::from_word(words[from + i])) {
-            return First::At(i);
+            return Some(i);
         }
         i += 1;
     }
-    First::Absent
+    None
 }
 
 // The first lifetime of a type that draws: among its path words, then its own.
-fn first_drawn(set: u64, words: &[usize], parts: Parts) -> First
+fn first_drawn(set: u64, words: &[usize], parts: Parts) -> Option<usize>
     requires { Inside words.now parts.from parts.count }
     ensures { FirstDrawn (draws_in set) words.now parts result }
 {
     let count = parts.count;
     let first = first_word(set, words, parts.from, count);
-    if let First::At(i) = first {
-        return First::At(i);
+    if let Some(i) = first {
+        return Some(i);
     }
     let own = parts.own;
     let last = own.lifetime();
     match last {
-        OwnLifetime::Lifetime(lifetime) => first_own(set, lifetime, count),
-        OwnLifetime::Absent => First::Absent,
+        Some(lifetime) => first_own(set, lifetime, count),
+        None => None,
     }
 }
 
 // A type's own lifetime, with its index, if it draws.
-fn first_own(set: u64, lifetime: MaybeStatic, index: usize) -> First
+fn first_own(set: u64, lifetime: MaybeStatic, index: usize) -> Option<usize>
     ensures { result ≡ first_from (draws_in set) index (lifetime ∷ []) }
 {
     if draws(set, lifetime) {
-        return First::At(index);
+        return Some(index);
     }
-    First::Absent
+    None
 }
 
 // The method's lifetime at the use of a struct for a lifetime of its definition, by the struct's path words. The
@@ -169,8 +155,8 @@ fn count_one(set: u64, words: &[usize], parts: Parts) -> usize
 {
     let first = first_drawn(set, words, parts);
     match first {
-        First::At(_) => 1,
-        First::Absent => 0,
+        Some(_) => 1,
+        None => 0,
     }
 }
 
@@ -306,7 +292,7 @@ fn store_one(
         at (held edges) result (left edges) }
 {
     let first = first_drawn(set, words, parts);
-    let First::At(_) = first else {
+    let Some(_) = first else {
         return at;
     };
     let edge = LifetimeEdge {

@@ -19,7 +19,7 @@ mod method;
 mod visitor;
 
 pub use borrows::{Borrows, borrow_method, borrow_sheet};
-pub use edges::{EdgeAt, edge_at};
+pub use edges::edge_at;
 pub use listed::BorrowMap;
 pub use method::{SheetMethod, lower_sheet};
 pub use visitor::{BorrowingParamVisitor, Created, LifetimeEdge, ParamBorrowInfo, Visited};

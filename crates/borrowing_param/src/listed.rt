@@ -12,8 +12,8 @@ ghost use Rattle.borrowing_param.specs.InnerMap.{param_types, Params, visitor_in
 
 use super::edges::{count_all, past_last, store_for};
 use super::visitor::{BorrowingParamVisitor, ParamBorrowInfo, number_of};
-use answers::{Refusal, Verdict};
-use hir_types::{Located, type_at};
+use answers::Refusal;
+use hir_types::type_at;
 use lifetimes::{Lifetime, LifetimeEnv, set};
 use methods::{MAX_PARAMS, check_structs_and_params};
 use records::copy_words;
@@ -21,7 +21,7 @@ use records::copy_words;
 // How many parameters and edges there are, or why the call is refused; beside a refusal none.
 #[derive(Clone, Copy)]
 pub struct BorrowMap {
-    pub verdict: Verdict,
+    pub verdict: Result<(), Refusal>,
     pub params: usize,
     pub edges: usize,
 }
@@ -51,8 +51,8 @@ impl BorrowingParamVisitor {
     {
         let verdict = check_structs_and_params(structs, params);
         match verdict {
-            Verdict::Refused(refusal) => unmapped(refusal),
-            Verdict::Accepted => map_params(self, params, answers, edges),
+            Err(refusal) => unmapped(refusal),
+            Ok(()) => map_params(self, params, answers, edges),
         }
     }
 }
@@ -62,7 +62,7 @@ fn unmapped(refusal: Refusal) -> BorrowMap
     ensures { result ≡ map_answer (Refuses refusal) }
 {
     BorrowMap {
-        verdict: Verdict::Refused(refusal),
+        verdict: Err(refusal),
         params: 0,
         edges: 0,
     }
@@ -93,7 +93,7 @@ fn map_params(
     copy_words(&numbers, count, answers);
     let stored = store_listed(used, &draws, params, edges);
     BorrowMap {
-        verdict: Verdict::Accepted,
+        verdict: Ok(()),
         params: count,
         edges: stored,
     }
@@ -114,7 +114,7 @@ fn count_params(
     let mut at = 0;
     while at < params.len() {
         let found = type_at(params, at);
-        let Located::At(parts) = found else {
+        let Some(parts) = found else {
             return Counted {
                 params: param,
                 edges: total,
@@ -180,7 +180,7 @@ fn store_to(
     let mut place = 0;
     while place < params.len() {
         let found = type_at(params, place);
-        let Located::At(parts) = found else {
+        let Some(parts) = found else {
             return next;
         };
         next = store_for(set, params, parts, used, param, edges, next, pairs);

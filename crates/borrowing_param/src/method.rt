@@ -13,18 +13,18 @@ ghost use Rattle.sheet.specs.Inner.{Roomy};
 ghost use Rattle.borrowing_param.specs.SheetMethod.{lower_sheet, method_answer, method_words};
 ghost use Rattle.borrowing_param.specs.InnerSheet.{small_bytes, lowered_env, JudgesSheet};
 
-use answers::{Listed, Refusal, Verdict};
+use answers::Refusal;
 use elision::measure;
 use lifetimes::{LifetimeEnv, Made};
 use methods::check_method;
-use records::copy_words;
+use records::{MAX_WORDS, copy_words};
 use sheet::{Text, read_sheet, record_words};
 
 // A sheet's method: where each of its ten records ends in the words that were written, and its environment. Beside a
 // refusal all ends are 0, and the environment has no lifetimes.
 #[derive(Clone, Copy)]
 pub struct SheetMethod {
-    pub verdict: Verdict,
+    pub verdict: Result<(), Refusal>,
     pub ends: [usize; Text::RECORDS],
     pub env: LifetimeEnv,
 }
@@ -68,11 +68,11 @@ fn lower_within(sheet: &[u8], scratch: &mut [usize], words: &mut [usize]) -> She
 {
     let method = judge_sheet(sheet, scratch);
     let verdict = method.verdict;
-    if let Verdict::Refused(_) = verdict {
+    if let Err(_) = verdict {
         return method;
     }
     let ends = method.ends;
-    let Listed::Count(_) = copy_words(scratch, ends[9], words) else {
+    let Ok(_) = copy_words(scratch, ends[9], words) else {
         return refused_method(Refusal::NoRoom);
     };
     method
@@ -85,18 +85,18 @@ pub(crate) fn judge_sheet(sheet: &[u8], scratch: &mut [usize]) -> SheetMethod
 {
     let text = read_sheet(sheet, scratch);
     let verdict = text.verdict;
-    if let Verdict::Refused(refusal) = verdict {
+    if let Err(refusal) = verdict {
         return refused_method(refusal);
     }
     let ends = text.ends;
     let made = lower_laid(scratch, ends);
     let judged = made.verdict;
-    if let Verdict::Refused(refusal) = judged {
+    if let Err(refusal) = judged {
         return refused_method(refusal);
     }
     let env = made.env;
     SheetMethod {
-        verdict: Verdict::Accepted,
+        verdict: Ok(()),
         ends,
         env,
     }
@@ -146,21 +146,21 @@ fn lower_records(
 {
     let ast = ast_lifetimes::LifetimeEnv::from_method_item(names, bounds, types);
     let declared = ast.verdict;
-    if let Verdict::Refused(refusal) = declared {
+    if let Err(refusal) = declared {
         return refused_env(refusal);
     }
     let lowered = measure(ast.env, receiver, steps, returns);
     let elided = lowered.verdict;
-    if let Verdict::Refused(refusal) = elided {
+    if let Err(refusal) = elided {
         return refused_env(refusal);
     }
     let env = lowered.env;
     let verdict = check_method(env, structs, params, output, force);
-    if let Verdict::Refused(refusal) = verdict {
+    if let Err(refusal) = verdict {
         return refused_env(refusal);
     }
     Made {
-        verdict: Verdict::Accepted,
+        verdict: Ok(()),
         env,
     }
 }
@@ -173,7 +173,7 @@ fn refused_env(refusal: Refusal) -> Made
     let made = LifetimeEnv::new(0, 0, &none);
     let env = made.env;
     Made {
-        verdict: Verdict::Refused(refusal),
+        verdict: Err(refusal),
         env,
     }
 }
@@ -185,7 +185,7 @@ fn refused_method(refusal: Refusal) -> SheetMethod
     let made = refused_env(refusal);
     let env = made.env;
     SheetMethod {
-        verdict: Verdict::Refused(refusal),
+        verdict: Err(refusal),
         ends: [0; Text::RECORDS],
         env,
     }

@@ -10,11 +10,11 @@ ghost use Rattle.hir_types.specs.Places.{Coded};
 ghost use Rattle.answers.specs.Lent.{held, left};
 
 use super::edges::{count_all, past_last, store_all};
-use answers::{Refusal, Verdict};
-use hir_types::{Kind, Located, Parts, type_at};
+use answers::Refusal;
+use hir_types::{Kind, Parts, type_at};
 use lifetimes::{Lifetime, LifetimeEnv, set};
-use methods::{UsedLifetimes, check_structs_and_params, used_method_lifetimes};
-use records::End;
+use methods::{check_structs_and_params, used_method_lifetimes};
+use records::MAX_LIST;
 
 // One edge: the values of its line in the listing. Kind 1 is the Rust's `OpaqueParam`, 2 `SliceParam`, 3
 // `StructLifetime`; the used lifetime is the key of its map.
@@ -31,7 +31,7 @@ pub struct LifetimeEdge {
 // definition the set of the used lifetimes that it has an edge to (the map in the Rust's `StructBorrowInfo`).
 #[derive(Clone, Copy)]
 pub struct ParamBorrowInfo {
-    pub verdict: Verdict,
+    pub verdict: Result<(), Refusal>,
     pub number: usize,
     pub pairs: [u64; ParamBorrowInfo::MAX_DEFS],
 }
@@ -48,7 +48,7 @@ pub struct BorrowingParamVisitor {
 // A new visitor, or why there is none; beside a refusal a visitor that uses nothing.
 #[derive(Clone, Copy)]
 pub struct Created {
-    pub verdict: Verdict,
+    pub verdict: Result<(), Refusal>,
     pub visitor: BorrowingParamVisitor,
 }
 
@@ -61,7 +61,7 @@ pub struct Visited {
 
 impl ParamBorrowInfo {
     // How many lifetimes a struct's definition may have.
-    pub const MAX_DEFS: usize = End::MAX_LIST;
+    pub const MAX_DEFS: usize = MAX_LIST;
 }
 
 impl BorrowingParamVisitor {
@@ -81,17 +81,17 @@ impl BorrowingParamVisitor {
     {
         let lifetimes = used_method_lifetimes(env, structs, params, output, force);
         match lifetimes {
-            UsedLifetimes::Refused(refusal) => {
+            Err(refusal) => {
                 let none = [set::EMPTY; LifetimeEnv::MAX_LIFETIMES];
                 Created {
-                    verdict: Verdict::Refused(refusal),
+                    verdict: Err(refusal),
                     visitor: BorrowingParamVisitor::from_sets(set::EMPTY, &none),
                 }
             }
-            UsedLifetimes::Set(used) => {
+            Ok(used) => {
                 let reach = env.reach_sets(true);
                 Created {
-                    verdict: Verdict::Accepted,
+                    verdict: Ok(()),
                     visitor: BorrowingParamVisitor::from_sets(used, &reach.sets),
                 }
             }
@@ -135,13 +135,13 @@ impl BorrowingParamVisitor {
             ≡ visit_param structs.now params.now (state self (held edges)) param }
     {
         let found = param_at(params, param);
-        let Located::At(parts) = found else {
+        let Some(parts) = found else {
             return refused(self, Refusal::Malformed);
         };
         let verdict = check_structs_and_params(structs, params);
         match verdict {
-            Verdict::Refused(refusal) => refused(self, refusal),
-            Verdict::Accepted => visit_parts(self, params, parts, param, edges),
+            Err(refusal) => refused(self, refusal),
+            Ok(()) => visit_parts(self, params, parts, param, edges),
         }
     }
 }
@@ -153,7 +153,7 @@ fn refused(visitor: BorrowingParamVisitor, refusal: Refusal) -> Visited
     let pairs = [set::EMPTY; ParamBorrowInfo::MAX_DEFS];
     Visited {
         info: ParamBorrowInfo {
-            verdict: Verdict::Refused(refusal),
+            verdict: Err(refusal),
             number: 0,
             pairs,
         },
@@ -162,15 +162,15 @@ fn refused(visitor: BorrowingParamVisitor, refusal: Refusal) -> Visited
 }
 
 // The parameter with a number, where it stands.
-fn param_at(params: &[usize], param: usize) -> Located
+fn param_at(params: &[usize], param: usize) -> Option<Parts>
     ensures { FoundAt params.now param result }
 {
     let mut at = 0;
     let mut i = 0;
     while i < param {
         let found = type_at(params, at);
-        let Located::At(parts) = found else {
-            return Located::Missing;
+        let Some(parts) = found else {
+            return None;
         };
         at = parts.next;
         i += 1;
@@ -200,7 +200,7 @@ fn visit_parts(
     if brought == 0 {
         return Visited {
             info: ParamBorrowInfo {
-                verdict: Verdict::Accepted,
+                verdict: Ok(()),
                 number,
                 pairs,
             },
@@ -219,7 +219,7 @@ fn visit_parts(
     );
     Visited {
         info: ParamBorrowInfo {
-            verdict: Verdict::Accepted,
+            verdict: Ok(()),
             number,
             pairs,
         },

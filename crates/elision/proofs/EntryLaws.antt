@@ -1,4 +1,5 @@
 -- What `measure` and `lower` answer and write, by what their tests and calls show.
+use Rattle.std.specs.Prelude.{Ok, Err}
 use Prim.Native.Nat.{ℕ, ◌-◌, ◌≤◌, ◌<◌}
 use mathlib.Core.Bool.{Bool, true, false, not, and-eq-true_iff}
 use mathlib.Core.Path.{◌≡◌, refl, sym, ap, subst, ◌∙◌}
@@ -10,10 +11,8 @@ use lib.ListN.{length, take, drop, length-map}
 use lib.Seq.{sets, length-take-le}
 use Rattle.answers.specs.declared.Refusal.{Refusal}
 use Rattle.answers.specs.declared.Refusal.TheVariants.{Malformed, NoRoom}
-use Rattle.answers.specs.declared.Verdict.{Verdict}
-use Rattle.answers.specs.declared.Verdict.TheVariants as verdict
 use Rattle.lifetimes.specs.declared.maybe_static.MaybeStatic.{MaybeStatic}
-use Rattle.answers.specs.Refusals.{Check, check, Outcome, Gives, Refuses, unless, FirstDue, NoneDue, here, later}
+use Rattle.answers.specs.Refusals.{Check, check, Outcome, unless, FirstDue, NoneDue, here, later, Verdict}
 use Rattle.answers.specs.Refusals.{next, end}
 use Rattle.answers.specs.Lent.{room_check, judged, Slice, held, left, room, Stays}
 use Rattle.lifetimes.specs.LoweredWords.{word_of}
@@ -41,14 +40,14 @@ use Rattle.elision.proofs.SmallLaws.{AllSmall, small_words, SmallMethod, method_
 use Rattle.answers.proofs.VerdictLaws.{refused_accepted}
 
 -- what stands in a total tells which outcome there was
-totals_refused : (o : Outcome Method) {t : Totals} {k : Refusal} → t ≡ totals o → t.verdict ≡ verdict.Refused k → o ≡ Refuses k
-totals_refused (Gives m) e v = refused_accepted (sym v ∙ ap (λ (x : Totals). x.verdict) e)
-totals_refused (Refuses j) e v = let h : verdict.Refused j ≡ verdict.Refused _ = sym (ap (λ (x : Totals). x.verdict) e) ∙ v in cc
+totals_refused : (o : Outcome Method) {t : Totals} {k : Refusal} → t ≡ totals o → t.verdict ≡ Err k → o ≡ Err k
+totals_refused (Ok m) e v = refused_accepted (sym v ∙ ap (λ (x : Totals). x.verdict) e)
+totals_refused (Err j) e v = let h : Err j ≡ Err _ = sym (ap (λ (x : Totals). x.verdict) e) ∙ v in cc
 
-totals_given : (o : Outcome Method) {t : Totals} → t ≡ totals o → t.verdict ≡ verdict.Accepted
-    → (m : Method) × ((o ≡ Gives m) × (t ≡ totals (Gives m)))
-totals_given (Gives m) e v = (m, (refl, e))
-totals_given (Refuses j) e v = refused_accepted (sym (ap (λ (x : Totals). x.verdict) e) ∙ v)
+totals_given : (o : Outcome Method) {t : Totals} → t ≡ totals o → t.verdict ≡ Ok (tt {0})
+    → (m : Method) × ((o ≡ Ok m) × (t ≡ totals (Ok m)))
+totals_given (Ok m) e v = (m, (refl, e))
+totals_given (Err j) e v = refused_accepted (sym (ap (λ (x : Totals). x.verdict) e) ∙ v)
 
 not_false : (b : Bool) → not b ≡ false → b ≡ true
 not_false true h = refl
@@ -56,21 +55,21 @@ not_false false h = sym h
 
 -- a refusal beside which nothing is counted
 abbrev refused_by : Refusal → Lowering
-refused_by r = record { verdict = verdict.Refused r; selves = 0; steps = 0; returns = 0; env = env_of 0 0 [] }
+refused_by r = record { verdict = Err r; selves = 0; steps = 0; returns = 0; env = env_of 0 0 [] }
 
 -- what an answer tells of the outcome
 answer_refused : (e : ast.LifetimeEnv) (o : Outcome Method) {x : Lowering} {r : Refusal} → x ≡ answered e o
-    → x.verdict ≡ verdict.Refused r → (o ≡ Refuses r) × (x ≡ refused_by r)
-answer_refused e (Gives m) a v = refused_accepted (sym v ∙ ap (λ (x : Lowering). x.verdict) a)
-answer_refused e (Refuses j) {x} {r} a v =
-    let h : verdict.Refused j ≡ verdict.Refused r = sym (ap (λ (x : Lowering). x.verdict) a) ∙ v in
+    → x.verdict ≡ Err r → (o ≡ Err r) × (x ≡ refused_by r)
+answer_refused e (Ok m) a v = refused_accepted (sym v ∙ ap (λ (x : Lowering). x.verdict) a)
+answer_refused e (Err j) {x} {r} a v =
+    let h : Err j ≡ Err r = sym (ap (λ (x : Lowering). x.verdict) a) ∙ v in
     let q : j ≡ r = cc in
     (rw q, a ∙ ap refused_by q)
 
 answer_given : (e : ast.LifetimeEnv) (o : Outcome Method) {x : Lowering} → x ≡ answered e o
-    → x.verdict ≡ verdict.Accepted → (m : Method) × ((o ≡ Gives m) × (x ≡ answered e (Gives m)))
-answer_given e (Gives m) a v = (m, (refl, a))
-answer_given e (Refuses j) a v = refused_accepted (sym (ap (λ (x : Lowering). x.verdict) a) ∙ v)
+    → x.verdict ≡ Ok (tt {0}) → (m : Method) × ((o ≡ Ok m) × (x ≡ answered e (Ok m)))
+answer_given e (Ok m) a v = (m, (refl, a))
+answer_given e (Err j) a v = refused_accepted (sym (ap (λ (x : Lowering). x.verdict) a) ∙ v)
 
 all_shaped : (self steps returns : List ℕ) → in_shape_all self steps returns ≡ true → (steps_in_shape steps ≡ true)
     × (steps_in_shape returns ≡ true)
@@ -86,7 +85,7 @@ module _ (e : ast.LifetimeEnv) (self steps returns : List ℕ) where
   measure_due h f = rw (due_refused (lowered_records e self steps returns) f) h
 
   pub measure_shape : {v : Verdict} {r : Refusal} {x : Lowering} → v ≡ shape_verdict (in_shape_all self steps returns)
-      → v ≡ verdict.Refused r → x ≡ refused_by r
+      → v ≡ Err r → x ≡ refused_by r
       → x ≡ answered e (measure_records e self steps returns)
   measure_shape {v} {r} a b h =
       let p = shape_out (in_shape_all self steps returns) a b in
@@ -97,7 +96,7 @@ pub record Shaped (e : ast.LifetimeEnv) (self steps returns : List ℕ) : Type 0
   pub shape : in_shape_all self steps returns ≡ true
 
 pub shape_told : (e : ast.LifetimeEnv) (self steps returns : List ℕ) {v : Verdict}
-    → v ≡ shape_verdict (in_shape_all self steps returns) → v ≡ verdict.Accepted → Shaped e self steps returns
+    → v ≡ shape_verdict (in_shape_all self steps returns) → v ≡ Ok (tt {0}) → Shaped e self steps returns
 shape_told e self steps returns a b = record { shape = shape_in (in_shape_all self steps returns) a b }
 
 module _ {e : ast.LifetimeEnv} {self steps returns : List ℕ} (h : Shaped e self steps returns) where
@@ -137,24 +136,24 @@ module _ {e : ast.LifetimeEnv} {self steps returns : List ℕ} (h : Valid e self
   lent_run : lent ≡ run
   lent_run = rw sub-zero
 
-  pub measure_refused : {t : Totals} {r : Refusal} {x : Lowering} → t ≡ totals lent → t.verdict ≡ verdict.Refused r
+  pub measure_refused : {t : Totals} {r : Refusal} {x : Lowering} → t ≡ totals lent → t.verdict ≡ Err r
       → x ≡ refused_by r → x ≡ answered e (measure_records e self steps returns)
   measure_refused {t} {r} a b n =
       let f = refused_due records r checks (sym said ∙ totals_refused run (a ∙ ap totals lent_run) b) in
       measure_due e self steps returns n (later (shape_not h.shaped) (first_after h.none f))
 
-  module _ {t : Totals} (counts : t ≡ totals lent) (fine : t.verdict ≡ verdict.Accepted) where
-    given_run : (m : Method) × ((run ≡ Gives m) × (t ≡ totals (Gives m)))
+  module _ {t : Totals} (counts : t ≡ totals lent) (fine : t.verdict ≡ Ok (tt {0})) where
+    given_run : (m : Method) × ((run ≡ Ok m) × (t ≡ totals (Ok m)))
     given_run = totals_given run (counts ∙ ap totals lent_run) fine
 
     passed : NoneDue checks × (records ≡ given_run.0)
     passed = given_due records given_run.0 checks (sym said ∙ given_run.1.0)
 
-    told : t ≡ totals (Gives records)
-    told = given_run.1.1 ∙ ap (λ (m : Method). totals (Gives m)) (sym passed.1)
+    told : t ≡ totals (Ok records)
+    told = given_run.1.1 ∙ ap (λ (m : Method). totals (Ok m)) (sym passed.1)
 
     pub measure_all : {made : environment.LifetimeEnv} → made ≡ finished e t.count → record {
-      verdict = verdict.Accepted;
+      verdict = Ok (tt {0});
       selves = t.selves;
       steps = t.steps;
       returns = t.returns;
@@ -187,7 +186,7 @@ module _ (e : ast.LifetimeEnv) (self steps returns : List ℕ) (own given taken 
       record { answer = rw q h; own_filled = rw q a; given_filled = rw q b; taken_filled = rw q c }
 
   pub lower_refused : {m : Lowering} {r : Refusal} → m ≡ answered e (measure_records e self steps returns)
-      → m.verdict ≡ verdict.Refused r → Stays own → Stays given → Stays taken → LowersTo e whole m own given taken
+      → m.verdict ≡ Err r → Stays own → Stays given → Stays taken → LowersTo e whole m own given taken
   unfolding measure_records
   lower_refused {m} {r} counted v =
       let p = answer_refused e (measure_records e self steps returns) counted v in
@@ -197,16 +196,16 @@ module _ (e : ast.LifetimeEnv) (self steps returns : List ℕ) (own given taken 
 -- what `measure` leaves where it accepts
 pub record Measured (e : ast.LifetimeEnv) (self steps returns : List ℕ) (m : Lowering) : Type 0 where
   pub none : NoneDue (measure_checks e self steps returns)
-  pub is : m ≡ answered e (Gives (lowered_records e self steps returns))
+  pub is : m ≡ answered e (Ok (lowered_records e self steps returns))
 
 pub measures : (e : ast.LifetimeEnv) (self steps returns : List ℕ) {m : Lowering}
-    → m ≡ answered e (measure_records e self steps returns) → m.verdict ≡ verdict.Accepted
+    → m ≡ answered e (measure_records e self steps returns) → m.verdict ≡ Ok (tt {0})
     → Measured e self steps returns m
 unfolding measure_records
 measures e self steps returns counted fine =
     let g = answer_given e (measure_records e self steps returns) counted fine in
     let d = given_due (lowered_records e self steps returns) g.0 (measure_checks e self steps returns) g.1.0 in
-    record { none = d.0; is = g.1.1 ∙ ap (λ (x : Method). answered e (Gives x)) (sym d.1) }
+    record { none = d.0; is = g.1.1 ∙ ap (λ (x : Method). answered e (Ok x)) (sym d.1) }
 
 -- whether words have room, by how many they are
 fits : {room n : ℕ} (ws : List ℕ) → length ws ≡ n → n ≤ room → (room_check room ws).due ≡ false
@@ -267,7 +266,7 @@ module _ {e : ast.LifetimeEnv} {self steps returns : List ℕ} {m : Lowering} (h
       (lays : RunsAll
       (run_method (take (e.named - 0) (drop 0 e.names)) (receiver_of self) (steps_of steps) (steps_of returns))
       (held own) (held given) (held taken) (left own) (left given) (left taken) t) where
-    is : run_method (names_of e) (receiver_of self) (steps_of steps) (steps_of returns) ≡ Gives method
+    is : run_method (names_of e) (receiver_of self) (steps_of steps) (steps_of returns) ≡ Ok method
     unfolding rfc141
     is = method_said (names_of e) (receiver_of self) (steps_of steps) (steps_of returns) ∙ due_given method parted.1
 
@@ -277,7 +276,7 @@ module _ {e : ast.LifetimeEnv} {self steps returns : List ℕ} {m : Lowering} (h
         (λ (ns : List ℕ). RunsAll (run_method ns (receiver_of self) (steps_of steps) (steps_of returns)) (held own)
         (held given) (held taken) (left own) (left given) (left taken) t) (rw sub-zero) lays
 
-    all : whole e self steps returns own given taken ≡ Gives method
+    all : whole e self steps returns own given taken ≡ Ok method
     unfolding lower_records
     all =
         let rooms : NoneDue (lowering_room_checks method (room own) (room given) (room taken)) =
@@ -311,7 +310,7 @@ module _ {e : ast.LifetimeEnv} {self steps returns : List ℕ} {m : Lowering} (h
 
 module _ (e : ast.LifetimeEnv) (count : ℕ) where
   pub finish_env_lem : {v : Verdict} {r : Refusal} {x : hir.Made} → v ≡ judged (env_checks e)
-      → v ≡ verdict.Refused r → x ≡ record { verdict = verdict.Refused r; env = env_of 0 0 [] }
+      → v ≡ Err r → x ≡ record { verdict = Err r; env = env_of 0 0 [] }
       → x ≡ hirenv.made (env_of 0 0 []) (finish_env e count)
   unfolding finish_env
   finish_env_lem {v} {r} a b h =
@@ -319,7 +318,7 @@ module _ (e : ast.LifetimeEnv) (count : ℕ) where
       first_more _ (refused_first (tt {0}) r (env_checks e) (sym a ∙ b)) in
       rw (due_refused (finished e count) f) h
 
-  module _ {v : Verdict} (valid : v ≡ judged (env_checks e)) (fine : v ≡ verdict.Accepted)
+  module _ {v : Verdict} (valid : v ≡ judged (env_checks e)) (fine : v ≡ Ok (tt {0}))
       {made : environment.LifetimeEnv} (is : made ≡ finished e count) {w : Verdict} (checked : w ≡ judged (hirenv.env_checks made)) where
     checks_none : NoneDue (env_checks e)
     checks_none = accepted_none (tt {0}) (env_checks e) (sym valid ∙ fine)
@@ -327,8 +326,8 @@ module _ (e : ast.LifetimeEnv) (count : ℕ) where
     judges : w ≡ judged (hirenv.env_checks (finished e count))
     judges = checked ∙ ap (λ (x : environment.LifetimeEnv). judged (hirenv.env_checks x)) is
 
-    pub finish_refused : {r : Refusal} {x : hir.Made} → w ≡ verdict.Refused r
-        → x ≡ record { verdict = verdict.Refused r; env = env_of 0 0 [] }
+    pub finish_refused : {r : Refusal} {x : hir.Made} → w ≡ Err r
+        → x ≡ record { verdict = Err r; env = env_of 0 0 [] }
         → x ≡ hirenv.made (env_of 0 0 []) (finish_env e count)
     unfolding finish_env
     finish_refused {r} b h =
@@ -337,7 +336,7 @@ module _ (e : ast.LifetimeEnv) (count : ℕ) where
         (refused_first (tt {0}) r (hirenv.env_checks (finished e count)) (sym judges ∙ b)) in
         rw (due_refused (finished e count) f) h
 
-    pub finish_given : w ≡ verdict.Accepted → record { verdict = verdict.Accepted; env = made }
+    pub finish_given : w ≡ Ok (tt {0}) → record { verdict = Ok (tt {0}); env = made }
         ≡ hirenv.made (env_of 0 0 []) (finish_env e count)
     unfolding finish_env
     finish_given b =

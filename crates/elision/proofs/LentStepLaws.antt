@@ -1,5 +1,6 @@
 -- The steps of a record by their words: all words of a record in shape are theirs, each is read back from its own, and
 -- taken in turn they give what the record gives.
+use Rattle.std.specs.Prelude.{Ok, Err}
 use Prim.Native.Nat.{ℕ}
 use mathlib.Core.Bool.{Bool, true, and-eq-true_iff}
 use mathlib.Core.Path.{◌≡◌, refl, sym, ◌∙◌}
@@ -9,7 +10,7 @@ use borrow.Author.Tests.{eqb-true, le-leb}
 use lib.Dec.{eqb, leb}
 use lib.ListN.{length, drop_of_length-le}
 use lib.Seq.{take-length}
-use Rattle.answers.specs.Refusals.{Outcome, Gives, Refuses, bind}
+use Rattle.answers.specs.Refusals.{Outcome, bind}
 use Rattle.records.specs.Reading.{Read, read_lifetimes}
 use Rattle.records.proofs.ReadingLaws.{Holds, read, fails, holds_cond, holds_onward, LifetimesIn, WordIn}
 use Rattle.records.proofs.ReadingLaws.{lifetimes_read, word_read, items_encoded}
@@ -72,12 +73,12 @@ in_turn_lem names out (x ∷ l) p s = rw (step_back x p.0) (go (one_step names o
         → ((s : Lowerer) → in_turn (worded_step names out) (map words_of_step l) s ≡ in_turn (one_step names out) l s)
         → bind o
         (λ first. bind (in_turn (worded_step names out) (map words_of_step l) first.left)
-        (λ rest. Gives (advanced (first.given ++ rest.given) rest.left)))
+        (λ rest. Ok (advanced (first.given ++ rest.given) rest.left)))
         ≡ bind o
         (λ first. bind (in_turn (one_step names out) l first.left)
-        (λ rest. Gives (advanced (first.given ++ rest.given) rest.left)))
-    go (Gives a) more = rw (more a.left)
-    go (Refuses r) more = refl
+        (λ rest. Ok (advanced (first.given ++ rest.given) rest.left)))
+    go (Ok a) more = rw (more a.left)
+    go (Err r) more = refl
 
 pub steps_together : (names : List ℕ) (out : Bool) (words : List ℕ) (s : Lowerer)
     → in_turn (worded_step names out) (map words_of_step (steps_of words)) s ≡ run_steps names out (steps_of words) s

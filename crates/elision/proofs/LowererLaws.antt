@@ -1,4 +1,5 @@
 -- The answers of the steps by value, by what their tests and the lowering of their words show.
+use Rattle.std.specs.Prelude.{Ok, Err}
 use Prim.Native.Nat.{ℕ, ◌≤◌, ◌<◌}
 use mathlib.Core.Bool.{Bool, true, false, cond}
 use mathlib.Core.Path.{◌≡◌, refl, sym, ap, subst, ◌∙◌}
@@ -9,8 +10,7 @@ use borrow.Author.Tests.{le-leb, lt-leb}
 use lib.ListN.{length}
 use Rattle.answers.specs.declared.Refusal.{Refusal}
 use Rattle.answers.specs.declared.Refusal.TheVariants.{Malformed}
-use Rattle.answers.specs.declared.Verdict.TheVariants as verdict
-use Rattle.answers.specs.Refusals.{Outcome, Gives, Refuses, bind}
+use Rattle.answers.specs.Refusals.{Outcome, bind}
 use Rattle.answers.proofs.VerdictLaws.{refused_accepted}
 use Rattle.elision.specs.declared.source.ElisionSource.TheVariants.{SelfParam}
 use Rattle.elision.specs.declared.lowerer.Standing.{Standing}
@@ -29,7 +29,7 @@ use Rattle.elision.specs.Inner.{worded, ran}
 use Rattle.elision.proofs.LowererLoops.{single_word, accepted_word, refused_word}
 
 abbrev refused_step : Lowerer → Refusal → Stepped
-refused_step s k = record { verdict = verdict.Refused k; lowerer = s; lifetimes = laid [] }
+refused_step s k = record { verdict = Err k; lowerer = s; lifetimes = laid [] }
 
 -- ---- `lower_self_ref`
 
@@ -42,14 +42,14 @@ module _ (names : List ℕ) (word : ℕ) {fresh : Lowerer} (e : fresh ≡ unused
   here : w ≡ worded (unused names).seen (lower_word names Aside word (unused names).seen)
   here = subst (λ (f : Lowerer). w ≡ worded f.seen (lower_word names Aside word f.seen)) e said
 
-  pub self_refused : {k : Refusal} → w.verdict ≡ verdict.Refused k
+  pub self_refused : {k : Refusal} → w.verdict ≡ Err k
       → refused_step fresh k ≡ stepped (unused names) (self_ref names word)
   unfolding self_ref
   self_refused v = rw (refused_word (unused names).seen (lower_word names Aside word (unused names).seen) here v, e)
 
-  pub self_given : w.verdict ≡ verdict.Accepted → {one : Lifetimes} → one ≡ laid (w.lifetime ∷ [])
+  pub self_given : w.verdict ≡ Ok (tt {0}) → {one : Lifetimes} → one ≡ laid (w.lifetime ∷ [])
       → record {
-        verdict = verdict.Accepted;
+        verdict = Ok (tt {0});
         lowerer =
             record {
               seen = record { source = SelfParam w.lifetime; count = w.seen.count };
@@ -72,17 +72,17 @@ module _ (names : List ℕ) (word : ℕ) {fresh : Lowerer} (e : fresh ≡ unused
 -- ---- steps over some words
 
 module _ (self : Lowerer) {r : Run} where
-  refused_run : {k : Refusal} (o : Outcome (Advanced Seen)) → r ≡ ran self.seen o → r.verdict ≡ verdict.Refused k → o ≡ Refuses k
-  refused_run (Gives a) e v = refused_accepted (sym v ∙ ap (λ (x : Run). x.verdict) e)
-  refused_run (Refuses j) e v = let h : verdict.Refused j ≡ verdict.Refused _ = sym (ap (λ (x : Run). x.verdict) e) ∙ v in cc
+  refused_run : {k : Refusal} (o : Outcome (Advanced Seen)) → r ≡ ran self.seen o → r.verdict ≡ Err k → o ≡ Err k
+  refused_run (Ok a) e v = refused_accepted (sym v ∙ ap (λ (x : Run). x.verdict) e)
+  refused_run (Err j) e v = let h : Err j ≡ Err _ = sym (ap (λ (x : Run). x.verdict) e) ∙ v in cc
 
   given_run : (keep : Advanced Seen → Lowerer) (next : Lowerer) (o : Outcome (Advanced Seen)) → r ≡ ran self.seen o
-      → r.verdict ≡ verdict.Accepted
+      → r.verdict ≡ Ok (tt {0})
       → ((a : Advanced Seen) → r.seen ≡ a.left → r.lifetimes ≡ laid a.given → next ≡ keep a)
-      → record { verdict = verdict.Accepted; lowerer = next; lifetimes = r.lifetimes }
-      ≡ stepped self (bind o (λ a. Gives (advanced a.given (keep a))))
-  given_run keep next (Gives a) e v f = rw (f a (ap (λ (x : Run). x.seen) e) (ap (λ (x : Run). x.lifetimes) e), e)
-  given_run keep next (Refuses k) e v f = refused_accepted (sym (ap (λ (x : Run). x.verdict) e) ∙ v)
+      → record { verdict = Ok (tt {0}); lowerer = next; lifetimes = r.lifetimes }
+      ≡ stepped self (bind o (λ a. Ok (advanced a.given (keep a))))
+  given_run keep next (Ok a) e v f = rw (f a (ap (λ (x : Run). x.seen) e) (ap (λ (x : Run). x.lifetimes) e), e)
+  given_run keep next (Err k) e v f = refused_accepted (sym (ap (λ (x : Run). x.verdict) e) ∙ v)
 
 module _ (self : Lowerer) (names : List ℕ) (out : Bool) (g : ℕ) (words : List ℕ) where
   pub generics_large : 16 < g → refused_step self Malformed ≡ stepped self (one_step names out (Generics g words) self)
@@ -99,7 +99,7 @@ module _ (self : Lowerer) (names : List ℕ) (out : Bool) (g : ℕ) (words : Lis
     told : r ≡ ran self.seen (lower_words names (standing_in out) (appended g words) self.seen)
     told = subst (λ (x : Standing). r ≡ ran self.seen (lower_words names x (appended g words) self.seen)) s said
 
-    pub generics_refused : {j : Refusal} → r.verdict ≡ verdict.Refused j
+    pub generics_refused : {j : Refusal} → r.verdict ≡ Err j
         → refused_step self j ≡ stepped self (one_step names out (Generics g words) self)
     unfolding one_step lower_step
     generics_refused v =
@@ -109,9 +109,9 @@ module _ (self : Lowerer) (names : List ℕ) (out : Bool) (g : ℕ) (words : Lis
           refused_run self (lower_words names (standing_in out) (appended g words) self.seen) told v,
         )
 
-    pub generics_given : r.verdict ≡ verdict.Accepted
+    pub generics_given : r.verdict ≡ Ok (tt {0})
         → record {
-          verdict = verdict.Accepted;
+          verdict = Ok (tt {0});
           lowerer = record { seen = r.seen; kept = self.kept; own = self.own };
           lifetimes = r.lifetimes;
         } ≡ stepped self (one_step names out (Generics g words) self)
@@ -129,7 +129,7 @@ module _ (self : Lowerer) (names : List ℕ) (out : Bool) (words : List ℕ) whe
 
   module _ (h : length words ≤ 16) where
     pub self_kept : self.kept ≡ true → {first : Lifetimes} → first ≡ laid (values_in self.own)
-        → record { verdict = verdict.Accepted; lowerer = self; lifetimes = first }
+        → record { verdict = Ok (tt {0}); lowerer = self; lifetimes = first }
         ≡ stepped self (one_step names out (SelfType words) self)
     unfolding one_step lower_step
     self_kept k e = rw (le-leb (length words) 16 h, k, e)
@@ -142,25 +142,25 @@ module _ (self : Lowerer) (names : List ℕ) (out : Bool) (words : List ℕ) whe
 
       made : one_step names out (SelfType words) self
           ≡ bind (lower_words names Aside words self.seen)
-          (λ a. Gives (advanced a.given (record { seen = a.left; kept = true; own = laid a.given })))
+          (λ a. Ok (advanced a.given (record { seen = a.left; kept = true; own = laid a.given })))
       unfolding one_step lower_step
       made = rw (le-leb (length words) 16 h) (go self.kept k)
         where
           first : Outcome (Advanced Lowerer)
           first = bind (lower_words names Aside words self.seen)
-              (λ a. Gives (advanced a.given (record { seen = a.left; kept = true; own = laid a.given })))
+              (λ a. Ok (advanced a.given (record { seen = a.left; kept = true; own = laid a.given })))
 
-          go : (t : Bool) → t ≡ false → cond t (Gives (advanced (values_in self.own) self)) first ≡ first
+          go : (t : Bool) → t ≡ false → cond t (Ok (advanced (values_in self.own) self)) first ≡ first
           go true e = let z : ◌≡◌ {A = ℕ} 0 1 = cc in absurd (omega arith)
           go false e = refl
 
-      pub type_refused : {j : Refusal} → r.verdict ≡ verdict.Refused j
+      pub type_refused : {j : Refusal} → r.verdict ≡ Err j
           → refused_step self j ≡ stepped self (one_step names out (SelfType words) self)
       type_refused v = rw (made, refused_run self (lower_words names Aside words self.seen) said v)
 
-      pub type_given : r.verdict ≡ verdict.Accepted
+      pub type_given : r.verdict ≡ Ok (tt {0})
           → record {
-            verdict = verdict.Accepted;
+            verdict = Ok (tt {0});
             lowerer = record { seen = r.seen; kept = true; own = r.lifetimes };
             lifetimes = r.lifetimes;
           } ≡ stepped self (one_step names out (SelfType words) self)

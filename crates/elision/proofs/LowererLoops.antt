@@ -1,5 +1,6 @@
 -- The loops of `lower_words` and `put_words`: what is left, lowered from here behind what is done, is what all gives
 -- from the start.
+use Rattle.std.specs.Prelude.{Ok, Err}
 use Prim.Native.Nat.{ℕ, zero, suc, ◌+◌, ◌-◌, ◌≤◌, ◌<◌}
 use mathlib.Core.Bool.{Bool, true, false, cond}
 use mathlib.Core.Path.{◌≡◌, refl, sym, ap, ◌∙◌}
@@ -12,11 +13,10 @@ use lib.ListN.{length-map, length-set}
 use lib.Seq.{drop-cons, sets}
 use Rattle.answers.specs.declared.Refusal.{Refusal}
 use Rattle.answers.specs.declared.Refusal.TheVariants.{Undeclared, Full}
-use Rattle.answers.specs.declared.Verdict.TheVariants as verdict
 use Rattle.lifetimes.specs.declared.maybe_static.MaybeStatic.{MaybeStatic}
 use Rattle.lifetimes.specs.declared.maybe_static.MaybeStatic.TheVariants.{Static, NonStatic}
 use Rattle.lifetimes.specs.Numbers.{lifetime}
-use Rattle.answers.specs.Refusals.{Outcome, Gives, Refuses, bind}
+use Rattle.answers.specs.Refusals.{Outcome, bind}
 use Rattle.ast_lifetimes.specs.Env.{place, is_declared}
 use Rattle.elision.specs.declared.source.ElisionSource.{ElisionSource}
 use Rattle.elision.specs.declared.source.ElisionSource.TheVariants.{NoBorrows, SelfParam, OneParam}
@@ -37,8 +37,8 @@ use Rattle.elision.proofs.LaidLoops.{Filled, filled_none, filled_more, filled_la
 -- ---- one word gives one lifetime
 
 abbrev Single : Outcome (Advanced Seen) → Type 0
-Single (Gives a) = a.given ≡ first_or a.given ∷ []
-Single (Refuses r) = Unit {0}
+Single (Ok a) = a.given ≡ first_or a.given ∷ []
+Single (Err r) = Unit {0}
 
 single_cond : (t : Bool) (a b : Outcome (Advanced Seen)) → Single a → Single b → Single (cond t a b)
 single_cond true a b x y = x
@@ -52,10 +52,10 @@ single_source MultipleBorrows s = tt
 
 single_anonymous : (st : Standing) (s : Seen) → Single (lower_anonymous st s)
 single_anonymous Input s =
-    single_cond (leb 64 s.count) (Refuses Full)
+    single_cond (leb 64 s.count) (Err Full)
     (lowers Input (NonStatic (lifetime s.count)) s.source (s.count + 1)) tt refl
 single_anonymous Aside s =
-    single_cond (leb 64 s.count) (Refuses Full)
+    single_cond (leb 64 s.count) (Err Full)
     (lowers Aside (NonStatic (lifetime s.count)) s.source (s.count + 1)) tt refl
 single_anonymous Output s = single_source s.source s
 
@@ -64,19 +64,19 @@ unfolding lower_word
 single_word names st word s =
     let static = lowers st Static s.source s.count in
     let named = lowers st (NonStatic (lifetime (place names word))) s.source s.count in
-    let name = cond (is_declared names word) named (Refuses Undeclared) in
+    let name = cond (is_declared names word) named (Err Undeclared) in
     single_cond (eqb word 1) (lower_anonymous st s) (cond (eqb word 0) static name) (single_anonymous st s)
-    (single_cond (eqb word 0) static name refl (single_cond (is_declared names word) named (Refuses Undeclared) refl tt))
+    (single_cond (eqb word 0) static name refl (single_cond (is_declared names word) named (Err Undeclared) refl tt))
 
 module _ {r : Worded} (s : Seen) where
-  pub accepted_word : (o : Outcome (Advanced Seen)) → r ≡ worded s o → Single o → r.verdict ≡ verdict.Accepted
-      → o ≡ Gives (advanced (r.lifetime ∷ []) r.seen)
-  accepted_word (Gives a) e one v = rw e (ap (λ (l : List MaybeStatic). Gives (advanced l a.left)) one)
-  accepted_word (Refuses k) e one v = refused_accepted (sym (ap (λ (w : Worded). w.verdict) e) ∙ v)
+  pub accepted_word : (o : Outcome (Advanced Seen)) → r ≡ worded s o → Single o → r.verdict ≡ Ok (tt {0})
+      → o ≡ Ok (advanced (r.lifetime ∷ []) r.seen)
+  accepted_word (Ok a) e one v = rw e (ap (λ (l : List MaybeStatic). Ok (advanced l a.left)) one)
+  accepted_word (Err k) e one v = refused_accepted (sym (ap (λ (w : Worded). w.verdict) e) ∙ v)
 
-  pub refused_word : {k : Refusal} (o : Outcome (Advanced Seen)) → r ≡ worded s o → r.verdict ≡ verdict.Refused k → o ≡ Refuses k
-  refused_word (Gives a) e v = refused_accepted (sym v ∙ ap (λ (w : Worded). w.verdict) e)
-  refused_word (Refuses j) e v = let h : verdict.Refused j ≡ verdict.Refused _ = sym (ap (λ (w : Worded). w.verdict) e) ∙ v in cc
+  pub refused_word : {k : Refusal} (o : Outcome (Advanced Seen)) → r ≡ worded s o → r.verdict ≡ Err k → o ≡ Err k
+  refused_word (Ok a) e v = refused_accepted (sym v ∙ ap (λ (w : Worded). w.verdict) e)
+  refused_word (Err j) e v = let h : Err j ≡ Err _ = sym (ap (λ (w : Worded). w.verdict) e) ∙ v in cc
 
 -- ---- the words, with those that are appended
 
@@ -91,7 +91,7 @@ appended_at (w ∷ words) k (suc i) h = appended_at words k i (omega arith)
 -- ---- the loop
 
 abbrev behind : List MaybeStatic → Advanced Seen → Outcome (Advanced Seen)
-behind done a = Gives (advanced (done ++ a.given) a.left)
+behind done a = Ok (advanced (done ++ a.given) a.left)
 
 -- what is left to lower, and what is done
 pub record Going (names : List ℕ) (st : Standing) (g : ℕ) (words : List ℕ) (seen : Seen) (total : ℕ) (here : Seen)
@@ -104,8 +104,8 @@ pub record Going (names : List ℕ) (st : Standing) (g : ℕ) (words : List ℕ)
   pub left : lower_words names st (appended g words) seen ≡ bind (lower_words names st (drop i (appended g words)) here) (behind done)
 
 after_itself : (o : Outcome (Advanced Seen)) → o ≡ bind o (behind [])
-after_itself (Gives a) = refl
-after_itself (Refuses r) = refl
+after_itself (Ok a) = refl
+after_itself (Err r) = refl
 
 unfoldable going_start : (names : List ℕ) (st : Standing) (g : ℕ) (words : List ℕ) (seen : Seen) {total : ℕ}
     → total ≡ length words + (g - length words) → length words ≤ 16 → g ≤ 16
@@ -121,7 +121,7 @@ going_start names st g words seen e h k = record {
 
 module _ {names : List ℕ} {st : Standing} {g : ℕ} {words : List ℕ} {seen : Seen} {total : ℕ} {here : Seen} {i : ℕ}
     (inv : Going names st g words seen total here i) where
-  going_end : total ≤ i → lower_words names st (appended g words) seen ≡ Gives (advanced inv.done here)
+  going_end : total ≤ i → lower_words names st (appended g words) seen ≡ Ok (advanced inv.done here)
   unfolding in_turn
   going_end h =
       let past : length (appended g words) ≤ i = omega (arith, appended_length g words, inv.count) in
@@ -132,16 +132,16 @@ module _ {names : List ℕ} {st : Standing} {g : ℕ} {words : List ℕ} {seen :
     next : lower_words names st (drop i (appended g words)) here
         ≡ bind (lower_word names st word here)
         (λ first. bind (lower_words names st (drop (i + 1) (appended g words)) first.left)
-        (λ rest. Gives (advanced (first.given ++ rest.given) rest.left)))
+        (λ rest. Ok (advanced (first.given ++ rest.given) rest.left)))
     unfolding in_turn
     next =
         let inside : i < length (appended g words) = omega (arith, appended_length g words, inv.count) in
         rw (drop-cons (appended g words) i 0 inside, appended_at words (g - length words) i (omega (arith, inv.count)), ← w, add-one i)
 
-    going_refused : {k : Refusal} → r.verdict ≡ verdict.Refused k → lower_words names st (appended g words) seen ≡ Refuses k
+    going_refused : {k : Refusal} → r.verdict ≡ Err k → lower_words names st (appended g words) seen ≡ Err k
     going_refused v = rw (inv.left, next, refused_word here (lower_word names st word here) said v)
 
-    unfoldable going_more : r.verdict ≡ verdict.Accepted → Going names st g words seen total r.seen (i + 1)
+    unfoldable going_more : r.verdict ≡ Ok (tt {0}) → Going names st g words seen total r.seen (i + 1)
     going_more v = record {
       count = inv.count;
       few = inv.few;
@@ -153,10 +153,10 @@ module _ {names : List ℕ} {st : Standing} {g : ℕ} {words : List ℕ} {seen :
     }
       where
         join : (o : Outcome (Advanced Seen))
-            → bind (bind o (λ rest. Gives (advanced ((r.lifetime ∷ []) ++ rest.given) rest.left)))
+            → bind (bind o (λ rest. Ok (advanced ((r.lifetime ∷ []) ++ rest.given) rest.left)))
             (behind inv.done) ≡ bind o (behind (inv.done ++ (r.lifetime ∷ [])))
-        join (Gives a) = rw append_assoc
-        join (Refuses k) = refl
+        join (Ok a) = rw append_assoc
+        join (Err k) = refl
 
 -- ---- `lower_words`: what is done stands in the list
 
@@ -178,7 +178,7 @@ module _ {names : List ℕ} {st : Standing} {g : ℕ} {words : List ℕ} {seen :
   running_few h = omega (arith, inv.going.few)
 
   pub running_end : total ≤ i
-      → record { verdict = verdict.Accepted; seen = here; lifetimes = record { n = total; list = list } }
+      → record { verdict = Ok (tt {0}); seen = here; lifetimes = record { n = total; list = list } }
       ≡ ran seen (lower_words names st (appended g words) seen)
   running_end h =
       let e : total ≡ i = omega (arith, inv.going.within) in
@@ -186,12 +186,12 @@ module _ {names : List ℕ} {st : Standing} {g : ℕ} {words : List ℕ} {seen :
 
   module _ (h : i < total) {word : ℕ} (w : word ≡ get_or words i 1) {r : Worded}
       (said : r ≡ worded here (lower_word names st word here)) where
-    pub running_refused : {k : Refusal} → r.verdict ≡ verdict.Refused k
-        → record { verdict = verdict.Refused k; seen = seen; lifetimes = laid [] }
+    pub running_refused : {k : Refusal} → r.verdict ≡ Err k
+        → record { verdict = Err k; seen = seen; lifetimes = laid [] }
         ≡ ran seen (lower_words names st (appended g words) seen)
     running_refused v = rw (going_refused inv.going h w said v)
 
-    pub running_more : r.verdict ≡ verdict.Accepted
+    pub running_more : r.verdict ≡ Ok (tt {0})
         → Running names st g words seen total (set list i (lowered r.lifetime)) r.seen (i + 1)
     unfolding going_more
     running_more v =
@@ -220,7 +220,7 @@ module _ {names : List ℕ} {st : Standing} {g : ℕ} {words : List ℕ} {seen :
     (inv : Putting names st g words seen total at slice₀ slice here i) where
   pub putting_end : total ≤ i
       → Puts seen (lower_words names st (appended g words) seen) at slice₀ slice
-      (record { verdict = verdict.Accepted; seen = here; at = at + total })
+      (record { verdict = Ok (tt {0}); seen = here; at = at + total })
   putting_end h =
       let e : total ≡ length inv.going.done = omega (arith, inv.going.within, inv.going.many) in
       let whole = going_end inv.going h in
@@ -230,14 +230,14 @@ module _ {names : List ℕ} {st : Standing} {g : ℕ} {words : List ℕ} {seen :
         stores = λ a k. let same : inv.going.done ≡ a.given = given (sym whole ∙ k) in rw (← same) inv.stored;
       }
     where
-      given : {a : Advanced Seen} → Gives (advanced inv.going.done here) ≡ Gives a → inv.going.done ≡ a.given
+      given : {a : Advanced Seen} → Ok (advanced inv.going.done here) ≡ Ok a → inv.going.done ≡ a.given
       given {a} k = let q : advanced inv.going.done here ≡ a = cc in ap (λ (x : Advanced Seen). x.given) q
 
   module _ (h : i < total) {word : ℕ} (w : word ≡ get_or words i 1) {r : Worded}
       (said : r ≡ worded here (lower_word names st word here)) where
-    pub putting_refused : {k : Refusal} → r.verdict ≡ verdict.Refused k
+    pub putting_refused : {k : Refusal} → r.verdict ≡ Err k
         → Puts seen (lower_words names st (appended g words) seen) at slice₀ slice
-        (record { verdict = verdict.Refused k; seen = seen; at = at })
+        (record { verdict = Err k; seen = seen; at = at })
     putting_refused {k} v =
         let whole = going_refused inv.going h w said v in
         record {
@@ -246,7 +246,7 @@ module _ {names : List ℕ} {st : Standing} {g : ℕ} {words : List ℕ} {seen :
           stores = λ a e. let z : ◌≡◌ {A = ℕ} 0 1 = cc (sym e ∙ whole) in absurd (omega arith);
         }
 
-    pub putting_more : r.verdict ≡ verdict.Accepted → {shows : ℕ} → shows ≡ shown r.lifetime → {slice₁ : List ℕ}
+    pub putting_more : r.verdict ≡ Ok (tt {0}) → {shows : ℕ} → shows ≡ shown r.lifetime → {slice₁ : List ℕ}
         → slice₁ ≡ set slice (at + i) shows
         → Putting names st g words seen total at slice₀ slice₁ r.seen (i + 1)
     unfolding going_more

@@ -1,4 +1,5 @@
 -- The three records one after another: what `put_receiver` and `run` answer, and what they store.
+use Rattle.std.specs.Prelude.{Ok, Err}
 use Prim.Native.Nat.{ℕ}
 use mathlib.Core.Bool.{true, false}
 use mathlib.Core.Path.{◌≡◌, refl, sym, ap, ◌∙◌}
@@ -7,8 +8,7 @@ use native.Mathlib.Nat.{zero-add}
 use native.Mathlib.Omega.{arith}
 use lib.ListN.{length, get_or, set, replicate}
 use Rattle.answers.specs.declared.Refusal.{Refusal}
-use Rattle.answers.specs.declared.Verdict.TheVariants as verdict
-use Rattle.answers.specs.Refusals.{Outcome, Gives, Refuses}
+use Rattle.answers.specs.Refusals.{Outcome}
 use Rattle.answers.proofs.VerdictLaws.{refused_accepted}
 use Rattle.records.proofs.ReadingLaws.{passed}
 use Rattle.elision.specs.declared.source.ElisionSource.TheVariants.{NoBorrows, SelfParam}
@@ -41,7 +41,7 @@ fresh names = record { source = NoBorrows; count = length names }
 module _ (names : List ℕ) where
   pub receiver_none : (self slice : List ℕ) → length self ≡ 0 → (list : List ℕ) → length list ≡ 16
       → Lowers (lower_self names (receiver_of self)) 0 list slice slice
-      (record { verdict = verdict.Accepted; seen = fresh names; kept = false; own = 0; n = 0; to = 0 })
+      (record { verdict = Ok (tt {0}); seen = fresh names; kept = false; own = 0; n = 0; to = 0 })
   unfolding unused
   receiver_none [] slice h list full = record {
     accepted =
@@ -59,9 +59,9 @@ module _ (names : List ℕ) where
 
   module _ (self : List ℕ) (h : length self ≡ 0 → ⊥) {w : Worded}
       (said : w ≡ worded (fresh names) (lower_word names Aside (get_or self 0 0) (fresh names))) where
-    pub receiver_refused : {k : Refusal} → w.verdict ≡ verdict.Refused k → {slice slice₁ : List ℕ} (list : List ℕ) → length list ≡ 16
+    pub receiver_refused : {k : Refusal} → w.verdict ≡ Err k → {slice slice₁ : List ℕ} (list : List ℕ) → length list ≡ 16
         → Lowers (lower_self names (receiver_of self)) 0 list slice slice₁
-        (record { verdict = verdict.Refused k; seen = fresh names; kept = false; own = 0; n = 0; to = 0 })
+        (record { verdict = Err k; seen = fresh names; kept = false; own = 0; n = 0; to = 0 })
     unfolding self_ref unused
     receiver_refused {k} v list full = record {
       accepted = λ a. refused_accepted a;
@@ -69,16 +69,16 @@ module _ (names : List ℕ) where
           go self h (refused_word (fresh names) (lower_word names Aside (get_or self 0 0) (fresh names)) said v) ∙ rw same;
     }
       where
-        go : (self : List ℕ) → (length self ≡ 0 → ⊥) → lower_word names Aside (get_or self 0 0) (fresh names) ≡ Refuses k
-            → lower_self names (receiver_of self) ≡ Refuses k
+        go : (self : List ℕ) → (length self ≡ 0 → ⊥) → lower_word names Aside (get_or self 0 0) (fresh names) ≡ Err k
+            → lower_self names (receiver_of self) ≡ Err k
         go [] h e = absurd (h refl)
         go (x ∷ self) h e = rw e
 
-    pub receiver_given : w.verdict ≡ verdict.Accepted → {shows : ℕ} → shows ≡ shown w.lifetime
+    pub receiver_given : w.verdict ≡ Ok (tt {0}) → {shows : ℕ} → shows ≡ shown w.lifetime
         → {slice slice₁ : List ℕ} → slice₁ ≡ set slice 0 shows → (list : List ℕ) → length list ≡ 16
         → Lowers (lower_self names (receiver_of self)) 0 list slice slice₁
         (record {
-          verdict = verdict.Accepted;
+          verdict = Ok (tt {0});
           seen = record { source = SelfParam w.lifetime; count = w.seen.count };
           kept = false;
           own = 0;
@@ -104,26 +104,26 @@ module _ (names : List ℕ) where
         }
       where
         go : (self : List ℕ) → (length self ≡ 0 → ⊥)
-            → lower_word names Aside (get_or self 0 0) (fresh names) ≡ Gives (advanced (w.lifetime ∷ []) w.seen)
+            → lower_word names Aside (get_or self 0 0) (fresh names) ≡ Ok (advanced (w.lifetime ∷ []) w.seen)
             → lower_self names (receiver_of self)
-            ≡ Gives
+            ≡ Ok
             (advanced (w.lifetime ∷ []) (bare (record { source = SelfParam w.lifetime; count = w.seen.count })))
         go [] h e = absurd (h refl)
         go (x ∷ self) h e = rw e
 
 -- ---- the three records
 
-refuses_gives : {A B : Type 0} {b : B} {r : Refusal} → Refuses r ≡ Gives b → A
+refuses_gives : {A B : Type 0} {b : B} {r : Refusal} → Err r ≡ Ok b → A
 refuses_gives e = let z : ◌≡◌ {A = ℕ} 0 1 = cc in absurd (omega arith)
 
-given_same : {A : Type 0} {a b : A} → Gives a ≡ Gives b → a ≡ b
+given_same : {A : Type 0} {a b : A} → Ok a ≡ Ok b → a ≡ b
 given_same e = cc
 
 abbrev none : Refusal → Totals
-none k = record { verdict = verdict.Refused k; selves = 0; steps = 0; returns = 0; count = 0 }
+none k = record { verdict = Err k; selves = 0; steps = 0; returns = 0; count = 0 }
 
 all_refused : {o : Outcome Method} {k : Refusal} {own given taken own₁ given₁ taken₁ : List ℕ} {t : Totals}
-    → o ≡ Refuses k → t ≡ none k → RunsAll o own given taken own₁ given₁ taken₁ t
+    → o ≡ Err k → t ≡ none k → RunsAll o own given taken own₁ given₁ taken₁ t
 all_refused e h = record {
   answers = rw (e, h);
   self = λ m q. refuses_gives (sym e ∙ q);
@@ -132,15 +132,15 @@ all_refused e h = record {
 }
 
 same : {a b c d a₁ b₁ c₁ d₁ : ℕ} → a ≡ a₁ → b ≡ b₁ → c ≡ c₁ → d ≡ d₁
-    → ◌≡◌ {A = Totals} (record { verdict = verdict.Accepted; selves = a; steps = b; returns = c; count = d })
-    (record { verdict = verdict.Accepted; selves = a₁; steps = b₁; returns = c₁; count = d₁ })
+    → ◌≡◌ {A = Totals} (record { verdict = Ok (tt {0}); selves = a; steps = b; returns = c; count = d })
+    (record { verdict = Ok (tt {0}); selves = a₁; steps = b₁; returns = c₁; count = d₁ })
 same p q r t = rw (p, q, r, t)
 
 given_all : (names : List ℕ) (self : Receiver) (steps returns : List Step) (a b c : Advanced Lowerer)
-    → lower_self names self ≡ Gives a → run_steps names false steps a.left ≡ Gives b
-    → run_steps names true returns b.left ≡ Gives c
+    → lower_self names self ≡ Ok a → run_steps names false steps a.left ≡ Ok b
+    → run_steps names true returns b.left ≡ Ok c
     → run_method names self steps returns
-    ≡ Gives (record { self = a.given; steps = b.given; returns = c.given; count = c.left.seen.count })
+    ≡ Ok (record { self = a.given; steps = b.given; returns = c.given; count = c.left.seen.count })
 unfolding run_method
 given_all names self steps returns a b c p q r = rw (p, q, r)
 
@@ -152,7 +152,7 @@ counted g = g.count ∙ zero-add (length g.it.given)
 module _ (names : List ℕ) (self : Receiver) (steps returns : List Step) {own own₁ : List ℕ} {r₁ : Took} where
   pub all_first : {k : Refusal} {given taken given₁ taken₁ : List ℕ} {t : Totals}
       → ((l : List ℕ) → length l ≡ 16 → Lowers (lower_self names self) 0 l own own₁ r₁)
-      → r₁.verdict ≡ verdict.Refused k → t ≡ none k
+      → r₁.verdict ≡ Err k → t ≡ none k
       → RunsAll (run_method names self steps returns) own given taken own₁ given₁ taken₁ t
   unfolding run_method
   all_first {k} first v h = all_refused (rw ((first (replicate 16 0) refl).refused k v)) h
@@ -161,7 +161,7 @@ module _ (names : List ℕ) (self : Receiver) (steps returns : List Step) {own o
     pub all_second : {k : Refusal} {taken taken₁ : List ℕ} {t : Totals}
         → ((s : Lowerer) → Shows s r₁.seen r₁.kept r₁.own list
         → Lowers (run_steps names false steps s) 0 list₁ given given₁ r₂)
-        → r₂.verdict ≡ verdict.Refused k → t ≡ none k
+        → r₂.verdict ≡ Err k → t ≡ none k
         → RunsAll (run_method names self steps returns) own given taken own₁ given₁ taken₁ t
     unfolding run_method
     all_second {k} second v h = all_refused (rw (one.is, (second one.it.left one.shows).refused k v)) h
@@ -173,14 +173,14 @@ module _ (names : List ℕ) (self : Receiver) (steps returns : List Step) {own o
       third_here : Lowers (run_steps names true returns two.it.left) 0 list₂ taken taken₁ r₃
       third_here = third two.it.left two.shows
 
-      pub all_third : {k : Refusal} {t : Totals} → r₃.verdict ≡ verdict.Refused k → t ≡ none k
+      pub all_third : {k : Refusal} {t : Totals} → r₃.verdict ≡ Err k → t ≡ none k
           → RunsAll (run_method names self steps returns) own given taken own₁ given₁ taken₁ t
       unfolding run_method
       all_third {k} v h = all_refused (rw (one.is, two.is, third_here.refused k v)) h
 
-      pub all_given : r₃.verdict ≡ verdict.Accepted
+      pub all_given : r₃.verdict ≡ Ok (tt {0})
           → RunsAll (run_method names self steps returns) own given taken own₁ given₁ taken₁
-          (record { verdict = verdict.Accepted; selves = r₁.n; steps = r₂.n; returns = r₃.n; count = r₃.seen.count })
+          (record { verdict = Ok (tt {0}); selves = r₁.n; steps = r₂.n; returns = r₃.n; count = r₃.seen.count })
       all_given v =
           let three = third_here.accepted v in
           let whole : Method =
@@ -190,7 +190,7 @@ module _ (names : List ℕ) (self : Receiver) (steps returns : List Step) {own o
             returns = three.it.given;
             count = three.it.left.seen.count;
           } in
-          let is : run_method names self steps returns ≡ Gives whole =
+          let is : run_method names self steps returns ≡ Ok whole =
           given_all names self steps returns one.it two.it three.it one.is two.is three.is in
           record {
             answers =

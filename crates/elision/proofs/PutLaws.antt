@@ -1,5 +1,6 @@
 -- One step lowered and stored, where the lowerer is shown by small numbers and a list of words: what `put_given`,
 -- `put_self` and `put_step` answer. Each law is over any lowerer that is shown.
+use Rattle.std.specs.Prelude.{Ok, Err, Some}
 use Prim.Native.Nat.{ℕ, ◌+◌, ◌-◌, ◌≤◌, ◌<◌}
 use mathlib.Core.Bool.{Bool, true, false}
 use mathlib.Core.Path.{◌≡◌, refl, sym, ap, subst, ◌∙◌}
@@ -10,10 +11,8 @@ use lib.ListN.{length, get_or, take, drop, set, length-map, length-set}
 use lib.Seq.{sets, length-sets, take_at}
 use Rattle.answers.specs.declared.Refusal.{Refusal}
 use Rattle.answers.specs.declared.Refusal.TheVariants.{Malformed}
-use Rattle.answers.specs.declared.Verdict.TheVariants as verdict
-use Rattle.answers.specs.Refusals.{Outcome, Gives, Refuses}
+use Rattle.answers.specs.Refusals.{Outcome}
 use Rattle.answers.proofs.Copying.{sets_front, Copying, copying_start, copying_more, copying_end}
-use Rattle.records.specs.declared.End.TheVariants as end
 use Rattle.records.specs.Reading.{Reading, Read, Fails}
 use Rattle.records.specs.Ends.{EndsAt}
 use Rattle.answers.proofs.VerdictLaws.{refused_accepted}
@@ -39,27 +38,27 @@ use Rattle.records.proofs.ReadingLaws.{fails_read}
 
 record GivenWords (o : Outcome (Advanced Seen)) (at : ℕ) (before behind : List ℕ) (p : Put) : Type 0 where
   it : Advanced Seen
-  is : o ≡ Gives it
+  is : o ≡ Ok it
   saw : it.left ≡ p.seen
   count : p.at ≡ at + length it.given
   stored : behind ≡ sets before at (map shown it.given)
 
 module _ {seen : Seen} {at : ℕ} {before behind : List ℕ} {p : Put} where
-  words_given : (o : Outcome (Advanced Seen)) → Puts seen o at before behind p → p.verdict ≡ verdict.Accepted
+  words_given : (o : Outcome (Advanced Seen)) → Puts seen o at before behind p → p.verdict ≡ Ok (tt {0})
       → GivenWords o at before behind p
-  words_given (Gives a) h v = record {
+  words_given (Ok a) h v = record {
     it = a;
     is = refl;
     saw = sym (ap (λ (x : Put). x.seen) h.answers);
     count = ap (λ (x : Put). x.at) h.answers;
     stored = h.stores a refl;
   }
-  words_given (Refuses k) h v = refused_accepted (sym (ap (λ (x : Put). x.verdict) h.answers) ∙ v)
+  words_given (Err k) h v = refused_accepted (sym (ap (λ (x : Put). x.verdict) h.answers) ∙ v)
 
   words_refused : {k : Refusal} (o : Outcome (Advanced Seen)) → Puts seen o at before behind p
-      → p.verdict ≡ verdict.Refused k → o ≡ Refuses k
-  words_refused (Gives a) h v = refused_accepted (sym v ∙ ap (λ (x : Put). x.verdict) h.answers)
-  words_refused (Refuses j) h v = let e : verdict.Refused j ≡ verdict.Refused _ =
+      → p.verdict ≡ Err k → o ≡ Err k
+  words_refused (Ok a) h v = refused_accepted (sym v ∙ ap (λ (x : Put). x.verdict) h.answers)
+  words_refused (Err j) h v = let e : Err j ≡ Err _ =
       sym (ap (λ (x : Put). x.verdict) h.answers) ∙ v in cc
 
 -- ---- kinds 0 and 1
@@ -118,7 +117,7 @@ pub self_again : (names words : List ℕ) (seen : Seen) {kept : Bool} (own n to 
     {before behind : List ℕ} → kept ≡ true → own ≤ 16
     → (length list ≡ 16 → behind ≡ sets before n (take own list))
     → PutsOne (self_step names words) seen kept own n to list list before behind
-    (record { verdict = verdict.Accepted; seen = seen; kept = kept; own = own; n = n + own; to = to })
+    (record { verdict = Ok (tt {0}); seen = seen; kept = kept; own = own; n = n + own; to = to })
 self_again names words seen own n to list k few stored = record {
   few = few;
   near = omega arith;
@@ -142,9 +141,9 @@ module _ (names words : List ℕ) (seen : Seen) {kept : Bool} (own n to : ℕ) (
   said : Puts seen (lower_words names Aside words seen) 0 list list₁ p
   said = rw (zero-sub (length words), append-nil words) at call
 
-  pub self_refused : {j : Refusal} {before behind : List ℕ} → p.verdict ≡ verdict.Refused j
+  pub self_refused : {j : Refusal} {before behind : List ℕ} → p.verdict ≡ Err j
       → PutsOne (self_step names words) seen kept own n to list list₁ before behind
-      (record { verdict = verdict.Refused j; seen = seen; kept = kept; own = own; n = n; to = to })
+      (record { verdict = Err j; seen = seen; kept = kept; own = own; n = n; to = to })
   self_refused {j} v = record {
     few = few;
     near = omega arith;
@@ -157,10 +156,10 @@ module _ (names words : List ℕ) (seen : Seen) {kept : Bool} (own n to : ℕ) (
   }
 
   -- the words given are in the list, and from there in the slice
-  pub self_first : {before behind : List ℕ} → p.verdict ≡ verdict.Accepted
+  pub self_first : {before behind : List ℕ} → p.verdict ≡ Ok (tt {0})
       → (length list₁ ≡ 16 → behind ≡ sets before n (take p.at list₁))
       → PutsOne (self_step names words) seen kept own n to list list₁ before behind
-      (record { verdict = verdict.Accepted; seen = p.seen; kept = true; own = p.at; n = n + p.at; to = to })
+      (record { verdict = Ok (tt {0}); seen = p.seen; kept = true; own = p.at; n = n + p.at; to = to })
   self_first {before} {behind} v stored = record {
     few = omega (arith, call.few);
     near = omega (arith, call.few);
@@ -173,7 +172,7 @@ module _ (names words : List ℕ) (seen : Seen) {kept : Bool} (own n to : ℕ) (
     where
       go : (s : Lowerer) → Shows s seen kept own list → GivenWords (lower_words names Aside words seen) 0 list list₁ p
           → Given (self_step names words s) n list₁ before behind
-          (record { verdict = verdict.Accepted; seen = p.seen; kept = true; own = p.at; n = n + p.at; to = to })
+          (record { verdict = Ok (tt {0}); seen = p.seen; kept = true; own = p.at; n = n + p.at; to = to })
       go s sh g =
           let ws = map shown g.it.given in
           let many : p.at ≡ length g.it.given = g.count ∙ zero-add (length g.it.given) in
@@ -233,7 +232,7 @@ module _ {words : List ℕ} {at : ℕ} {r : StepAt} (stands : StandsAt words at 
   pub puts_missing : (names : List ℕ) (out : Bool) (seen : Seen) (kept : Bool) (own n : ℕ) (list : List ℕ)
       {before : List ℕ} → r ≡ standing.Missing → own ≤ 16
       → PutsStep names words out at seen kept own n list list before before
-      (record { verdict = verdict.Refused Malformed; seen = seen; kept = kept; own = own; n = n; to = at })
+      (record { verdict = Err Malformed; seen = seen; kept = kept; own = own; n = n; to = at })
   puts_missing names out seen kept own n list e few = record {
     few = few;
     near = omega arith;
@@ -244,7 +243,7 @@ module _ {words : List ℕ} {at : ℕ} {r : StepAt} (stands : StandsAt words at 
   module _ (names : List ℕ) (out : Bool) (seen : Seen) (kept : Bool) (own n : ℕ) (list : List ℕ)
       {list₁ before behind : List ℕ} {t : Took} where
     -- one step, where it is the one that stands there
-    puts : {to : ℕ} (step : Lowerer → Outcome (Advanced Lowerer)) → EndsAt words at (read_step (drop at words)) (end.At to)
+    puts : {to : ℕ} (step : Lowerer → Outcome (Advanced Lowerer)) → EndsAt words at (read_step (drop at words)) (Some to)
         → ((step₁ : Step) (rest : List ℕ) → read_step (drop at words) ≡ Read step₁ rest → (s : Lowerer)
         → step s ≡ lower_step names out step₁ s)
         → PutsOne step seen kept own n to list list₁ before behind t
@@ -252,7 +251,7 @@ module _ {words : List ℕ} {at : ℕ} {r : StepAt} (stands : StandsAt words at 
     puts step ended same p = record {
       few = p.few;
       near = p.near;
-      ends = λ v. subst (λ (x : ℕ). EndsAt words at (read_step (drop at words)) (end.At x)) (sym p.place) ended;
+      ends = λ v. subst (λ (x : ℕ). EndsAt words at (read_step (drop at words)) (Some x)) (sym p.place) ended;
       lowers = λ s sh step₁ rest e. subst (λ (o : Outcome (Advanced Lowerer)). Lowers o n list₁ before behind t)
           (same step₁ rest e s) (p.lowers s sh);
     }

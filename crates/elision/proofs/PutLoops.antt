@@ -1,5 +1,6 @@
 -- A record lowered step by step: the loop of `put_record`. What is left to be read, lowered from here behind what is
 -- done, is what the whole record gives.
+use Rattle.std.specs.Prelude.{Ok, Err, Some}
 use Prim.Native.Nat.{ℕ, zero, suc, ◌+◌, ◌*◌, ◌≤◌, ◌<◌}
 use mathlib.Core.Bool.{Bool, true, and-eq-true_iff}
 use mathlib.Core.Path.{◌≡◌, refl, sym, ap, ◌∙◌}
@@ -10,11 +11,9 @@ use borrow.Author.Tests.{leb-true}
 use lib.ListN.{length, drop, length-append, length-map, length-drop, drop_of_length-le}
 use lib.Seq.{sets}
 use Rattle.answers.specs.declared.Refusal.{Refusal}
-use Rattle.answers.specs.declared.Verdict.TheVariants as verdict
 use Rattle.lifetimes.specs.declared.maybe_static.MaybeStatic.{MaybeStatic}
-use Rattle.answers.specs.Refusals.{Outcome, Gives, Refuses, bind}
+use Rattle.answers.specs.Refusals.{Outcome, bind}
 use Rattle.answers.proofs.Copying.{sets_append}
-use Rattle.records.specs.declared.End.TheVariants as end
 use Rattle.records.specs.Reading.{Reading, Read, Fails, onward, is_read, read_or, read_all, in_shape, items_of, few_words}
 use Rattle.records.specs.Ends.{EndsAt, ends}
 use Rattle.answers.proofs.VerdictLaws.{refused_accepted}
@@ -78,7 +77,7 @@ read_none number (suc fuel) rest tail e = cc
 -- ---- the loop
 
 abbrev behind_done : List MaybeStatic → Advanced Lowerer → Outcome (Advanced Lowerer)
-behind_done done a = Gives (advanced (done ++ a.given) a.left)
+behind_done done a = Ok (advanced (done ++ a.given) a.left)
 
 -- from the lowerer that the record starts with: what is left of the record, the lowerer that it is left to, shown as it
 -- is passed on, and what is done
@@ -107,8 +106,8 @@ pub record Recording (names : List ℕ) (out : Bool) (words : List ℕ) (before 
   pub reached : (s : Lowerer) → Shows s before was had list₀ → Reached names out words s slice₀ slice list seen kept own n at
 
 after_itself : (o : Outcome (Advanced Lowerer)) → o ≡ bind o (behind_done [])
-after_itself (Gives a) = refl
-after_itself (Refuses r) = refl
+after_itself (Ok a) = refl
+after_itself (Err r) = refl
 
 pub recording_start : (names : List ℕ) (out : Bool) (words : List ℕ) (before : Seen) (was : Bool) (had : ℕ)
     (list slice : List ℕ) → steps_in_shape words ≡ true → had ≤ 16
@@ -140,10 +139,10 @@ recording_start names out words before was had list slice e few =
 
 -- where a step that was read ends
 ends_behind : {words : List ℕ} {at next : ℕ} {reading : Reading Step} (s : Step) (b : List ℕ)
-    → EndsAt words at reading (end.At next) → reading ≡ Read s b → drop next words ≡ b
+    → EndsAt words at reading (Some next) → reading ≡ Read s b → drop next words ≡ b
 ends_behind s b (ends {a} {rest} d x e) q = let r : rest ≡ b = cc in d ∙ r
 
-ends_order : {words : List ℕ} {at next : ℕ} {reading : Reading Step} → EndsAt words at reading (end.At next)
+ends_order : {words : List ℕ} {at next : ℕ} {reading : Reading Step} → EndsAt words at reading (Some next)
     → (at < next) × (next ≤ length words)
 ends_order (ends d x e) = (x, e)
 
@@ -158,7 +157,7 @@ module _ {names : List ℕ} {out : Bool} {words : List ℕ} {start : Lowerer} {s
     (inv : Reached names out words start slice₀ slice list seen kept own n at) where
   reached_end : length words ≤ at → {to : ℕ}
       → Lowers (run_steps names out (steps_of words) start) 0 list slice₀ slice
-      (record { verdict = verdict.Accepted; seen = seen; kept = kept; own = own; n = n; to = to })
+      (record { verdict = Ok (tt {0}); seen = seen; kept = kept; own = own; n = n; to = to })
   unfolding in_turn
   reached_end h =
       let none : inv.rest ≡ [] =
@@ -182,7 +181,7 @@ module _ {names : List ℕ} {out : Bool} {words : List ℕ} {start : Lowerer} {s
     next : run_steps names out (steps_of words) start
         ≡ bind (bind (lower_step names out turn.step inv.here)
         (λ first. bind (run_steps names out turn.items first.left)
-        (λ rest. Gives (advanced (first.given ++ rest.given) rest.left))))
+        (λ rest. Ok (advanced (first.given ++ rest.given) rest.left))))
         (behind_done inv.done)
     unfolding in_turn
     next = inv.left ∙ ap (λ (o : Outcome (Advanced Lowerer)). bind o (behind_done inv.done))
@@ -192,18 +191,18 @@ module _ {names : List ℕ} {out : Bool} {words : List ℕ} {start : Lowerer} {s
       one : Lowers (lower_step names out turn.step inv.here) n list₁ slice slice₁ r
       one = put.lowers inv.here inv.shows turn.step turn.behind turn.is
 
-      reached_refused : (k : Refusal) → r.verdict ≡ verdict.Refused k → run_steps names out (steps_of words) start ≡ Refuses k
+      reached_refused : (k : Refusal) → r.verdict ≡ Err k → run_steps names out (steps_of words) start ≡ Err k
       reached_refused k v = rw (next, one.refused k v)
 
-      reached_more : r.verdict ≡ verdict.Accepted
+      reached_more : r.verdict ≡ Ok (tt {0})
           → Reached names out words start slice₀ slice₁ list₁ r.seen r.kept r.own r.n r.to
       reached_more v = go (one.accepted v)
         where
           join : (a : Advanced Lowerer) (o : Outcome (Advanced Lowerer))
-              → bind (bind o (λ rest. Gives (advanced (a.given ++ rest.given) rest.left))) (behind_done inv.done)
+              → bind (bind o (λ rest. Ok (advanced (a.given ++ rest.given) rest.left))) (behind_done inv.done)
               ≡ bind o (behind_done (inv.done ++ a.given))
-          join a (Gives b) = rw append_assoc
-          join a (Refuses k) = refl
+          join a (Ok b) = rw append_assoc
+          join a (Err k) = refl
 
           go : Given (lower_step names out turn.step inv.here) n list₁ slice slice₁ r
               → Reached names out words start slice₀ slice₁ list₁ r.seen r.kept r.own r.n r.to
@@ -233,7 +232,7 @@ module _ {names : List ℕ} {out : Bool} {words : List ℕ} {start : Lowerer} {s
 
 pub recording_less : {names words : List ℕ} {out : Bool} {at : ℕ} {seen : Seen} {kept : Bool} {own n : ℕ}
     {list list₁ slice slice₁ : List ℕ} {r : Took}
-    → PutsStep names words out at seen kept own n list list₁ slice slice₁ r → r.verdict ≡ verdict.Accepted
+    → PutsStep names words out at seen kept own n list list₁ slice slice₁ r → r.verdict ≡ Ok (tt {0})
     → (at < r.to) × (r.to ≤ length words)
 recording_less put v = ends_order (put.ends v)
 
@@ -245,11 +244,11 @@ module _ {names : List ℕ} {out : Bool} {words : List ℕ} {before : Seen} {was
 
   pub recording_end : length words ≤ at → {to : ℕ} → (own ≤ 16) × ((s : Lowerer) → Shows s before was had list₀
       → Lowers (run_steps names out (steps_of words) s) 0 list slice₀ slice
-      (record { verdict = verdict.Accepted; seen = seen; kept = kept; own = own; n = n; to = to }))
+      (record { verdict = Ok (tt {0}); seen = seen; kept = kept; own = own; n = n; to = to }))
   recording_end h = (inv.held, λ s sh. reached_end (inv.reached s sh) h)
 
   module _ {list₁ slice₁ : List ℕ} {r : Took} (put : PutsStep names words out at seen kept own n list list₁ slice slice₁ r) where
-    pub recording_refused : {k : Refusal} → at < length words → r.verdict ≡ verdict.Refused k
+    pub recording_refused : {k : Refusal} → at < length words → r.verdict ≡ Err k
         → (r.own ≤ 16)
         × ((s : Lowerer) → Shows s before was had list₀
         → Lowers (run_steps names out (steps_of words) s) 0 list₁ slice₀ slice₁ r)
@@ -261,7 +260,7 @@ module _ {names : List ℕ} {out : Bool} {words : List ℕ} {before : Seen} {was
       },
     )
 
-    pub recording_more : r.verdict ≡ verdict.Accepted → length slice₁ ≡ length slice
+    pub recording_more : r.verdict ≡ Ok (tt {0}) → length slice₁ ≡ length slice
         → Recording names out words before was had list₀ slice₀ list₁ slice₁ r.seen r.kept r.own r.n r.to
     recording_more v size =
         let order = recording_less put v in

@@ -1,4 +1,5 @@
 -- What RFC 141's definition says, read one by one; the steps of a record are those that the single calls take.
+use Rattle.std.specs.Prelude.{Ok, Err}
 use Prim.Native.Nat.{◌+◌, ℕ, zero, suc, ◌≤◌, ◌<◌}
 use mathlib.Core.Bool.{Bool, true, false, cond, ◌&&◌}
 use mathlib.Core.Path.{◌≡◌, refl, sym}
@@ -10,7 +11,7 @@ use lib.ListN.{length}
 use Rattle.lifetimes.specs.declared.maybe_static.MaybeStatic.{MaybeStatic}
 use Rattle.lifetimes.specs.declared.maybe_static.MaybeStatic.TheVariants.{Static, NonStatic}
 use Rattle.lifetimes.specs.Numbers.{lifetime}
-use Rattle.answers.specs.Refusals.{Outcome, Gives, Refuses, NoneDue, bind}
+use Rattle.answers.specs.Refusals.{Outcome, NoneDue, bind}
 use Rattle.answers.proofs.RefusalLaws.{none_first, none_rest, none_split}
 use Rattle.ast_lifetimes.specs.Env.{place}
 use Rattle.records.specs.Reading.{Reading, read_or, read_all, items_of}
@@ -45,12 +46,12 @@ module _ (names : List ℕ) (self : Receiver) where
   named_is st before word h = rw (ne_eqb word 1 (λ e. omega arith), ne_eqb word 0 (λ e. omega arith))
 
   pub source_is : (before : List Occurrence) → NoneDue (checks_at names self before (occurs Output 1))
-      → (l : MaybeStatic) × (source_at names self before ≡ Gives l)
+      → (l : MaybeStatic) × (source_at names self before ≡ Ok l)
   source_is before n = go (source_at names self before) (none_first (none_rest n))
     where
-      go : (o : Outcome MaybeStatic) → (source_check true o).due ≡ false → (l : MaybeStatic) × (o ≡ Gives l)
-      go (Gives l) e = (l, refl)
-      go (Refuses r) e = passed (sym e)
+      go : (o : Outcome MaybeStatic) → (source_check true o).due ≡ false → (l : MaybeStatic) × (o ≡ Ok l)
+      go (Ok l) e = (l, refl)
+      go (Err r) e = passed (sym e)
 
   pub again_is : (before : List Item) (i : Item) → has_self_type before ≡ true → is_self_type i.step ≡ true
       → (lowered_at names self before i ≡ own_from names self [] before) × (occurrences_at before i ≡ [])
@@ -103,12 +104,12 @@ steps_same names out (x ∷ l) p s = rw (one_fits names out x s p.0) (go (lower_
     go : (o : Outcome (Advanced Lowerer)) → ((s : Lowerer) → run_steps names out l s ≡ in_turn (one_step names out) l s)
         → bind o
         (λ first. bind (run_steps names out l first.left)
-        (λ rest. Gives (advanced (first.given ++ rest.given) rest.left)))
+        (λ rest. Ok (advanced (first.given ++ rest.given) rest.left)))
         ≡ bind o
         (λ first. bind (in_turn (one_step names out) l first.left)
-        (λ rest. Gives (advanced (first.given ++ rest.given) rest.left)))
-    go (Gives a) more = rw (more a.left)
-    go (Refuses r) more = refl
+        (λ rest. Ok (advanced (first.given ++ rest.given) rest.left)))
+    go (Ok a) more = rw (more a.left)
+    go (Err r) more = refl
 
 pub steps_one_by_one : (names : List ℕ) (out : Bool) (words : List ℕ) (s : Lowerer)
     → run_steps names out (steps_of words) s ≡ in_turn (one_step names out) (steps_of words) s

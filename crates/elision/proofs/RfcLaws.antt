@@ -1,5 +1,6 @@
 -- The lowerer's steps give what RFC 141 says: its state after some steps, as a function of what stands before, and what
 -- one lifetime, one step and one record more bring.
+use Rattle.std.specs.Prelude.{Ok, Err}
 use Prim.Native.Nat.{ℕ, zero, suc, ◌+◌}
 use mathlib.Core.Bool.{Bool, true, false, cond, ◌&&◌, ◌||◌, not}
 use mathlib.Core.Path.{◌≡◌, refl, ap, ◌∙◌}
@@ -13,7 +14,7 @@ use Rattle.answers.specs.declared.Refusal.TheVariants.{Undeclared}
 use Rattle.lifetimes.specs.declared.maybe_static.MaybeStatic.{MaybeStatic}
 use Rattle.lifetimes.specs.declared.maybe_static.MaybeStatic.TheVariants.{NonStatic}
 use Rattle.lifetimes.specs.Numbers.{lifetime}
-use Rattle.answers.specs.Refusals.{Check, check, Outcome, Gives, Refuses, unless, bind}
+use Rattle.answers.specs.Refusals.{Check, check, Outcome, unless, bind}
 use Rattle.ast_lifetimes.specs.Env.{place, is_declared}
 use Rattle.elision.specs.declared.source.ElisionSource.{ElisionSource}
 use Rattle.elision.specs.declared.source.ElisionSource.TheVariants.{NoBorrows, SelfParam, OneParam}
@@ -50,14 +51,14 @@ module _ {A B : Type 0} (each : List A → A → List B) where
 
 -- ---- outcomes one after another
 
-pub after_gives : {A B : Type 0} (cs : List Check) (a : A) (f : A → B) → bind (unless cs a) (λ x. Gives (f x)) ≡ unless cs (f a)
+pub after_gives : {A B : Type 0} (cs : List Check) (a : A) (f : A → B) → bind (unless cs a) (λ x. Ok (f x)) ≡ unless cs (f a)
 unfolding unless
 after_gives [] a f = refl
 after_gives (c ∷ cs) a f = go c.due (after_gives cs a f)
   where
-    go : (t : Bool) → bind (unless cs a) (λ x. Gives (f x)) ≡ unless cs (f a)
-        → bind (cond t (Refuses c.refusal) (unless cs a)) (λ x. Gives (f x))
-        ≡ cond t (Refuses c.refusal) (unless cs (f a))
+    go : (t : Bool) → bind (unless cs a) (λ x. Ok (f x)) ≡ unless cs (f a)
+        → bind (cond t (Err c.refusal) (unless cs a)) (λ x. Ok (f x))
+        ≡ cond t (Err c.refusal) (unless cs (f a))
     go true h = refl
     go false h = h
 
@@ -68,7 +69,7 @@ after_unless [] ds a b f h = h
 after_unless (c ∷ cs) ds a b f h = go c.due (after_unless cs ds a b f h)
   where
     go : (t : Bool) → bind (unless cs a) f ≡ unless (cs ++ ds) b
-        → bind (cond t (Refuses c.refusal) (unless cs a)) f ≡ cond t (Refuses c.refusal) (unless (cs ++ ds) b)
+        → bind (cond t (Err c.refusal) (unless cs a)) f ≡ cond t (Err c.refusal) (unless (cs ++ ds) b)
     go true k = refl
     go false k = k
 
@@ -89,13 +90,13 @@ module _ {X Y S : Type 0} (step : X → S → Outcome (Advanced S)) (item : X �
       let vs = throughout value-at here (map item l) in
       let e : state (here ++ map item l) ≡ state (before ++ (item x ∷ map item l)) = rw append_assoc in
       let join : Advanced S → Advanced S = λ r. advanced (value-at before (item x) ++ r.given) r.left in
-      let more : bind (in_turn step l (state here)) (λ r. Gives (join r))
+      let more : bind (in_turn step l (state here)) (λ r. Ok (join r))
       ≡ unless rest (join (advanced vs (state (here ++ map item l)))) =
       rw (in_turn_lem here l) (after_gives rest (advanced vs (state (here ++ map item l))) join) in
       rw (one before x, ← e)
       (after_unless (check-at before (item x)) rest (advanced (value-at before (item x)) (state here))
       (join (advanced vs (state (here ++ map item l))))
-      (λ first. bind (in_turn step l first.left) (λ r. Gives (advanced (first.given ++ r.given) r.left))) more)
+      (λ first. bind (in_turn step l first.left) (λ r. Ok (advanced (first.given ++ r.given) r.left))) more)
 
 -- ---- one lifetime
 
@@ -176,8 +177,8 @@ module _ (names : List ℕ) where
   not_elided self before Output = go (source_at names self before)
     where
       go : (o : Outcome MaybeStatic) → (source_check false o).due ≡ false
-      go (Gives l) = refl
-      go (Refuses r) = refl
+      go (Ok l) = refl
+      go (Err r) = refl
 
   abbrev AsSaid : Receiver → Standing → List Occurrence → ℕ → Type 0
   AsSaid self st before word =
@@ -216,7 +217,7 @@ module _ (names : List ℕ) where
       )
       (cond_not (is_declared names (suc (suc k)))
       (lowers st (NonStatic (lifetime (place names (suc (suc k))))) (source_from names self before)
-      (count_of names before)) (Refuses Undeclared))
+      (count_of names before)) (Err Undeclared))
 
   pub word_said : (self : Receiver) (st : Standing) (before : List Occurrence) (word : ℕ) → AsSaid self st before word
   word_said self st before zero = static_said self st before
@@ -441,16 +442,16 @@ method_said names self steps returns =
     (state_of names self (inputs steps ++ outputs returns)) in
     let whole : Advanced Lowerer → Advanced Lowerer → Advanced Lowerer → Method =
     λ x y z. record { self = x.given; steps = y.given; returns = z.given; count = z.left.seen.count } in
-    let last : bind (run_steps names true returns (state_of names self (inputs steps))) (λ z. Gives (whole a b z))
+    let last : bind (run_steps names true returns (state_of names self (inputs steps))) (λ z. Ok (whole a b z))
     ≡ unless third (method_of names self steps returns) =
     rw (steps_said names self true (inputs steps) returns) (after_gives third c (whole a b)) in
     let middle : bind (run_steps names false steps (state_of names self []))
-    (λ y. bind (run_steps names true returns y.left) (λ z. Gives (whole a y z)))
+    (λ y. bind (run_steps names true returns y.left) (λ z. Ok (whole a y z)))
     ≡ unless (second ++ third) (method_of names self steps returns) =
     rw (steps_said names self false [] steps)
     (after_unless second third b (method_of names self steps returns)
-    (λ y. bind (run_steps names true returns y.left) (λ z. Gives (whole a y z))) last) in
+    (λ y. bind (run_steps names true returns y.left) (λ z. Ok (whole a y z))) last) in
     rw (self_said names self)
     (after_unless (checks names self [] (self_occurrences self)) (second ++ third) a (method_of names self steps returns)
     (λ x. bind (run_steps names false steps x.left)
-    (λ y. bind (run_steps names true returns y.left) (λ z. Gives (whole x y z)))) middle)
+    (λ y. bind (run_steps names true returns y.left) (λ z. Ok (whole x y z)))) middle)

@@ -1,5 +1,6 @@
 -- How many lifetimes the records give: a step has two words or more and gives at most 16 lifetimes, so a record gives
 -- at most eight for each of its words.
+use Rattle.std.specs.Prelude.{Ok}
 use Prim.Native.Nat.{ℕ, zero, suc, ◌+◌, ◌*◌, ◌≤◌}
 use mathlib.Core.Bool.{Bool, true, false, cond, and-eq-true_iff}
 use mathlib.Core.Path.{◌≡◌, refl, ap, subst, ◌∙◌}
@@ -8,7 +9,7 @@ use native.Mathlib.Omega.{arith}
 use borrow.Author.Tests.{leb-true}
 use lib.Dec.{eqb, leb}
 use lib.ListN.{length, length-append, length-map, length-replicate}
-use Rattle.answers.specs.Refusals.{Gives, NoneDue}
+use Rattle.answers.specs.Refusals.{NoneDue}
 use Rattle.answers.proofs.RefusalLaws.{due_given}
 use Rattle.records.specs.Reading.{Reading, Read, Fails, onward, read_word, read_lifetimes, read_all, items_of, read_or}
 use Rattle.records.proofs.ReadingLaws.{Holds, read, fails, holds_cond, holds_onward, LifetimesIn, lifetimes_read}
@@ -177,6 +178,6 @@ module _ (names : List ℕ) (self : Receiver) where
       × (AllSmall (lowered_steps names self steps) × AllSmall (lowered_returns names self steps returns))
   unfolding rfc141
   accepted_small few steps returns none =
-      let is : run_method names self steps returns ≡ Gives (method_of names self steps returns) =
+      let is : run_method names self steps returns ≡ Ok (method_of names self steps returns) =
       method_said names self steps returns ∙ due_given (method_of names self steps returns) none in
       subst (SmallMethod names few) is (method_small names few self steps returns)

@@ -1,4 +1,5 @@
 -- Every lifetime that the records give is numbered below 64, so it has a word.
+use Rattle.std.specs.Prelude.{Ok, Err}
 use Prim.Native.Nat.{ℕ, ◌+◌, ◌^◌, ◌≤◌}
 use mathlib.Core.Bool.{Bool, true, false, cond}
 use mathlib.Core.Path.{◌≡◌, refl, ap}
@@ -11,7 +12,7 @@ use Rattle.answers.specs.declared.Refusal.TheVariants.{Undeclared, Full}
 use Rattle.lifetimes.specs.declared.maybe_static.MaybeStatic.{MaybeStatic}
 use Rattle.lifetimes.specs.declared.maybe_static.MaybeStatic.TheVariants.{Static, NonStatic}
 use Rattle.lifetimes.specs.Numbers.{lifetime}
-use Rattle.answers.specs.Refusals.{Outcome, Gives, Refuses, bind}
+use Rattle.answers.specs.Refusals.{Outcome, bind}
 use Rattle.lifetimes.specs.LoweredWords.{word_of}
 use Rattle.ast_lifetimes.specs.Env.{place, is_declared}
 use Rattle.elision.specs.declared.source.ElisionSource.{ElisionSource}
@@ -59,21 +60,21 @@ abbrev FineLowerer : Lowerer → Type 0
 FineLowerer s = SmallSource s.seen.source × AllSmall (values_in s.own)
 
 abbrev Out : {S : Type 0} → (S → Type 0) → Outcome (Advanced S) → Type 0
-Out P (Gives a) = AllSmall a.given × P a.left
-Out P (Refuses r) = Unit {0}
+Out P (Ok a) = AllSmall a.given × P a.left
+Out P (Err r) = Unit {0}
 
 module _ {X S : Type 0} (step : X → S → Outcome (Advanced S)) (P : S → Type 0) (fine : (x : X) (s : S) → P s → Out P (step x s)) where
   rest_fine : (a : Advanced S) → AllSmall a.given → (o : Outcome (Advanced S)) → Out P o
-      → Out P (bind o (λ rest. Gives (advanced (a.given ++ rest.given) rest.left)))
-  rest_fine a p (Gives b) q = (small_append a.given b.given p q.0, q.1)
-  rest_fine a p (Refuses r) q = tt
+      → Out P (bind o (λ rest. Ok (advanced (a.given ++ rest.given) rest.left)))
+  rest_fine a p (Ok b) q = (small_append a.given b.given p q.0, q.1)
+  rest_fine a p (Err r) q = tt
 
   first_fine : (l : List X) → ((s : S) → P s → Out P (in_turn step l s)) → (o : Outcome (Advanced S)) → Out P o
       → Out P (bind o
       (λ first. bind (in_turn step l first.left)
-      (λ rest. Gives (advanced (first.given ++ rest.given) rest.left))))
-  first_fine l more (Gives a) q = rest_fine a q.0 (in_turn step l a.left) (more a.left q.1)
-  first_fine l more (Refuses r) q = tt
+      (λ rest. Ok (advanced (first.given ++ rest.given) rest.left))))
+  first_fine l more (Ok a) q = rest_fine a q.0 (in_turn step l a.left) (more a.left q.1)
+  first_fine l more (Err r) q = tt
 
   turn_fine : (l : List X) (s : S) → P s → Out P (in_turn step l s)
   unfolding in_turn
@@ -104,9 +105,9 @@ source_fine MultipleBorrows s p q = tt
 
 new_fine : (st : Standing) (s : Seen) → Fine s
     → Out Fine
-    (cond (leb 64 s.count) (Refuses Full) (lowers st (NonStatic (lifetime s.count)) s.source (s.count + 1)))
+    (cond (leb 64 s.count) (Err Full) (lowers st (NonStatic (lifetime s.count)) s.source (s.count + 1)))
 new_fine st s p =
-    out_cond (leb 64 s.count) (Refuses Full) (lowers st (NonStatic (lifetime s.count)) s.source (s.count + 1)) (λ e. tt)
+    out_cond (leb 64 s.count) (Err Full) (lowers st (NonStatic (lifetime s.count)) s.source (s.count + 1)) (λ e. tt)
     (λ e. lowers_fine st (NonStatic (lifetime s.count)) s.source (s.count + 1) p (omega (arith, leb-false 64 s.count e)))
 
 anonymous_fine : (st : Standing) (s : Seen) → Fine s → Out Fine (lower_anonymous st s)
@@ -120,10 +121,10 @@ module _ (names : List ℕ) (few : length names ≤ 32) where
   word_fine st word s p =
       let static = lowers st Static s.source s.count in
       let named = lowers st (NonStatic (lifetime (place names word))) s.source s.count in
-      let name = cond (is_declared names word) named (Refuses Undeclared) in
+      let name = cond (is_declared names word) named (Err Undeclared) in
       out_cond (eqb word 1) (lower_anonymous st s) (cond (eqb word 0) static name) (λ e. anonymous_fine st s p)
       (λ e. out_cond (eqb word 0) static name (λ f. lowers_fine st Static s.source s.count p (omega arith))
-      (λ f. out_cond (is_declared names word) named (Refuses Undeclared)
+      (λ f. out_cond (is_declared names word) named (Err Undeclared)
       (λ g. lowers_fine st (NonStatic (lifetime (place names word))) s.source s.count p
       (omega (arith, ltb-true (place names word) (length names) g))) (λ g. tt)))
 
@@ -131,15 +132,15 @@ module _ (names : List ℕ) (few : length names ≤ 32) where
   words_fine st = turn_fine (lower_word names st) Fine (word_fine st)
 
   keep_fine : (kept : Bool) (s : Lowerer) → AllSmall (values_in s.own) → (o : Outcome (Advanced Seen)) → Out Fine o
-      → Out FineLowerer (bind o (λ a. Gives (advanced a.given (record { seen = a.left; kept = kept; own = s.own }))))
-  keep_fine kept s p (Gives a) q = (q.0, (q.1, p))
-  keep_fine kept s p (Refuses r) q = tt
+      → Out FineLowerer (bind o (λ a. Ok (advanced a.given (record { seen = a.left; kept = kept; own = s.own }))))
+  keep_fine kept s p (Ok a) q = (q.0, (q.1, p))
+  keep_fine kept s p (Err r) q = tt
 
   make_fine : (o : Outcome (Advanced Seen)) → Out Fine o
       → Out FineLowerer
-      (bind o (λ a. Gives (advanced a.given (record { seen = a.left; kept = true; own = laid a.given }))))
-  make_fine (Gives a) q = (q.0, (q.1, rw (laid_values a.given) q.0))
-  make_fine (Refuses r) q = tt
+      (bind o (λ a. Ok (advanced a.given (record { seen = a.left; kept = true; own = laid a.given }))))
+  make_fine (Ok a) q = (q.0, (q.1, rw (laid_values a.given) q.0))
+  make_fine (Err r) q = tt
 
   step_fine : (out : Bool) (step : Step) (s : Lowerer) → FineLowerer s → Out FineLowerer (lower_step names out step s)
   unfolding lower_step
@@ -153,9 +154,9 @@ module _ (names : List ℕ) (few : length names ≤ 32) where
     where
       first : Outcome (Advanced Lowerer)
       first = bind (lower_words names Aside l s.seen)
-          (λ a. Gives (advanced a.given (record { seen = a.left; kept = true; own = laid a.given })))
+          (λ a. Ok (advanced a.given (record { seen = a.left; kept = true; own = laid a.given })))
 
-      go : (t : Bool) → Out FineLowerer (cond t (Gives (advanced (values_in s.own) s)) first)
+      go : (t : Bool) → Out FineLowerer (cond t (Ok (advanced (values_in s.own) s)) first)
       go true = (p.1, p)
       go false = make_fine (lower_words names Aside l s.seen) (words_fine Aside l s.seen p.0)
 
@@ -172,19 +173,19 @@ module _ (names : List ℕ) (few : length names ≤ 32) where
   ref_fine : (o : Outcome (Advanced Seen)) → Out Fine o
       → Out FineLowerer
       (bind o
-      (λ a. Gives
+      (λ a. Ok
       (advanced a.given
       (record {
         seen = record { source = SelfParam (first_or a.given); count = a.left.count };
         kept = false;
         own = laid [];
       }))))
-  ref_fine (Gives a) q = (q.0, (one a.given q.0, own_fine))
+  ref_fine (Ok a) q = (q.0, (one a.given q.0, own_fine))
     where
       one : (ls : List MaybeStatic) → AllSmall ls → Small (first_or ls)
       one [] p = omega arith
       one (l ∷ ls) p = p.0
-  ref_fine (Refuses r) q = tt
+  ref_fine (Err r) q = tt
 
   self_fine : (self : Receiver) → Out FineLowerer (lower_self names self)
   unfolding self_ref
@@ -194,8 +195,8 @@ module _ (names : List ℕ) (few : length names ≤ 32) where
       (word_fine Aside word (unused names).seen unused_fine.0)
 
   abbrev pub SmallMethod : Outcome Method → Type 0
-  SmallMethod (Gives m) = AllSmall m.self × (AllSmall m.steps × AllSmall m.returns)
-  SmallMethod (Refuses r) = Unit {0}
+  SmallMethod (Ok m) = AllSmall m.self × (AllSmall m.steps × AllSmall m.returns)
+  SmallMethod (Err r) = Unit {0}
 
   pub method_small : (self : Receiver) (steps returns : List Step) → SmallMethod (run_method names self steps returns)
   unfolding run_method
@@ -204,26 +205,26 @@ module _ (names : List ℕ) (few : length names ≤ 32) where
       third : (a b : Advanced Lowerer) → AllSmall a.given → AllSmall b.given → (o : Outcome (Advanced Lowerer)) → Out FineLowerer o
           → SmallMethod
           (bind o
-          (λ c. Gives
+          (λ c. Ok
           (record { self = a.given; steps = b.given; returns = c.given; count = c.left.seen.count })))
-      third a b p q (Gives c) r = (p, (q, r.0))
-      third a b p q (Refuses k) r = tt
+      third a b p q (Ok c) r = (p, (q, r.0))
+      third a b p q (Err k) r = tt
 
       second : (a : Advanced Lowerer) → AllSmall a.given → (o : Outcome (Advanced Lowerer)) → Out FineLowerer o
           → SmallMethod
           (bind o
           (λ b. bind (run_steps names true returns b.left)
-          (λ c. Gives
+          (λ c. Ok
           (record { self = a.given; steps = b.given; returns = c.given; count = c.left.seen.count }))))
-      second a p (Gives b) q = third a b p q.0 (run_steps names true returns b.left) (steps_fine true returns b.left q.1)
-      second a p (Refuses k) q = tt
+      second a p (Ok b) q = third a b p q.0 (run_steps names true returns b.left) (steps_fine true returns b.left q.1)
+      second a p (Err k) q = tt
 
       first : (o : Outcome (Advanced Lowerer)) → Out FineLowerer o
           → SmallMethod
           (bind o
           (λ a. bind (run_steps names false steps a.left)
           (λ b. bind (run_steps names true returns b.left)
-          (λ c. Gives
+          (λ c. Ok
           (record { self = a.given; steps = b.given; returns = c.given; count = c.left.seen.count })))))
-      first (Gives a) p = second a p.0 (run_steps names false steps a.left) (steps_fine false steps a.left p.1)
-      first (Refuses k) p = tt
+      first (Ok a) p = second a p.0 (run_steps names false steps a.left) (steps_fine false steps a.left p.1)
+      first (Err k) p = tt

@@ -1,5 +1,6 @@
 -- The calls of single steps refuse by the first refusal that is due: what one word gives on any lowerer, what is seen
 -- behind some words, and what the words, the step and its words give.
+use Rattle.std.specs.Prelude.{Ok, Err}
 use Prim.Native.Nat.{ℕ, zero, suc, ◌+◌}
 use mathlib.Core.Bool.{Bool, true, false, cond, ◌&&◌, not}
 use mathlib.Core.Path.{◌≡◌, refl, sym, ap, ◌∙◌}
@@ -14,7 +15,7 @@ use Rattle.answers.specs.declared.Refusal.TheVariants.{Malformed, Undeclared}
 use Rattle.lifetimes.specs.declared.maybe_static.MaybeStatic.{MaybeStatic}
 use Rattle.lifetimes.specs.declared.maybe_static.MaybeStatic.TheVariants.{Static, NonStatic}
 use Rattle.lifetimes.specs.Numbers.{lifetime}
-use Rattle.answers.specs.Refusals.{Check, check, Outcome, Gives, Refuses, unless, bind, FirstDue}
+use Rattle.answers.specs.Refusals.{Check, check, Outcome, unless, bind, FirstDue}
 use Rattle.answers.proofs.RefusalLaws.{due_refused, refused_due}
 use Rattle.ast_lifetimes.specs.Env.{place, is_declared}
 use Rattle.records.specs.Reading.{Reading, Read, Fails}
@@ -41,15 +42,15 @@ record Judged {A : Type 0} (o : Outcome A) (cs : List Check) : Type 0 where
   is : o ≡ unless cs result
 
 module _ {A : Type 0} where
-  refused_both : {o : Outcome A} {cs : List Check} → Judged o cs → (r : Refusal) → (o ≡ Refuses r) ↔ FirstDue r cs
+  refused_both : {o : Outcome A} {cs : List Check} → Judged o cs → (r : Refusal) → (o ≡ Err r) ↔ FirstDue r cs
   refused_both {o} {cs} j r = (λ e. refused_due j.result r cs (sym j.is ∙ e), λ d. j.is ∙ due_refused j.result d)
 
-  judged_gives : {B : Type 0} {o : Outcome A} {cs : List Check} (f : A → B) → Judged o cs → Judged (bind o (λ a. Gives (f a))) cs
+  judged_gives : {B : Type 0} {o : Outcome A} {cs : List Check} (f : A → B) → Judged o cs → Judged (bind o (λ a. Ok (f a))) cs
   judged_gives {cs = cs} f j = record { result = f j.result; is = rw j.is (after_gives cs j.result f) }
 
   -- a test first
   judged_test : {o : Outcome A} {cs : List Check} (t : Bool) (r : Refusal) → Judged o cs
-      → Judged (cond t o (Refuses r)) (check (not t) r ∷ cs)
+      → Judged (cond t o (Err r)) (check (not t) r ∷ cs)
   unfolding unless
   judged_test true r j = record { result = j.result; is = j.is }
   judged_test false r j = record { result = j.result; is = refl }
@@ -116,7 +117,7 @@ module _ (names : List ℕ) (st : Standing) where
         unasked st s (anonymous_in []),
       )
       (cond_not (is_declared names (suc (suc k)))
-      (lowers st (NonStatic (lifetime (place names (suc (suc k))))) s.source s.count) (Refuses Undeclared))
+      (lowers st (NonStatic (lifetime (place names (suc (suc k))))) s.source s.count) (Err Undeclared))
 
 anonymous_checked : (names : List ℕ) (st : Standing) (s : Seen) → AsChecked names st 1 s
 unfolding lower_word unless count
@@ -219,10 +220,10 @@ module _ (names : List ℕ) (out : Bool) where
     where
       first : Outcome (Advanced Lowerer)
       first = bind (lower_words names Aside words s.seen)
-          (λ a. Gives (advanced a.given (record { seen = a.left; kept = true; own = laid a.given })))
+          (λ a. Ok (advanced a.given (record { seen = a.left; kept = true; own = laid a.given })))
 
       go : (t : Bool)
-          → Judged (cond t (Gives (advanced (values_in s.own) s)) first)
+          → Judged (cond t (Ok (advanced (values_in s.own) s)) first)
           (throughout (word_checks names Aside s.seen) [] (cond t [] words))
       go true = record { result = advanced (values_in s.own) s; is = refl }
       go false = judged_gives (λ a. advanced a.given (record { seen = a.left; kept = true; own = laid a.given }))
@@ -256,13 +257,13 @@ self_judged names word =
 -- ---- both ways
 
 pub step_refused : (names : List ℕ) (out : Bool) (s : Lowerer) (step : Step) (r : Refusal)
-    → (one_step names out step s ≡ Refuses r) ↔ FirstDue r (single_step_checks names out step s)
+    → (one_step names out step s ≡ Err r) ↔ FirstDue r (single_step_checks names out step s)
 step_refused names out s step r = refused_both (step_judged names out step s) r
 
 pub worded_refused : (names : List ℕ) (out : Bool) (s : Lowerer) (words : List ℕ) (r : Refusal)
-    → (worded_step names out words s ≡ Refuses r) ↔ FirstDue r (worded_checks names out words s)
+    → (worded_step names out words s ≡ Err r) ↔ FirstDue r (worded_checks names out words s)
 worded_refused names out s words r = refused_both (worded_judged names out words s) r
 
-pub self_refused : (names : List ℕ) (word : ℕ) (r : Refusal) → (self_ref names word ≡ Refuses r)
+pub self_refused : (names : List ℕ) (word : ℕ) (r : Refusal) → (self_ref names word ≡ Err r)
     ↔ FirstDue r (word_checks names Aside (unused names).seen [] word)
 self_refused names word r = refused_both (self_judged names word) r

@@ -1,4 +1,5 @@
 -- Steps in a record: the ways out of `read_step`, and where a step ends that stands somewhere.
+use Rattle.std.specs.Prelude.{Some, None}
 use Prim.Native.Nat.{ℕ, suc, ◌+◌, ◌-◌, ◌≤◌, ◌<◌}
 use mathlib.Core.Path.{◌≡◌, sym, ap, subst, ◌∙◌}
 use mathlib.Core.List.{List, ◌∷◌, ◌++◌}
@@ -7,7 +8,6 @@ use native.Mathlib.Omega.{arith}
 use borrow.Author.Tests.{eq-eqb, ne_eqb, le-leb, lt-leb}
 use lib.ListN.{length, get_or, take, drop, length-append, length-drop, drop_of_length-le}
 use lib.Seq.{drop-cons, take_at}
-use Rattle.records.specs.declared.End.TheVariants as end
 use Rattle.records.specs.Reading.{Reading, Read, onward, read_lifetimes}
 use Rattle.records.specs.Ends.{EndsAt, ends, missing}
 use Rattle.records.proofs.ReadingLaws.{Holds, LifetimesIn, holds_read, lifetimes_read}
@@ -32,7 +32,7 @@ lifetimes_slice words p to ls rest q d b e =
     let behind : drop (suc p) words ≡ ls ++ drop to words = ap (drop 1) (sym (drop-cons words p 0 (omega arith)) ∙ sym q) ∙ rw d in
     rw (add-one p) (part_between (suc p) to words ls behind (omega arith) e)
 
-self_there : {words : List ℕ} {at p to : ℕ} {reading : Reading (List ℕ)} → at ≤ p → EndsAt words p reading (end.At to)
+self_there : {words : List ℕ} {at p to : ℕ} {reading : Reading (List ℕ)} → at ≤ p → EndsAt words p reading (Some to)
     → Holds (LifetimesIn (drop p words)) reading
     → StandsAt words at (onward reading (λ ls rest. Read (SelfType ls) rest)) (standing.SelfType (p + 1) to)
 self_there {words} {at} {p} {to} l (ends {a} {rest} d b e) h =
@@ -40,19 +40,19 @@ self_there {words} {at} {p} {to} l (ends {a} {rest} d b e) h =
     (lifetimes_slice words p to a rest (holds_read (LifetimesIn (drop p words)) a rest h) d b e) d (omega arith)
     (omega arith) e
 
-self_missing : {words : List ℕ} {at p : ℕ} {reading : Reading (List ℕ)} → EndsAt words p reading end.Missing
+self_missing : {words : List ℕ} {at p : ℕ} {reading : Reading (List ℕ)} → EndsAt words p reading None
     → StandsAt words at (onward reading (λ ls rest. Read (SelfType ls) rest)) standing.Missing
 self_missing missing = inner.missing
 
 generics_there : (g : ℕ) {words : List ℕ} {at p to : ℕ} {reading : Reading (List ℕ)} → at ≤ p
-    → EndsAt words p reading (end.At to) → Holds (LifetimesIn (drop p words)) reading
+    → EndsAt words p reading (Some to) → Holds (LifetimesIn (drop p words)) reading
     → StandsAt words at (onward reading (λ ls rest. Read (Generics g ls) rest)) (standing.Generics g (p + 1) to)
 generics_there g {words} {at} {p} {to} l (ends {a} {rest} d b e) h =
     inner.generics {from = p + 1} {to = to}
     (lifetimes_slice words p to a rest (holds_read (LifetimesIn (drop p words)) a rest h) d b e) d (omega arith)
     (omega arith) e
 
-generics_missing : (g : ℕ) {words : List ℕ} {at p : ℕ} {reading : Reading (List ℕ)} → EndsAt words p reading end.Missing
+generics_missing : (g : ℕ) {words : List ℕ} {at p : ℕ} {reading : Reading (List ℕ)} → EndsAt words p reading None
     → StandsAt words at (onward reading (λ ls rest. Read (Generics g ls) rest)) standing.Missing
 generics_missing g missing = inner.missing
 
@@ -99,11 +99,11 @@ module _ (words : List ℕ) (at : ℕ) where
             ) inner.missing
 
         pub generics_none : get_or words (at + 1) 0 ≤ 16
-            → EndsAt words (at + 1 + 1) (read_lifetimes (drop (at + 1 + 1) words)) end.Missing → Stands standing.Missing
+            → EndsAt words (at + 1 + 1) (read_lifetimes (drop (at + 1 + 1) words)) None → Stands standing.Missing
         unfolding read_step
         generics_none g r =
             let g₁ : get_or words (suc at) 0 ≤ 16 = rw (add-one at) at g in
-            let r₁ : EndsAt words (suc (suc at)) (read_lifetimes (drop (suc (suc at)) words)) end.Missing =
+            let r₁ : EndsAt words (suc (suc at)) (read_lifetimes (drop (suc (suc at)) words)) None =
             rw (add-one at, add-one (suc at)) at r in
             rw (
               drop-cons words at 0 h,
@@ -113,12 +113,12 @@ module _ (words : List ℕ) (at : ℕ) where
             ) (generics_missing (get_or words (suc at) 0) r₁)
 
         pub generics_whole : {to : ℕ} → get_or words (at + 1) 0 ≤ 16
-            → EndsAt words (at + 1 + 1) (read_lifetimes (drop (at + 1 + 1) words)) (end.At to)
+            → EndsAt words (at + 1 + 1) (read_lifetimes (drop (at + 1 + 1) words)) (Some to)
             → Stands (standing.Generics (get_or words (at + 1) 0) (at + 1 + 1 + 1) to)
         unfolding read_step
         generics_whole g r =
             let g₁ : get_or words (suc at) 0 ≤ 16 = rw (add-one at) at g in
-            let r₁ : EndsAt words (suc (suc at)) (read_lifetimes (drop (suc (suc at)) words)) (end.At _) =
+            let r₁ : EndsAt words (suc (suc at)) (read_lifetimes (drop (suc (suc at)) words)) (Some _) =
             rw (add-one at, add-one (suc at)) at r in
             rw (
               drop-cons words at 0 h,
@@ -131,17 +131,17 @@ module _ (words : List ℕ) (at : ℕ) where
             (generics_there (get_or words (suc at) 0) (omega arith) r₁ (lifetimes_read (drop (suc (suc at)) words)))
 
     module _ (k : get_or words at 0 ≡ 2) where
-      pub self_none : EndsAt words (at + 1) (read_lifetimes (drop (at + 1) words)) end.Missing → Stands standing.Missing
+      pub self_none : EndsAt words (at + 1) (read_lifetimes (drop (at + 1) words)) None → Stands standing.Missing
       unfolding read_step
       self_none r =
-          let r₁ : EndsAt words (suc at) (read_lifetimes (drop (suc at) words)) end.Missing = rw (add-one at) at r in
+          let r₁ : EndsAt words (suc at) (read_lifetimes (drop (suc at) words)) None = rw (add-one at) at r in
           rw (drop-cons words at 0 h, k) (self_missing r₁)
 
-      pub self_whole : {to : ℕ} → EndsAt words (at + 1) (read_lifetimes (drop (at + 1) words)) (end.At to)
+      pub self_whole : {to : ℕ} → EndsAt words (at + 1) (read_lifetimes (drop (at + 1) words)) (Some to)
           → Stands (standing.SelfType (at + 1 + 1) to)
       unfolding read_step
       self_whole r =
-          let r₁ : EndsAt words (suc at) (read_lifetimes (drop (suc at) words)) (end.At _) = rw (add-one at) at r in
+          let r₁ : EndsAt words (suc at) (read_lifetimes (drop (suc at) words)) (Some _) = rw (add-one at) at r in
           rw (drop-cons words at 0 h, k, add-one at) (self_there (omega arith) r₁ (lifetimes_read (drop (suc at) words)))
 
     pub step_unknown : (get_or words at 0 ≡ 0 → ⊥) → (get_or words at 0 ≡ 1 → ⊥) → (get_or words at 0 ≡ 2 → ⊥) → Stands standing.Missing
@@ -157,33 +157,33 @@ module _ (words : List ℕ) (at : ℕ) where
 -- ---- where it ends
 
 lifetime_end : {words : List ℕ} {at : ℕ} {reading : Reading Step} {word to : ℕ}
-    → StandsAt words at reading (standing.Lifetime word to) → EndsAt words at reading (end.At to)
+    → StandsAt words at reading (standing.Lifetime word to) → EndsAt words at reading (Some to)
 lifetime_end (inner.lifetime w d b e) = ends d b e
 
 generics_end : {words : List ℕ} {at : ℕ} {reading : Reading Step} {g from to : ℕ}
-    → StandsAt words at reading (standing.Generics g from to) → EndsAt words at reading (end.At to)
+    → StandsAt words at reading (standing.Generics g from to) → EndsAt words at reading (Some to)
 generics_end (inner.generics l d b m e) = ends d b e
 
 self_end : {words : List ℕ} {at : ℕ} {reading : Reading Step} {from to : ℕ}
-    → StandsAt words at reading (standing.SelfType from to) → EndsAt words at reading (end.At to)
+    → StandsAt words at reading (standing.SelfType from to) → EndsAt words at reading (Some to)
 self_end (inner.self_type l d b m e) = ends d b e
 
 missing_end : {words : List ℕ} {at : ℕ} {reading : Reading Step} → StandsAt words at reading standing.Missing
-    → EndsAt words at reading end.Missing
+    → EndsAt words at reading None
 missing_end inner.missing = missing
 
 module _ {words : List ℕ} {at : ℕ} {reading : Reading Step} {r : StepAt} (s : StandsAt words at reading r) where
   told : {q : StepAt} → r ≡ q → StandsAt words at reading q
   told e = subst (StandsAt words at reading) e s
 
-  pub ends_lifetime : {word to : ℕ} → r ≡ standing.Lifetime word to → EndsAt words at reading (end.At to)
+  pub ends_lifetime : {word to : ℕ} → r ≡ standing.Lifetime word to → EndsAt words at reading (Some to)
   ends_lifetime e = lifetime_end (told e)
 
-  pub ends_generics : {g from to : ℕ} → r ≡ standing.Generics g from to → EndsAt words at reading (end.At to)
+  pub ends_generics : {g from to : ℕ} → r ≡ standing.Generics g from to → EndsAt words at reading (Some to)
   ends_generics e = generics_end (told e)
 
-  pub ends_self : {from to : ℕ} → r ≡ standing.SelfType from to → EndsAt words at reading (end.At to)
+  pub ends_self : {from to : ℕ} → r ≡ standing.SelfType from to → EndsAt words at reading (Some to)
   ends_self e = self_end (told e)
 
-  pub ends_missing : r ≡ standing.Missing → EndsAt words at reading end.Missing
+  pub ends_missing : r ≡ standing.Missing → EndsAt words at reading None
   ends_missing e = missing_end (told e)

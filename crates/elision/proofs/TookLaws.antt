@@ -1,4 +1,5 @@
 -- What `lower_step_at` answers of the step that stands at a place; what is read fits.
+use Rattle.std.specs.Prelude.{Err}
 use Prim.Native.Nat.{ℕ, ◌-◌, ◌≤◌}
 use mathlib.Core.Bool.{Bool, true, ◌&&◌, and-eq-true_iff}
 use mathlib.Core.Path.{◌≡◌, refl, subst}
@@ -9,7 +10,6 @@ use lib.ListN.{length, take, drop}
 use lib.Seq.{length-take-le}
 use borrow.Author.Tests.{leb-true}
 use Rattle.answers.specs.declared.Refusal.TheVariants.{Malformed}
-use Rattle.answers.specs.declared.Verdict.TheVariants as verdict
 use Rattle.records.specs.Reading.{Reading, read_word, read_lifetimes}
 use Rattle.records.proofs.ReadingLaws.{Holds, read, fails, holds_cond, holds_onward, holds_read}
 use Rattle.elision.specs.declared.steps.StepAt.{StepAt}
@@ -38,7 +38,7 @@ module _ (names : List ℕ) (out : Bool) (s : Lowerer) {d : Stepped} where
   self_takes (inner.self_type l x b m e) h = rw l at h
 
   missing_takes : {words : List ℕ} {at : ℕ} {reading : Reading Step} → StandsAt words at reading standing.Missing
-      → d ≡ record { verdict = verdict.Refused Malformed; lowerer = s; lifetimes = laid [] } → d ≡ takes names out s reading
+      → d ≡ record { verdict = Err Malformed; lowerer = s; lifetimes = laid [] } → d ≡ takes names out s reading
   missing_takes inner.missing h = h
 
 module _ {words : List ℕ} {at : ℕ} {reading : Reading Step} {r : StepAt} (s : StandsAt words at reading r) where
@@ -61,7 +61,7 @@ module _ {words : List ℕ} {at : ℕ} {reading : Reading Step} {r : StepAt} (s 
     takes_self e h = self_takes names out l (told e) h
 
     pub takes_missing : r ≡ standing.Missing
-        → d ≡ record { verdict = verdict.Refused Malformed; lowerer = l; lifetimes = laid [] }
+        → d ≡ record { verdict = Err Malformed; lowerer = l; lifetimes = laid [] }
         → d ≡ takes names out l reading
     takes_missing e h = missing_takes names out l (told e) h
 

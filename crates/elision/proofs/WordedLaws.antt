@@ -1,4 +1,5 @@
 -- A step by its words: what `lower_step` answers where they are no step, more than a step, and exactly one.
+use Rattle.std.specs.Prelude.{Err, Some, None, Option}
 use Prim.Native.Nat.{ℕ}
 use mathlib.Core.Bool.{Bool}
 use mathlib.Core.Path.{◌≡◌, refl, sym, ap, ◌∙◌}
@@ -6,10 +7,7 @@ use mathlib.Core.List.{List, [], ◌∷◌}
 use native.Mathlib.Omega.{arith}
 use lib.ListN.{length, drop, length-drop}
 use Rattle.answers.specs.declared.Refusal.TheVariants.{Malformed}
-use Rattle.answers.specs.declared.Verdict.TheVariants as verdict
 use Rattle.answers.specs.Refusals.{bind}
-use Rattle.records.specs.declared.End.{End}
-use Rattle.records.specs.declared.End.TheVariants.{At, Missing}
 use Rattle.records.specs.Reading.{Reading, Read}
 use Rattle.records.specs.Ends.{EndsAt, ends, missing}
 use Rattle.records.proofs.EndLaws.{ends_told}
@@ -21,17 +19,17 @@ use Rattle.elision.specs.Inner.{takes}
 
 -- a refusal by 1
 abbrev torn : Lowerer → Stepped
-torn s = record { verdict = verdict.Refused Malformed; lowerer = s; lifetimes = laid [] }
+torn s = record { verdict = Err Malformed; lowerer = s; lifetimes = laid [] }
 
 -- over whatever is read
 abbrev answers : List ℕ → Bool → Lowerer → Reading Step → Stepped
 answers names out s reading = stepped s (bind (whole_step reading) (λ step. one_step names out step s))
 
 module _ (names : List ℕ) (out : Bool) (words : List ℕ) (s : Lowerer) where
-  no_step : {reading : Reading Step} → EndsAt words 0 reading Missing → torn s ≡ answers names out s reading
+  no_step : {reading : Reading Step} → EndsAt words 0 reading None → torn s ≡ answers names out s reading
   no_step missing = refl
 
-  more_words : {reading : Reading Step} {to : ℕ} → EndsAt words 0 reading (At to) → (to ≡ length words → ⊥)
+  more_words : {reading : Reading Step} {to : ℕ} → EndsAt words 0 reading (Some to) → (to ≡ length words → ⊥)
       → torn s ≡ answers names out s reading
   more_words {to = to} (ends {a} {rest} e past within) other = go rest e
     where
@@ -39,7 +37,7 @@ module _ (names : List ℕ) (out : Bool) (words : List ℕ) (s : Lowerer) where
       go [] e = absurd (other (omega (arith, within, sym (length-drop to words) ∙ ap length e)))
       go (word ∷ rest) e = refl
 
-  one_step_lem : {reading : Reading Step} {to : ℕ} → EndsAt words 0 reading (At to) → to ≡ length words
+  one_step_lem : {reading : Reading Step} {to : ℕ} → EndsAt words 0 reading (Some to) → to ≡ length words
       → takes names out s reading ≡ answers names out s reading
   one_step_lem {to = to} (ends {a} {rest} e past within) all = go rest e
     where
@@ -47,17 +45,17 @@ module _ (names : List ℕ) (out : Bool) (words : List ℕ) (s : Lowerer) where
       go [] e = refl
       go (word ∷ rest) e = absurd (omega (arith, all, sym (length-drop to words) ∙ ap length e))
 
-module _ (names : List ℕ) (out : Bool) {words : List ℕ} (s : Lowerer) {d : Stepped} {r : End}
+module _ (names : List ℕ) (out : Bool) {words : List ℕ} (s : Lowerer) {d : Stepped} {r : Option ℕ}
     (h : EndsAt words 0 (read_step words) r) where
-  pub worded_none : r ≡ Missing → d ≡ torn s → d ≡ stepped s (worded_step names out words s)
+  pub worded_none : r ≡ None → d ≡ torn s → d ≡ stepped s (worded_step names out words s)
   unfolding worded_step
   worded_none e t = t ∙ no_step names out words s (ends_told h e)
 
-  pub worded_more : {to : ℕ} → r ≡ At to → (to ≡ length words → ⊥) → d ≡ torn s → d ≡ stepped s (worded_step names out words s)
+  pub worded_more : {to : ℕ} → r ≡ Some to → (to ≡ length words → ⊥) → d ≡ torn s → d ≡ stepped s (worded_step names out words s)
   unfolding worded_step
   worded_more e other t = t ∙ more_words names out words s (ends_told h e) other
 
-  pub worded_one : {to : ℕ} → r ≡ At to → to ≡ length words → d ≡ takes names out s (read_step words)
+  pub worded_one : {to : ℕ} → r ≡ Some to → to ≡ length words → d ≡ takes names out s (read_step words)
       → d ≡ stepped s (worded_step names out words s)
   unfolding worded_step
   worded_one e all t = t ∙ one_step_lem names out words s (ends_told h e) all

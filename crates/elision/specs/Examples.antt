@@ -1,9 +1,8 @@
 -- 01's starred examples about elision, and three more (a later use of kind 2, refused steps), as questions and answers.
 -- Theorems.ExamplesHold: each question has its answer.
-use Rattle.std.specs.Prelude.{ℕ, Bool, true, false, ◌≡◌, List, [], ◌∷◌, length}
+use Rattle.std.specs.Prelude.{ℕ, Bool, true, false, ◌≡◌, List, [], ◌∷◌, length, Ok, Err}
 use Rattle.answers.specs.declared.Refusal.TheVariants.{Undeclared, NoSource, Ambiguous}
-use Rattle.answers.specs.declared.Verdict.TheVariants.{Refused}
-use Rattle.answers.specs.Refusals.{Outcome, Gives, Refuses, over}
+use Rattle.answers.specs.Refusals.{Outcome, over}
 use Rattle.ast_lifetimes.specs.Env.{named_env}
 use Rattle.elision.specs.declared.lowerer.Stepped.{Stepped}
 use Rattle.elision.specs.Steps.{NoSelf, steps_of}
@@ -51,12 +50,12 @@ abbrev pub starred : List Example
 starred =
     -- no names, self `1`, steps `0 1`, returns `0 1`: lowered 1, 2, 1
     asked (Lower [] (1 ∷ []) (0 ∷ 1 ∷ []) (0 ∷ 1 ∷ []))
-    (Lowered (Gives (record { self = 1 ∷ []; steps = 2 ∷ []; returns = 1 ∷ [] })))
+    (Lowered (Ok (record { self = 1 ∷ []; steps = 2 ∷ []; returns = 1 ∷ [] })))
     -- returns `0 1`: no input 5; steps `0 0` give 0; steps `0 7 0 7` give 6
-    ∷ asked (Lower [] [] [] (0 ∷ 1 ∷ [])) (Lowered (Refuses NoSource))
+    ∷ asked (Lower [] [] [] (0 ∷ 1 ∷ [])) (Lowered (Err NoSource))
     ∷ asked (Lower [] [] (0 ∷ 0 ∷ []) (0 ∷ 1 ∷ []))
-    (Lowered (Gives (record { self = []; steps = 0 ∷ []; returns = 0 ∷ [] })))
-    ∷ asked (Lower (7 ∷ []) [] (0 ∷ 7 ∷ 0 ∷ 7 ∷ []) (0 ∷ 1 ∷ [])) (Lowered (Refuses Ambiguous))
+    (Lowered (Ok (record { self = []; steps = 0 ∷ []; returns = 0 ∷ [] })))
+    ∷ asked (Lower (7 ∷ []) [] (0 ∷ 7 ∷ 0 ∷ 7 ∷ []) (0 ∷ 1 ∷ [])) (Lowered (Err Ambiguous))
     -- step `1 2 1 7` is two positions
     ∷ asked (Positions (7 ∷ []) (1 ∷ 2 ∷ 1 ∷ 7 ∷ [])) (Count 2)
     ∷ []
@@ -65,13 +64,13 @@ abbrev pub further : List Example
 further =
     -- over the name 7, steps `2 1 7 2 1 9` lowered 1, 1: the words of the second use are not looked up
     asked (Lower (7 ∷ []) [] (2 ∷ 1 ∷ 7 ∷ 2 ∷ 1 ∷ 9 ∷ []) [])
-    (Lowered (Gives (record { self = []; steps = 1 ∷ 1 ∷ []; returns = [] })))
+    (Lowered (Ok (record { self = []; steps = 1 ∷ 1 ∷ []; returns = [] })))
     -- a refused step leaves the lowerer as it was: `0 1` in the output gives 5; `1 0 2 1 9` gives 3 behind the new
     -- lifetime of its first word
     ∷ asked (OneStep [] true (0 ∷ 1 ∷ []))
-    (Steps (record { verdict = Refused NoSource; lowerer = unused []; lifetimes = laid [] }))
+    (Steps (record { verdict = Err NoSource; lowerer = unused []; lifetimes = laid [] }))
     ∷ asked (OneStep [] false (1 ∷ 0 ∷ 2 ∷ 1 ∷ 9 ∷ []))
-    (Steps (record { verdict = Refused Undeclared; lowerer = unused []; lifetimes = laid [] }))
+    (Steps (record { verdict = Err Undeclared; lowerer = unused []; lifetimes = laid [] }))
     ∷ []
 
 -- each question of a list has its expected answer

@@ -1,17 +1,13 @@
 -- For private functions only: where a step stands in a record, and what the inner functions answer. No public contract
 -- cites this file.
-use Rattle.std.specs.Prelude.{ℕ, ◌+◌, ◌-◌, ◌≤◌, ◌<◌, ◌≡◌, Bool, true, cond, List, [], ◌∷◌, map, ltb, length, take, drop}
+use Rattle.std.specs.Prelude.{ℕ, ◌+◌, ◌-◌, ◌≤◌, ◌<◌, ◌≡◌, Bool, true, cond, List, [], ◌∷◌, map, ltb, length, take, drop, Ok, Err, Some, None, Option}
 use Rattle.std.proofs.lemmas.List.Edits.{sets}
-use Rattle.answers.specs.declared.Verdict.TheVariants as verdict
 use Rattle.lifetimes.specs.declared.maybe_static.MaybeStatic.{MaybeStatic}
 use Rattle.lifetimes.specs.declared.maybe_static.MaybeStatic.TheVariants.{Static}
 use Rattle.answers.specs.declared.Refusal.{Refusal}
 use Rattle.answers.specs.declared.Refusal.TheVariants.{Malformed}
-use Rattle.lifetimes.specs.declared.maybe_static.LoweredWord.{LoweredWord}
-use Rattle.lifetimes.specs.declared.maybe_static.LoweredWord.TheVariants.{Word, Absent}
 use Rattle.lifetimes.specs.LoweredWords.{word_answer}
-use Rattle.answers.specs.Refusals.{Outcome, Gives, Refuses}
-use Rattle.records.specs.declared.End.TheVariants as end
+use Rattle.answers.specs.Refusals.{Outcome}
 use Rattle.records.specs.Reading.{Reading, Read, Fails, most_list}
 use Rattle.records.specs.Ends.{EndsAt}
 use Rattle.elision.specs.declared.steps.StepAt.{StepAt}
@@ -42,12 +38,12 @@ pub data StandsAt (words : List ℕ) (at : ℕ) : Reading Step → StepAt → Ty
   missing : StandsAt words at Fails standing.Missing
 
 abbrev pub worded : Seen → Outcome (Advanced Seen) → Worded
-worded s (Gives a) = record { verdict = verdict.Accepted; lifetime = first_or a.given; seen = a.left }
-worded s (Refuses r) = record { verdict = verdict.Refused r; lifetime = Static; seen = s }
+worded s (Ok a) = record { verdict = Ok (tt {0}); lifetime = first_or a.given; seen = a.left }
+worded s (Err r) = record { verdict = Err r; lifetime = Static; seen = s }
 
 abbrev pub ran : Seen → Outcome (Advanced Seen) → Run
-ran s (Gives a) = record { verdict = verdict.Accepted; seen = a.left; lifetimes = laid a.given }
-ran s (Refuses r) = record { verdict = verdict.Refused r; seen = s; lifetimes = laid [] }
+ran s (Ok a) = record { verdict = Ok (tt {0}); seen = a.left; lifetimes = laid a.given }
+ran s (Err r) = record { verdict = Err r; seen = s; lifetimes = laid [] }
 
 abbrev pub at_most16 : ℕ → ℕ
 at_most16 n = cond (ltb n 16) n 16
@@ -55,9 +51,9 @@ at_most16 n = cond (ltb n 16) n 16
 -- The whole records
 
 -- the word of a lifetime, where it has one
-abbrev pub word_or : LoweredWord → ℕ
-word_or (Word w) = w
-word_or Absent = 0
+abbrev pub word_or : Option ℕ → ℕ
+word_or (Some w) = w
+word_or None = 0
 
 abbrev pub shown : MaybeStatic → ℕ
 shown l = word_or (word_answer l)
@@ -65,18 +61,18 @@ shown l = word_or (word_answer l)
 -- the step that is read somewhere
 abbrev pub takes : List ℕ → Bool → Lowerer → Reading Step → Stepped
 takes names out s (Read step rest) = stepped s (one_step names out step s)
-takes names out s Fails = record { verdict = verdict.Refused Malformed; lowerer = s; lifetimes = laid [] }
+takes names out s Fails = record { verdict = Err Malformed; lowerer = s; lifetimes = laid [] }
 
 abbrev pub put_of : Seen → ℕ → Outcome (Advanced Seen) → Put
-put_of s at (Gives a) = record { verdict = verdict.Accepted; seen = a.left; at = at + length a.given }
-put_of s at (Refuses r) = record { verdict = verdict.Refused r; seen = s; at = at }
+put_of s at (Ok a) = record { verdict = Ok (tt {0}); seen = a.left; at = at + length a.given }
+put_of s at (Err r) = record { verdict = Err r; seen = s; at = at }
 
 -- some words lowered and stored from a place on: the answer; given, their words are in the slice, as far as it takes
 -- them
 pub record Puts (s : Seen) (o : Outcome (Advanced Seen)) (at : ℕ) (before behind : List ℕ) (r : Put) : Type 0 where
   pub answers : r ≡ put_of s at o
   pub few : r.at ≤ at + most_list
-  pub stores : (a : Advanced Seen) → o ≡ Gives a → behind ≡ sets before at (map shown a.given)
+  pub stores : (a : Advanced Seen) → o ≡ Ok a → behind ≡ sets before at (map shown a.given)
 
 -- A lowerer as the loops over a record pass it on: what is seen, whether the `Self` type was there, how many lifetimes
 -- it has then, and their words in front of a list of 16.
@@ -91,7 +87,7 @@ pub record Shows (s : Lowerer) (seen : Seen) (kept : Bool) (own : ℕ) (list : L
 -- them
 pub record Given (o : Outcome (Advanced Lowerer)) (n : ℕ) (list before behind : List ℕ) (r : Took) : Type 0 where
   pub it : Advanced Lowerer
-  pub is : o ≡ Gives it
+  pub is : o ≡ Ok it
   pub shows : Shows it.left r.seen r.kept r.own list
   pub count : r.n ≡ n + length it.given
   pub stored : behind ≡ sets before n (map shown it.given)
@@ -99,8 +95,8 @@ pub record Given (o : Outcome (Advanced Lowerer)) (n : ℕ) (list before behind 
 -- Steps lowered and stored. Refused, nothing is said of list and slice: words may have been stored before the bad
 -- place.
 pub record Lowers (o : Outcome (Advanced Lowerer)) (n : ℕ) (list before behind : List ℕ) (r : Took) : Type 0 where
-  pub accepted : r.verdict ≡ verdict.Accepted → Given o n list before behind r
-  pub refused : (k : Refusal) → r.verdict ≡ verdict.Refused k → o ≡ Refuses k
+  pub accepted : r.verdict ≡ Ok (tt {0}) → Given o n list before behind r
+  pub refused : (k : Refusal) → r.verdict ≡ Err k → o ≡ Err k
 
 -- one step, whatever lowerer is shown
 pub record PutsOne (step : Lowerer → Outcome (Advanced Lowerer)) (seen : Seen) (kept : Bool) (own n to : ℕ)
@@ -115,23 +111,23 @@ pub record PutsStep (names words : List ℕ) (out : Bool) (at : ℕ) (seen : See
     (list list₁ before behind : List ℕ) (r : Took) : Type 0 where
   pub few : r.own ≤ most_list
   pub near : r.n ≤ n + most_list
-  pub ends : r.verdict ≡ verdict.Accepted → EndsAt words at (read_step (drop at words)) (end.At r.to)
+  pub ends : r.verdict ≡ Ok (tt {0}) → EndsAt words at (read_step (drop at words)) (Some r.to)
   pub lowers : (s : Lowerer) → Shows s seen kept own list → (step : Step) (rest : List ℕ)
       → read_step (drop at words) ≡ Read step rest → Lowers (lower_step names out step s) n list₁ before behind r
 
 abbrev pub totals : Outcome Method → Totals
-totals (Gives m) =
+totals (Ok m) =
     record {
-      verdict = verdict.Accepted;
+      verdict = Ok (tt {0});
       selves = length m.self;
       steps = length m.steps;
       returns = length m.returns;
       count = m.count;
     }
-totals (Refuses r) = record { verdict = verdict.Refused r; selves = 0; steps = 0; returns = 0; count = 0 }
+totals (Err r) = record { verdict = Err r; selves = 0; steps = 0; returns = 0; count = 0 }
 
 pub record RunsAll (o : Outcome Method) (own given taken own₁ given₁ taken₁ : List ℕ) (r : Totals) : Type 0 where
   pub answers : r ≡ totals o
-  pub self : (m : Method) → o ≡ Gives m → own₁ ≡ sets own 0 (map shown m.self)
-  pub steps : (m : Method) → o ≡ Gives m → given₁ ≡ sets given 0 (map shown m.steps)
-  pub returns : (m : Method) → o ≡ Gives m → taken₁ ≡ sets taken 0 (map shown m.returns)
+  pub self : (m : Method) → o ≡ Ok m → own₁ ≡ sets own 0 (map shown m.self)
+  pub steps : (m : Method) → o ≡ Ok m → given₁ ≡ sets given 0 (map shown m.steps)
+  pub returns : (m : Method) → o ≡ Ok m → taken₁ ≡ sets taken 0 (map shown m.returns)

@@ -1,11 +1,10 @@
 -- The whole records `self`, `steps` and `returns` over the names of an AST environment: their lowered words, and the
 -- method's environment (`finish`).
-use Rattle.std.specs.Prelude.{ℕ, Bool, ◌&&◌, not, ◌≡◌, List, [], ◌∷◌, ◌++◌, map, length}
+use Rattle.std.specs.Prelude.{ℕ, Bool, ◌&&◌, not, ◌≡◌, List, [], ◌∷◌, ◌++◌, map, length, Ok, Err}
 use Rattle.answers.specs.declared.Refusal.TheVariants.{Malformed}
-use Rattle.answers.specs.declared.Verdict.TheVariants as verdict
 use Rattle.lifetimes.specs.declared.maybe_static.MaybeStatic.{MaybeStatic}
 use Rattle.lifetimes.specs.declared.env.LifetimeEnv as hir
-use Rattle.answers.specs.Refusals.{Check, check, Outcome, Gives, Refuses, unless, over}
+use Rattle.answers.specs.Refusals.{Check, check, Outcome, unless, over}
 use Rattle.answers.specs.Lent.{Slice, Fills, room_check}
 use Rattle.lifetimes.specs.LoweredWords.{word_of}
 use Rattle.lifetimes.specs.Env.{env_with, env_of}
@@ -64,14 +63,14 @@ lower_records e self steps returns own given taken =
 -- What the calls answer, and what `lower` writes: given, the words of each record; refused, nothing, and an environment
 -- without lifetimes
 abbrev pub answered : ast.LifetimeEnv → Outcome Method → Lowering
-answered e (Gives m) = record {
-  verdict = verdict.Accepted;
+answered e (Ok m) = record {
+  verdict = Ok (tt {0});
   selves = length (words m.self);
   steps = length (words m.steps);
   returns = length (words m.returns);
   env = finished e m.count;
 }
-answered e (Refuses r) = record { verdict = verdict.Refused r; selves = 0; steps = 0; returns = 0; env = env_of 0 0 [] }
+answered e (Err r) = record { verdict = Err r; selves = 0; steps = 0; returns = 0; env = env_of 0 0 [] }
 
 abbrev pub own_words : Outcome Method → Outcome (List ℕ)
 own_words o = over (λ m. words m.self) o

@@ -1,14 +1,13 @@
 -- The lowerer's steps: how each leaves it for the next. Total on every lowerer: the lifetimes kept are the first n of
 -- 16 places, and a new lifetime at a count of 64 or more is 4. specs/Theorems.antt says that they give what
 -- specs/Rfc.antt says.
-use Rattle.std.specs.Prelude.{ℕ, ◌+◌, ◌-◌, Bool, true, false, cond, ◌&&◌, List, [], ◌∷◌, ◌++◌, map, eqb, leb}
+use Rattle.std.specs.Prelude.{ℕ, ◌+◌, ◌-◌, Bool, true, false, cond, ◌&&◌, List, [], ◌∷◌, ◌++◌, map, eqb, leb, Ok, Err}
 use Rattle.std.specs.Prelude.{length, take, replicate}
 use Rattle.answers.specs.declared.Refusal.TheVariants.{Malformed, Undeclared, Full, NoSource, Ambiguous}
-use Rattle.answers.specs.declared.Verdict.TheVariants as verdict
 use Rattle.lifetimes.specs.declared.maybe_static.MaybeStatic.{MaybeStatic}
 use Rattle.lifetimes.specs.declared.maybe_static.MaybeStatic.TheVariants.{Static, NonStatic}
 use Rattle.lifetimes.specs.Numbers.{lifetime}
-use Rattle.answers.specs.Refusals.{Outcome, Gives, Refuses, bind}
+use Rattle.answers.specs.Refusals.{Outcome, bind}
 use Rattle.ast_lifetimes.specs.Env.{place, is_declared}
 use Rattle.elision.specs.declared.source.ElisionSource.{ElisionSource}
 use Rattle.elision.specs.declared.source.ElisionSource.TheVariants.{NoBorrows, SelfParam, OneParam}
@@ -43,10 +42,10 @@ advanced ls s = record { given = ls; left = s }
 
 -- one step after another, each from the state that the one before left
 unfoldable pub in_turn : {A S : Type 0} → (A → S → Outcome (Advanced S)) → List A → S → Outcome (Advanced S)
-in_turn step [] s = Gives (advanced [] s)
+in_turn step [] s = Ok (advanced [] s)
 in_turn step (a ∷ l) s =
     bind (step a s)
-    (λ first. bind (in_turn step l first.left) (λ rest. Gives (advanced (first.given ++ rest.given) rest.left)))
+    (λ first. bind (in_turn step l first.left) (λ rest. Ok (advanced (first.given ++ rest.given) rest.left)))
 
 -- One lifetime
 
@@ -58,20 +57,20 @@ visited Output l source count = record { source = source; count = count }
 
 -- one lifetime given, and what is seen then
 abbrev pub lowers : Standing → MaybeStatic → ElisionSource → ℕ → Outcome (Advanced Seen)
-lowers st l source count = Gives (advanced (l ∷ []) (visited st l source count))
+lowers st l source count = Ok (advanced (l ∷ []) (visited st l source count))
 
 -- a new lifetime, the next number
 abbrev pub new_lifetime : Standing → Seen → Outcome (Advanced Seen)
 new_lifetime st s =
-    cond (leb most_lifetimes s.count) (Refuses Full)
+    cond (leb most_lifetimes s.count) (Err Full)
     (lowers st (NonStatic (lifetime s.count)) s.source (s.count + 1))
 
 -- in the output, that of the source
 abbrev pub from_source : ElisionSource → Seen → Outcome (Advanced Seen)
-from_source NoBorrows s = Refuses NoSource
-from_source (SelfParam l) s = Gives (advanced (l ∷ []) s)
-from_source (OneParam l) s = Gives (advanced (l ∷ []) s)
-from_source MultipleBorrows s = Refuses Ambiguous
+from_source NoBorrows s = Err NoSource
+from_source (SelfParam l) s = Ok (advanced (l ∷ []) s)
+from_source (OneParam l) s = Ok (advanced (l ∷ []) s)
+from_source MultipleBorrows s = Err Ambiguous
 
 abbrev pub lower_anonymous : Standing → Seen → Outcome (Advanced Seen)
 lower_anonymous Input s = new_lifetime Input s
@@ -84,7 +83,7 @@ lower_word names st word s =
     cond (eqb word 1) (lower_anonymous st s)
     (cond (eqb word 0) (lowers st Static s.source s.count)
     (cond (is_declared names word) (lowers st (NonStatic (lifetime (place names word))) s.source s.count)
-    (Refuses Undeclared)))
+    (Err Undeclared)))
 
 abbrev pub lower_words : List ℕ → Standing → List ℕ → Seen → Outcome (Advanced Seen)
 lower_words names st words s = in_turn (lower_word names st) words s
@@ -107,14 +106,14 @@ laid ls = record { n = length ls; list = map lowered ls ++ replicate (most_list 
 abbrev pub words_step : List ℕ → Standing → List ℕ → Lowerer → Outcome (Advanced Lowerer)
 words_step names st words s =
     bind (lower_words names st words s.seen)
-    (λ a. Gives (advanced a.given (record { seen = a.left; kept = s.kept; own = s.own })))
+    (λ a. Ok (advanced a.given (record { seen = a.left; kept = s.kept; own = s.own })))
 
 -- the `Self` type: its lifetimes are made once, and kept
 abbrev pub self_step : List ℕ → List ℕ → Lowerer → Outcome (Advanced Lowerer)
 self_step names words s =
-    cond s.kept (Gives (advanced (values_in s.own) s))
+    cond s.kept (Ok (advanced (values_in s.own) s))
     (bind (lower_words names Aside words s.seen)
-    (λ a. Gives (advanced a.given (record { seen = a.left; kept = true; own = laid a.given }))))
+    (λ a. Ok (advanced a.given (record { seen = a.left; kept = true; own = laid a.given }))))
 
 unfoldable pub lower_step : List ℕ → Bool → Step → Lowerer → Outcome (Advanced Lowerer)
 lower_step names out (Lifetime word) s = words_step names (standing_in out) (word ∷ []) s
@@ -128,7 +127,7 @@ fits (Generics g words) = leb g most_list && leb (length words) most_list
 fits (SelfType words) = leb (length words) most_list
 
 unfoldable pub one_step : List ℕ → Bool → Step → Lowerer → Outcome (Advanced Lowerer)
-one_step names out step s = cond (fits step) (lower_step names out step s) (Refuses Malformed)
+one_step names out step s = cond (fits step) (lower_step names out step s) (Err Malformed)
 
 -- The first step: `no_self_ref` and `lower_self_ref`
 
@@ -144,7 +143,7 @@ first_or (l ∷ ls) = l
 unfoldable pub self_ref : List ℕ → ℕ → Outcome (Advanced Lowerer)
 self_ref names word =
     bind (lower_word names Aside word (unused names).seen)
-    (λ a. Gives
+    (λ a. Ok
     (advanced a.given
     (record {
       seen = record { source = SelfParam (first_or a.given); count = a.left.count };
@@ -153,19 +152,19 @@ self_ref names word =
     })))
 
 abbrev pub lower_self : List ℕ → Receiver → Outcome (Advanced Lowerer)
-lower_self names NoSelf = Gives (advanced [] (unused names))
+lower_self names NoSelf = Ok (advanced [] (unused names))
 lower_self names (SelfRef word) = self_ref names word
 
 -- What a step answers: refused, no lifetimes and the lowerer as it was
 abbrev pub stepped : Lowerer → Outcome (Advanced Lowerer) → Stepped
-stepped s (Gives a) = record { verdict = verdict.Accepted; lowerer = a.left; lifetimes = laid a.given }
-stepped s (Refuses r) = record { verdict = verdict.Refused r; lowerer = s; lifetimes = laid [] }
+stepped s (Ok a) = record { verdict = Ok (tt {0}); lowerer = a.left; lifetimes = laid a.given }
+stepped s (Err r) = record { verdict = Err r; lowerer = s; lifetimes = laid [] }
 
 -- One step by its words, as they stand in a record: exactly one step, else 1
 abbrev pub whole_step : Reading Step → Outcome Step
-whole_step (Read step []) = Gives step
-whole_step (Read step (word ∷ words)) = Refuses Malformed
-whole_step Fails = Refuses Malformed
+whole_step (Read step []) = Ok step
+whole_step (Read step (word ∷ words)) = Err Malformed
+whole_step Fails = Err Malformed
 
 unfoldable pub worded_step : List ℕ → Bool → List ℕ → Lowerer → Outcome (Advanced Lowerer)
 worded_step names out words s = bind (whole_step (read_step words)) (λ step. one_step names out step s)
@@ -192,4 +191,4 @@ run_method names self steps returns =
     bind (lower_self names self) (λ a.
     bind (run_steps names false steps a.left) (λ b.
     bind (run_steps names true returns b.left) (λ c.
-    Gives (record { self = a.given; steps = b.given; returns = c.given; count = c.left.seen.count }))))
+    Ok (record { self = a.given; steps = b.given; returns = c.given; count = c.left.seen.count }))))

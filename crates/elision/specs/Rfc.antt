@@ -3,14 +3,14 @@
 --
 -- In order: occurrences of lifetimes in a method; the lifetimes that the inputs make; the source of elision; the value
 -- of each occurrence and the refusals due at it; steps; the whole method.
-use Rattle.std.specs.Prelude.{ℕ, ◌+◌, ◌-◌, Bool, true, false, cond, ◌&&◌, not, List, [], ◌∷◌, ◌++◌, map, eqb}
+use Rattle.std.specs.Prelude.{ℕ, ◌+◌, ◌-◌, Bool, true, false, cond, ◌&&◌, not, List, [], ◌∷◌, ◌++◌, map, eqb, Ok, Err}
 use Rattle.std.specs.Prelude.{leb, length, replicate}
 use Rattle.answers.specs.declared.Refusal.TheVariants.{Undeclared, Full, NoSource, Ambiguous}
 use Rattle.lifetimes.specs.declared.maybe_static.MaybeStatic.{MaybeStatic}
 use Rattle.lifetimes.specs.declared.maybe_static.MaybeStatic.TheVariants.{Static, NonStatic}
 use Rattle.lifetimes.specs.Numbers.{lifetime}
 use Rattle.answers.specs.Lists.{any, count}
-use Rattle.answers.specs.Refusals.{Check, check, Outcome, Gives, Refuses, unless}
+use Rattle.answers.specs.Refusals.{Check, check, Outcome, unless}
 use Rattle.ast_lifetimes.specs.Shapes.{is_name}
 use Rattle.ast_lifetimes.specs.Env.{place, is_declared}
 use Rattle.elision.specs.declared.lowerer.Standing.{Standing}
@@ -76,21 +76,21 @@ positions names l = throughout (position_at names) [] l
 
 -- the lifetime of the only position. None is 5, several are 6
 abbrev pub only : List MaybeStatic → Outcome MaybeStatic
-only [] = Refuses NoSource
-only (l ∷ []) = Gives l
-only (l ∷ m ∷ ls) = Refuses Ambiguous
+only [] = Err NoSource
+only (l ∷ []) = Ok l
+only (l ∷ m ∷ ls) = Err Ambiguous
 
 -- "`&self` first, static included; else exactly one input position"
 abbrev pub source_at : List ℕ → Receiver → List Occurrence → Outcome MaybeStatic
 source_at names NoSelf before = only (positions names before)
-source_at names (SelfRef word) before = Gives (made_at names [] word)
+source_at names (SelfRef word) before = Ok (made_at names [] word)
 
 -- The value of an occurrence, and the refusals due at it
 
 -- a source that is not there stands for none; it is never looked at
 abbrev pub source_or : Outcome MaybeStatic → MaybeStatic
-source_or (Gives l) = l
-source_or (Refuses r) = Static
+source_or (Ok l) = l
+source_or (Err r) = Static
 
 -- the lifetime of an anonymous word that stands so
 abbrev pub elided_at : List ℕ → Receiver → List Occurrence → Standing → MaybeStatic
@@ -107,8 +107,8 @@ values names self before l = throughout (λ b o. value_at names self b o ∷ [])
 
 -- an anonymous one in the output without a source: 5 or 6
 abbrev pub source_check : Bool → Outcome MaybeStatic → Check
-source_check anon (Gives l) = check false NoSource
-source_check anon (Refuses r) = check anon r
+source_check anon (Ok l) = check false NoSource
+source_check anon (Err r) = check anon r
 
 -- an anonymous one: a 65th lifetime (4), or no source in the output
 abbrev pub elided_check : List ℕ → Receiver → List Occurrence → Standing → Bool → Check

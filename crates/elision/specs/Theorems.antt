@@ -1,11 +1,11 @@
 -- The main theorems of this crate, stated. Each has its proof, a term of exactly this type and of the same name in
 -- small letters, in proofs/Theorems.antt.
-use Rattle.std.specs.Prelude.{ℕ, ◌+◌, ◌≤◌, ◌<◌, Bool, true, ◌≡◌, ◌↔◌, List, [], ◌∷◌, ◌++◌, map, length}
+use Rattle.std.specs.Prelude.{ℕ, ◌+◌, ◌≤◌, ◌<◌, Bool, true, ◌≡◌, ◌↔◌, List, [], ◌∷◌, ◌++◌, map, length, Ok, Err}
 use Rattle.answers.specs.declared.Refusal.{Refusal}
 use Rattle.lifetimes.specs.declared.maybe_static.MaybeStatic.{MaybeStatic}
 use Rattle.lifetimes.specs.declared.maybe_static.MaybeStatic.TheVariants.{Static, NonStatic}
 use Rattle.lifetimes.specs.Numbers.{lifetime}
-use Rattle.answers.specs.Refusals.{Gives, Refuses, FirstDue, NoneDue}
+use Rattle.answers.specs.Refusals.{FirstDue, NoneDue}
 use Rattle.ast_lifetimes.specs.Env.{place}
 use Rattle.elision.specs.declared.lowerer.Standing.{Standing}
 use Rattle.elision.specs.declared.lowerer.Standing.TheVariants.{Aside, Output}
@@ -38,21 +38,21 @@ pub record Says (names : List ℕ) (self : Receiver) (steps returns : List Step)
   pub named : (st : Standing) (before : List Occurrence) (word : ℕ) → 2 ≤ word
       → value_at names self before (occurs st word) ≡ NonStatic (lifetime (place names word))
   -- an elided output has the source's lifetime, and there is one
-  pub returned : (before : List Occurrence) (l : MaybeStatic) → source_at names self before ≡ Gives l
+  pub returned : (before : List Occurrence) (l : MaybeStatic) → source_at names self before ≡ Ok l
       → value_at names self before (occurs Output 1) ≡ l
   pub source : (before : List Occurrence) → NoneDue (checks_at names self before (occurs Output 1)) → (l : MaybeStatic)
-      × (source_at names self before ≡ Gives l)
+      × (source_at names self before ≡ Ok l)
   -- each later kind 2 has the first one's list, and nothing of it is looked up
   pub again : (before : List Item) (i : Item) → has_self_type before ≡ true → is_self_type i.step ≡ true
       → (lowered_at names self before i ≡ own_from names self [] before) × (occurrences_at before i ≡ [])
   -- the count, never above 64, and what is given and refused
-  pub count : (m : Method) → rfc141 names self steps returns ≡ Gives m → m.count ≡ length names
+  pub count : (m : Method) → rfc141 names self steps returns ≡ Ok m → m.count ≡ length names
       + anonymous (occurrences self (inputs steps ++ outputs returns))
   pub few : length names ≤ 64 → NoneDue (elision_checks names self steps returns)
       → count_of names (occurrences self (inputs steps ++ outputs returns)) ≤ 64
-  pub given : (m : Method) → (rfc141 names self steps returns ≡ Gives m)
+  pub given : (m : Method) → (rfc141 names self steps returns ≡ Ok m)
       ↔ (NoneDue (elision_checks names self steps returns) × (method_of names self steps returns ≡ m))
-  pub refused : (r : Refusal) → (rfc141 names self steps returns ≡ Refuses r)
+  pub refused : (r : Refusal) → (rfc141 names self steps returns ≡ Err r)
       ↔ FirstDue r (elision_checks names self steps returns)
 
 abbrev pub Rfc141Says : Type 0
@@ -71,7 +71,7 @@ pub record Lends (names : List ℕ) (out : Bool) (words : List ℕ) (s : Lowerer
   pub whole : steps_in_shape words ≡ true → all_words (steps_of words) ≡ words
   pub together : in_turn (worded_step names out) (map words_of_step (steps_of words)) s
       ≡ run_steps names out (steps_of words) s
-  pub kept : (r : Refusal) → worded_step names out words s ≡ Refuses r
+  pub kept : (r : Refusal) → worded_step names out words s ≡ Err r
       → (stepped s (worded_step names out words s)).lowerer ≡ s
 
 abbrev pub LentSteps : Type 0
@@ -80,13 +80,13 @@ LentSteps = (names : List ℕ) (out : Bool) (words : List ℕ) (s : Lowerer) →
 -- The calls of single steps, on any lowerer, refuse exactly by the first refusal that is due.
 pub record StepRefuses (names : List ℕ) (out : Bool) (s : Lowerer) : Type 0 where
   -- a step by its parts: `lower_lifetime`, `lower_generics`, `is_self`
-  pub step : (step : Step) (r : Refusal) → (one_step names out step s ≡ Refuses r)
+  pub step : (step : Step) (r : Refusal) → (one_step names out step s ≡ Err r)
       ↔ FirstDue r (single_step_checks names out step s)
   -- a step by its words: `lower_step`, `step`
-  pub worded : (words : List ℕ) (r : Refusal) → (worded_step names out words s ≡ Refuses r)
+  pub worded : (words : List ℕ) (r : Refusal) → (worded_step names out words s ≡ Err r)
       ↔ FirstDue r (worded_checks names out words s)
   -- the first step, `lower_self_ref`: its word is no input position
-  pub self : (word : ℕ) (r : Refusal) → (self_ref names word ≡ Refuses r)
+  pub self : (word : ℕ) (r : Refusal) → (self_ref names word ≡ Err r)
       ↔ FirstDue r (word_checks names Aside (unused names).seen [] word)
 
 abbrev pub StepRefusedIfFirstDue : Type 0

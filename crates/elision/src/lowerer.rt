@@ -9,9 +9,9 @@ ghost use Rattle.elision.specs.Inner.{worded, ran, at_most16};
 ghost use Rattle.records.specs.Reading.{most_list};
 
 use super::source::ElisionSource;
-use answers::{Refusal, Verdict};
+use answers::Refusal;
 use lifetimes::{Lifetime, MaybeStatic};
-use records::End;
+use records::MAX_LIST;
 
 // How a lifetime stands in a method.
 #[derive(Clone, Copy)]
@@ -34,7 +34,7 @@ pub struct Lowered {
 #[derive(Clone, Copy)]
 pub struct Lifetimes {
     pub n: usize,
-    pub list: [Lowered; End::MAX_LIST],
+    pub list: [Lowered; MAX_LIST],
 }
 
 // What the lifetimes so far have brought: the source of elision, and how many lifetimes there are, declared and new.
@@ -56,7 +56,7 @@ pub struct Lowerer {
 // What a step answers: the lifetimes and the next lowerer; refused, no lifetimes and the lowerer as it was.
 #[derive(Clone, Copy)]
 pub struct Stepped {
-    pub verdict: Verdict,
+    pub verdict: Result<(), Refusal>,
     pub lowerer: Lowerer,
     pub lifetimes: Lifetimes,
 }
@@ -64,7 +64,7 @@ pub struct Stepped {
 // One lifetime lowered; refused, a static one and what was seen before.
 #[derive(Clone, Copy)]
 pub(crate) struct Worded {
-    pub(crate) verdict: Verdict,
+    pub(crate) verdict: Result<(), Refusal>,
     pub(crate) lifetime: MaybeStatic,
     pub(crate) seen: Seen,
 }
@@ -72,7 +72,7 @@ pub(crate) struct Worded {
 // Some lifetimes lowered; refused, none and what was seen before.
 #[derive(Clone, Copy)]
 struct Run {
-    verdict: Verdict,
+    verdict: Result<(), Refusal>,
     seen: Seen,
     lifetimes: Lifetimes,
 }
@@ -102,14 +102,14 @@ impl Lowerer {
         let own = fresh.own;
         let done = lower_word(names, Standing::Aside, word, seen);
         let verdict = done.verdict;
-        if let Verdict::Refused(refusal) = verdict {
+        if let Err(refusal) = verdict {
             return refused(fresh, refusal);
         }
         let lifetime = done.lifetime;
         let after = done.seen;
         let count = after.count;
         Stepped {
-            verdict: Verdict::Accepted,
+            verdict: Ok(()),
             lowerer: Lowerer {
                 seen: Seen {
                     source: ElisionSource::SelfParam(lifetime),
@@ -143,16 +143,16 @@ impl Lowerer {
         ensures answer { result
             ≡ stepped self (one_step names.now output (steps.Generics generics words.now) self) }
     {
-        if End::MAX_LIST < generics {
+        if MAX_LIST < generics {
             return refused(self, Refusal::Malformed);
         }
-        if End::MAX_LIST < words.len() {
+        if MAX_LIST < words.len() {
             return refused(self, Refusal::Malformed);
         }
         let seen = self.seen;
         let done = lower_words(names, standing_in(output), words, generics, seen);
         let verdict = done.verdict;
-        if let Verdict::Refused(refusal) = verdict {
+        if let Err(refusal) = verdict {
             return refused(self, refusal);
         }
         let after = done.seen;
@@ -160,7 +160,7 @@ impl Lowerer {
         let own = self.own;
         let kept = self.kept;
         Stepped {
-            verdict: Verdict::Accepted,
+            verdict: Ok(()),
             lowerer: Lowerer {
                 seen: after,
                 kept,
@@ -175,13 +175,13 @@ impl Lowerer {
     pub fn is_self(self, names: &[usize], words: &[usize], output: bool) -> Stepped
         ensures answer { result ≡ stepped self (one_step names.now output (steps.SelfType words.now) self) }
     {
-        if End::MAX_LIST < words.len() {
+        if MAX_LIST < words.len() {
             return refused(self, Refusal::Malformed);
         }
         let own = self.own;
         if self.kept {
             return Stepped {
-                verdict: Verdict::Accepted,
+                verdict: Ok(()),
                 lowerer: self,
                 lifetimes: first_of(own),
             };
@@ -189,13 +189,13 @@ impl Lowerer {
         let seen = self.seen;
         let done = lower_words(names, Standing::Aside, words, 0, seen);
         let verdict = done.verdict;
-        if let Verdict::Refused(refusal) = verdict {
+        if let Err(refusal) = verdict {
             return refused(self, refusal);
         }
         let after = done.seen;
         let lifetimes = done.lifetimes;
         Stepped {
-            verdict: Verdict::Accepted,
+            verdict: Ok(()),
             lowerer: Lowerer {
                 seen: after,
                 kept: true,
@@ -208,10 +208,10 @@ impl Lowerer {
 
 // A refused step.
 pub(crate) fn refused(lowerer: Lowerer, refusal: Refusal) -> Stepped
-    ensures { result ≡ record { verdict = Verdict.Refused refusal; lowerer = lowerer; lifetimes = laid [] } }
+    ensures { result ≡ record { verdict = Err refusal; lowerer = lowerer; lifetimes = laid [] } }
 {
     Stepped {
-        verdict: Verdict::Refused(refusal),
+        verdict: Err(refusal),
         lowerer,
         lifetimes: no_lifetimes(),
     }
@@ -224,7 +224,7 @@ fn no_lifetimes() -> Lifetimes
     let none = Lowered {
         lifetime: MaybeStatic::Static,
     };
-    let list = [none; End::MAX_LIST];
+    let list = [none; MAX_LIST];
     Lifetimes { n: 0, list }
 }
 
@@ -235,7 +235,7 @@ fn one_lifetime(lifetime: MaybeStatic) -> Lifetimes
     let none = Lowered {
         lifetime: MaybeStatic::Static,
     };
-    let mut list = [none; End::MAX_LIST];
+    let mut list = [none; MAX_LIST];
     list[0] = Lowered { lifetime };
     Lifetimes { n: 1, list }
 }
@@ -248,7 +248,7 @@ fn first_of(own: Lifetimes) -> Lifetimes
     let none = Lowered {
         lifetime: MaybeStatic::Static,
     };
-    let mut list = [none; End::MAX_LIST];
+    let mut list = [none; MAX_LIST];
     let mut i = 0;
     while i < n {
         let lowered = own.list[i];
@@ -262,10 +262,10 @@ fn first_of(own: Lifetimes) -> Lifetimes
 fn at_most_16(n: usize) -> usize
     ensures { result ≡ at_most16 n }
 {
-    if n < End::MAX_LIST {
+    if n < MAX_LIST {
         return n;
     }
-    End::MAX_LIST
+    MAX_LIST
 }
 
 // How the lifetimes of kinds 0 and 1 stand.
@@ -293,16 +293,16 @@ fn lower_words(
     let none = Lowered {
         lifetime: MaybeStatic::Static,
     };
-    let mut list = [none; End::MAX_LIST];
+    let mut list = [none; MAX_LIST];
     let mut here = seen;
     let mut i = 0;
     while i < total {
         let word = word_or_anonymous(words, i);
         let done = lower_word(names, standing, word, here);
         let verdict = done.verdict;
-        if let Verdict::Refused(refusal) = verdict {
+        if let Err(refusal) = verdict {
             return Run {
-                verdict: Verdict::Refused(refusal),
+                verdict: Err(refusal),
                 seen,
                 lifetimes: no_lifetimes(),
             };
@@ -313,7 +313,7 @@ fn lower_words(
         i += 1;
     }
     Run {
-        verdict: Verdict::Accepted,
+        verdict: Ok(()),
         seen: here,
         lifetimes: Lifetimes { n: total, list },
     }
@@ -350,7 +350,7 @@ pub(crate) fn lower_word(names: &[usize], standing: Standing, word: usize, seen:
     let count = seen.count;
     if word == 0 {
         return Worded {
-            verdict: Verdict::Accepted,
+            verdict: Ok(()),
             lifetime: MaybeStatic::Static,
             seen: visited(standing, MaybeStatic::Static, source, count),
         };
@@ -358,14 +358,14 @@ pub(crate) fn lower_word(names: &[usize], standing: Standing, word: usize, seen:
     let at = position(names, word);
     if names.len() <= at {
         return Worded {
-            verdict: Verdict::Refused(Refusal::Undeclared),
+            verdict: Err(Refusal::Undeclared),
             lifetime: MaybeStatic::Static,
             seen,
         };
     }
     let lifetime = MaybeStatic::NonStatic(Lifetime::new(at));
     Worded {
-        verdict: Verdict::Accepted,
+        verdict: Ok(()),
         lifetime,
         seen: visited(standing, lifetime, source, count),
     }
@@ -390,7 +390,7 @@ fn new_lifetime(standing: Standing, seen: Seen) -> Worded
     let count = seen.count;
     if lifetimes::LifetimeEnv::MAX_LIFETIMES <= count {
         return Worded {
-            verdict: Verdict::Refused(Refusal::Full),
+            verdict: Err(Refusal::Full),
             lifetime: MaybeStatic::Static,
             seen,
         };
@@ -398,7 +398,7 @@ fn new_lifetime(standing: Standing, seen: Seen) -> Worded
     let next = count + 1;
     let lifetime = MaybeStatic::NonStatic(Lifetime::new(count));
     Worded {
-        verdict: Verdict::Accepted,
+        verdict: Ok(()),
         lifetime,
         seen: visited(standing, lifetime, source, next),
     }
@@ -411,22 +411,22 @@ fn elided(seen: Seen) -> Worded
     let source = seen.source;
     match source {
         ElisionSource::NoBorrows => Worded {
-            verdict: Verdict::Refused(Refusal::NoSource),
+            verdict: Err(Refusal::NoSource),
             lifetime: MaybeStatic::Static,
             seen,
         },
         ElisionSource::SelfParam(lifetime) => Worded {
-            verdict: Verdict::Accepted,
+            verdict: Ok(()),
             lifetime,
             seen,
         },
         ElisionSource::OneParam(lifetime) => Worded {
-            verdict: Verdict::Accepted,
+            verdict: Ok(()),
             lifetime,
             seen,
         },
         ElisionSource::MultipleBorrows => Worded {
-            verdict: Verdict::Refused(Refusal::Ambiguous),
+            verdict: Err(Refusal::Ambiguous),
             lifetime: MaybeStatic::Static,
             seen,
         },

@@ -15,14 +15,14 @@ ghost use Rattle.elision.specs.Inner.{totals, RunsAll};
 use super::lowerer::Lowerer;
 use super::put::{put_receiver, put_record};
 use super::steps::{self_shape, steps_shape};
-use answers::{Refusal, Verdict};
-use records::End;
+use answers::Refusal;
+use records::MAX_LIST;
 
 // What `lower` answers: how many words each slice was written, and the method's environment. Refused, none, and an
 // environment without lifetimes.
 #[derive(Clone, Copy)]
 pub struct Lowering {
-    pub verdict: Verdict,
+    pub verdict: Result<(), Refusal>,
     pub selves: usize,
     pub steps: usize,
     pub returns: usize,
@@ -32,7 +32,7 @@ pub struct Lowering {
 // Three records lowered: how many words each gave, and how many lifetimes there are; refused, none.
 #[derive(Clone, Copy)]
 struct Totals {
-    verdict: Verdict,
+    verdict: Result<(), Refusal>,
     selves: usize,
     steps: usize,
     returns: usize,
@@ -51,22 +51,22 @@ pub fn measure(
     ensures answer { result ≡ answered env (measure_records env receiver.now steps.now returns.now) }
 {
     let shape = shape_of(receiver, steps, returns);
-    if let Verdict::Refused(refusal) = shape {
+    if let Err(refusal) = shape {
         return refused_lowering(refusal);
     }
     let valid = env.check();
-    if let Verdict::Refused(refusal) = valid {
+    if let Err(refusal) = valid {
         return refused_lowering(refusal);
     }
     let names = env.names;
     let named = env.named;
     let totals = judge(&names[0..named], receiver, steps, returns);
     let verdict = totals.verdict;
-    if let Verdict::Refused(refusal) = verdict {
+    if let Err(refusal) = verdict {
         return refused_lowering(refusal);
     }
     Lowering {
-        verdict: Verdict::Accepted,
+        verdict: Ok(()),
         selves: totals.selves,
         steps: totals.steps,
         returns: totals.returns,
@@ -93,7 +93,7 @@ pub fn lower(
 {
     let measured = measure(env, receiver, steps, returns);
     let verdict = measured.verdict;
-    if let Verdict::Refused(_) = verdict {
+    if let Err(_) = verdict {
         return measured;
     }
     if own.len() < measured.selves {
@@ -126,27 +126,27 @@ pub fn finish(lowerer: Lowerer, env: ast_lifetimes::LifetimeEnv) -> lifetimes::M
     ensures answer { result ≡ made (env_of 0 0 []) (finish_env env lowerer.seen.count) }
 {
     let valid = env.check();
-    if let Verdict::Refused(refusal) = valid {
+    if let Err(refusal) = valid {
         return refused_env(refusal);
     }
     let seen = lowerer.seen;
     let hir = lifetimes::LifetimeEnv::from_bounds(env.named, seen.count, env.bounds);
     let verdict = hir.check();
-    if let Verdict::Refused(refusal) = verdict {
+    if let Err(refusal) = verdict {
         return refused_env(refusal);
     }
     lifetimes::Made {
-        verdict: Verdict::Accepted,
+        verdict: Ok(()),
         env: hir,
     }
 }
 
 // A refusal, beside an environment without lifetimes.
 fn refused_env(refusal: Refusal) -> lifetimes::Made
-    ensures { result ≡ record { verdict = Verdict.Refused refusal; env = env_of 0 0 [] } }
+    ensures { result ≡ record { verdict = Err refusal; env = env_of 0 0 [] } }
 {
     lifetimes::Made {
-        verdict: Verdict::Refused(refusal),
+        verdict: Err(refusal),
         env: lifetimes::LifetimeEnv::none(),
     }
 }
@@ -183,16 +183,16 @@ fn run(
 {
     let first = put_receiver(names, receiver, own);
     let one = first.verdict;
-    if let Verdict::Refused(refusal) = one {
+    if let Err(refusal) = one {
         return refused_totals(refusal);
     }
-    let mut list = [0usize; End::MAX_LIST];
+    let mut list = [0usize; MAX_LIST];
     let fresh = first.seen;
     let second = put_record(
         names, steps, false, fresh, first.kept, first.own, &mut list, given,
     );
     let two = second.verdict;
-    if let Verdict::Refused(refusal) = two {
+    if let Err(refusal) = two {
         return refused_totals(refusal);
     }
     let middle = second.seen;
@@ -207,13 +207,13 @@ fn run(
         taken,
     );
     let three = third.verdict;
-    if let Verdict::Refused(refusal) = three {
+    if let Err(refusal) = three {
         return refused_totals(refusal);
     }
     let last = third.seen;
     let count = last.count;
     Totals {
-        verdict: Verdict::Accepted,
+        verdict: Ok(()),
         selves: first.n,
         steps: second.n,
         returns: third.n,
@@ -223,10 +223,10 @@ fn run(
 
 // A refusal, beside no words.
 fn refused_totals(refusal: Refusal) -> Totals
-    ensures { result ≡ record { verdict = Verdict.Refused refusal; selves = 0; steps = 0; returns = 0; count = 0 } }
+    ensures { result ≡ record { verdict = Err refusal; selves = 0; steps = 0; returns = 0; count = 0 } }
 {
     Totals {
-        verdict: Verdict::Refused(refusal),
+        verdict: Err(refusal),
         selves: 0,
         steps: 0,
         returns: 0,
@@ -237,10 +237,10 @@ fn refused_totals(refusal: Refusal) -> Totals
 // A refusal, beside no words and an environment without lifetimes.
 fn refused_lowering(refusal: Refusal) -> Lowering
     ensures { result
-        ≡ record { verdict = Verdict.Refused refusal; selves = 0; steps = 0; returns = 0; env = env_of 0 0 [] } }
+        ≡ record { verdict = Err refusal; selves = 0; steps = 0; returns = 0; env = env_of 0 0 [] } }
 {
     Lowering {
-        verdict: Verdict::Refused(refusal),
+        verdict: Err(refusal),
         selves: 0,
         steps: 0,
         returns: 0,
@@ -249,15 +249,15 @@ fn refused_lowering(refusal: Refusal) -> Lowering
 }
 
 // The shape of the three records.
-fn shape_of(receiver: &[usize], steps: &[usize], returns: &[usize]) -> Verdict
+fn shape_of(receiver: &[usize], steps: &[usize], returns: &[usize]) -> Result<(), Refusal>
     ensures { result ≡ shape_verdict (in_shape_all receiver.now steps.now returns.now) }
 {
     let first = self_shape(receiver);
-    let Verdict::Accepted = first else {
+    let Ok(()) = first else {
         return first;
     };
     let second = steps_shape(steps);
-    let Verdict::Accepted = second else {
+    let Ok(()) = second else {
         return second;
     };
     steps_shape(returns)

@@ -14,15 +14,15 @@ ghost use Rattle.records.specs.Reading.{most_list};
 use super::lowerer::{Lowerer, Seen, Standing, larger, lower_word, standing_in, word_or_anonymous};
 use super::source::ElisionSource;
 use super::steps::{StepAt, read_step};
-use answers::{Refusal, Verdict};
-use lifetimes::{LoweredWord, MaybeStatic};
-use records::End;
+use answers::Refusal;
+use lifetimes::MaybeStatic;
+use records::MAX_LIST;
 
 // Some words lowered and stored: what is seen then, and the place behind them; refused, what was seen before and the
 // place before.
 #[derive(Clone, Copy)]
 struct Put {
-    verdict: Verdict,
+    verdict: Result<(), Refusal>,
     seen: Seen,
     at: usize,
 }
@@ -32,7 +32,7 @@ struct Put {
 // something.
 #[derive(Clone, Copy)]
 pub(crate) struct Took {
-    pub(crate) verdict: Verdict,
+    pub(crate) verdict: Result<(), Refusal>,
     pub(crate) seen: Seen,
     pub(crate) kept: bool,
     pub(crate) own: usize,
@@ -53,7 +53,7 @@ pub(crate) fn put_receiver(names: &[usize], receiver: &[usize], out: &mut [usize
     };
     if receiver.len() == 0 {
         return Took {
-            verdict: Verdict::Accepted,
+            verdict: Ok(()),
             seen: fresh,
             kept: false,
             own: 0,
@@ -63,9 +63,9 @@ pub(crate) fn put_receiver(names: &[usize], receiver: &[usize], out: &mut [usize
     }
     let done = lower_word(names, Standing::Aside, receiver[0], fresh);
     let verdict = done.verdict;
-    if let Verdict::Refused(refusal) = verdict {
+    if let Err(refusal) = verdict {
         return Took {
-            verdict: Verdict::Refused(refusal),
+            verdict: Err(refusal),
             seen: fresh,
             kept: false,
             own: 0,
@@ -78,7 +78,7 @@ pub(crate) fn put_receiver(names: &[usize], receiver: &[usize], out: &mut [usize
     let count = after.count;
     store(out, 0, word_of(lifetime));
     Took {
-        verdict: Verdict::Accepted,
+        verdict: Ok(()),
         seen: Seen {
             source: ElisionSource::SelfParam(lifetime),
             count,
@@ -98,7 +98,7 @@ pub(crate) fn put_record(
     before: Seen,
     was: bool,
     had: usize,
-    list: &mut [usize; End::MAX_LIST],
+    list: &mut [usize; MAX_LIST],
     out: &mut [usize],
 ) -> Took
     requires { (steps_in_shape words.now ≡ true) × (had ≤ most_list) }
@@ -108,7 +108,7 @@ pub(crate) fn put_record(
 {
     if words.len() == 0 {
         return Took {
-            verdict: Verdict::Accepted,
+            verdict: Ok(()),
             seen: before,
             kept: was,
             own: had,
@@ -128,7 +128,7 @@ fn put_steps(
     before: Seen,
     was: bool,
     had: usize,
-    list: &mut [usize; End::MAX_LIST],
+    list: &mut [usize; MAX_LIST],
     out: &mut [usize],
 ) -> Took
     requires { (steps_in_shape words.now ≡ true) × (had ≤ most_list) }
@@ -144,7 +144,7 @@ fn put_steps(
     while at < words.len() {
         let took = put_step(names, words, at, output, seen, kept, own, n, list, out);
         let verdict = took.verdict;
-        if let Verdict::Refused(_) = verdict {
+        if let Err(_) = verdict {
             return took;
         }
         seen = took.seen;
@@ -154,7 +154,7 @@ fn put_steps(
         at = took.to;
     }
     Took {
-        verdict: Verdict::Accepted,
+        verdict: Ok(()),
         seen,
         kept,
         own,
@@ -173,7 +173,7 @@ fn put_step(
     kept: bool,
     own: usize,
     n: usize,
-    list: &mut [usize; End::MAX_LIST],
+    list: &mut [usize; MAX_LIST],
     out: &mut [usize],
 ) -> Took
     requires { (own ≤ most_list) × (n ≤ 65536) }
@@ -221,7 +221,7 @@ fn put_step(
             out,
         ),
         StepAt::Missing => Took {
-            verdict: Verdict::Refused(Refusal::Malformed),
+            verdict: Err(Refusal::Malformed),
             seen,
             kept,
             own,
@@ -271,7 +271,7 @@ fn put_self(
     own: usize,
     n: usize,
     to: usize,
-    list: &mut [usize; End::MAX_LIST],
+    list: &mut [usize; MAX_LIST],
     out: &mut [usize],
 ) -> Took
     requires { (length words.now ≤ most_list) × (own ≤ most_list) × (n ≤ 65536) }
@@ -281,7 +281,7 @@ fn put_self(
     if kept {
         put_list(list, own, n, out);
         return Took {
-            verdict: Verdict::Accepted,
+            verdict: Ok(()),
             seen,
             kept,
             own,
@@ -291,9 +291,9 @@ fn put_self(
     }
     let put = put_words(names, Standing::Aside, words, 0, seen, 0, list);
     let verdict = put.verdict;
-    if let Verdict::Refused(refusal) = verdict {
+    if let Err(refusal) = verdict {
         return Took {
-            verdict: Verdict::Refused(refusal),
+            verdict: Err(refusal),
             seen,
             kept,
             own,
@@ -305,7 +305,7 @@ fn put_self(
     let count = put.at;
     put_list(list, count, n, out);
     Took {
-        verdict: Verdict::Accepted,
+        verdict: Ok(()),
         seen: after,
         kept: true,
         own: count,
@@ -315,7 +315,7 @@ fn put_self(
 }
 
 // Store the first words of a list from a place on, as far as the slice takes them.
-fn put_list(list: &[usize; End::MAX_LIST], count: usize, at: usize, out: &mut [usize])
+fn put_list(list: &[usize; MAX_LIST], count: usize, at: usize, out: &mut [usize])
     requires { (count ≤ most_list) × (at ≤ 65536) }
     ensures { length list.now ≡ most_list → left out ≡ sets (held out) at (take count list.now) }
 {
@@ -348,9 +348,9 @@ fn put_words(
         let word = word_or_anonymous(words, i);
         let done = lower_word(names, standing, word, here);
         let verdict = done.verdict;
-        if let Verdict::Refused(refusal) = verdict {
+        if let Err(refusal) = verdict {
             return Put {
-                verdict: Verdict::Refused(refusal),
+                verdict: Err(refusal),
                 seen,
                 at,
             };
@@ -361,7 +361,7 @@ fn put_words(
         i += 1;
     }
     Put {
-        verdict: Verdict::Accepted,
+        verdict: Ok(()),
         seen: here,
         at: at + total,
     }
@@ -381,7 +381,7 @@ fn word_of(lifetime: MaybeStatic) -> usize
     ensures { result ≡ shown lifetime }
 {
     let word = lifetime.word();
-    let LoweredWord::Word(w) = word else {
+    let Some(w) = word else {
         return 0;
     };
     w

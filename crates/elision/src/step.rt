@@ -10,13 +10,12 @@ ghost use Rattle.answers.specs.Lent.{held, left};
 
 use super::lowerer::{Lifetimes, Lowerer, Stepped, refused};
 use super::steps::{StepAt, read_step, step_end};
-use answers::{Refusal, Verdict};
-use records::End;
+use answers::Refusal;
 
 // What a step on a lent lowerer answers: the lifetimes; refused, none.
 #[derive(Clone, Copy)]
 pub struct StepAnswer {
-    pub verdict: Verdict,
+    pub verdict: Result<(), Refusal>,
     pub lifetimes: Lifetimes,
 }
 
@@ -34,7 +33,7 @@ impl Lowerer {
         ensures answer { result ≡ stepped self (worded_step names.now output words.now self) }
     {
         let end = step_end(words, 0);
-        let End::At(to) = end else {
+        let Some(to) = end else {
             return refused(self, Refusal::Malformed);
         };
         if to != words.len() {

@@ -5,8 +5,8 @@ ghost use Rattle.records.specs.Ends.{EndsAt};
 ghost use Rattle.elision.specs.Steps.{read_step, self_in_shape, steps_in_shape};
 ghost use Rattle.elision.specs.Inner.{StandsAt};
 
-use answers::{Refusal, Verdict};
-use records::{End, lifetimes_end};
+use answers::Refusal;
+use records::{MAX_LIST, MAX_WORDS, lifetimes_end};
 
 // A step as it stands in a record: its words are read where they are, from `from` to `to`, and `to` is the place behind
 // it.
@@ -29,48 +29,48 @@ pub(crate) enum StepAt {
 }
 
 // Whether the record `self` is in shape: empty, or one lifetime. Refused by 1.
-pub fn self_shape(receiver: &[usize]) -> Verdict
+pub fn self_shape(receiver: &[usize]) -> Result<(), Refusal>
     ensures answer { result ≡ shape_verdict (self_in_shape receiver.now) }
 {
     if 1 < receiver.len() {
-        return Verdict::Refused(Refusal::Malformed);
+        return Err(Refusal::Malformed);
     }
-    Verdict::Accepted
+    Ok(())
 }
 
 // Whether a record `steps` or `returns` is in shape: steps one after another to its end. Refused by 1. Reads each
 // step's head once.
-pub fn steps_shape(steps: &[usize]) -> Verdict
+pub fn steps_shape(steps: &[usize]) -> Result<(), Refusal>
     ensures answer { result ≡ shape_verdict (steps_in_shape steps.now) }
 {
-    if End::MAX_WORDS < steps.len() {
-        return Verdict::Refused(Refusal::Malformed);
+    if MAX_WORDS < steps.len() {
+        return Err(Refusal::Malformed);
     }
     let mut at = 0;
     while at < steps.len() {
         let end = step_end(steps, at);
-        let End::At(next) = end else {
-            return Verdict::Refused(Refusal::Malformed);
+        let Some(next) = end else {
+            return Err(Refusal::Malformed);
         };
         at = next;
     }
-    Verdict::Accepted
+    Ok(())
 }
 
 // Where the step ends that stands at a place.
-pub(crate) fn step_end(words: &[usize], at: usize) -> End
+pub(crate) fn step_end(words: &[usize], at: usize) -> Option<usize>
     ensures { EndsAt words.now at (read_step (drop at words.now)) result }
 {
     let step = read_step(words, at);
     match step {
-        StepAt::Lifetime { word: _, to } => End::At(to),
+        StepAt::Lifetime { word: _, to } => Some(to),
         StepAt::Generics {
             generics: _,
             from: _,
             to,
-        } => End::At(to),
-        StepAt::SelfType { from: _, to } => End::At(to),
-        StepAt::Missing => End::Missing,
+        } => Some(to),
+        StepAt::SelfType { from: _, to } => Some(to),
+        StepAt::Missing => None,
     }
 }
 
@@ -98,12 +98,12 @@ pub(crate) fn read_step(words: &[usize], at: usize) -> StepAt
             return StepAt::Missing;
         }
         let generics = words[next];
-        if End::MAX_LIST < generics {
+        if MAX_LIST < generics {
             return StepAt::Missing;
         }
         let count = next + 1;
         let end = lifetimes_end(words, count);
-        let End::At(to) = end else {
+        let Some(to) = end else {
             return StepAt::Missing;
         };
         return StepAt::Generics {
@@ -114,7 +114,7 @@ pub(crate) fn read_step(words: &[usize], at: usize) -> StepAt
     }
     if kind == 2 {
         let end = lifetimes_end(words, next);
-        let End::At(to) = end else {
+        let Some(to) = end else {
             return StepAt::Missing;
         };
         return StepAt::SelfType { from: next + 1, to };

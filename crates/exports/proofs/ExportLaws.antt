@@ -1,5 +1,6 @@
 -- The exported calls by the calls below: a slice more that is long enough changes nothing; one that is too short leaves
 -- the refusals of the sheet as they are, and 9.
+use Rattle.std.specs.Prelude.{Ok, Err}
 use Prim.Native.Nat.{ℕ, ◌≤◌, ◌<◌}
 use mathlib.Core.Bool.{Bool, true, false, cond}
 use mathlib.Core.Path.{◌≡◌, refl, sym, ap, ◌∙◌}
@@ -10,10 +11,7 @@ use lib.Dec.{ltb}
 use lib.ListN.{length, drop, set}
 use Rattle.answers.specs.declared.Refusal.{Refusal}
 use Rattle.answers.specs.declared.Refusal.TheVariants.{NoRoom}
-use Rattle.answers.specs.declared.Verdict.TheVariants as verdict
-use Rattle.answers.specs.declared.Listed.{Listed}
-use Rattle.answers.specs.declared.Listed.TheVariants as listed
-use Rattle.answers.specs.Refusals.{Check, Outcome, Gives, Refuses, unless, number_of}
+use Rattle.answers.specs.Refusals.{Check, Outcome, unless, number_of}
 use Rattle.answers.specs.Lent.{Slice, held, left, room, Fills, Stays, counted, room_check}
 use Rattle.sheet.specs.Text.{text}
 use Rattle.sheet.specs.Reading.{sheet_of}
@@ -32,46 +30,46 @@ module _ {A : Type 0} (a : A) where
   idle : (checks : List Check) (c : Check) → c.due ≡ false → unless (checks ++ (c ∷ [])) a ≡ unless checks a
   unfolding unless
   idle [] c e = rw e
-  idle (d ∷ checks) c e = ap (λ (o : Outcome A). cond d.due (Refuses d.refusal) o) (idle checks c e)
+  idle (d ∷ checks) c e = ap (λ (o : Outcome A). cond d.due (Err d.refusal) o) (idle checks c e)
 
   -- checks for room, in place of other checks for room
-  module _ (rooms others : List Check) (short : unless others a ≡ Refuses NoRoom) (only : (k : Refusal)
-      → unless rooms a ≡ Refuses k → k ≡ NoRoom) where
-    in_place_given : (checks : List Check) (b : A) → unless (checks ++ rooms) a ≡ Gives b
-        → unless (checks ++ others) a ≡ Refuses NoRoom
+  module _ (rooms others : List Check) (short : unless others a ≡ Err NoRoom) (only : (k : Refusal)
+      → unless rooms a ≡ Err k → k ≡ NoRoom) where
+    in_place_given : (checks : List Check) (b : A) → unless (checks ++ rooms) a ≡ Ok b
+        → unless (checks ++ others) a ≡ Err NoRoom
     unfolding unless
     in_place_given [] b e = short
     in_place_given (c ∷ checks) b e = go c.due (in_place_given checks b) e
       where
-        go : (t : Bool) → (unless (checks ++ rooms) a ≡ Gives b → unless (checks ++ others) a ≡ Refuses NoRoom)
-            → cond t (Refuses c.refusal) (unless (checks ++ rooms) a) ≡ Gives b
-            → cond t (Refuses c.refusal) (unless (checks ++ others) a) ≡ Refuses NoRoom
+        go : (t : Bool) → (unless (checks ++ rooms) a ≡ Ok b → unless (checks ++ others) a ≡ Err NoRoom)
+            → cond t (Err c.refusal) (unless (checks ++ rooms) a) ≡ Ok b
+            → cond t (Err c.refusal) (unless (checks ++ others) a) ≡ Err NoRoom
         go true f e = let z : ◌≡◌ {A = ℕ} 0 1 = cc in absurd (omega arith)
         go false f e = f e
 
-    in_place_refused : (checks : List Check) (k : Refusal) → unless (checks ++ rooms) a ≡ Refuses k
-        → unless (checks ++ others) a ≡ Refuses k
+    in_place_refused : (checks : List Check) (k : Refusal) → unless (checks ++ rooms) a ≡ Err k
+        → unless (checks ++ others) a ≡ Err k
     unfolding unless
     in_place_refused [] k e = rw (only k e) short
     in_place_refused (c ∷ checks) k e = go c.due (in_place_refused checks k) e
       where
-        go : (t : Bool) → (unless (checks ++ rooms) a ≡ Refuses k → unless (checks ++ others) a ≡ Refuses k)
-            → cond t (Refuses c.refusal) (unless (checks ++ rooms) a) ≡ Refuses k
-            → cond t (Refuses c.refusal) (unless (checks ++ others) a) ≡ Refuses k
+        go : (t : Bool) → (unless (checks ++ rooms) a ≡ Err k → unless (checks ++ others) a ≡ Err k)
+            → cond t (Err c.refusal) (unless (checks ++ rooms) a) ≡ Err k
+            → cond t (Err c.refusal) (unless (checks ++ others) a) ≡ Err k
         go true f e = e
         go false f e = f e
 
   -- 9 at the last, 9 or nothing before it
-  short_or : (t : Bool) (rest : Outcome A) → rest ≡ Refuses NoRoom → cond t (Refuses NoRoom) rest ≡ Refuses NoRoom
+  short_or : (t : Bool) (rest : Outcome A) → rest ≡ Err NoRoom → cond t (Err NoRoom) rest ≡ Err NoRoom
   short_or true rest e = refl
   short_or false rest e = e
 
-  only_or : (t : Bool) (rest : Outcome A) → ((k : Refusal) → rest ≡ Refuses k → k ≡ NoRoom) → (k : Refusal)
-      → cond t (Refuses NoRoom) rest ≡ Refuses k → k ≡ NoRoom
+  only_or : (t : Bool) (rest : Outcome A) → ((k : Refusal) → rest ≡ Err k → k ≡ NoRoom) → (k : Refusal)
+      → cond t (Err NoRoom) rest ≡ Err k → k ≡ NoRoom
   only_or true rest f k e = cc
   only_or false rest f k e = f k e
 
-  only_none : (k : Refusal) → ◌≡◌ {A = Outcome A} (Gives a) (Refuses k) → k ≡ NoRoom
+  only_none : (k : Refusal) → ◌≡◌ {A = Outcome A} (Ok a) (Err k) → k ≡ NoRoom
   only_none k e = let z : ◌≡◌ {A = ℕ} 0 1 = cc in absurd (omega arith)
 
 -- ---- stores at the front
@@ -88,7 +86,7 @@ three_stored x y z (a ∷ b ∷ c ∷ w) h = refl
 
 -- ---- a text and its length, by a call that gives the text
 
-refused_text : {o : Outcome (List ℕ)} {k : Refusal} {s : ℕ} {out w : Slice} → o ≡ Refuses k → s ≡ number_of k
+refused_text : {o : Outcome (List ℕ)} {k : Refusal} {s : ℕ} {out w : Slice} → o ≡ Err k → s ≡ number_of k
     → Stays out → Stays w → TextAnswers o s out w
 refused_text e h a b = record { status_is = rw e h; out_filled = rw e a; written_filled = rw e b }
 
@@ -106,76 +104,76 @@ module _ (checks : List Check) (text : List ℕ) where
       ∙ idle text (checks ++ (room_check room text ∷ [])) (room_check words (length_word text)) (le-ltb words 1 h)
 
   -- without one, the call into no room tells the refusal
-  no_word : (room : ℕ) → unless (room_check room text ∷ room_check 0 (length_word text) ∷ []) text ≡ Refuses NoRoom
+  no_word : (room : ℕ) → unless (room_check room text ∷ room_check 0 (length_word text) ∷ []) text ≡ Err NoRoom
   unfolding unless
   no_word room = short_or text (ltb room (length text)) _ refl
 
-  only_room : (k : Refusal) → unless (room_check 0 text ∷ []) text ≡ Refuses k → k ≡ NoRoom
+  only_room : (k : Refusal) → unless (room_check 0 text ∷ []) text ≡ Err k → k ≡ NoRoom
   unfolding unless
-  only_room = only_or text (ltb 0 (length text)) (Gives text) (only_none text)
+  only_room = only_or text (ltb 0 (length text)) (Ok text) (only_none text)
 
-  given_there : (b : List ℕ) → unworded 0 ≡ Gives b → (room : ℕ) → text_to checks text room 0 ≡ Refuses NoRoom
+  given_there : (b : List ℕ) → unworded 0 ≡ Ok b → (room : ℕ) → text_to checks text room 0 ≡ Err NoRoom
   unfolding text_to
   given_there b e room =
       in_place_given text (room_check 0 text ∷ []) (room_check room text ∷ room_check 0 (length_word text) ∷ [])
       (no_word room) only_room checks b e
 
-  refused_there : (k : Refusal) → unworded 0 ≡ Refuses k → (room : ℕ) → text_to checks text room 0 ≡ Refuses k
+  refused_there : (k : Refusal) → unworded 0 ≡ Err k → (room : ℕ) → text_to checks text room 0 ≡ Err k
   unfolding text_to
   refused_there k e room =
       in_place_refused text (room_check 0 text ∷ []) (room_check room text ∷ room_check 0 (length_word text) ∷ [])
       (no_word room) only_room checks k e
 
-  module _ (o : Outcome (List ℕ)) (is-unworded : o ≡ unworded 0) (l : Listed) (is : l ≡ counted o) where
-    pub untold_given : (n : ℕ) → l ≡ listed.Count n → (room : ℕ) → text_to checks text room 0 ≡ Refuses NoRoom
+  module _ (o : Outcome (List ℕ)) (is-unworded : o ≡ unworded 0) (l : Outcome ℕ) (is : l ≡ counted o) where
+    pub untold_given : (n : ℕ) → l ≡ Ok n → (room : ℕ) → text_to checks text room 0 ≡ Err NoRoom
     untold_given n e = go o refl (sym is ∙ e)
       where
-        go : (x : Outcome (List ℕ)) → o ≡ x → counted x ≡ listed.Count n → (room : ℕ)
-            → text_to checks text room 0 ≡ Refuses NoRoom
-        go (Gives b) u v = given_there b (sym is-unworded ∙ u)
-        go (Refuses k) u v = let z : ◌≡◌ {A = ℕ} 0 1 = cc in absurd (omega arith)
+        go : (x : Outcome (List ℕ)) → o ≡ x → counted x ≡ Ok n → (room : ℕ)
+            → text_to checks text room 0 ≡ Err NoRoom
+        go (Ok b) u v = given_there b (sym is-unworded ∙ u)
+        go (Err k) u v = let z : ◌≡◌ {A = ℕ} 0 1 = cc in absurd (omega arith)
 
-    pub untold_refused : (k : Refusal) → l ≡ listed.Refused k → (room : ℕ) → text_to checks text room 0 ≡ Refuses k
+    pub untold_refused : (k : Refusal) → l ≡ Err k → (room : ℕ) → text_to checks text room 0 ≡ Err k
     untold_refused k e = go o refl (sym is ∙ e)
       where
-        go : (x : Outcome (List ℕ)) → o ≡ x → counted x ≡ listed.Refused k → (room : ℕ)
-            → text_to checks text room 0 ≡ Refuses k
-        go (Gives b) u v = let z : ◌≡◌ {A = ℕ} 0 1 = cc in absurd (omega arith)
-        go (Refuses m) u v = let z : m ≡ k = cc in refused_there k (sym is-unworded ∙ (rw z at u))
+        go : (x : Outcome (List ℕ)) → o ≡ x → counted x ≡ Err k → (room : ℕ)
+            → text_to checks text room 0 ≡ Err k
+        go (Ok b) u v = let z : ◌≡◌ {A = ℕ} 0 1 = cc in absurd (omega arith)
+        go (Err m) u v = let z : m ≡ k = cc in refused_there k (sym is-unworded ∙ (rw z at u))
 
   -- the ways out of the exported call
   module _ (out w : Slice) where
     abbrev there : Outcome (List ℕ)
     there = text_to checks text (room out) (room w)
 
-    pub text_unplaced : {k : Refusal} {s : ℕ} → ((room : ℕ) → text_to checks text room 0 ≡ Refuses k) → room w < 1
+    pub text_unplaced : {k : Refusal} {s : ℕ} → ((room : ℕ) → text_to checks text room 0 ≡ Err k) → room w < 1
         → s ≡ number_of k → Stays out → Stays w → TextAnswers there s out w
     text_unplaced {k} f h e =
         let z : room w ≡ 0 = omega (arith, h) in
-        let r : there ≡ Refuses k = rw z (f (room out)) in
+        let r : there ≡ Err k = rw z (f (room out)) in
         refused_text r e
 
-    module _ (place : 1 ≤ room w) {o : Outcome (List ℕ)} (is-unworded : o ≡ unworded (room out)) {l : Listed} (is : l ≡ counted o)
+    module _ (place : 1 ≤ room w) {o : Outcome (List ℕ)} (is-unworded : o ≡ unworded (room out)) {l : Outcome ℕ} (is : l ≡ counted o)
         (stands : Fills o out) where
       same : there ≡ o
       same = to_unworded (room out) (room w) place ∙ sym is-unworded
 
-      pub text_refused : {k : Refusal} {s : ℕ} → l ≡ listed.Refused k → s ≡ number_of k → Stays w → TextAnswers there s out w
+      pub text_refused : {k : Refusal} {s : ℕ} → l ≡ Err k → s ≡ number_of k → Stays w → TextAnswers there s out w
       text_refused {k} {s} e h c = go o refl (sym is ∙ e) stands
         where
-          go : (x : Outcome (List ℕ)) → o ≡ x → counted x ≡ listed.Refused k → Fills x out → TextAnswers there s out w
-          go (Gives b) u v x = let z : ◌≡◌ {A = ℕ} 0 1 = cc in absurd (omega arith)
-          go (Refuses m) u v x = let z : m ≡ k = cc in refused_text (same ∙ u) (rw z h) x c
+          go : (x : Outcome (List ℕ)) → o ≡ x → counted x ≡ Err k → Fills x out → TextAnswers there s out w
+          go (Ok b) u v x = let z : ◌≡◌ {A = ℕ} 0 1 = cc in absurd (omega arith)
+          go (Err m) u v x = let z : m ≡ k = cc in refused_text (same ∙ u) (rw z h) x c
 
-      pub text_given : {n : ℕ} → l ≡ listed.Count n → left w ≡ set (held w) 0 n → TextAnswers there 0 out w
+      pub text_given : {n : ℕ} → l ≡ Ok n → left w ≡ set (held w) 0 n → TextAnswers there 0 out w
       text_given {n} e c = go o refl (sym is ∙ e) stands
         where
-          go : (x : Outcome (List ℕ)) → o ≡ x → counted x ≡ listed.Count n → Fills x out → TextAnswers there 0 out w
-          go (Gives b) u v x =
+          go : (x : Outcome (List ℕ)) → o ≡ x → counted x ≡ Ok n → Fills x out → TextAnswers there 0 out w
+          go (Ok b) u v x =
               let z : length b ≡ n = cc in
-              let g : there ≡ Gives b = same ∙ u in
+              let g : there ≡ Ok b = same ∙ u in
               record { status_is = rw g; out_filled = rw g x; written_filled = rw (g, z) (c ∙ one_stored n (held w) place) }
-          go (Refuses m) u v x = let z : ◌≡◌ {A = ℕ} 0 1 = cc in absurd (omega arith)
+          go (Err m) u v x = let z : ◌≡◌ {A = ℕ} 0 1 = cc in absurd (omega arith)
 
 -- the two calls that give a text
 pub is_listing : (bytes : List ℕ) (room : ℕ)
@@ -192,7 +190,7 @@ is_writing words ends room = refl
 
 -- ---- `borrows_sheet`
 
-refused_sheet : {o : Outcome Borrows} {k : Refusal} {s : ℕ} {used answers edges w : Slice} → o ≡ Refuses k → s ≡ number_of k
+refused_sheet : {o : Outcome Borrows} {k : Refusal} {s : ℕ} {used answers edges w : Slice} → o ≡ Err k → s ≡ number_of k
     → Stays used → Stays answers → Stays edges → Stays w → SheetAnswers o s used answers edges w
 refused_sheet e h a b c d =
     record { status_is = rw e h; used_filled = rw e a; answers_filled = rw e b; edges_filled = rw e c; counts_filled = rw e d }
@@ -212,55 +210,55 @@ module _ (bytes : List ℕ) where
       ∙ idle all (sheet_refusals bytes ++ borrows_room_checks all used answers edges) (room_check counts (count_words all)) (le-ltb counts 3 h)
 
   no_words : (used answers edges counts : ℕ) → counts < 3
-      → unless (borrows_room_checks all used answers edges ++ (room_check counts (count_words all) ∷ [])) all ≡ Refuses NoRoom
+      → unless (borrows_room_checks all used answers edges ++ (room_check counts (count_words all) ∷ [])) all ≡ Err NoRoom
   unfolding unless
   no_words used answers edges counts h =
-      let last : cond (ltb counts 3) (Refuses NoRoom) (Gives all) ≡ Refuses NoRoom = rw (lt-ltb counts 3 h) in
+      let last : cond (ltb counts 3) (Err NoRoom) (Ok all) ≡ Err NoRoom = rw (lt-ltb counts 3 h) in
       short_or all (ltb used (length all.used))
       _ (short_or all (ltb answers (length all.answers))
       _ (short_or all (ltb edges (length (flat_map edge_words all.edges))) _ last))
 
-  only_rooms : (k : Refusal) → unless (borrows_room_checks all 0 0 0) all ≡ Refuses k → k ≡ NoRoom
+  only_rooms : (k : Refusal) → unless (borrows_room_checks all 0 0 0) all ≡ Err k → k ≡ NoRoom
   unfolding unless
   only_rooms =
       only_or all (ltb 0 (length all.used))
       _ (only_or all (ltb 0 (length all.answers))
       _ (only_or all (ltb 0 (length (flat_map edge_words all.edges))) _ (only_none all)))
 
-  borrowed_there : (b : Borrows) → borrow_sheet bytes 0 0 0 ≡ Gives b → (used answers edges counts : ℕ) → counts < 3
-      → sheet_to bytes used answers edges counts ≡ Refuses NoRoom
+  borrowed_there : (b : Borrows) → borrow_sheet bytes 0 0 0 ≡ Ok b → (used answers edges counts : ℕ) → counts < 3
+      → sheet_to bytes used answers edges counts ≡ Err NoRoom
   unfolding sheet_to borrow_sheet
   borrowed_there b e used answers edges counts h =
       in_place_given all (borrows_room_checks all 0 0 0)
       (borrows_room_checks all used answers edges ++ (room_check counts (count_words all) ∷ []))
       (no_words used answers edges counts h) only_rooms (sheet_refusals bytes) b e
 
-  unborrowed_there : (k : Refusal) → borrow_sheet bytes 0 0 0 ≡ Refuses k → (used answers edges counts : ℕ) → counts < 3
-      → sheet_to bytes used answers edges counts ≡ Refuses k
+  unborrowed_there : (k : Refusal) → borrow_sheet bytes 0 0 0 ≡ Err k → (used answers edges counts : ℕ) → counts < 3
+      → sheet_to bytes used answers edges counts ≡ Err k
   unfolding sheet_to borrow_sheet
   unborrowed_there k e used answers edges counts h =
       in_place_refused all (borrows_room_checks all 0 0 0)
       (borrows_room_checks all used answers edges ++ (room_check counts (count_words all) ∷ []))
       (no_words used answers edges counts h) only_rooms (sheet_refusals bytes) k e
 
-  pub unborrowed_given : (r : answer.Borrows) → r ≡ borrows_answer (borrow_sheet bytes 0 0 0) → r.verdict ≡ verdict.Accepted
-      → (used answers edges counts : ℕ) → counts < 3 → sheet_to bytes used answers edges counts ≡ Refuses NoRoom
+  pub unborrowed_given : (r : answer.Borrows) → r ≡ borrows_answer (borrow_sheet bytes 0 0 0) → r.verdict ≡ Ok (tt {0})
+      → (used answers edges counts : ℕ) → counts < 3 → sheet_to bytes used answers edges counts ≡ Err NoRoom
   unborrowed_given r is e = go (borrow_sheet bytes 0 0 0) refl (ap (λ (x : answer.Borrows). x.verdict) (sym is) ∙ e)
     where
-      go : (o : Outcome Borrows) → borrow_sheet bytes 0 0 0 ≡ o → (borrows_answer o).verdict ≡ verdict.Accepted
-          → (used answers edges counts : ℕ) → counts < 3 → sheet_to bytes used answers edges counts ≡ Refuses NoRoom
-      go (Gives b) u v = borrowed_there b u
-      go (Refuses k) u v = let z : ◌≡◌ {A = ℕ} 0 1 = cc in absurd (omega arith)
+      go : (o : Outcome Borrows) → borrow_sheet bytes 0 0 0 ≡ o → (borrows_answer o).verdict ≡ Ok (tt {0})
+          → (used answers edges counts : ℕ) → counts < 3 → sheet_to bytes used answers edges counts ≡ Err NoRoom
+      go (Ok b) u v = borrowed_there b u
+      go (Err k) u v = let z : ◌≡◌ {A = ℕ} 0 1 = cc in absurd (omega arith)
 
   pub unborrowed_refused : (r : answer.Borrows) (k : Refusal) → r ≡ borrows_answer (borrow_sheet bytes 0 0 0)
-      → r.verdict ≡ verdict.Refused k
-      → (used answers edges counts : ℕ) → counts < 3 → sheet_to bytes used answers edges counts ≡ Refuses k
+      → r.verdict ≡ Err k
+      → (used answers edges counts : ℕ) → counts < 3 → sheet_to bytes used answers edges counts ≡ Err k
   unborrowed_refused r k is e = go (borrow_sheet bytes 0 0 0) refl (ap (λ (x : answer.Borrows). x.verdict) (sym is) ∙ e)
     where
-      go : (o : Outcome Borrows) → borrow_sheet bytes 0 0 0 ≡ o → (borrows_answer o).verdict ≡ verdict.Refused k
-          → (used answers edges counts : ℕ) → counts < 3 → sheet_to bytes used answers edges counts ≡ Refuses k
-      go (Gives b) u v = let z : ◌≡◌ {A = ℕ} 0 1 = cc in absurd (omega arith)
-      go (Refuses m) u v = let z : m ≡ k = cc in unborrowed_there k (rw z at u)
+      go : (o : Outcome Borrows) → borrow_sheet bytes 0 0 0 ≡ o → (borrows_answer o).verdict ≡ Err k
+          → (used answers edges counts : ℕ) → counts < 3 → sheet_to bytes used answers edges counts ≡ Err k
+      go (Ok b) u v = let z : ◌≡◌ {A = ℕ} 0 1 = cc in absurd (omega arith)
+      go (Err m) u v = let z : m ≡ k = cc in unborrowed_there k (rw z at u)
 
   module _ (used answers edges w : Slice) where
     abbrev here : Outcome Borrows
@@ -269,7 +267,7 @@ module _ (bytes : List ℕ) where
     abbrev below : Outcome Borrows
     below = borrow_sheet bytes (room used) (room answers) (room edges)
 
-    pub no_places : {k : Refusal} {s : ℕ} → ((u a e c : ℕ) → c < 3 → sheet_to bytes u a e c ≡ Refuses k) → room w < 3 → s ≡ number_of k
+    pub no_places : {k : Refusal} {s : ℕ} → ((u a e c : ℕ) → c < 3 → sheet_to bytes u a e c ≡ Err k) → room w < 3 → s ≡ number_of k
         → Stays used → Stays answers → Stays edges → Stays w → SheetAnswers here s used answers edges w
     no_places f h e = refused_sheet (f (room used) (room answers) (room edges) (room w) h) e
 
@@ -278,24 +276,24 @@ module _ (bytes : List ℕ) where
       same_borrows : here ≡ below
       same_borrows = to_borrows (room used) (room answers) (room edges) (room w) places
 
-      pub borrowed_refused : {k : Refusal} {s : ℕ} → r.verdict ≡ verdict.Refused k → s ≡ number_of k → Stays w
+      pub borrowed_refused : {k : Refusal} {s : ℕ} → r.verdict ≡ Err k → s ≡ number_of k → Stays w
           → SheetAnswers here s used answers edges w
       borrowed_refused {k} {s} e h d = go below refl (ap (λ (x : answer.Borrows). x.verdict) (sym is) ∙ e) a b c
         where
-          go : (o : Outcome Borrows) → below ≡ o → (borrows_answer o).verdict ≡ verdict.Refused k → Fills (used_words o) used
+          go : (o : Outcome Borrows) → below ≡ o → (borrows_answer o).verdict ≡ Err k → Fills (used_words o) used
               → Fills (answer_words o) answers → Fills (edges_words o) edges → SheetAnswers here s used answers edges w
-          go (Gives x) u v p q t = let z : ◌≡◌ {A = ℕ} 0 1 = cc in absurd (omega arith)
-          go (Refuses m) u v p q t = let z : m ≡ k = cc in refused_sheet (same_borrows ∙ u) (rw z h) p q t d
+          go (Ok x) u v p q t = let z : ◌≡◌ {A = ℕ} 0 1 = cc in absurd (omega arith)
+          go (Err m) u v p q t = let z : m ≡ k = cc in refused_sheet (same_borrows ∙ u) (rw z h) p q t d
 
-      pub borrowed_given : r.verdict ≡ verdict.Accepted → left w ≡ (r.used ∷ r.params ∷ r.edges ∷ []) ++ drop 3 (held w)
+      pub borrowed_given : r.verdict ≡ Ok (tt {0}) → left w ≡ (r.used ∷ r.params ∷ r.edges ∷ []) ++ drop 3 (held w)
           → SheetAnswers here 0 used answers edges w
       borrowed_given e d = go below refl is (ap (λ (x : answer.Borrows). x.verdict) (sym is) ∙ e) a b c
         where
-          go : (o : Outcome Borrows) → below ≡ o → r ≡ borrows_answer o → (borrows_answer o).verdict ≡ verdict.Accepted
+          go : (o : Outcome Borrows) → below ≡ o → r ≡ borrows_answer o → (borrows_answer o).verdict ≡ Ok (tt {0})
               → Fills (used_words o) used → Fills (answer_words o) answers → Fills (edges_words o) edges
               → SheetAnswers here 0 used answers edges w
-          go (Gives x) u i v p q t =
-              let g : here ≡ Gives x = same_borrows ∙ u in
+          go (Ok x) u i v p q t =
+              let g : here ≡ Ok x = same_borrows ∙ u in
               let n : r.used ≡ length x.used = ap (λ (y : answer.Borrows). y.used) i in
               let m : r.params ≡ length x.answers = ap (λ (y : answer.Borrows). y.params) i in
               let l : r.edges ≡ length x.edges = ap (λ (y : answer.Borrows). y.edges) i in
@@ -307,4 +305,4 @@ module _ (bytes : List ℕ) where
                 edges_filled = rw g t;
                 counts_filled = rw g (d ∙ z);
               }
-          go (Refuses k) u i v p q t = let z : ◌≡◌ {A = ℕ} 0 1 = cc in absurd (omega arith)
+          go (Err k) u i v p q t = let z : ◌≡◌ {A = ℕ} 0 1 = cc in absurd (omega arith)

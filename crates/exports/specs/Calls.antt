@@ -1,8 +1,8 @@
 -- The exported calls: what each gives, its status, and the words beside the answer. What a sheet gives is said by the
 -- crates below; here there is one slice more, which may be too short (9), and a status in place of an answer of many
 -- cases.
-use Rattle.std.specs.Prelude.{ℕ, ◌≡◌, List, [], ◌∷◌, ◌++◌, length}
-use Rattle.answers.specs.Refusals.{Check, Outcome, Gives, Refuses, unless, number_of, over}
+use Rattle.std.specs.Prelude.{ℕ, ◌≡◌, List, [], ◌∷◌, ◌++◌, length, Ok, Err}
+use Rattle.answers.specs.Refusals.{Check, Outcome, unless, number_of, over}
 use Rattle.answers.specs.Lent.{Slice, Fills, room_check}
 use Rattle.sheet.specs.Text.{text}
 use Rattle.sheet.specs.Reading.{sheet_of}
@@ -15,8 +15,8 @@ use Rattle.listing.specs.Listing.{listing_of, listing_checks}
 
 -- 0, or the papers' number of the refusal
 abbrev pub status_of : {A : Type 0} → Outcome A → ℕ
-status_of (Gives a) = 0
-status_of (Refuses r) = number_of r
+status_of (Ok a) = 0
+status_of (Err r) = number_of r
 
 -- ---- a text, and how many bytes it has in a word beside it: `borrows_listing`, `borrows_write_sheet`
 

@@ -4,7 +4,7 @@ ghost use Rattle.answers.specs.Lent.{held, room};
 ghost use Rattle.answers.specs.Refusals.{Refuses};
 ghost use Rattle.exports.specs.Calls.{listing_to, TextAnswers};
 
-use answers::{Listed, Refusal};
+use answers::Refusal;
 use listing::listing;
 
 // Write the listing of a sheet to the first slice and its length in bytes to the first word of the second. Refused as
@@ -19,11 +19,11 @@ pub fn borrows_listing(sheet: &[u8], out: &mut [u8], written: &mut [usize]) -> u
     }
     let answer = listing(sheet, out);
     match answer {
-        Listed::Count(count) => {
+        Ok(count) => {
             written[0] = count;
             0
         }
-        Listed::Refused(refusal) => refusal.number(),
+        Err(refusal) => refusal.number(),
     }
 }
 
@@ -34,7 +34,7 @@ fn unlisted(sheet: &[u8]) -> Refusal
     let mut none = [0u8; 0];
     let answer = listing(sheet, &mut none);
     match answer {
-        Listed::Count(_) => Refusal::NoRoom,
-        Listed::Refused(refusal) => refusal,
+        Ok(_) => Refusal::NoRoom,
+        Err(refusal) => refusal,
     }
 }

@@ -4,7 +4,7 @@ ghost use Rattle.answers.specs.Refusals.{Refuses};
 ghost use Rattle.answers.specs.Lent.{held, room, left};
 ghost use Rattle.exports.specs.Calls.{sheet_to, SheetAnswers};
 
-use answers::{Refusal, Verdict};
+use answers::Refusal;
 use borrowing_param::borrow_sheet;
 
 // Write a sheet's used lifetimes, ascending, to the first slice; the number of each parameter's answer to the second;
@@ -27,7 +27,7 @@ pub fn borrows_sheet(
     }
     let borrows = borrow_sheet(sheet, used, answers, edges);
     let verdict = borrows.verdict;
-    if let Verdict::Refused(refusal) = verdict {
+    if let Err(refusal) = verdict {
         return refusal.number();
     }
     store_counts(counts, borrows.used, borrows.params, borrows.edges);
@@ -55,7 +55,7 @@ fn unborrowed(sheet: &[u8]) -> Refusal
     let borrows = borrow_sheet(sheet, &mut no_used, &mut no_answers, &mut no_edges);
     let verdict = borrows.verdict;
     match verdict {
-        Verdict::Accepted => Refusal::NoRoom,
-        Verdict::Refused(refusal) => refusal,
+        Ok(()) => Refusal::NoRoom,
+        Err(refusal) => refusal,
     }
 }

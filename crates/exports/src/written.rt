@@ -4,7 +4,7 @@ ghost use Rattle.answers.specs.Lent.{held, room};
 ghost use Rattle.answers.specs.Refusals.{Refuses};
 ghost use Rattle.exports.specs.Calls.{writing_to, TextAnswers};
 
-use answers::{Listed, Refusal};
+use answers::Refusal;
 use sheet_writer::write_laid;
 
 // Write the sheet of ten records to the third slice and its length in bytes to the first word of the fourth. The words
@@ -27,11 +27,11 @@ pub fn borrows_write_sheet(
     }
     let answer = write_laid(words, ends, out);
     match answer {
-        Listed::Count(count) => {
+        Ok(count) => {
             written[0] = count;
             0
         }
-        Listed::Refused(refusal) => refusal.number(),
+        Err(refusal) => refusal.number(),
     }
 }
 
@@ -42,7 +42,7 @@ fn unwritten(words: &[usize], ends: &[usize]) -> Refusal
     let mut none = [0u8; 0];
     let answer = write_laid(words, ends, &mut none);
     match answer {
-        Listed::Count(_) => Refusal::NoRoom,
-        Listed::Refused(refusal) => refusal,
+        Ok(_) => Refusal::NoRoom,
+        Err(refusal) => refusal,
     }
 }

@@ -1,4 +1,5 @@
 -- The type that a call found, once it is known that it found one: it is what stands there.
+use Rattle.std.specs.Prelude.{Some, None, Option}
 use Prim.Native.Nat.{ℕ, ◌+◌, ◌<◌}
 use mathlib.Core.Path.{◌≡◌, refl, sym, ap, subst, ◌∙◌}
 use mathlib.Core.List.{List}
@@ -7,8 +8,6 @@ use lib.ListN.{length, get_or, drop, length-take, length-drop}
 use lib.Seq.{get_or-take, get_or-drop}
 use Rattle.records.specs.Reading.{Reading, Read, Fails}
 use Rattle.hir_types.specs.declared.types.Parts.{Parts}
-use Rattle.hir_types.specs.declared.types.Located.{Located}
-use Rattle.hir_types.specs.declared.types.Located.TheVariants.{At, Missing}
 use Rattle.hir_types.specs.LoweredTypes.{LoweredType}
 use Rattle.hir_types.specs.Places.{Stands, Locates, locates, nowhere, Coded, CodedAt}
 
@@ -18,21 +17,21 @@ pub record Found (words : List ℕ) (at : ℕ) (reading : Reading LoweredType) (
   pub reads : reading ≡ Read type rest
   pub stands : Stands words at type rest p
 
-module _ {words : List ℕ} {at : ℕ} {reading : Reading LoweredType} {r : Located} (l : Locates words at reading r) where
-  pub found_told : {p : Parts} → r ≡ At p → Found words at reading p
+module _ {words : List ℕ} {at : ℕ} {reading : Reading LoweredType} {r : Option Parts} (l : Locates words at reading r) where
+  pub found_told : {p : Parts} → r ≡ Some p → Found words at reading p
   found_told {p} e = go (subst (Locates words at reading) e l)
     where
-      go : {reading : Reading LoweredType} → Locates words at reading (At p) → Found words at reading p
+      go : {reading : Reading LoweredType} → Locates words at reading (Some p) → Found words at reading p
       go (locates {t} {rest} s) = record { type = t; rest = rest; reads = refl; stands = s }
 
-  pub missing_told : r ≡ Missing → reading ≡ Fails
+  pub missing_told : r ≡ None → reading ≡ Fails
   missing_told e = go (subst (Locates words at reading) e l)
     where
-      go : {reading : Reading LoweredType} → Locates words at reading Missing → reading ≡ Fails
+      go : {reading : Reading LoweredType} → Locates words at reading None → reading ≡ Fails
       go nowhere = refl
 
 -- its code
-pub code_told : {words : List ℕ} {r : Located} {p : Parts} → CodedAt words r → r ≡ At p → Coded words p
+pub code_told : {words : List ℕ} {r : Option Parts} {p : Parts} → CodedAt words r → r ≡ Some p → Coded words p
 code_told {words} h e = subst (CodedAt words) e h
 
 -- the path words are there to be read

@@ -1,4 +1,5 @@
 -- The lifetimes of one type: what stands at an index, and the ways out of `type_lifetimes`.
+use Rattle.std.specs.Prelude.{Ok, Some, None, Option}
 use Prim.Native.Nat.{ℕ, zero, suc, ◌+◌, ◌-◌, ◌^◌, ◌≤◌, ◌<◌}
 use mathlib.Core.Path.{◌≡◌, refl, sym, ◌∙◌, ap}
 use mathlib.Core.List.{List, [], ◌∷◌, ◌++◌, map}
@@ -11,13 +12,10 @@ use Rattle.answers.specs.declared.Refusal.TheVariants.{Malformed}
 use Rattle.lifetimes.specs.declared.maybe_static.MaybeStatic.{MaybeStatic}
 use Rattle.lifetimes.specs.Numbers as numbers
 use Rattle.lifetimes.specs.LoweredWords.{from_word}
-use Rattle.answers.specs.Refusals.{Gives}
 use Rattle.records.specs.Reading.{Fails}
 use Rattle.hir_types.specs.declared.types.Own.{Own}
 use Rattle.hir_types.specs.declared.types.Own.TheVariants as own
 use Rattle.hir_types.specs.declared.types.Parts.{Parts}
-use Rattle.hir_types.specs.declared.types.OwnLifetime.{OwnLifetime}
-use Rattle.hir_types.specs.declared.types.OwnLifetime.TheVariants as behind
 use Rattle.hir_types.specs.declared.types.LifetimeAt.{LifetimeAt}
 use Rattle.hir_types.specs.declared.types.LifetimeAt.TheVariants.{Lifetime, Absent, Refused}
 use Rattle.hir_types.specs.LoweredTypes.{LoweredType, read_lowered, own_lifetimes, lifetimes_of, entry_at}
@@ -68,25 +66,25 @@ in_order t =
 -- ---- a type's own lifetime: what `Own::lifetime` answers, and what its answer says
 
 pub own_word : {m : MaybeStatic} {word : ℕ} (o : Own) → o ≡ own.Word word → m ≡ from_word word
-    → behind.Lifetime m ≡ own_lifetime o
+    → Some m ≡ own_lifetime o
 own_word o e k = rw (e, k)
 
 pub own_strs : {l : lifetime.Lifetime} (o : Own) → o ≡ own.Strs → l ≡ numbers.lifetime (2 ^ 64 - 1)
-    → behind.Lifetime (NonStatic l) ≡ own_lifetime o
+    → Some (NonStatic l) ≡ own_lifetime o
 own_strs o e k = rw (e, k)
 
-module _ {r : OwnLifetime} (o : Own) (is : r ≡ own_lifetime o) where
-  pub own_one : {m : MaybeStatic} → r ≡ behind.Lifetime m → own_lifetimes o ≡ m ∷ []
+module _ {r : Option MaybeStatic} (o : Own) (is : r ≡ own_lifetime o) where
+  pub own_one : {m : MaybeStatic} → r ≡ Some m → own_lifetimes o ≡ m ∷ []
   own_one e = ap one_or_none (sym is ∙ e)
 
-  pub own_none : r ≡ behind.Absent → own_lifetimes o ≡ []
+  pub own_none : r ≡ None → own_lifetimes o ≡ []
   own_none e = ap one_or_none (sym is ∙ e)
 
-  pub at_one : {m : MaybeStatic} → r ≡ behind.Lifetime m → Lifetime m ≡ entry_at (own_lifetimes o) 0
+  pub at_one : {m : MaybeStatic} → r ≡ Some m → Lifetime m ≡ entry_at (own_lifetimes o) 0
   unfolding entry_at
   at_one e = rw (own_one e)
 
-  pub at_none : r ≡ behind.Absent → Absent ≡ entry_at (own_lifetimes o) 0
+  pub at_none : r ≡ None → Absent ≡ entry_at (own_lifetimes o) 0
   unfolding entry_at
   at_none e = rw (own_none e)
 
@@ -105,7 +103,7 @@ module _ (words : List ℕ) (index : ℕ) where
         rw (f.reads, ← s.left, drop-cons words p.next 0 (omega (arith, s.within, e)))
 
     module _ (e : p.next ≡ length words) where
-      all_read : type_lifetimes words ≡ Gives (lifetimes_of f.type)
+      all_read : type_lifetimes words ≡ Ok (lifetimes_of f.type)
       unfolding type_lifetimes
       all_read = rw (f.reads, ← f.stands.left, e, drop_of_length-le words {i = length words} (omega arith))
 

@@ -1,5 +1,6 @@
 -- Where a type's words stand follows from what is read, so that the answer of `type_at` tells it.
 -- In order: the words of a type that is no option, of any type; where they, and its code, stand in a record.
+use Rattle.std.specs.Prelude.{Option}
 use Prim.Native.Nat.{ℕ, ◌+◌, ◌-◌, ◌≤◌, ◌<◌}
 use mathlib.Core.Bool.{Bool, true, false, cond, ◌&&◌}
 use mathlib.Core.Path.{◌≡◌, refl, sym, ap, subst, ◌∙◌}
@@ -12,7 +13,6 @@ use lib.Seq.{length-take-le, take-append_seam, drop-append_seam, drop-drop, get_
 use Rattle.records.specs.Reading.{Reading, Read, Fails, read_lifetimes}
 use Rattle.records.proofs.ReadingLaws.{Holds, read, fails, passed, holds_cond, holds_onward, WordIn, word_read}
 use Rattle.hir_types.specs.declared.types.Parts.{Parts}
-use Rattle.hir_types.specs.declared.types.Located.{Located}
 use Rattle.hir_types.specs.LoweredTypes.{LoweredType, read_flag, read_owner, read_opaque, read_struct, read_slice}
 use Rattle.hir_types.specs.LoweredTypes.{read_bare, read_lowered, located}
 use Rattle.hir_types.specs.Places.{Stands, Locates, locates, nowhere, code_of, Coded, CodedAt}
@@ -23,8 +23,8 @@ use Rattle.hir_types.specs.Places.{Stands, Locates, locates, nowhere, code_of, C
 abbrev One : List ℕ → List ℕ → Type 0
 One words rest = (word : ℕ) × (word ∷ rest ≡ words)
 
-abbrev Some : List ℕ → List ℕ → Type 0
-Some words rest = (own : List ℕ) × (own ++ rest ≡ words)
+abbrev Several : List ℕ → List ℕ → Type 0
+Several words rest = (own : List ℕ) × (own ++ rest ≡ words)
 
 -- path words: how many, at most 16, then they
 record Path (words path rest : List ℕ) : Type 0 where
@@ -46,10 +46,10 @@ flag_read (word ∷ words) =
     holds_cond (λ flag rest. One (word ∷ words) rest) (eqb word 0) (λ e. read (word, refl))
     (holds_cond (λ flag rest. One (word ∷ words) rest) (eqb word 1) (λ e. read (word, refl)) fails)
 
-owner_read : (borrowed : Bool) (words : List ℕ) → Holds (λ owner rest. Some words rest) (read_owner borrowed words)
+owner_read : (borrowed : Bool) (words : List ℕ) → Holds (λ owner rest. Several words rest) (read_owner borrowed words)
 owner_read false words = read ([], refl)
 owner_read true words =
-    holds_onward (WordIn words) (λ owner rest. Some words rest) (word_read words) (λ word rest p. read (word ∷ [], p))
+    holds_onward (WordIn words) (λ owner rest. Several words rest) (word_read words) (λ word rest p. read (word ∷ [], p))
 
 path_read : (words : List ℕ) → Holds (Path words) (read_lifetimes words)
 path_read [] = fails
@@ -64,7 +64,7 @@ path_read (n ∷ words) =
         record { few = rw size (leb-true n 16 q); whole = rw (size, take-append-drop n words) }
 
 -- a code, and words without a path
-pathless : (code : ℕ) {words end : List ℕ} (t : LoweredType) → code ≡ code_of t.kind → t.path ≡ [] → Some words end
+pathless : (code : ℕ) {words end : List ℕ} (t : LoweredType) → code ≡ code_of t.kind → t.path ≡ [] → Several words end
     → Laid 3 (code ∷ words) t end
 pathless code t k e s = record {
   own = code ∷ s.0;
@@ -77,7 +77,7 @@ pathless code t k e s = record {
 
 -- a code, a word, path words, and some behind them
 pathed : (code : ℕ) {words pathed behind end : List ℕ} (t : LoweredType) → code ≡ code_of t.kind → One words pathed
-    → Path pathed t.path behind → Some behind end → Laid 3 (code ∷ words) t end
+    → Path pathed t.path behind → Several behind end → Laid 3 (code ∷ words) t end
 pathed code {behind = behind} {end} t k w p s = record {
   own = code ∷ w.0 ∷ length t.path ∷ (t.path ++ s.0);
   whole = rw (append_assoc t.path s.0 end, s.1, p.whole, w.1);
@@ -98,7 +98,7 @@ module _ (option : Bool) (code : ℕ) where
       holds_onward (λ flag rest. One words rest) (Bare option (code ∷ words)) (flag_read words)
       (λ flag r₁ f. holds_onward (Path r₁) (Bare option (code ∷ words)) (path_read r₁)
       (λ path r₂ p. holds_onward (λ borrowed rest. One r₂ rest) (Bare option (code ∷ words)) (flag_read r₂)
-      (λ borrowed r₃ b. holds_onward (λ owner rest. Some r₃ rest) (Bare option (code ∷ words)) (owner_read borrowed r₃)
+      (λ borrowed r₃ b. holds_onward (λ owner rest. Several r₃ rest) (Bare option (code ∷ words)) (owner_read borrowed r₃)
       (λ owner end o. read (refl, pathed code _ k f p (b.0 ∷ o.0, rw o.1 b.1))))))
 
   struct_laid : code ≡ 2 → (words : List ℕ) → Holds (Bare option (code ∷ words)) (read_struct option words)
@@ -206,7 +206,7 @@ module _ (words : List ℕ) (at : ℕ) where
         within = omega arith;
       }
 
-  pub type_located : {r : Located} → r ≡ located at (length words) (read_lowered (drop at words))
+  pub type_located : {r : Option Parts} → r ≡ located at (length words) (read_lowered (drop at words))
       → Locates words at (read_lowered (drop at words)) r
   type_located e =
       subst (Locates words at (read_lowered (drop at words))) (sym e) (go (read_lowered (drop at words)) (type_laid (drop at words)))
@@ -235,7 +235,7 @@ module _ (words : List ℕ) (at : ℕ) where
         code = rw (code_place t.option, ← get_or-drop at words (cond t.option 4 3 - 3) 0) h.code;
       }
 
-  pub type_coded : {r : Located} → r ≡ located at (length words) (read_lowered (drop at words)) → CodedAt words r
+  pub type_coded : {r : Option Parts} → r ≡ located at (length words) (read_lowered (drop at words)) → CodedAt words r
   type_coded e = subst (CodedAt words) (sym e) (go (read_lowered (drop at words)) (type_laid (drop at words)))
     where
       go : (reading : Reading LoweredType) → Holds (Any (drop at words)) reading

@@ -1,4 +1,5 @@
 -- Where a list of lifetimes stands, and a flag; what is said of a type whose path words stand there.
+use Rattle.std.specs.Prelude.{Some, None, Option}
 use Prim.Native.Nat.{ℕ, zero, suc, ◌+◌, ◌-◌, ◌≤◌, ◌<◌}
 use mathlib.Core.Bool.{Bool, true, false, cond, ◌&&◌}
 use mathlib.Core.Path.{◌≡◌, refl, sym, ap, ◌∙◌}
@@ -9,8 +10,6 @@ use lib.Dec.{leb}
 use lib.ListN.{length, get_or, take, drop, length-drop, length-append, drop_of_length-le}
 use lib.Seq.{drop-cons, take_at, take_all, take-nil}
 use borrow.Author.Tests.{ne_eqb, leb-true}
-use Rattle.records.specs.declared.End.{End}
-use Rattle.records.specs.declared.End.TheVariants.{At, Missing}
 use Rattle.records.specs.Reading.{Reading, Read, Fails, read_lifetimes, end_of}
 use Rattle.records.specs.Ends.{EndsAt, ends, missing}
 use Rattle.records.proofs.ReadingLaws.{LifetimesIn, holds_read, lifetimes_read}
@@ -44,10 +43,10 @@ module _ (words : List ℕ) (from count : ℕ) where
 
 -- ---- what a reading leaves
 
-pub missing_fails : {A : Type 0} {words : List ℕ} {at : ℕ} {reading : Reading A} → EndsAt words at reading Missing → reading ≡ Fails
+pub missing_fails : {A : Type 0} {words : List ℕ} {at : ℕ} {reading : Reading A} → EndsAt words at reading None → reading ≡ Fails
 missing_fails missing = refl
 
-pub ends_reads : {A : Type 0} {words : List ℕ} {at next : ℕ} {reading : Reading A} → EndsAt words at reading (At next)
+pub ends_reads : {A : Type 0} {words : List ℕ} {at next : ℕ} {reading : Reading A} → EndsAt words at reading (Some next)
     → (a : A) × (reading ≡ Read a (drop next words))
 ends_reads (ends {a} {rest} d b e) = (a, rw d)
 
@@ -89,17 +88,17 @@ path_there words at behind path e past within =
       within = within;
     }
 
-module _ (words : List ℕ) (at : ℕ) {r : End} (q : r ≡ end_of (length words) (read_lifetimes (drop at words))) where
-  pub path_at : {behind : ℕ} → r ≡ At behind → (path : List ℕ) × PathAt words at behind path
+module _ (words : List ℕ) (at : ℕ) {r : Option ℕ} (q : r ≡ end_of (length words) (read_lifetimes (drop at words))) where
+  pub path_at : {behind : ℕ} → r ≡ Some behind → (path : List ℕ) × PathAt words at behind path
   path_at {behind} e =
-      let k : EndsAt words at (read_lifetimes (drop at words)) (At behind) = ends_told (lifetimes_end words at q) e in
+      let k : EndsAt words at (read_lifetimes (drop at words)) (Some behind) = ends_told (lifetimes_end words at q) e in
       let got = ends_reads k in
       (got.0, path_there words at behind got.0 got.1 (ends_past k) (ends_within k))
 
-  pub path_past : {behind : ℕ} → r ≡ At behind → at < behind
+  pub path_past : {behind : ℕ} → r ≡ Some behind → at < behind
   path_past {behind} e = ends_past (ends_told (lifetimes_end words at q) e)
 
-  pub path_missing : r ≡ Missing → read_lifetimes (drop at words) ≡ Fails
+  pub path_missing : r ≡ None → read_lifetimes (drop at words) ≡ Fails
   path_missing e = missing_fails (ends_told (lifetimes_end words at q) e)
 
 -- ---- a flag

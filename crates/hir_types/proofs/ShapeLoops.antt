@@ -1,4 +1,5 @@
 -- The loop over the items of a record that counts them: what is left, read and counted from here, gives what all gives.
+use Rattle.std.specs.Prelude.{Ok, Err, Some, None}
 use Prim.Native.Nat.{ℕ, zero, suc, ◌+◌, ◌-◌, ◌≤◌, ◌<◌}
 use mathlib.Core.Path.{◌≡◌, refl, sym, ap, ◌∙◌}
 use mathlib.Core.List.{List, [], ◌∷◌}
@@ -8,19 +9,17 @@ use native.Mathlib.Omega.{arith}
 use lib.ListN.{length, drop, length-drop, drop_of_length-le}
 use borrow.Author.Tests.{le-leb, lt-leb}
 use Rattle.answers.specs.declared.Refusal.TheVariants.{Malformed}
-use Rattle.answers.specs.declared.Listed.{Listed}
-use Rattle.answers.specs.declared.Listed.TheVariants.{Count, Refused}
-use Rattle.records.specs.declared.End.TheVariants.{At, Missing}
 use Rattle.records.specs.Reading.{Reading, Read, Fails, onward, is_read, read_or, read_all, in_shape, items_of}
 use Rattle.records.specs.Ends.{EndsAt, ends}
 use Rattle.records.proofs.EndLaws.{ends_past, ends_within}
 use Rattle.hir_types.specs.Rows.{how_many}
 use Rattle.hir_types.proofs.PathLaws.{missing_fails}
+use Rattle.answers.specs.Refusals.{Outcome}
 
 -- how many there are in all, so many before those that were read
-abbrev tally : {A : Type 0} → ℕ → Reading (List A) → Listed
-tally number (Read items rest) = Count (number + length items)
-tally number Fails = Refused Malformed
+abbrev tally : {A : Type 0} → ℕ → Reading (List A) → Outcome ℕ
+tally number (Read items rest) = Ok (number + length items)
+tally number Fails = Err Malformed
 
 -- ---- one item after another
 
@@ -53,7 +52,7 @@ module _ {A : Type 0} (item : ℕ → List ℕ → Reading A) where
   tally_after number a (Read items rest) = let e : number + suc (length items) ≡ suc number + length items = omega arith in rw e
   tally_after number a Fails = refl
 
-  tally_more : (number steps : ℕ) {words : List ℕ} {at next : ℕ} {reading : Reading A} → EndsAt words at reading (At next)
+  tally_more : (number steps : ℕ) {words : List ℕ} {at next : ℕ} {reading : Reading A} → EndsAt words at reading (Some next)
       → tally number (onward reading (λ a rest. onward (read_all item (suc number) steps rest) (λ items end. Read (a ∷ items) end)))
       ≡ tally (suc number) (read_all item (suc number) steps (drop next words))
   tally_more number steps (ends {a} {rest} d b e) = rw d (tally_after number a (read_all item (suc number) steps rest))
@@ -79,12 +78,12 @@ module _ {A : Type 0} (item : ℕ → List ℕ → Reading A) where
         left = refl;
       }
 
-  pub counting_long : (words : List ℕ) → 1024 < length words → Refused Malformed ≡ how_many (in_shape item words) (items_of item words)
+  pub counting_long : (words : List ℕ) → 1024 < length words → Err Malformed ≡ how_many (in_shape item words) (items_of item words)
   unfolding in_shape
   counting_long words h = rw (lt-leb (length words) 1024 h)
 
 module _ {A : Type 0} {item : ℕ → List ℕ → Reading A} {words : List ℕ} {number at : ℕ} (inv : Counting item words number at) where
-  pub counting_end : length words ≤ at → Count number ≡ how_many (in_shape item words) (items_of item words)
+  pub counting_end : length words ≤ at → Ok number ≡ how_many (in_shape item words) (items_of item words)
   counting_end h =
       let z : number + 0 ≡ number = omega arith in
       rw (← tally_all item words inv.few, ← inv.left, drop_of_length-le words {i = at} h, read_none item number inv.steps, z)
@@ -94,11 +93,11 @@ module _ {A : Type 0} {item : ℕ → List ℕ → Reading A} {words : List ℕ}
         (λ a rest. onward (read_all item (suc number) (inv.steps - 1) rest) (λ items end. Read (a ∷ items) end))
     next_here = read_next item number inv.steps (drop at words) (omega (arith, inv.enough)) (rw length-drop (omega arith))
 
-    pub counting_missing : EndsAt words at (item number (drop at words)) Missing
-        → Refused Malformed ≡ how_many (in_shape item words) (items_of item words)
+    pub counting_missing : EndsAt words at (item number (drop at words)) None
+        → Err Malformed ≡ how_many (in_shape item words) (items_of item words)
     counting_missing k = rw (← tally_all item words inv.few, ← inv.left, next_here, missing_fails k)
 
-    pub counting_more : {next : ℕ} → EndsAt words at (item number (drop at words)) (At next) → Counting item words (number + 1) next
+    pub counting_more : {next : ℕ} → EndsAt words at (item number (drop at words)) (Some next) → Counting item words (number + 1) next
     counting_more {next} k = record {
       few = inv.few;
       here = ends_within k;

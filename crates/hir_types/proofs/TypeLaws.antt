@@ -1,4 +1,5 @@
 -- Where a type stands: one law for each way out of `struct_at`, `opaque_at`, `slice_at`, `bare_at` and `type_at`.
+use Rattle.std.specs.Prelude.{Some, None, Option}
 use Prim.Native.Nat.{ℕ, ◌+◌, ◌-◌, ◌≤◌, ◌<◌}
 use mathlib.Core.Bool.{Bool, true, false, cond}
 use mathlib.Core.Path.{◌≡◌, refl, ap, ◌∙◌}
@@ -10,8 +11,6 @@ use Rattle.records.specs.Reading.{Reading, Read, Fails, onward, read_lifetimes}
 use Rattle.hir_types.specs.declared.types.Kind.TheVariants.{Plain, Opaque, Struct, Slice}
 use Rattle.hir_types.specs.declared.types.Own.TheVariants.{Absent, Word, Strs}
 use Rattle.hir_types.specs.declared.types.Parts.{Parts}
-use Rattle.hir_types.specs.declared.types.Located.{Located}
-use Rattle.hir_types.specs.declared.types.Located.TheVariants.{At, Missing}
 use Rattle.hir_types.specs.LoweredTypes.{LoweredType, lowered_type, read_flag, read_owner, read_opaque, read_struct}
 use Rattle.hir_types.specs.LoweredTypes.{read_slice, read_bare, read_lowered, located}
 use Rattle.hir_types.specs.Places.{Stands, Locates, locates, nowhere}
@@ -21,12 +20,12 @@ use Rattle.hir_types.proofs.PathLaws.{stands_path}
 
 -- a reading that fails, and one that does not
 fails_bare : {words : List ℕ} {at : ℕ} {option : Bool} {reading : Reading LoweredType} → reading ≡ Fails
-    → LocatesBare words at option reading Missing
+    → LocatesBare words at option reading None
 fails_bare e = rw e (record { found = nowhere; start = tt })
 
 reads_bare : {words : List ℕ} {at : ℕ} {option : Bool} {reading : Reading LoweredType} {t : LoweredType} {rest : List ℕ}
     {p : Parts} → reading ≡ Read t rest → Stands words at t rest p
-    → p.option ≡ option → p.from ≡ at + 3 → LocatesBare words at option reading (At p)
+    → p.option ≡ option → p.from ≡ at + 3 → LocatesBare words at option reading (Some p)
 reads_bare e s o f = rw e (record { found = locates s; start = (o, f) })
 
 none_behind : (words : List ℕ) (at : ℕ) → length words ≤ at + 1 → drop (at + 1) words ≡ []
@@ -35,19 +34,19 @@ none_behind words at h = drop_of_length-le words {i = at + 1} h
 -- ---- a struct
 
 module _ (words : List ℕ) (at : ℕ) (option : Bool) where
-  pub struct_short : length words ≤ at + 1 → LocatesBare words at option (read_struct option (drop (at + 1) words)) Missing
+  pub struct_short : length words ≤ at + 1 → LocatesBare words at option (read_struct option (drop (at + 1) words)) None
   unfolding read_struct
   struct_short h = fails_bare (rw (none_behind words at h))
 
   module _ (h : at + 1 < length words) where
     pub struct_missing : read_lifetimes (drop (at + 2) words) ≡ Fails
-        → LocatesBare words at option (read_struct option (drop (at + 1) words)) Missing
+        → LocatesBare words at option (read_struct option (drop (at + 1) words)) None
     unfolding read_struct
     struct_missing e = fails_bare (rw (word_behind words at h, e))
 
     pub struct_whole : {path : List ℕ} {next : ℕ} → PathAt words (at + 2) next path
         → LocatesBare words at option (read_struct option (drop (at + 1) words))
-        (At (record {
+        (Some (record {
           option = option;
           kind = Struct (get_or words (at + 1) 0);
           from = at + 3;
@@ -64,12 +63,12 @@ module _ (words : List ℕ) (at : ℕ) (option : Bool) where
 -- ---- an opaque
 
 module _ (words : List ℕ) (at : ℕ) (option : Bool) where
-  pub opaque_short : length words ≤ at + 1 → LocatesBare words at option (read_opaque option (drop (at + 1) words)) Missing
+  pub opaque_short : length words ≤ at + 1 → LocatesBare words at option (read_opaque option (drop (at + 1) words)) None
   unfolding read_opaque
   opaque_short h = fails_bare (rw (none_behind words at h))
 
   module _ (h : at + 1 < length words) where
-    pub opaque_no_flag : 1 < get_or words (at + 1) 0 → LocatesBare words at option (read_opaque option (drop (at + 1) words)) Missing
+    pub opaque_no_flag : 1 < get_or words (at + 1) 0 → LocatesBare words at option (read_opaque option (drop (at + 1) words)) None
     unfolding read_opaque
     opaque_no_flag b = fails_bare (rw (word_behind words at h, flag_fails (get_or words (at + 1) 0) (drop (at + 2) words) b))
 
@@ -83,17 +82,17 @@ module _ (words : List ℕ) (at : ℕ) (option : Bool) where
       opaque_path = let f = flag_read (get_or words (at + 1) 0) (drop (at + 2) words) flag in rw (word_behind words at h, f.1)
 
       pub opaque_missing : read_lifetimes (drop (at + 2) words) ≡ Fails
-          → LocatesBare words at option (read_opaque option (drop (at + 1) words)) Missing
+          → LocatesBare words at option (read_opaque option (drop (at + 1) words)) None
       opaque_missing e = fails_bare (rw (opaque_path, e))
 
       module _ {path : List ℕ} {owner : ℕ} (there : PathAt words (at + 2) owner path) where
-        pub opaque_unowned : length words ≤ owner → LocatesBare words at option (read_opaque option (drop (at + 1) words)) Missing
+        pub opaque_unowned : length words ≤ owner → LocatesBare words at option (read_opaque option (drop (at + 1) words)) None
         opaque_unowned k = fails_bare (rw (opaque_path, there.reads, drop_of_length-le words {i = owner} k))
 
         module _ (k : owner < length words) where
           pub opaque_owned : get_or words owner 0 ≡ 0
               → LocatesBare words at option (read_opaque option (drop (at + 1) words))
-              (At (record {
+              (Some (record {
                 option = option;
                 kind = Opaque;
                 from = at + 3;
@@ -105,7 +104,7 @@ module _ (words : List ℕ) (at : ℕ) (option : Bool) where
               reads_bare (rw (opaque_path, there.reads, word_here words owner k, e))
               (stands_path there option Opaque Absent (owner + 1) (omega arith) (omega arith)) refl refl
 
-          pub opaque_no_owner : 1 < get_or words owner 0 → LocatesBare words at option (read_opaque option (drop (at + 1) words)) Missing
+          pub opaque_no_owner : 1 < get_or words owner 0 → LocatesBare words at option (read_opaque option (drop (at + 1) words)) None
           opaque_no_owner b =
               fails_bare
               (rw (
@@ -119,12 +118,12 @@ module _ (words : List ℕ) (at : ℕ) (option : Bool) where
             borrowed : get_or words owner 0 ≡ 1
             borrowed = omega (arith, some)
 
-            pub opaque_lost : length words ≤ owner + 1 → LocatesBare words at option (read_opaque option (drop (at + 1) words)) Missing
+            pub opaque_lost : length words ≤ owner + 1 → LocatesBare words at option (read_opaque option (drop (at + 1) words)) None
             opaque_lost b = fails_bare (rw (opaque_path, there.reads, word_here words owner k, borrowed, none_behind words owner b))
 
             pub opaque_borrowed : owner + 1 < length words
                 → LocatesBare words at option (read_opaque option (drop (at + 1) words))
-                (At (record {
+                (Some (record {
                   option = option;
                   kind = Opaque;
                   from = at + 3;
@@ -139,14 +138,14 @@ module _ (words : List ℕ) (at : ℕ) (option : Bool) where
 -- ---- a slice
 
 module _ (words : List ℕ) (at : ℕ) (option : Bool) where
-  pub slice_short : length words ≤ at + 1 → LocatesBare words at option (read_slice option (drop (at + 1) words)) Missing
+  pub slice_short : length words ≤ at + 1 → LocatesBare words at option (read_slice option (drop (at + 1) words)) None
   unfolding read_slice
   slice_short h = fails_bare (rw (none_behind words at h))
 
   module _ (h : at + 1 < length words) where
     pub slice_bare : get_or words (at + 1) 0 ≡ 0
         → LocatesBare words at option (read_slice option (drop (at + 1) words))
-        (At (record { option = option; kind = Slice; from = at + 3; count = 0; own = Absent; next = at + 2 }))
+        (Some (record { option = option; kind = Slice; from = at + 3; count = 0; own = Absent; next = at + 2 }))
     unfolding read_slice
     slice_bare e =
         reads_bare (rw (word_behind words at h, e))
@@ -154,20 +153,20 @@ module _ (words : List ℕ) (at : ℕ) (option : Bool) where
 
     pub slice_strs : get_or words (at + 1) 0 ≡ 2
         → LocatesBare words at option (read_slice option (drop (at + 1) words))
-        (At (record { option = option; kind = Slice; from = at + 3; count = 0; own = Strs; next = at + 2 }))
+        (Some (record { option = option; kind = Slice; from = at + 3; count = 0; own = Strs; next = at + 2 }))
     unfolding read_slice
     slice_strs e =
         reads_bare (rw (word_behind words at h, e))
         (stands_none option Slice Strs (at + 3) (at + 2) (omega arith) (omega arith)) refl refl
 
     pub slice_lost : get_or words (at + 1) 0 ≡ 1 → length words ≤ at + 2
-        → LocatesBare words at option (read_slice option (drop (at + 1) words)) Missing
+        → LocatesBare words at option (read_slice option (drop (at + 1) words)) None
     unfolding read_slice
     slice_lost e k = fails_bare (rw (word_behind words at h, e, drop_of_length-le words {i = at + 2} k))
 
     pub slice_own : get_or words (at + 1) 0 ≡ 1 → at + 2 < length words
         → LocatesBare words at option (read_slice option (drop (at + 1) words))
-        (At (record { option = option; kind = Slice; from = at + 3; count = 0; own = Word (get_or words (at + 2) 0); next = at + 3 }))
+        (Some (record { option = option; kind = Slice; from = at + 3; count = 0; own = Word (get_or words (at + 2) 0); next = at + 3 }))
     unfolding read_slice
     slice_own e k =
         let f : at + 3 ≡ at + 2 + 1 = omega arith in
@@ -176,18 +175,18 @@ module _ (words : List ℕ) (at : ℕ) (option : Bool) where
         refl
 
     pub slice_missing : get_or words (at + 1) 0 ≡ 3 → read_lifetimes (drop (at + 2) words) ≡ Fails
-        → LocatesBare words at option (read_slice option (drop (at + 1) words)) Missing
+        → LocatesBare words at option (read_slice option (drop (at + 1) words)) None
     unfolding read_slice
     slice_missing e k = fails_bare (rw (word_behind words at h, e, k))
 
     module _ (e : get_or words (at + 1) 0 ≡ 3) {path : List ℕ} {own : ℕ} (there : PathAt words (at + 2) own path) where
-      pub slice_unowned : length words ≤ own → LocatesBare words at option (read_slice option (drop (at + 1) words)) Missing
+      pub slice_unowned : length words ≤ own → LocatesBare words at option (read_slice option (drop (at + 1) words)) None
       unfolding read_slice
       slice_unowned k = fails_bare (rw (word_behind words at h, e, there.reads, drop_of_length-le words {i = own} k))
 
       pub slice_opaques : own < length words
           → LocatesBare words at option (read_slice option (drop (at + 1) words))
-          (At (record {
+          (Some (record {
             option = option;
             kind = Slice;
             from = at + 3;
@@ -202,27 +201,27 @@ module _ (words : List ℕ) (at : ℕ) (option : Bool) where
 
     pub slice_no_code : (get_or words (at + 1) 0 ≡ 0 → ⊥) → (get_or words (at + 1) 0 ≡ 1 → ⊥)
         → (get_or words (at + 1) 0 ≡ 2 → ⊥) → (get_or words (at + 1) 0 ≡ 3 → ⊥)
-        → LocatesBare words at option (read_slice option (drop (at + 1) words)) Missing
+        → LocatesBare words at option (read_slice option (drop (at + 1) words)) None
     unfolding read_slice
     slice_no_code e₀ e₁ e₂ e₃ = fails_bare (rw (word_behind words at h, ne_eqb _ _ e₀, ne_eqb _ _ e₁, ne_eqb _ _ e₂, ne_eqb _ _ e₃))
 
 -- ---- a type that is no option
 
 module _ (words : List ℕ) (at : ℕ) (option : Bool) where
-  pub bare_none : length words ≤ at → LocatesBare words at option (read_bare option (drop at words)) Missing
+  pub bare_none : length words ≤ at → LocatesBare words at option (read_bare option (drop at words)) None
   unfolding read_bare
   bare_none h = fails_bare (rw (drop_of_length-le words {i = at} h))
 
   module _ (h : at < length words) where
     pub bare_plain : get_or words at 0 ≡ 0
         → LocatesBare words at option (read_bare option (drop at words))
-        (At (record { option = option; kind = Plain; from = at + 3; count = 0; own = Absent; next = at + 1 }))
+        (Some (record { option = option; kind = Plain; from = at + 3; count = 0; own = Absent; next = at + 1 }))
     unfolding read_bare
     bare_plain e =
         reads_bare (rw (word_here words at h, e))
         (stands_none option Plain Absent (at + 3) (at + 1) (omega arith) (omega arith)) refl refl
 
-    module _ {r : Located} where
+    module _ {r : Option Parts} where
       pub bare_opaque : get_or words at 0 ≡ 1 → LocatesBare words at option (read_opaque option (drop (at + 1) words)) r
           → LocatesBare words at option (read_bare option (drop at words)) r
       unfolding read_bare
@@ -239,41 +238,41 @@ module _ (words : List ℕ) (at : ℕ) (option : Bool) where
       bare_slice e k = rw (word_here words at h, e) k
 
     pub bare_no_code : (get_or words at 0 ≡ 0 → ⊥) → (get_or words at 0 ≡ 1 → ⊥) → (get_or words at 0 ≡ 2 → ⊥) → (get_or words at 0 ≡ 3 → ⊥)
-        → LocatesBare words at option (read_bare option (drop at words)) Missing
+        → LocatesBare words at option (read_bare option (drop at words)) None
     unfolding read_bare
     bare_no_code e₀ e₁ e₂ e₃ = fails_bare (rw (word_here words at h, ne_eqb _ _ e₀, ne_eqb _ _ e₁, ne_eqb _ _ e₂, ne_eqb _ _ e₃))
 
 -- ---- any type
 
 -- what a call says that found a type
-abbrev Told : List ℕ → ℕ → Located → Type 0
+abbrev Told : List ℕ → ℕ → Option Parts → Type 0
 Told words at r = r ≡ located at (length words) (read_lowered (drop at words))
 
 -- the parts, from where they stand
 same_parts : {words rest : List ℕ} {at : ℕ} {t : LoweredType} {p : Parts} (place : ℕ) → Stands words at t rest p
     → p.from ≡ cond p.option (place + 4) (place + 3)
-    → At p ≡ located place (length words) (Read t rest)
+    → Some p ≡ located place (length words) (Read t rest)
 same_parts {words} {rest} {at} {t} {p} place s f =
     let size : length words - p.next ≡ length rest = rw length-drop at (ap length s.left) in
     let n : length words - length rest ≡ p.next = omega (arith, s.within) in
     rw (← s.option, ← f, ← s.kind, ← s.count, ← s.own, n)
 
 module _ (words : List ℕ) (at : ℕ) where
-  pub type_none : length words ≤ at → Told words at Missing
+  pub type_none : length words ≤ at → Told words at None
   unfolding read_lowered
   type_none h = rw (drop_of_length-le words {i = at} h)
 
-  told : (place : ℕ) (option : Bool) {reading : Reading LoweredType} {r : Located}
+  told : (place : ℕ) (option : Bool) {reading : Reading LoweredType} {r : Option Parts}
       → place + 3 ≡ cond option (at + 4) (at + 3) → LocatesBare words place option reading r
       → r ≡ located at (length words) reading
   told place option e b = go b.found b.start
     where
-      go : {reading : Reading LoweredType} {r : Located} → Locates words place reading r → starts_at option (place + 3) r
+      go : {reading : Reading LoweredType} {r : Option Parts} → Locates words place reading r → starts_at option (place + 3) r
           → r ≡ located at (length words) reading
       go nowhere s = refl
       go (locates {t} {rest} {p} k) s = same_parts at k (s.1 ∙ rw s.0 e)
 
-  module _ (h : at < length words) {r : Located} where
+  module _ (h : at < length words) {r : Option Parts} where
     pub type_option : get_or words at 0 ≡ 4 → LocatesBare words (at + 1) true (read_bare true (drop (at + 1) words)) r → Told words at r
     unfolding read_lowered
     type_option e k = rw (word_here words at h, e) (told (at + 1) true (omega arith) k)

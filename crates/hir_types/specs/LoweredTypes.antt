@@ -1,24 +1,21 @@
 -- Lowered types (in a struct's fields, in `params`, in `output`): what stands in front of some words, where its parts
 -- are, and its lifetimes.
-use Rattle.std.specs.Prelude.{ℕ, zero, suc, ◌+◌, ◌-◌, ◌^◌, Bool, true, false, cond, List, [], ◌∷◌, ◌++◌, map}
+use Rattle.std.specs.Prelude.{ℕ, zero, suc, ◌+◌, ◌-◌, ◌^◌, Bool, true, false, cond, List, [], ◌∷◌, ◌++◌, map, Ok, Err, Some, None, Option}
 use Rattle.std.specs.Prelude.{eqb, ltb, length}
 use Rattle.answers.specs.declared.Refusal.TheVariants.{Malformed}
 use Rattle.lifetimes.specs.declared.maybe_static.MaybeStatic.{MaybeStatic}
 use Rattle.lifetimes.specs.declared.maybe_static.MaybeStatic.TheVariants.{NonStatic}
 use Rattle.lifetimes.specs.Numbers.{lifetime}
 use Rattle.lifetimes.specs.LoweredWords.{from_word}
-use Rattle.answers.specs.Refusals.{Outcome, Gives, Refuses}
+use Rattle.answers.specs.Refusals.{Outcome}
 use Rattle.records.specs.Reading.{Reading, Read, Fails, onward, read_word, read_lifetimes}
 use Rattle.hir_types.specs.declared.types.Kind.{Kind}
 use Rattle.hir_types.specs.declared.types.Kind.TheVariants.{Plain, Opaque, Struct, Slice}
 use Rattle.hir_types.specs.declared.types.Own.{Own}
 use Rattle.hir_types.specs.declared.types.Own.TheVariants.{Absent, Word, Strs}
-use Rattle.hir_types.specs.declared.types.Located.{Located}
-use Rattle.hir_types.specs.declared.types.Located.TheVariants.{At, Missing}
-use Rattle.hir_types.specs.declared.types.OwnLifetime.{OwnLifetime}
-use Rattle.hir_types.specs.declared.types.OwnLifetime.TheVariants as behind
 use Rattle.hir_types.specs.declared.types.LifetimeAt.{LifetimeAt}
 use Rattle.hir_types.specs.declared.types.LifetimeAt.TheVariants as entry
+use Rattle.hir_types.specs.declared.types.Parts.{Parts}
 
 -- A type: whether it is under an option (01's code 4), its kind (codes 0 to 3), its path words, and the lifetime behind
 -- them. That an opaque is optional is kept nowhere: no answer depends on it.
@@ -92,9 +89,9 @@ knows rows Slice = true
 
 -- Where its parts are, in so many words: the path words start three places behind the type, or behind the option that
 -- it is under
-abbrev pub located : ℕ → ℕ → Reading LoweredType → Located
+abbrev pub located : ℕ → ℕ → Reading LoweredType → Option Parts
 located at n (Read t rest) =
-    At (record {
+    Some (record {
       option = t.option;
       kind = t.kind;
       from = cond t.option (at + 4) (at + 3);
@@ -102,19 +99,19 @@ located at n (Read t rest) =
       own = t.own;
       next = n - length rest;
     })
-located at n Fails = Missing
+located at n Fails = None
 
 -- Its lifetimes (`Type::lifetimes`): the path words, then the borrow. That of `Strs` is numbered 2^64 - 1, outside
 -- every environment
 
-abbrev pub own_lifetime : Own → OwnLifetime
-own_lifetime Absent = behind.Absent
-own_lifetime (Word word) = behind.Lifetime (from_word word)
-own_lifetime Strs = behind.Lifetime (NonStatic (lifetime (2 ^ 64 - 1)))
+abbrev pub own_lifetime : Own → Option MaybeStatic
+own_lifetime Absent = None
+own_lifetime (Word word) = Some (from_word word)
+own_lifetime Strs = Some (NonStatic (lifetime (2 ^ 64 - 1)))
 
-abbrev pub one_or_none : OwnLifetime → List MaybeStatic
-one_or_none (behind.Lifetime m) = m ∷ []
-one_or_none behind.Absent = []
+abbrev pub one_or_none : Option MaybeStatic → List MaybeStatic
+one_or_none (Some m) = m ∷ []
+one_or_none None = []
 
 abbrev pub own_lifetimes : Own → List MaybeStatic
 own_lifetimes own = one_or_none (own_lifetime own)
@@ -130,13 +127,13 @@ entry_at (m ∷ ms) (suc index) = entry_at ms index
 
 -- the lifetimes of the one type that some words are; 1 where they are none, or more
 abbrev pub only_type : Reading LoweredType → Outcome (List MaybeStatic)
-only_type (Read t []) = Gives (lifetimes_of t)
-only_type (Read t (word ∷ words)) = Refuses Malformed
-only_type Fails = Refuses Malformed
+only_type (Read t []) = Ok (lifetimes_of t)
+only_type (Read t (word ∷ words)) = Err Malformed
+only_type Fails = Err Malformed
 
 unfoldable pub type_lifetimes : List ℕ → Outcome (List MaybeStatic)
 type_lifetimes words = only_type (read_lowered words)
 
 abbrev pub lifetime_answer : Outcome (List MaybeStatic) → ℕ → LifetimeAt
-lifetime_answer (Gives l) index = entry_at l index
-lifetime_answer (Refuses r) index = entry.Refused r
+lifetime_answer (Ok l) index = entry_at l index
+lifetime_answer (Err r) index = entry.Refused r

@@ -1,12 +1,10 @@
 -- For private functions only: where a type's words stand, and its code. Both follow from the answer of `type_at`
 -- (proofs/LocatedLaws.antt); no public contract cites this file.
-use Rattle.std.specs.Prelude.{ℕ, ◌-◌, ◌≤◌, ◌<◌, ◌≡◌, List, length, get_or, take, drop}
+use Rattle.std.specs.Prelude.{ℕ, ◌-◌, ◌≤◌, ◌<◌, ◌≡◌, List, length, get_or, take, drop, Some, None, Option}
 use Rattle.records.specs.Reading.{Reading, Read, Fails, most_list}
 use Rattle.hir_types.specs.declared.types.Kind.{Kind}
 use Rattle.hir_types.specs.declared.types.Kind.TheVariants.{Plain, Opaque, Struct, Slice}
 use Rattle.hir_types.specs.declared.types.Parts.{Parts}
-use Rattle.hir_types.specs.declared.types.Located.{Located}
-use Rattle.hir_types.specs.declared.types.Located.TheVariants.{At, Missing}
 use Rattle.hir_types.specs.LoweredTypes.{LoweredType}
 
 -- the parts of a type that stands at a place and is followed by some words
@@ -21,10 +19,10 @@ pub record Stands (words : List ℕ) (at : ℕ) (t : LoweredType) (rest : List �
   pub past : at < p.next
   pub within : p.next ≤ length words
 
-pub data Locates (words : List ℕ) (at : ℕ) : Reading LoweredType → Located → Type 0 where
+pub data Locates (words : List ℕ) (at : ℕ) : Reading LoweredType → Option Parts → Type 0 where
   locates : {t : LoweredType} {rest : List ℕ} {p : Parts} → Stands words at t rest p
-      → Locates words at (Read t rest) (At p)
-  nowhere : Locates words at Fails Missing
+      → Locates words at (Read t rest) (Some p)
+  nowhere : Locates words at Fails None
 
 -- the code with which a type of a kind begins
 abbrev pub code_of : Kind → ℕ
@@ -42,6 +40,6 @@ pub record Coded (words : List ℕ) (p : Parts) : Type 0 where
   pub inside : p.from - 3 < length words
   pub code : code_in words p ≡ code_of p.kind
 
-abbrev pub CodedAt : List ℕ → Located → Type 0
-CodedAt words (At p) = Coded words p
-CodedAt words Missing = Unit {0}
+abbrev pub CodedAt : List ℕ → Option Parts → Type 0
+CodedAt words (Some p) = Coded words p
+CodedAt words None = Unit {0}

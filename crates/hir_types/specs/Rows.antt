@@ -1,13 +1,9 @@
 -- The records `structs`, `params`, `output` and `force`: their shape (refusal 1, 01's "torn"), the value of `force`
 -- that is no longer taken (refusal 13, 02's "retired"), and what a record in shape says.
-use Rattle.std.specs.Prelude.{ℕ, zero, suc, Bool, true, false, cond, not, ◌&&◌, List, [], ◌∷◌, eqb, leb, length}
+use Rattle.std.specs.Prelude.{ℕ, zero, suc, Bool, true, false, cond, not, ◌&&◌, List, [], ◌∷◌, eqb, leb, length, Ok, Err}
 use Rattle.answers.specs.declared.Refusal.{Refusal}
 use Rattle.answers.specs.declared.Refusal.TheVariants.{Malformed, Retired}
-use Rattle.answers.specs.declared.Listed.{Listed}
-use Rattle.answers.specs.declared.Listed.TheVariants.{Count, Refused}
-use Rattle.answers.specs.declared.Verdict.{Verdict}
-use Rattle.answers.specs.declared.Verdict.TheVariants as verdict
-use Rattle.answers.specs.Refusals.{Check, check, Outcome, Gives, Refuses, unless}
+use Rattle.answers.specs.Refusals.{Check, check, Outcome, unless, Verdict}
 use Rattle.answers.specs.Lent.{verdict_of}
 use Rattle.records.specs.Reading.{Reading, Read, Fails, onward, read_word, in_shape, items_of, most_list}
 use Rattle.hir_types.specs.declared.shapes.Shape.{Shape}
@@ -88,24 +84,24 @@ abbrev pub checks_verdict : Bool → List ℕ → Verdict
 checks_verdict in_shape force = verdict_of (unless (shape_checks in_shape force) (tt {0}))
 
 -- what a call answers on the shape of a record of items: how many they are, or 1
-abbrev pub how_many : {A : Type 0} → Bool → List A → Listed
-how_many true items = Count (length items)
-how_many false items = Refused Malformed
+abbrev pub how_many : {A : Type 0} → Bool → List A → Outcome ℕ
+how_many true items = Ok (length items)
+how_many false items = Err Malformed
 
 -- what it answers on a method's records: how much stands in them; or why they are refused, and 0 for each
 abbrev pub no_shape : Refusal → Shape
-no_shape r = record { verdict = verdict.Refused r; rows = 0; params = 0; outputs = 0 }
+no_shape r = record { verdict = Err r; rows = 0; params = 0; outputs = 0 }
 
 abbrev pub shape_of : Outcome Shape → Shape
-shape_of (Gives shape) = shape
-shape_of (Refuses r) = no_shape r
+shape_of (Ok shape) = shape
+shape_of (Err r) = no_shape r
 
 unfoldable pub method_shape : List ℕ → List ℕ → List ℕ → List ℕ → Shape
 method_shape structs params output force =
     shape_of
     (unless (shape_checks (method_in_shape structs params output force) force)
     (record {
-      verdict = verdict.Accepted;
+      verdict = Ok (tt {0});
       rows = length (rows_of structs);
       params = length (types_of (length (rows_of structs)) params);
       outputs = length (types_of (length (rows_of structs)) output);

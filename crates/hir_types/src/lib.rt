@@ -13,5 +13,5 @@ mod types;
 
 pub use shapes::{Shape, force_shape, method_shape, output_shape, params_shape, structs_shape};
 pub use types::{
-    Kind, LifetimeAt, Located, Own, OwnLifetime, Parts, path_words, type_at, type_lifetimes,
+    Kind, LifetimeAt, Own, Parts, path_words, type_at, type_lifetimes,
 };

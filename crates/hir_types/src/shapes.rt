@@ -7,9 +7,9 @@ ghost use Rattle.hir_types.specs.Rows.{types_of, output_in_shape, force_in_shape
 ghost use Rattle.hir_types.specs.Rows.{no_shape, how_many};
 ghost use Rattle.hir_types.specs.Inner.{EndsFrom};
 
-use super::types::{Located, type_at};
-use answers::{Listed, Refusal, Verdict};
-use records::End;
+use super::types::type_at;
+use answers::Refusal;
+use records::MAX_WORDS;
 
 // How many fields a struct may have, and how many lifetimes.
 const MAX_FIELDS: usize = 16;
@@ -19,81 +19,81 @@ const RETIRED: usize = 1;
 
 // Whether `structs` is in shape, and how many rows it has: all that stand there, also past the 32nd. Refused by 1.
 // Reads each type once.
-pub fn structs_shape(structs: &[usize]) -> Listed
+pub fn structs_shape(structs: &[usize]) -> Result<usize, Refusal>
     ensures answer { result ≡ how_many (structs_in_shape structs.now) (rows_of structs.now) }
 {
-    if End::MAX_WORDS < structs.len() {
-        return Listed::Refused(Refusal::Malformed);
+    if MAX_WORDS < structs.len() {
+        return Err(Refusal::Malformed);
     }
     let mut at = 0;
     let mut rows = 0;
     while at < structs.len() {
         let end = row_end(structs, at, rows);
-        let End::At(next) = end else {
-            return Listed::Refused(Refusal::Malformed);
+        let Some(next) = end else {
+            return Err(Refusal::Malformed);
         };
         at = next;
         rows += 1;
     }
-    Listed::Count(rows)
+    Ok(rows)
 }
 
 // Whether `params` is in shape beside so many rows, and how many parameters there are, also past the 16th. Refused by
 // 1. Reads each type once.
-pub fn params_shape(params: &[usize], rows: usize) -> Listed
+pub fn params_shape(params: &[usize], rows: usize) -> Result<usize, Refusal>
     ensures answer { result ≡ how_many (params_in_shape rows params.now) (types_of rows params.now) }
 {
-    if End::MAX_WORDS < params.len() {
-        return Listed::Refused(Refusal::Malformed);
+    if MAX_WORDS < params.len() {
+        return Err(Refusal::Malformed);
     }
     let mut at = 0;
     let mut count = 0;
     while at < params.len() {
         let end = type_end(params, at, rows);
-        let End::At(next) = end else {
-            return Listed::Refused(Refusal::Malformed);
+        let Some(next) = end else {
+            return Err(Refusal::Malformed);
         };
         at = next;
         count += 1;
     }
-    Listed::Count(count)
+    Ok(count)
 }
 
 // Whether `output` is in shape beside so many rows, and how many types it has: at most two. Refused by 1.
-pub fn output_shape(output: &[usize], rows: usize) -> Listed
+pub fn output_shape(output: &[usize], rows: usize) -> Result<usize, Refusal>
     ensures answer { result ≡ how_many (output_in_shape rows output.now) (types_of rows output.now) }
 {
     let types = params_shape(output, rows);
-    let Listed::Count(count) = types else {
-        return Listed::Refused(Refusal::Malformed);
+    let Ok(count) = types else {
+        return Err(Refusal::Malformed);
     };
     if 2 < count {
-        return Listed::Refused(Refusal::Malformed);
+        return Err(Refusal::Malformed);
     }
-    Listed::Count(count)
+    Ok(count)
 }
 
 // Whether `force` is one word, 0. Refused by 1 where it is not in shape (one word, 0 or 1), then by 13 for 1.
-pub fn force_shape(force: &[usize]) -> Verdict
+pub fn force_shape(force: &[usize]) -> Result<(), Refusal>
     ensures answer { result ≡ checks_verdict (force_in_shape force.now) force.now }
 {
     if force.len() != 1 {
-        return Verdict::Refused(Refusal::Malformed);
+        return Err(Refusal::Malformed);
     }
     if RETIRED < force[0] {
-        return Verdict::Refused(Refusal::Malformed);
+        return Err(Refusal::Malformed);
     }
     if force[0] == RETIRED {
-        return Verdict::Refused(Refusal::Retired);
+        return Err(Refusal::Retired);
     }
-    Verdict::Accepted
+    Ok(())
 }
 
 // The shape of a method's four records: accepted, and how many rows, parameters and output types there are; or refused,
 // and 0 for each.
 #[derive(Clone, Copy)]
 pub struct Shape {
-    pub verdict: Verdict,
+    pub verdict: Result<(), Refusal>,
     pub rows: usize,
     pub params: usize,
     pub outputs: usize,
@@ -105,23 +105,23 @@ pub fn method_shape(structs: &[usize], params: &[usize], output: &[usize], force
     ensures answer { result ≡ method_shape structs.now params.now output.now force.now }
 {
     let first = structs_shape(structs);
-    let Listed::Count(rows) = first else {
+    let Ok(rows) = first else {
         return no_shape(Refusal::Malformed);
     };
     let second = params_shape(params, rows);
-    let Listed::Count(inputs) = second else {
+    let Ok(inputs) = second else {
         return no_shape(Refusal::Malformed);
     };
     let third = output_shape(output, rows);
-    let Listed::Count(outputs) = third else {
+    let Ok(outputs) = third else {
         return no_shape(Refusal::Malformed);
     };
     let last = force_shape(force);
-    if let Verdict::Refused(refusal) = last {
+    if let Err(refusal) = last {
         return no_shape(refusal);
     }
     Shape {
-        verdict: Verdict::Accepted,
+        verdict: Ok(()),
         rows,
         params: inputs,
         outputs,
@@ -133,7 +133,7 @@ fn no_shape(refusal: Refusal) -> Shape
     ensures { result ≡ no_shape refusal }
 {
     Shape {
-        verdict: Verdict::Refused(refusal),
+        verdict: Err(refusal),
         rows: 0,
         params: 0,
         outputs: 0,
@@ -141,28 +141,28 @@ fn no_shape(refusal: Refusal) -> Shape
 }
 
 // Where the row ends that stands at a place and has a number: its fields name earlier rows only.
-fn row_end(structs: &[usize], at: usize, number: usize) -> End
+fn row_end(structs: &[usize], at: usize, number: usize) -> Option<usize>
     ensures { EndsAt structs.now at (read_row number (drop at structs.now)) result }
 {
     let n = structs.len();
     if n <= at {
-        return End::Missing;
+        return None;
     }
     if n <= at + 1 {
-        return End::Missing;
+        return None;
     }
     if MAX_FIELDS < structs[at] {
-        return End::Missing;
+        return None;
     }
     let fields = structs[at + 1];
     if MAX_FIELDS < fields {
-        return End::Missing;
+        return None;
     }
     types_end(structs, at + 2, fields, number)
 }
 
 // Where so many types end that stand one after another from a place on.
-fn types_end(words: &[usize], from: usize, count: usize, rows: usize) -> End
+fn types_end(words: &[usize], from: usize, count: usize, rows: usize) -> Option<usize>
     requires { from ≤ length words.now }
     ensures { EndsFrom words.now from (read_types rows count (drop from words.now)) result }
 {
@@ -170,27 +170,27 @@ fn types_end(words: &[usize], from: usize, count: usize, rows: usize) -> End
     let mut i = 0;
     while i < count {
         let end = type_end(words, at, rows);
-        let End::At(next) = end else {
-            return End::Missing;
+        let Some(next) = end else {
+            return None;
         };
         at = next;
         i += 1;
     }
-    End::At(at)
+    Some(at)
 }
 
 // Where the type ends that stands at a place, its row among so many.
-fn type_end(words: &[usize], at: usize, rows: usize) -> End
+fn type_end(words: &[usize], at: usize, rows: usize) -> Option<usize>
     ensures { EndsAt words.now at (read_known rows (drop at words.now)) result }
 {
     let found = type_at(words, at);
-    let Located::At(parts) = found else {
-        return End::Missing;
+    let Some(parts) = found else {
+        return None;
     };
     let kind = parts.kind;
     let next = parts.next;
     if !kind.known(rows) {
-        return End::Missing;
+        return None;
     }
-    End::At(next)
+    Some(next)
 }

@@ -9,7 +9,7 @@ ghost use Rattle.hir_types.specs.Inner.{LocatesBare};
 
 use answers::Refusal;
 use lifetimes::{Lifetime, MaybeStatic};
-use records::{End, lifetimes_end};
+use records::lifetimes_end;
 
 // What a type is, under an option or not: 01's codes 0 to 3. A struct is the number of its row.
 #[derive(Clone, Copy)]
@@ -55,22 +55,15 @@ pub enum Own {
     Strs,
 }
 
-// That lifetime, if there is one.
-#[derive(Clone, Copy)]
-pub enum OwnLifetime {
-    Lifetime(MaybeStatic),
-    Absent,
-}
-
 impl Own {
     // The lifetime, if there is one.
-    pub fn lifetime(self) -> OwnLifetime
+    pub fn lifetime(self) -> Option<MaybeStatic>
         ensures answer { result ≡ own_lifetime self }
     {
         match self {
-            Own::Absent => OwnLifetime::Absent,
-            Own::Word(word) => OwnLifetime::Lifetime(MaybeStatic::from_word(word)),
-            Own::Strs => OwnLifetime::Lifetime(MaybeStatic::NonStatic(Lifetime::new(
+            Own::Absent => None,
+            Own::Word(word) => Some(MaybeStatic::from_word(word)),
+            Own::Strs => Some(MaybeStatic::NonStatic(Lifetime::new(
                 18446744073709551615,
             ))),
         }
@@ -94,13 +87,6 @@ impl Parts {
     pub const PATH_PLACE: usize = 3;
 }
 
-// The type at a place. Missing where the words do not make one.
-#[derive(Clone, Copy)]
-pub enum Located {
-    At(Parts),
-    Missing,
-}
-
 // One of a type's lifetimes: it, none past the last, or why the call is refused.
 #[derive(Clone, Copy)]
 pub enum LifetimeAt {
@@ -116,7 +102,7 @@ pub fn type_lifetimes(words: &[usize], index: usize) -> LifetimeAt
     ensures answer { result ≡ lifetime_answer (type_lifetimes words.now) index }
 {
     let found = type_at(words, 0);
-    let Located::At(parts) = found else {
+    let Some(parts) = found else {
         return LifetimeAt::Refused(Refusal::Malformed);
     };
     let next = parts.next;
@@ -142,8 +128,8 @@ fn own_at(own: Own) -> LifetimeAt
 {
     let lifetime = own.lifetime();
     match lifetime {
-        OwnLifetime::Lifetime(one) => LifetimeAt::Lifetime(one),
-        OwnLifetime::Absent => LifetimeAt::Absent,
+        Some(one) => LifetimeAt::Lifetime(one),
+        None => LifetimeAt::Absent,
     }
 }
 
@@ -164,11 +150,11 @@ pub fn path_words(words: &[usize], from: usize, count: usize) -> &[usize]
 }
 
 // The type that stands at a place, its row not looked up. Reads only the words that say where its parts are.
-pub fn type_at(words: &[usize], at: usize) -> Located
+pub fn type_at(words: &[usize], at: usize) -> Option<Parts>
     ensures answer { result ≡ located at (length words.now) (read_lowered (drop at words.now)) }
 {
     if words.len() <= at {
-        return Located::Missing;
+        return None;
     }
     if words[at] == 4 {
         return bare_at(words, at + 1, true);
@@ -177,17 +163,17 @@ pub fn type_at(words: &[usize], at: usize) -> Located
 }
 
 // The type that stands at a place and is no option; whether it is under one is handed on.
-fn bare_at(words: &[usize], at: usize, option: bool) -> Located
+fn bare_at(words: &[usize], at: usize, option: bool) -> Option<Parts>
     ensures { LocatesBare words.now at option (read_bare option (drop at words.now)) result }
 {
     if words.len() <= at {
-        return Located::Missing;
+        return None;
     }
     let code = words[at];
     if code == Kind::PLAIN {
         let from = at + Parts::PATH_PLACE;
         let next = at + 1;
-        return Located::At(Parts {
+        return Some(Parts {
             option,
             kind: Kind::Plain,
             from,
@@ -205,34 +191,34 @@ fn bare_at(words: &[usize], at: usize, option: bool) -> Located
     if code == Kind::SLICE {
         return slice_at(words, at, option);
     }
-    Located::Missing
+    None
 }
 
 // The opaque whose code stands at a place.
-fn opaque_at(words: &[usize], at: usize, option: bool) -> Located
+fn opaque_at(words: &[usize], at: usize, option: bool) -> Option<Parts>
     requires { at < length words.now }
     ensures { LocatesBare words.now at option (read_opaque option (drop (at + 1) words.now)) result }
 {
     let n = words.len();
     if n <= at + 1 {
-        return Located::Missing;
+        return None;
     }
     if 1 < words[at + 1] {
-        return Located::Missing;
+        return None;
     }
     let from = at + Parts::PATH_PLACE;
     let path = lifetimes_end(words, at + 2);
-    let End::At(owner) = path else {
-        return Located::Missing;
+    let Some(owner) = path else {
+        return None;
     };
     if n <= owner {
-        return Located::Missing;
+        return None;
     }
     let count = owner - from;
     let borrowed = words[owner];
     if borrowed == 0 {
         let next = owner + 1;
-        return Located::At(Parts {
+        return Some(Parts {
             option,
             kind: Kind::Opaque,
             from,
@@ -242,14 +228,14 @@ fn opaque_at(words: &[usize], at: usize, option: bool) -> Located
         });
     }
     if 1 < borrowed {
-        return Located::Missing;
+        return None;
     }
     if n <= owner + 1 {
-        return Located::Missing;
+        return None;
     }
     let word = words[owner + 1];
     let end = owner + 2;
-    Located::At(Parts {
+    Some(Parts {
         option,
         kind: Kind::Opaque,
         from,
@@ -260,22 +246,22 @@ fn opaque_at(words: &[usize], at: usize, option: bool) -> Located
 }
 
 // The struct whose code stands at a place.
-fn struct_at(words: &[usize], at: usize, option: bool) -> Located
+fn struct_at(words: &[usize], at: usize, option: bool) -> Option<Parts>
     requires { at < length words.now }
     ensures { LocatesBare words.now at option (read_struct option (drop (at + 1) words.now)) result }
 {
     let n = words.len();
     if n <= at + 1 {
-        return Located::Missing;
+        return None;
     }
     let from = at + Parts::PATH_PLACE;
     let path = lifetimes_end(words, at + 2);
-    let End::At(next) = path else {
-        return Located::Missing;
+    let Some(next) = path else {
+        return None;
     };
     let row = words[at + 1];
     let count = next - from;
-    Located::At(Parts {
+    Some(Parts {
         option,
         kind: Kind::Struct(row),
         from,
@@ -286,19 +272,19 @@ fn struct_at(words: &[usize], at: usize, option: bool) -> Located
 }
 
 // The slice whose code stands at a place.
-fn slice_at(words: &[usize], at: usize, option: bool) -> Located
+fn slice_at(words: &[usize], at: usize, option: bool) -> Option<Parts>
     requires { at < length words.now }
     ensures { LocatesBare words.now at option (read_slice option (drop (at + 1) words.now)) result }
 {
     let n = words.len();
     if n <= at + 1 {
-        return Located::Missing;
+        return None;
     }
     let from = at + Parts::PATH_PLACE;
     let inner = at + 2;
     let code = words[at + 1];
     if code == 0 {
-        return Located::At(Parts {
+        return Some(Parts {
             option,
             kind: Kind::Slice,
             from,
@@ -309,10 +295,10 @@ fn slice_at(words: &[usize], at: usize, option: bool) -> Located
     }
     if code == 1 {
         if n <= inner {
-            return Located::Missing;
+            return None;
         }
         let word = words[inner];
-        return Located::At(Parts {
+        return Some(Parts {
             option,
             kind: Kind::Slice,
             from,
@@ -322,7 +308,7 @@ fn slice_at(words: &[usize], at: usize, option: bool) -> Located
         });
     }
     if code == 2 {
-        return Located::At(Parts {
+        return Some(Parts {
             option,
             kind: Kind::Slice,
             from,
@@ -333,16 +319,16 @@ fn slice_at(words: &[usize], at: usize, option: bool) -> Located
     }
     if code == 3 {
         let path = lifetimes_end(words, inner);
-        let End::At(own) = path else {
-            return Located::Missing;
+        let Some(own) = path else {
+            return None;
         };
         if n <= own {
-            return Located::Missing;
+            return None;
         }
         let count = own - from;
         let last = words[own];
         let next = own + 1;
-        return Located::At(Parts {
+        return Some(Parts {
             option,
             kind: Kind::Slice,
             from,
@@ -351,5 +337,5 @@ fn slice_at(words: &[usize], at: usize, option: bool) -> Located
             next,
         });
     }
-    Located::Missing
+    None
 }

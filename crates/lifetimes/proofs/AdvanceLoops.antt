@@ -1,4 +1,5 @@
 -- The loop of `advance`: the entries passed over were seen.
+use Rattle.std.specs.Prelude.{Some, None}
 use Prim.Native.Nat.{ℕ, ◌+◌, ◌≤◌, ◌<◌}
 use mathlib.Core.Bool.{true, false}
 use mathlib.Core.Path.{◌≡◌, refl, sym, ◌∙◌}
@@ -8,7 +9,6 @@ use native.Mathlib.Omega.{arith}
 use native.Mathlib.Numerals.{add-one}
 use lib.ListN.{length, get_or}
 use Rattle.lifetimes.specs.declared.lifetime.Lifetime.{Lifetime}
-use Rattle.lifetimes.specs.declared.walk.Next.TheVariants.{Yield, Nothing}
 use Rattle.lifetimes.specs.Sets.{member}
 use Rattle.lifetimes.specs.Bounds.{above}
 use Rattle.lifetimes.specs.Index.{Graph, near_at, chain, chains, pending, skip, Chained, Ready, Steps}
@@ -40,7 +40,7 @@ module _ {g : Graph} {fars befores stack : List ℕ} (ch : Chained g fars before
     unfolding chain chains
     skipping_pop = record { skips = (rw (z, e, add-one k) at inv.skips); here = skipping_top; deep = omega (arith, inv.deep) }
 
-  pub skipping_end : at ≡ 0 → depth ≡ 0 → Steps g stack seen at₀ depth₀ (record { next = Nothing; at = at; depth = depth })
+  pub skipping_end : at ≡ 0 → depth ≡ 0 → Steps g stack seen at₀ depth₀ (record { next = None; at = at; depth = depth })
   unfolding chain chains skip
   skipping_end z e = record { skips = sym (rw (z, e) at inv.skips); here = inv.here; deep = inv.deep }
 
@@ -67,7 +67,7 @@ module _ {g : Graph} {fars befores stack : List ℕ} (ch : Chained g fars before
     }
 
     pub skipping_found : member seen (get_or fars i 0) ≡ false → (l : Lifetime) → l.0 ≡ get_or fars i 0
-        → Steps g stack seen at₀ depth₀ (record { next = Yield l; at = get_or befores i 0; depth = depth })
+        → Steps g stack seen at₀ depth₀ (record { next = Some l; at = get_or befores i 0; depth = depth })
     unfolding skip
     skipping_found m l f = record {
       skips = sym (rw (one, m) at inv.skips) ∙ rw f;

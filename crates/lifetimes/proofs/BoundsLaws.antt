@@ -1,5 +1,6 @@
 -- Laws of bounds: how a loop reads them, from the first to the last; a larger limit; bounds that are made, and with one
 -- more. Then the loop of `Bounds::check`.
+use Rattle.std.specs.Prelude.{Ok, Err}
 use Prim.Native.Nat.{ℕ, ◌+◌, ◌-◌, ◌≤◌, ◌<◌}
 use mathlib.Core.Bool.{Bool, true, false, ◌&&◌, and-eq-true_iff}
 use mathlib.Core.Path.{◌≡◌, refl, ◌∙◌}
@@ -11,7 +12,6 @@ use lib.Dec.{ltb}
 use lib.ListN.{length, get_or, drop, replicate, set, take, length-take, drop_of_length-le}
 use lib.Seq.{get_or-take, drop-cons, take-append_seam, take-suc-set}
 use Rattle.answers.specs.declared.Refusal.TheVariants.{Full, OutOfRange}
-use Rattle.answers.specs.declared.Verdict.TheVariants.{Accepted, Refused}
 use Rattle.answers.specs.Lists.{all}
 use Rattle.answers.specs.Refusals.{unless}
 use Rattle.answers.specs.Lent.{judged}
@@ -73,7 +73,7 @@ bounds_pushed n b x full h =
 
 -- ---- `Bounds::check`: the bounds that were read are within the limit
 
-pub check_many : (n : ℕ) (b : Bounds) → 256 < b.pushed → Refused Full ≡ judged (bounds_checks n b)
+pub check_many : (n : ℕ) (b : Bounds) → 256 < b.pushed → Err Full ≡ judged (bounds_checks n b)
 unfolding unless
 check_many n b h = rw (lt-ltb 256 b.pushed h)
 
@@ -85,12 +85,12 @@ pub checking_start : (n : ℕ) (b : Bounds) → b.pushed ≤ 256 → Checking n 
 checking_start n b h = record { few = h; left = refl }
 
 module _ {n : ℕ} {b : Bounds} {i : ℕ} (inv : Checking n b i) where
-  pub checking_end : b.pushed ≤ i → Accepted ≡ judged (bounds_checks n b)
+  pub checking_end : b.pushed ≤ i → Ok (tt {0}) ≡ judged (bounds_checks n b)
   unfolding unless all
   checking_end h = rw (le-ltb 256 b.pushed inv.few, inv.left, bounds_read b i h)
 
   module _ (full : length b.list ≡ 256) (h : i < b.pushed) where
-    pub checking_refused : both_below n (get_or b.list i (above 0 0)) ≡ false → Refused OutOfRange ≡ judged (bounds_checks n b)
+    pub checking_refused : both_below n (get_or b.list i (above 0 0)) ≡ false → Err OutOfRange ≡ judged (bounds_checks n b)
     unfolding unless all
     checking_refused f = rw (le-ltb 256 b.pushed inv.few, inv.left, bound_read b i full inv.few h, f)
 

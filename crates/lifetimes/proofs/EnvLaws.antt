@@ -1,5 +1,6 @@
 -- Laws of the environment's checks: what it says that none is due, and which is the first that is. Then the answers of
 -- `LifetimeEnv::check` and `push_bound`.
+use Rattle.std.specs.Prelude.{Ok, Err}
 use Prim.Native.Nat.{ℕ, ◌+◌, ◌≤◌, ◌<◌}
 use mathlib.Core.Bool.{Bool, true, false, not, ◌&&◌}
 use mathlib.Core.Path.{◌≡◌, refl, sym, ap, ◌∙◌}
@@ -10,9 +11,7 @@ use borrow.Author.Tests.{ltb-true, ltb-false, lt-ltb, le-ltb, not-true, not-fals
 use lib.ListN.{length}
 use Rattle.answers.specs.declared.Refusal.{Refusal}
 use Rattle.answers.specs.declared.Refusal.TheVariants.{Full, OutOfRange}
-use Rattle.answers.specs.declared.Verdict.{Verdict}
-use Rattle.answers.specs.declared.Verdict.TheVariants.{Accepted, Refused}
-use Rattle.answers.specs.Refusals.{Gives, unless, FirstDue, here, later, NoneDue, end, next}
+use Rattle.answers.specs.Refusals.{unless, FirstDue, here, later, NoneDue, end, next, Verdict}
 use Rattle.answers.specs.Lists.{all}
 use Rattle.answers.specs.Lent.{judged}
 use Rattle.answers.proofs.RefusalLaws.{due_given, due_refused, given_due, refused_first, accepted_none, none_first, none_rest}
@@ -81,7 +80,7 @@ module _ (e : LifetimeEnv) where
         | no g ↦ side_due (omega arith) f
       ]
 
-pub accepted_valid : (e : LifetimeEnv) → unless (env_checks e) e ≡ Gives e → NoneDue (env_checks e)
+pub accepted_valid : (e : LifetimeEnv) → unless (env_checks e) e ≡ Ok e → NoneDue (env_checks e)
 accepted_valid e h = (given_due e e (env_checks e) h).0
 
 -- ---- `check`
@@ -92,11 +91,11 @@ ranges : (e : LifetimeEnv) → e.count ≤ 64 → e.bounds.pushed ≤ 256 → al
 unfolding unless
 ranges e lifetimes few inside = rw (le-ltb 64 e.count lifetimes, le-ltb 256 e.bounds.pushed few, inside)
 
-pub declared_refused : (declared count : ℕ) → count < declared → Refused OutOfRange ≡ judged (too_few declared count ∷ [])
+pub declared_refused : (declared count : ℕ) → count < declared → Err OutOfRange ≡ judged (too_few declared count ∷ [])
 unfolding unless
 declared_refused declared count h = rw (lt-ltb count declared h)
 
-pub declared_accepted : (declared count : ℕ) → declared ≤ count → Accepted ≡ judged (too_few declared count ∷ [])
+pub declared_accepted : (declared count : ℕ) → declared ≤ count → Ok (tt {0}) ≡ judged (too_few declared count ∷ [])
 unfolding unless
 declared_accepted declared count h = rw (le-ltb count declared h)
 
@@ -106,11 +105,11 @@ module _ (e : LifetimeEnv) where
   unfolding all
   check_empty lifetimes none p = p ∙ ranges e lifetimes (omega arith) (rw none)
 
-  pub check_lifetimes : 64 < e.count → Refused Full ≡ judged (env_checks e)
+  pub check_lifetimes : 64 < e.count → Err Full ≡ judged (env_checks e)
   check_lifetimes h = rw (due_refused (tt {0}) (lifetimes_due e h))
 
   module _ (lifetimes : e.count ≤ 64) {v : Verdict} (checked : v ≡ judged (bounds_checks e.declared e.bounds)) where
-    pub check_bounds : {r : Refusal} → v ≡ Refused r → v ≡ judged (env_checks e)
+    pub check_bounds : {r : Refusal} → v ≡ Err r → v ≡ judged (env_checks e)
     check_bounds {r} k =
         rw (k, due_refused (tt {0}) (go (refused_first (tt {0}) r (bounds_checks e.declared e.bounds) (sym checked ∙ k))))
       where
@@ -119,24 +118,24 @@ module _ (e : LifetimeEnv) where
         go (later d (here h q)) = rw (← q) (outside_due e lifetimes (ltb-false 256 e.bounds.pushed d) (not-true _ h))
         go (later d (later _ x9)) = elim x9 [ ]
 
-    none : v ≡ Accepted → NoneDue (bounds_checks e.declared e.bounds)
+    none : v ≡ Ok (tt {0}) → NoneDue (bounds_checks e.declared e.bounds)
     none k = accepted_none (tt {0}) (bounds_checks e.declared e.bounds) (sym checked ∙ k)
 
-    few : v ≡ Accepted → e.bounds.pushed ≤ 256
+    few : v ≡ Ok (tt {0}) → e.bounds.pushed ≤ 256
     few k = ltb-false 256 e.bounds.pushed (none_first (none k))
 
-    pub check_rest : v ≡ Accepted → {w : Verdict} → w ≡ judged (too_few e.declared e.count ∷ []) → w ≡ judged (env_checks e)
+    pub check_rest : v ≡ Ok (tt {0}) → {w : Verdict} → w ≡ judged (too_few e.declared e.count ∷ []) → w ≡ judged (env_checks e)
     check_rest k p = p ∙ ranges e lifetimes (few k) (not-false _ (none_first (none_rest (none k))))
 
 -- ---- `push_bound`
 
 module _ (e : LifetimeEnv) (b : Bound) where
   refused_with : {r : Refusal} → FirstDue r (env_checks (with_bound e b))
-      → record { verdict = Refused r; env = e } ≡ made e (push_bound e b)
+      → record { verdict = Err r; env = e } ≡ made e (push_bound e b)
   unfolding push_bound
   refused_with due = rw (due_refused (with_bound e b) due)
 
-  pub push_full : 256 ≤ e.bounds.pushed → record { verdict = Refused Full; env = e } ≡ made e (push_bound e b)
+  pub push_full : 256 ≤ e.bounds.pushed → record { verdict = Err Full; env = e } ≡ made e (push_bound e b)
   push_full h = refused_with (elim (dec_lt 64 e.count) [
     | yes l ↦ lifetimes_due (with_bound e b) l
     | no g ↦ bounds_due (with_bound e b) (omega arith) (omega arith)
@@ -147,7 +146,7 @@ module _ (e : LifetimeEnv) (b : Bound) where
     sides : all_below e.declared (bounds_of (with_bound e b)) ≡ all_below e.declared (bounds_of e) && both_below e.declared b
     sides = bounds_pushed e.declared e.bounds b full room
 
-    pub push_refused : {r : Refusal} → v ≡ Refused r → record { verdict = v; env = e } ≡ made e (push_bound e b)
+    pub push_refused : {r : Refusal} → v ≡ Err r → record { verdict = v; env = e } ≡ made e (push_bound e b)
     push_refused {r} k = rw k (refused_with (go (refused_first (tt {0}) r (env_checks e) (sym checked ∙ k))))
       where
         go : FirstDue r (env_checks e) → FirstDue r (env_checks (with_bound e b))
@@ -159,27 +158,27 @@ module _ (e : LifetimeEnv) (b : Bound) where
             later c (later (le-ltb 256 (e.bounds.pushed + 1) (omega arith)) (later l (here (ap not past) q)))
         go (later c (later d (later l (later _ x15)))) = elim x15 [ ]
 
-    none_before : v ≡ Accepted → NoneDue (env_checks e)
+    none_before : v ≡ Ok (tt {0}) → NoneDue (env_checks e)
     none_before k = accepted_none (tt {0}) (env_checks e) (sym checked ∙ k)
 
-    inside : v ≡ Accepted → all_below e.declared (bounds_of e) ≡ true
+    inside : v ≡ Ok (tt {0}) → all_below e.declared (bounds_of e) ≡ true
     inside k = not-false _ (none_first (none_rest (none_rest (none_rest (none_before k)))))
 
-    pub push_outside : v ≡ Accepted → both_below e.declared b ≡ false
-        → record { verdict = Refused OutOfRange; env = e } ≡ made e (push_bound e b)
+    pub push_outside : v ≡ Ok (tt {0}) → both_below e.declared b ≡ false
+        → record { verdict = Err OutOfRange; env = e } ≡ made e (push_bound e b)
     push_outside k f =
         let fine = valid e (none_before k) in
         refused_with (side_due (with_bound e b) fine.counted (omega arith) fine.declares (sides ∙ rw (inside k, f)))
 
     -- a bound that is taken has numbers that fit a byte
-    pub push_small : v ≡ Accepted → both_below e.declared b ≡ true → (b.longer < 256) × (b.shorter < 256)
+    pub push_small : v ≡ Ok (tt {0}) → both_below e.declared b ≡ true → (b.longer < 256) × (b.shorter < 256)
     push_small k t =
         let fine = valid e (none_before k) in
         let both = both_below_lem b t in
         (omega (arith, both.0, fine.counted, fine.declares), omega (arith, both.1, fine.counted, fine.declares))
 
-    pub push_given : v ≡ Accepted → both_below e.declared b ≡ true
-        → record { verdict = Accepted; env = with_bound e b } ≡ made e (push_bound e b)
+    pub push_given : v ≡ Ok (tt {0}) → both_below e.declared b ≡ true
+        → record { verdict = Ok (tt {0}); env = with_bound e b } ≡ made e (push_bound e b)
     unfolding push_bound
     push_given k t =
         let fine = valid e (none_before k) in

@@ -1,5 +1,6 @@
 -- Pairs longer, shorter as words: how a loop reads them, and the loops of `pairs_below` and `filled`. Then the answers
 -- of `LifetimeEnv::new`.
+use Rattle.std.specs.Prelude.{Ok, Err}
 use Prim.Native.Nat.{ℕ, suc, ◌+◌, ◌-◌, ◌/◌, ◌%◌, ◌≤◌, ◌<◌}
 use mathlib.Core.Bool.{Bool, true, false, and-eq-true_iff}
 use mathlib.Core.Path.{◌≡◌, refl, ap, ◌∙◌}
@@ -14,7 +15,6 @@ use lib.Seq.{drop-cons, sets, sets-eq}
 use Rattle.answers.specs.Lists.{all}
 use Rattle.answers.specs.declared.Refusal.{Refusal}
 use Rattle.answers.specs.declared.Refusal.TheVariants.{Malformed, Full, OutOfRange}
-use Rattle.answers.specs.declared.Verdict.TheVariants.{Accepted, Refused}
 use Rattle.lifetimes.specs.declared.bounds.Bound.{Bound}
 use Rattle.lifetimes.specs.declared.bounds.Bounds.{Bounds}
 use Rattle.lifetimes.specs.declared.env.LifetimeEnv.{LifetimeEnv}
@@ -151,26 +151,26 @@ module _ (declared count : ℕ) (words : List ℕ) where
   asked = env_of declared count (bounds_of_pairs words)
 
   refused_by_lem : {r : Refusal} {m : Made} → FirstDue r (new_checks declared count words)
-      → m ≡ record { verdict = Refused r; env = env_of 0 0 [] } → m ≡ made (env_of 0 0 []) (new_env declared count words)
+      → m ≡ record { verdict = Err r; env = env_of 0 0 [] } → m ≡ made (env_of 0 0 []) (new_env declared count words)
   unfolding new_env
   refused_by_lem f e = rw (due_refused asked f) e
 
   pub new_half : {m : Made} → length words % 2 ≡ 1
-      → m ≡ record { verdict = Refused Malformed; env = env_of 0 0 [] } → m ≡ made (env_of 0 0 []) (new_env declared count words)
+      → m ≡ record { verdict = Err Malformed; env = env_of 0 0 [] } → m ≡ made (env_of 0 0 []) (new_env declared count words)
   new_half h e = refused_by_lem (here (eq-eqb (length words % 2) 1 h) refl) e
 
   module _ (even : length words % 2 ≡ 1 → ⊥) where
     new_refused : {r : Refusal} {m : Made} → FirstDue r (env_checks asked)
-        → m ≡ record { verdict = Refused r; env = env_of 0 0 [] } → m ≡ made (env_of 0 0 []) (new_env declared count words)
+        → m ≡ record { verdict = Err r; env = env_of 0 0 [] } → m ≡ made (env_of 0 0 []) (new_env declared count words)
     new_refused f e = refused_by_lem (later (ne_eqb (length words % 2) 1 even) f) e
 
-    pub new_lifetimes : {m : Made} → 64 < count → m ≡ record { verdict = Refused Full; env = env_of 0 0 [] }
+    pub new_lifetimes : {m : Made} → 64 < count → m ≡ record { verdict = Err Full; env = env_of 0 0 [] }
         → m ≡ made (env_of 0 0 []) (new_env declared count words)
     unfolding env_of
     new_lifetimes h e = new_refused (lifetimes_due asked h) e
 
     module _ (lifetimes : count ≤ 64) where
-      pub new_bounds : {m : Made} → 256 < length words / 2 → m ≡ record { verdict = Refused Full; env = env_of 0 0 [] }
+      pub new_bounds : {m : Made} → 256 < length words / 2 → m ≡ record { verdict = Err Full; env = env_of 0 0 [] }
           → m ≡ made (env_of 0 0 []) (new_env declared count words)
       unfolding env_of bounds_from
       new_bounds h e = new_refused (bounds_due asked lifetimes (omega (arith, pairs_many words))) e
@@ -179,7 +179,7 @@ module _ (declared count : ℕ) (words : List ℕ) where
         few_pairs : length (bounds_of_pairs words) ≤ 256
         few_pairs = omega (arith, pairs_few words)
 
-        pub new_declared : {m : Made} → count < declared → m ≡ record { verdict = Refused OutOfRange; env = env_of 0 0 [] }
+        pub new_declared : {m : Made} → count < declared → m ≡ record { verdict = Err OutOfRange; env = env_of 0 0 [] }
             → m ≡ made (env_of 0 0 []) (new_env declared count words)
         unfolding env_of bounds_from
         new_declared h e = new_refused (declared_due asked lifetimes few_pairs h) e
@@ -190,13 +190,13 @@ module _ (declared count : ℕ) (words : List ℕ) where
           sides h = rw (bounds_made (bounds_of_pairs words)) h
 
           pub new_outside : {m : Made} → all_below declared (bounds_of_pairs words) ≡ false
-              → m ≡ record { verdict = Refused OutOfRange; env = env_of 0 0 [] }
+              → m ≡ record { verdict = Err OutOfRange; env = env_of 0 0 [] }
               → m ≡ made (env_of 0 0 []) (new_env declared count words)
           unfolding env_of bounds_from
           new_outside h e = new_refused (side_due asked lifetimes few_pairs declares (sides h)) e
 
           pub new_given : {b : Bounds} → all_below declared (bounds_of_pairs words) ≡ true → b ≡ bounds_from (bounds_of_pairs words)
-              → record { verdict = Accepted; env = record { declared = declared; count = count; bounds = b } }
+              → record { verdict = Ok (tt {0}); env = record { declared = declared; count = count; bounds = b } }
               ≡ made (env_of 0 0 []) (new_env declared count words)
           unfolding new_env env_of bounds_from
           new_given h e =

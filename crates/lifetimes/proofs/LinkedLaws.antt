@@ -1,5 +1,6 @@
 -- Laws of the lifetimes of a definition paired with the words at its use: at each place, past the end, and where they
 -- are not as many.
+use Rattle.std.specs.Prelude.{Ok, Err}
 use Prim.Native.Nat.{ℕ, zero, suc, ◌+◌, ◌≤◌, ◌<◌}
 use mathlib.Core.Path.{◌≡◌, sym, ap, ◌∙◌}
 use mathlib.Core.List.{List, map}
@@ -15,24 +16,24 @@ use Rattle.lifetimes.specs.declared.linked.LinkedPair.{LinkedPair}
 use Rattle.lifetimes.specs.declared.linked.LinkedPair.TheVariants as pair
 use Rattle.answers.specs.Lists.{range, numbered}
 use Rattle.lifetimes.specs.Numbers.{def_lifetime}
-use Rattle.answers.specs.Refusals.{Gives, Refuses, unless}
+use Rattle.answers.specs.Refusals.{unless}
 use Rattle.lifetimes.specs.Linked.{linked_word, linked_pair, linked_answer, pair_answer, pairs_with_places}
 
 module _ (words : List ℕ) (count : ℕ) where
   module _ (same : length words ≡ count) where
-    pub word_there : (j : ℕ) → j < count → linked_word words count (def_lifetime j) ≡ Gives (Word (get_or words j 0))
+    pub word_there : (j : ℕ) → j < count → linked_word words count (def_lifetime j) ≡ Ok (Word (get_or words j 0))
     unfolding linked_word unless
     word_there j h = rw (eq-eqb (length words) count same, lt-ltb j (length words) (omega arith))
 
-    pub word_past : (j : ℕ) → count ≤ j → linked_word words count (def_lifetime j) ≡ Gives Absent
+    pub word_past : (j : ℕ) → count ≤ j → linked_word words count (def_lifetime j) ≡ Ok Absent
     unfolding linked_word unless
     word_past j h = rw (eq-eqb (length words) count same, le-ltb j (length words) (omega arith))
 
-    pub pair_there : (j : ℕ) → j < count → linked_pair words count j ≡ Gives (pair.Pair (get_or words j 0) (def_lifetime j))
+    pub pair_there : (j : ℕ) → j < count → linked_pair words count j ≡ Ok (pair.Pair (get_or words j 0) (def_lifetime j))
     unfolding linked_pair unless
     pair_there j h = rw (eq-eqb (length words) count same, lt-ltb j (length words) (omega arith))
 
-    pub pair_past : (j : ℕ) → count ≤ j → linked_pair words count j ≡ Gives pair.Absent
+    pub pair_past : (j : ℕ) → count ≤ j → linked_pair words count j ≡ Ok pair.Absent
     unfolding linked_pair unless
     pair_past j h = rw (eq-eqb (length words) count same, le-ltb j (length words) (omega arith))
 
@@ -69,10 +70,10 @@ module _ (words : List ℕ) (count : ℕ) where
     pairs_there = pairs_from_lem 0 count (omega arith)
 
   module _ (other : length words ≡ count → ⊥) where
-    pub word_unlike : (j : ℕ) → linked_word words count (def_lifetime j) ≡ Refuses Mismatch
+    pub word_unlike : (j : ℕ) → linked_word words count (def_lifetime j) ≡ Err Mismatch
     unfolding linked_word unless
     word_unlike j = rw (ne_eqb (length words) count other)
 
-    pub pair_unlike : (j : ℕ) → linked_pair words count j ≡ Refuses Mismatch
+    pub pair_unlike : (j : ℕ) → linked_pair words count j ≡ Err Mismatch
     unfolding linked_pair unless
     pair_unlike j = rw (ne_eqb (length words) count other)

@@ -1,4 +1,5 @@
 -- What the public traversals answer, by what their tests show: one list, all sets, all lists.
+use Rattle.std.specs.Prelude.{Ok, Err}
 use Prim.Native.Nat.{ℕ, ◌≤◌, ◌<◌}
 use mathlib.Core.Bool.{Bool, true, false}
 use mathlib.Core.Path.{◌≡◌, refl, sym, ap, ◌∙◌}
@@ -9,8 +10,6 @@ use lib.ListN.{length, take, length-map}
 use lib.Seq.{sets, length-take-le}
 use Rattle.answers.specs.declared.Refusal.{Refusal}
 use Rattle.answers.specs.declared.Refusal.TheVariants.{OutOfRange, NoRoom}
-use Rattle.answers.specs.declared.Verdict.TheVariants as verdict
-use Rattle.answers.specs.declared.Listed.TheVariants as listed
 use Rattle.lifetimes.specs.declared.env.LifetimeEnv.{LifetimeEnv}
 use Rattle.lifetimes.specs.declared.reach.Lists.{Lists}
 use Rattle.answers.specs.Lists.{range}
@@ -39,13 +38,13 @@ list_by_lem false d e x = traversal_linked (order_of false) d (bounds_of e) x
 -- one list
 module _ (e : LifetimeEnv) (x : ℕ) (list slice : List ℕ) where
   pub list_refused : {r : Refusal} → FirstDue r (env_checks e)
-      → (listed.Refused r ≡ counted (list_from e x list (length slice)))
+      → (Err r ≡ counted (list_from e x list (length slice)))
       × (slice ≡ written (list_from e x list (length slice)) slice)
   unfolding list_from
   list_refused f = answers_refusal _ slice (first_more _ f)
 
   module _ (none : NoneDue (env_checks e)) where
-    pub list_past : e.count ≤ x → (listed.Refused OutOfRange ≡ counted (list_from e x list (length slice)))
+    pub list_past : e.count ≤ x → (Err OutOfRange ≡ counted (list_from e x list (length slice)))
         × (slice ≡ written (list_from e x list (length slice)) slice)
     unfolding list_from
     list_past h = answers_refusal _ slice (first_after none (here (le-leb e.count x h) refl))
@@ -54,14 +53,14 @@ module _ (e : LifetimeEnv) (x : ℕ) (list slice : List ℕ) where
       long : n ≡ length list
       long = sym (length-take-le n items few) ∙ ap length is
 
-      pub list_short : length slice < n → (listed.Refused NoRoom ≡ counted (list_from e x list (length slice)))
+      pub list_short : length slice < n → (Err NoRoom ≡ counted (list_from e x list (length slice)))
           × (slice ≡ written (list_from e x list (length slice)) slice)
       unfolding list_from
       list_short h =
           answers_refusal _ slice
           (first_after none (later (lt-leb e.count x inside) (no_room (length slice) list (omega (arith, long)))))
 
-      pub list_given : n ≤ length slice → (listed.Count n ≡ counted (list_from e x list (length slice)))
+      pub list_given : n ≤ length slice → (Ok n ≡ counted (list_from e x list (length slice)))
           × (sets slice 0 (take n items) ≡ written (list_from e x list (length slice)) slice)
       unfolding list_from
       list_given h =
@@ -80,13 +79,13 @@ sets_all d e h reach is =
     is ∙ sets_front no_sets all (omega (arith, long)) ∙ rw (long, drop_replicate {A = ℕ} e.count 64 0)
 
 module _ (d : Bool) (e : LifetimeEnv) where
-  pub sets_refused : {r : Refusal} → FirstDue r (env_checks e) → record { verdict = verdict.Refused r; sets = no_sets } ≡ reach_sets d e
+  pub sets_refused : {r : Refusal} → FirstDue r (env_checks e) → record { verdict = Err r; sets = no_sets } ≡ reach_sets d e
   unfolding reach_sets
   sets_refused f = rw (due_refused e f, due_refused (all_sets d e) f)
 
   pub sets_given : {reach : List ℕ} {total : ℕ} → NoneDue (env_checks e)
       → Measures (graph_of d e) e.count no_sets reach total
-      → record { verdict = verdict.Accepted; sets = reach } ≡ reach_sets d e
+      → record { verdict = Ok (tt {0}); sets = reach } ≡ reach_sets d e
   unfolding reach_sets reach_set reach_list
   sets_given {reach} none m =
       rw (due_given e none, due_given (all_sets d e) none, sets_all d e (valid e none).counted reach m.reach)
@@ -100,7 +99,7 @@ module _ (d : Bool) (e : LifetimeEnv) (words ends : List ℕ) where
       × (ends₁ ≡ written (list_ends d e (length words) (length ends)) ends)
 
   lists_by : {r : Refusal} → FirstDue r (lists_checks d e (length words) (length ends))
-      → ListsAre (record { listed = listed.Refused r; sets = no_sets }) words ends
+      → ListsAre (record { listed = Err r; sets = no_sets }) words ends
   unfolding lists_answer list_words list_ends
   lists_by f = (
     rw (due_refused (flatten (all_lists d e)) f, due_refused (all_sets d e) f),
@@ -109,7 +108,7 @@ module _ (d : Bool) (e : LifetimeEnv) (words ends : List ℕ) where
   )
 
   pub lists_refused : {r : Refusal} → FirstDue r (env_checks e)
-      → ListsAre (record { listed = listed.Refused r; sets = no_sets }) words ends
+      → ListsAre (record { listed = Err r; sets = no_sets }) words ends
   lists_refused f = lists_by (first_more _ f)
 
   module _ (none : NoneDue (env_checks e)) where
@@ -117,12 +116,12 @@ module _ (d : Bool) (e : LifetimeEnv) (words ends : List ℕ) where
     unfolding all_lists reach_list
     ends_long = length_ends 0 (lists_from (graph_of d e) 0 e.count) ∙ simp length-map (length_range 0 e.count)
 
-    pub lists_no_ends : length ends < e.count → ListsAre (record { listed = listed.Refused NoRoom; sets = no_sets }) words ends
+    pub lists_no_ends : length ends < e.count → ListsAre (record { listed = Err NoRoom; sets = no_sets }) words ends
     lists_no_ends h = lists_by (first_after none (no_room (length ends) (ends_from 0 (all_lists d e)) (omega (arith, ends_long))))
 
     module _ (places : e.count ≤ length ends) where
       pub lists_no_words : length words < length (flatten (lists_from (graph_of d e) 0 e.count))
-          → ListsAre (record { listed = listed.Refused NoRoom; sets = no_sets }) words ends
+          → ListsAre (record { listed = Err NoRoom; sets = no_sets }) words ends
       unfolding all_lists reach_list
       lists_no_words h =
           let room : length (ends_from 0 (all_lists d e)) ≤ length ends = omega (arith, ends_long) in
@@ -133,7 +132,7 @@ module _ (d : Bool) (e : LifetimeEnv) (words ends : List ℕ) where
       pub lists_given : length (flatten (lists_from (graph_of d e) 0 e.count)) ≤ length words
           → {words₁ ends₁ reach : List ℕ} {total : ℕ}
           → Lays (graph_of d e) e.count words ends no_sets words₁ ends₁ reach total
-          → ListsAre (record { listed = listed.Count total; sets = reach }) words₁ ends₁
+          → ListsAre (record { listed = Ok total; sets = reach }) words₁ ends₁
       unfolding lists_answer list_words list_ends all_lists reach_set reach_list
       lists_given fits {words₁} {ends₁} {reach} {total} lays =
           let room : length (ends_from 0 (all_lists d e)) ≤ length ends = omega (arith, ends_long) in

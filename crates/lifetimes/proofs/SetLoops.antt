@@ -1,5 +1,6 @@
 -- The loop of `set::members`: it looks at the lifetimes below 64 in turn and stores those that are members. What is
 -- left to store, stored from here, gives what all members give from the start of the slice. Assumes nothing.
+use Rattle.std.specs.Prelude.{Ok, Err}
 use Prim.Native.Nat.{ℕ, suc, ◌+◌, ◌-◌, ◌≤◌, ◌<◌}
 use mathlib.Core.Bool.{true, false}
 use mathlib.Core.Path.{◌≡◌, refl, ap, ◌∙◌}
@@ -11,26 +12,25 @@ use lib.ListN.{length, set, length-set}
 use lib.Seq.{sets, sets-eq}
 use borrow.Author.Tests.{lt-ltb, le-ltb}
 use Rattle.answers.specs.declared.Refusal.TheVariants.{NoRoom}
-use Rattle.answers.specs.declared.Listed.TheVariants as listed
 use Rattle.answers.specs.Lists.{range, filter}
-use Rattle.answers.specs.Refusals.{Gives, Refuses, unless}
+use Rattle.answers.specs.Refusals.{unless}
 use Rattle.answers.specs.Lent.{counted, written}
 use Rattle.lifetimes.specs.Sets.{member, members, cardinality, list_members}
 
 -- ---- the members for a slice: refused where they are too many, all of them otherwise
 
-no_room : (s room : ℕ) → room < cardinality s → list_members s room ≡ Refuses NoRoom
+no_room : (s room : ℕ) → room < cardinality s → list_members s room ≡ Err NoRoom
 unfolding list_members unless cardinality
 no_room s room h = rw (lt-ltb room (length (members s)) h)
 
-enough_room : (s room : ℕ) → cardinality s ≤ room → list_members s room ≡ Gives (members s)
+enough_room : (s room : ℕ) → cardinality s ≤ room → list_members s room ≡ Ok (members s)
 unfolding list_members unless cardinality
 enough_room s room h = rw (le-ltb room (length (members s)) h)
 
 pub too_short : (s : ℕ) (slice : List ℕ) {n : ℕ} → n ≡ cardinality s → length slice < n
-    → (listed.Refused NoRoom ≡ counted (list_members s (length slice))) × (slice ≡ written (list_members s (length slice)) slice)
+    → (Err NoRoom ≡ counted (list_members s (length slice))) × (slice ≡ written (list_members s (length slice)) slice)
 too_short s slice e h =
-    let r : list_members s (length slice) ≡ Refuses NoRoom = no_room s (length slice) (omega arith) in (rw r, rw r)
+    let r : list_members s (length slice) ≡ Err NoRoom = no_room s (length slice) (omega arith) in (rw r, rw r)
 
 -- ---- the members from x on
 
@@ -97,10 +97,10 @@ module _ {s : ℕ} {entry out : List ℕ} {at x : ℕ} (inv : Listing s entry ou
   done h = let e : x ≡ 64 = omega (arith, inv.within) in rw e at inv.words
 
   pub listing_end : {n : ℕ} → n ≡ cardinality s → 64 ≤ x
-      → (listed.Count n ≡ counted (list_members s (length entry))) × (out ≡ written (list_members s (length entry)) entry)
+      → (Ok n ≡ counted (list_members s (length entry))) × (out ≡ written (list_members s (length entry)) entry)
   unfolding cardinality
   listing_end {n} e h =
-      let r : list_members s (length entry) ≡ Gives (members s) = enough_room s (length entry) inv.room in
-      let all : sets entry 0 (members s) ≡ written (Gives (members s)) entry =
+      let r : list_members s (length entry) ≡ Ok (members s) = enough_room s (length entry) inv.room in
+      let all : sets entry 0 (members s) ≡ written (Ok (members s)) entry =
       rw (sets-eq (members s) entry 0 (omega (arith, inv.room)), zero-add) in
       (rw (r, e), rw r (done h ∙ all))

@@ -1,5 +1,6 @@
 -- The loop of `walk`: the items so far, and then what the walk lists from here on, are what it lists from the start; as
 -- many are seen as are listed.
+use Rattle.std.specs.Prelude.{Some, None}
 use Prim.Native.Nat.{ℕ, ◌+◌, ◌≤◌, ◌<◌}
 use mathlib.Core.Bool.{Bool, true, false, cond}
 use mathlib.Core.Path.{◌≡◌, refl, sym, ap, subst, ◌∙◌}
@@ -13,7 +14,6 @@ use lib.ListN.{length, get_or, take, set}
 use lib.Seq.{take-suc-set, get_or-set_same, get_or-set_other}
 use Rattle.lifetimes.specs.declared.bounds.Bound.{Bound}
 use Rattle.lifetimes.specs.declared.lifetime.Lifetime.{Lifetime}
-use Rattle.lifetimes.specs.declared.walk.Next.TheVariants.{Yield, Nothing}
 use Rattle.lifetimes.specs.declared.walk.Stepped.{Stepped}
 use Rattle.lifetimes.specs.Sets.{empty, member, insert, insert_all, set_of}
 use Rattle.lifetimes.specs.Walk.{neighbours, LastFirst, walk, traversal}
@@ -184,10 +184,10 @@ module _ {g : Graph} {fars befores lasts : List ℕ} (linked : Indexed g fars be
 
   module _ {items stack : List ℕ} {n seen depth at : ℕ} (inv : Walking g limit start items stack n seen depth at)
       {r : Stepped} (steps : Steps g stack seen at depth r) where
-    pub walking_end : r.next ≡ Nothing → Complete g start items (record { count = n; seen = seen })
+    pub walking_end : r.next ≡ None → Complete g start items (record { count = n; seen = seen })
     walking_end h = going_end within inv.going (rw h at steps.skips)
 
-    module _ {l : Lifetime} (h : r.next ≡ Yield l) where
+    module _ {l : Lifetime} (h : r.next ≡ Some l) where
       found : skip seen (pending g stack at depth) ≡ l.0 ∷ pending g stack r.at r.depth
       found = rw h at steps.skips
 

@@ -1,9 +1,9 @@
 -- 01's starred examples about environments ("Checked by hand (* is to be proved)"), as one list of questions and
 -- answers. Theorems.ExamplesHold: each question has its answer.
-use Rattle.std.specs.Prelude.{ℕ, Bool, true, ◌≡◌, List, [], ◌∷◌}
+use Rattle.std.specs.Prelude.{ℕ, Bool, true, ◌≡◌, List, [], ◌∷◌, Ok, Err}
 use Rattle.answers.specs.declared.Refusal.TheVariants.{OutOfRange}
 use Rattle.lifetimes.specs.declared.bounds.Bound.{Bound}
-use Rattle.answers.specs.Refusals.{Outcome, Gives, Refuses}
+use Rattle.answers.specs.Refusals.{Outcome}
 use Rattle.lifetimes.specs.Bounds.{above}
 use Rattle.lifetimes.specs.Env.{env_of}
 use Rattle.lifetimes.specs.Reach.{list_reach, list_depth_first}
@@ -28,13 +28,13 @@ asked q o = record { question = q; expected = o }
 abbrev pub starred : List Example
 starred =
     -- bounds 1 above 0, 2 above 0: HIR longer of 0 is 0 2 1; AST 0 1 2
-    asked (Hir 3 3 (above 1 0 ∷ above 2 0 ∷ []) true 0) (Gives (0 ∷ 2 ∷ 1 ∷ []))
-    ∷ asked (Ast 3 3 (above 1 0 ∷ above 2 0 ∷ []) true 0) (Gives (0 ∷ 1 ∷ 2 ∷ []))
+    asked (Hir 3 3 (above 1 0 ∷ above 2 0 ∷ []) true 0) (Ok (0 ∷ 2 ∷ 1 ∷ []))
+    ∷ asked (Ast 3 3 (above 1 0 ∷ above 2 0 ∷ []) true 0) (Ok (0 ∷ 1 ∷ 2 ∷ []))
     -- 0 above 1, 1 above 0: longer of 1 is 1 0
-    ∷ asked (Hir 2 2 (above 0 1 ∷ above 1 0 ∷ []) true 1) (Gives (1 ∷ 0 ∷ []))
+    ∷ asked (Hir 2 2 (above 0 1 ∷ above 1 0 ∷ []) true 1) (Ok (1 ∷ 0 ∷ []))
     -- count 3, two declared: longer of 2 is 2; of 3 is 8
-    ∷ asked (Hir 2 3 [] true 2) (Gives (2 ∷ []))
-    ∷ asked (Hir 2 3 [] true 3) (Refuses OutOfRange)
+    ∷ asked (Hir 2 3 [] true 2) (Ok (2 ∷ []))
+    ∷ asked (Hir 2 3 [] true 3) (Err OutOfRange)
     ∷ []
 
 -- each question of a list has its expected answer

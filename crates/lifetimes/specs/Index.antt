@@ -3,14 +3,13 @@
 -- side, for each lifetime the last bound whose near side it is: chains. A bound's number is its place counted from 1,
 -- and 0 stands for none. A list is pushed in order and its last entry is taken first, so what a traversal pushes of a
 -- lifetime is the chain of its last bound.
-use Rattle.std.specs.Prelude.{ℕ, zero, suc, ◌≤◌, ◌<◌, Bool, true, false, cond, ◌≡◌, eqb, leb, length, get_or, take}
+use Rattle.std.specs.Prelude.{ℕ, zero, suc, ◌≤◌, ◌<◌, Bool, true, false, cond, ◌≡◌, eqb, leb, length, get_or, take, Some, None, Option}
 use mathlib.Core.List.{List, [], ◌∷◌, ◌++◌, map, flatten, reverse, Memᴰ}
 use Rattle.std.proofs.lemmas.List.Edits.{sets}
 use Rattle.lifetimes.specs.declared.bounds.Bound.{Bound}
 use Rattle.lifetimes.specs.declared.env.LifetimeEnv.{LifetimeEnv}
-use Rattle.lifetimes.specs.declared.walk.Next.{Next}
-use Rattle.lifetimes.specs.declared.walk.Next.TheVariants.{Yield, Nothing}
 use Rattle.lifetimes.specs.declared.walk.Stepped.{Stepped}
+use Rattle.lifetimes.specs.declared.lifetime.Lifetime.{Lifetime}
 use Rattle.lifetimes.specs.declared.walk.Walked.{Walked}
 use Rattle.answers.specs.Lists.{range}
 use Rattle.lifetimes.specs.Sets.{member, set_of}
@@ -101,9 +100,9 @@ abbrev pub Standing : List ℕ → List ℕ → List ℕ → ℕ → ℕ → Typ
 Standing fars befores stack at depth = (g : Graph) × Chained g fars befores × Ready g stack at depth
 
 -- what is pending from the first unseen entry on, by what a step yields
-abbrev pub step_of : Graph → List ℕ → Next → ℕ → ℕ → List ℕ
-step_of g stack Nothing at depth = []
-step_of g stack (Yield l) at depth = l.0 ∷ pending g stack at depth
+abbrev pub step_of : Graph → List ℕ → Option Lifetime → ℕ → ℕ → List ℕ
+step_of g stack None at depth = []
+step_of g stack (Some l) at depth = l.0 ∷ pending g stack at depth
 
 pub record Steps (g : Graph) (stack : List ℕ) (seen at depth : ℕ) (r : Stepped) : Type 0 where
   pub skips : skip seen (pending g stack at depth) ≡ step_of g stack r.next r.at r.depth

@@ -1,5 +1,5 @@
 -- The lifetimes of a definition, paired by place with the lowered words at its use.
-use Rattle.std.specs.Prelude.{ℕ, cond, not, List, [], ◌∷◌, eqb, ltb, length, get_or}
+use Rattle.std.specs.Prelude.{ℕ, cond, not, List, [], ◌∷◌, eqb, ltb, length, get_or, Ok, Err}
 use Rattle.answers.specs.declared.Refusal.TheVariants.{Mismatch}
 use Rattle.lifetimes.specs.declared.def_lifetime.DefLifetime.{DefLifetime}
 use Rattle.lifetimes.specs.declared.linked.LinkedWord.{LinkedWord}
@@ -8,7 +8,7 @@ use Rattle.lifetimes.specs.declared.linked.LinkedPair.{LinkedPair}
 use Rattle.lifetimes.specs.declared.linked.LinkedPair.TheVariants as pair
 use Rattle.lifetimes.specs.Numbers.{def_lifetime}
 use Rattle.answers.specs.Lists.{numbered}
-use Rattle.answers.specs.Refusals.{Check, check, Outcome, Gives, Refuses, unless}
+use Rattle.answers.specs.Refusals.{Check, check, Outcome, unless}
 
 -- refused where the words are not as many as the definition's lifetimes (7)
 abbrev pub linked_checks : List ℕ → ℕ → List Check
@@ -31,13 +31,13 @@ unfoldable pub linked_pair : List ℕ → ℕ → ℕ → Outcome LinkedPair
 linked_pair words count place = unless (linked_checks words count) (pair_at words place)
 
 abbrev pub linked_answer : Outcome LinkedWord → LinkedWord
-linked_answer (Gives w) = w
-linked_answer (Refuses r) = Refused r
+linked_answer (Ok w) = w
+linked_answer (Err r) = Refused r
 
 abbrev pub pair_answer : Outcome LinkedPair → LinkedPair
-pair_answer (Gives p) = p
-pair_answer (Refuses r) = pair.Refused r
+pair_answer (Ok p) = p
+pair_answer (Err r) = pair.Refused r
 
 -- For the theorem: some words with their places, the first at j
 abbrev pub pairs_with_places : ℕ → List ℕ → List (Outcome LinkedPair)
-pairs_with_places j words = numbered (λ k word. Gives (pair.Pair word (def_lifetime k)) ∷ []) j words
+pairs_with_places j words = numbered (λ k word. Ok (pair.Pair word (def_lifetime k)) ∷ []) j words

@@ -5,7 +5,7 @@ ghost use Rattle.lifetimes.specs.Bounds.{above, byte_of, both_below, bounds_from
 ghost use Rattle.lifetimes.specs.Walk.{near, far};
 
 use super::lifetime::Lifetime;
-use answers::{Refusal, Verdict};
+use answers::Refusal;
 
 // One bound: the first lifetime lasts at least as long as the second. They are here by their numbers, a byte each: 256
 // bounds are then few enough bytes for an environment to be handed from call to call by value.
@@ -73,22 +73,22 @@ impl Bounds {
 
     // Whether these can be bounds between so many lifetimes: refused by 4 (257th bound) or 8 (a side past them). A
     // caller can build any value, so whoever is handed bounds asks this first. Reads each bound once.
-    pub fn check(self, lifetimes: usize) -> Verdict
+    pub fn check(self, lifetimes: usize) -> Result<(), Refusal>
         ensures answer { result ≡ judged (bounds_checks lifetimes self) }
     {
         let pushed = self.pushed;
         if Bounds::MAX < pushed {
-            return Verdict::Refused(Refusal::Full);
+            return Err(Refusal::Full);
         }
         let mut i = 0;
         while i < pushed {
             let b = self.list[i];
             if !b.both_below(lifetimes) {
-                return Verdict::Refused(Refusal::OutOfRange);
+                return Err(Refusal::OutOfRange);
             }
             i += 1;
         }
-        Verdict::Accepted
+        Ok(())
     }
 }
 

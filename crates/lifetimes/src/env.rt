@@ -8,7 +8,7 @@ ghost use Rattle.lifetimes.specs.Env.{new_env, push_bound, made};
 
 use super::bounds::{Bounds, bound_of, numbers_below};
 use super::lifetime::Lifetime;
-use answers::{Refusal, Verdict};
+use answers::Refusal;
 
 // How many lifetimes are declared, how many there are in all, and the bounds. The declared ones come first; the others
 // are elided. The Rust has two lists at each lifetime instead of the one.
@@ -22,7 +22,7 @@ pub struct LifetimeEnv {
 // An environment; beside a refusal, the one that the call says.
 #[derive(Clone, Copy)]
 pub struct Made {
-    pub verdict: Verdict,
+    pub verdict: Result<(), Refusal>,
     pub env: LifetimeEnv,
 }
 
@@ -71,7 +71,7 @@ impl LifetimeEnv {
             return refused(Refusal::OutOfRange);
         }
         Made {
-            verdict: Verdict::Accepted,
+            verdict: Ok(()),
             env: LifetimeEnv::from_bounds(declared, count, filled(pairs)),
         }
     }
@@ -87,26 +87,26 @@ impl LifetimeEnv {
         let at = bounds.pushed;
         if Bounds::MAX <= at {
             return Made {
-                verdict: Verdict::Refused(Refusal::Full),
+                verdict: Err(Refusal::Full),
                 env: self,
             };
         }
         let verdict = self.check();
-        let Verdict::Accepted = verdict else {
+        let Ok(()) = verdict else {
             return Made { verdict, env: self };
         };
         let from = longer.index();
         let to = shorter.index();
         if !numbers_below(from, to, declared) {
             return Made {
-                verdict: Verdict::Refused(Refusal::OutOfRange),
+                verdict: Err(Refusal::OutOfRange),
                 env: self,
             };
         }
         bounds.list[at] = bound_of(from, to);
         bounds.pushed = at + 1;
         Made {
-            verdict: Verdict::Accepted,
+            verdict: Ok(()),
             env: LifetimeEnv::from_bounds(declared, count, bounds),
         }
     }
@@ -121,19 +121,19 @@ impl LifetimeEnv {
     // Whether this can be an environment: refused by 4 (65th lifetime, 257th bound) or 8 (more declared than there are,
     // a bound past the declared). A caller can build any value, so whoever is handed an environment asks this first.
     // The bounds are handed on only where there are some.
-    pub fn check(self) -> Verdict
+    pub fn check(self) -> Result<(), Refusal>
         ensures answer { result ≡ judged (env_checks self) }
     {
         let declared = self.declared;
         let count = self.count;
         if LifetimeEnv::MAX_LIFETIMES < count {
-            return Verdict::Refused(Refusal::Full);
+            return Err(Refusal::Full);
         }
         if self.bounds.pushed == 0 {
             return check_declared(declared, count);
         }
         let verdict = self.bounds.check(declared);
-        let Verdict::Accepted = verdict else {
+        let Ok(()) = verdict else {
             return verdict;
         };
         check_declared(declared, count)
@@ -141,21 +141,21 @@ impl LifetimeEnv {
 }
 
 // Whether no more lifetimes are declared than there are. Refused by 8.
-fn check_declared(declared: usize, count: usize) -> Verdict
+fn check_declared(declared: usize, count: usize) -> Result<(), Refusal>
     ensures { result ≡ judged (too_few declared count ∷ []) }
 {
     if count < declared {
-        return Verdict::Refused(Refusal::OutOfRange);
+        return Err(Refusal::OutOfRange);
     }
-    Verdict::Accepted
+    Ok(())
 }
 
 // A refusal, beside an environment without lifetimes.
 fn refused(refusal: Refusal) -> Made
-    ensures { result ≡ record { verdict = Verdict.Refused refusal; env = env_of 0 0 [] } }
+    ensures { result ≡ record { verdict = Err refusal; env = env_of 0 0 [] } }
 {
     Made {
-        verdict: Verdict::Refused(refusal),
+        verdict: Err(refusal),
         env: LifetimeEnv::none(),
     }
 }

@@ -26,5 +26,5 @@ pub use def_lifetime::DefLifetime;
 pub use env::{LifetimeEnv, Made};
 pub use lifetime::Lifetime;
 pub use linked::{LinkedLifetimes, LinkedPair, LinkedWord, linked_pair, linked_word};
-pub use maybe_static::{LoweredWord, MaybeStatic, MaybeStaticDef};
+pub use maybe_static::{MaybeStatic, MaybeStaticDef};
 pub use reach::{Lists, ReachSets};

@@ -5,13 +5,6 @@ ghost use Rattle.lifetimes.specs.LoweredWords.{from_word, def_from_word, word_an
 use super::def_lifetime::DefLifetime;
 use super::lifetime::Lifetime;
 
-// The word of a lifetime, where it has one: the word of the lifetime numbered 2^64 - 1 (that of `Strs`) does not fit.
-#[derive(Clone, Copy)]
-pub enum LoweredWord {
-    Word(usize),
-    Absent,
-}
-
 // A method's lifetime, or 'static.
 #[derive(Clone, Copy)]
 pub enum MaybeStatic {
@@ -31,11 +24,11 @@ impl MaybeStatic {
     }
 
     // Its lowered word, where there is one.
-    pub fn word(self) -> LoweredWord
+    pub fn word(self) -> Option<usize>
         ensures answer { result ≡ word_answer self }
     {
         match self {
-            MaybeStatic::Static => LoweredWord::Word(0),
+            MaybeStatic::Static => Some(0),
             MaybeStatic::NonStatic(l) => word_after(l.index()),
         }
     }
@@ -60,22 +53,22 @@ impl MaybeStaticDef {
     }
 
     // Its lowered word, where there is one.
-    pub fn word(self) -> LoweredWord
+    pub fn word(self) -> Option<usize>
         ensures answer { result ≡ def_word_answer self }
     {
         match self {
-            MaybeStaticDef::Static => LoweredWord::Word(0),
+            MaybeStaticDef::Static => Some(0),
             MaybeStaticDef::NonStatic(l) => word_after(l.index()),
         }
     }
 }
 
 // The word one above a number, where there is one.
-fn word_after(number: usize) -> LoweredWord
+fn word_after(number: usize) -> Option<usize>
     ensures { result ≡ if_fits (number + 1) }
 {
     if number == 18446744073709551615 {
-        return LoweredWord::Absent;
+        return None;
     }
-    LoweredWord::Word(number + 1)
+    Some(number + 1)
 }

@@ -17,27 +17,27 @@ use super::env::LifetimeEnv;
 use super::index::link;
 use super::lifetime::Lifetime;
 use super::walk::walk;
-use answers::{Listed, Refusal, Verdict};
+use answers::Refusal;
 
 // The reach of all lifetimes: the set of the lifetime x at place x. Places past the count hold 0, and all do beside a
 // refusal.
 #[derive(Clone, Copy)]
 pub struct ReachSets {
-    pub verdict: Verdict,
+    pub verdict: Result<(), Refusal>,
     pub sets: [u64; LifetimeEnv::MAX_LIFETIMES],
 }
 
 // How many words all lists have together, and the sets as in `ReachSets`.
 #[derive(Clone, Copy)]
 pub struct Lists {
-    pub listed: Listed,
+    pub listed: Result<usize, Refusal>,
     pub sets: [u64; LifetimeEnv::MAX_LIFETIMES],
 }
 
 impl LifetimeEnv {
     // Write the lifetimes that outlive a lifetime to a slice, itself first, in the order of the Rust. Refused by 4 and
     // 8 as the environment is, by 8 for a lifetime past the count, by 9 where the slice is too short.
-    pub fn all_longer_lifetimes(self, lifetime: Lifetime, out: &mut [usize]) -> Listed
+    pub fn all_longer_lifetimes(self, lifetime: Lifetime, out: &mut [usize]) -> Result<usize, Refusal>
         ensures answer { result ≡ counted (list_reach true self lifetime.0 (room out)) }
         ensures stored { Fills (list_reach true self lifetime.0 (room out)) out }
     {
@@ -45,7 +45,7 @@ impl LifetimeEnv {
     }
 
     // Write the lifetimes that a lifetime outlives, in the same way.
-    pub fn all_shorter_lifetimes(self, lifetime: Lifetime, out: &mut [usize]) -> Listed
+    pub fn all_shorter_lifetimes(self, lifetime: Lifetime, out: &mut [usize]) -> Result<usize, Refusal>
         ensures answer { result ≡ counted (list_reach false self lifetime.0 (room out)) }
         ensures stored { Fills (list_reach false self lifetime.0 (room out)) out }
     {
@@ -59,7 +59,7 @@ impl LifetimeEnv {
         lifetime: Lifetime,
         longer: bool,
         out: &mut [usize],
-    ) -> Listed
+    ) -> Result<usize, Refusal>
         ensures answer { result ≡ counted (list_depth_first longer self lifetime.0 (room out)) }
         ensures stored { Fills (list_depth_first longer self lifetime.0 (room out)) out }
     {
@@ -72,7 +72,7 @@ impl LifetimeEnv {
     {
         let mut sets = [0u64; LifetimeEnv::MAX_LIFETIMES];
         let verdict = self.check();
-        let Verdict::Accepted = verdict else {
+        let Ok(()) = verdict else {
             return ReachSets { verdict, sets };
         };
         let declared = self.declared;
@@ -83,7 +83,7 @@ impl LifetimeEnv {
         link(self.bounds, false, longer, &mut far, &mut before, &mut last);
         measure(&far, &before, &last, declared, count, &mut sets);
         ReachSets {
-            verdict: Verdict::Accepted,
+            verdict: Ok(()),
             sets,
         }
     }
@@ -98,9 +98,9 @@ impl LifetimeEnv {
     {
         let mut sets = [0u64; LifetimeEnv::MAX_LIFETIMES];
         let verdict = self.check();
-        if let Verdict::Refused(refusal) = verdict {
+        if let Err(refusal) = verdict {
             return Lists {
-                listed: Listed::Refused(refusal),
+                listed: Err(refusal),
                 sets,
             };
         }
@@ -108,7 +108,7 @@ impl LifetimeEnv {
         let count = self.count;
         if ends.len() < count {
             return Lists {
-                listed: Listed::Refused(Refusal::NoRoom),
+                listed: Err(Refusal::NoRoom),
                 sets,
             };
         }
@@ -118,7 +118,7 @@ impl LifetimeEnv {
         link(self.bounds, false, longer, &mut far, &mut before, &mut last);
         if !all_fit(&far, &before, &last, declared, count, words.len()) {
             return Lists {
-                listed: Listed::Refused(Refusal::NoRoom),
+                listed: Err(Refusal::NoRoom),
                 sets,
             };
         }
@@ -126,7 +126,7 @@ impl LifetimeEnv {
             &far, &before, &last, declared, count, words, ends, &mut sets,
         );
         Lists {
-            listed: Listed::Count(total),
+            listed: Ok(total),
             sets,
         }
     }
@@ -139,25 +139,25 @@ fn traverse(
     lifetime: Lifetime,
     longer: bool,
     out: &mut [usize],
-) -> Listed
+) -> Result<usize, Refusal>
     ensures value { result ≡ counted (list_from env lifetime.0 (list_by ast longer env lifetime.0) (room out)) }
     ensures fills { Fills (list_from env lifetime.0 (list_by ast longer env lifetime.0) (room out)) out }
 {
     let verdict = env.check();
-    if let Verdict::Refused(refusal) = verdict {
-        return Listed::Refused(refusal);
+    if let Err(refusal) = verdict {
+        return Err(refusal);
     }
     let start = lifetime.index();
     if env.count <= start {
-        return Listed::Refused(Refusal::OutOfRange);
+        return Err(Refusal::OutOfRange);
     }
     let mut items = [0usize; LifetimeEnv::MAX_LIFETIMES];
     let n = list(env, ast, longer, start, &mut items);
     if out.len() < n {
-        return Listed::Refused(Refusal::NoRoom);
+        return Err(Refusal::NoRoom);
     }
     copy_to(&items, n, out, 0);
-    Listed::Count(n)
+    Ok(n)
 }
 
 // The list of one lifetime of an environment, to the first places of `items`. Answers how many it lists.

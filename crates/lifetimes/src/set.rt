@@ -7,7 +7,7 @@ ghost use Rattle.lifetimes.specs.Sets as sets;
 ghost use Rattle.lifetimes.specs.Limits.{most_lifetimes};
 
 use super::lifetime::Lifetime;
-use answers::{Listed, Refusal};
+use answers::Refusal;
 
 // The set without members.
 pub const EMPTY: u64 = 0;
@@ -53,13 +53,13 @@ pub fn count(set: u64) -> usize
 
 // Write a set's lifetimes to a slice, ascending. Refused by 9 where the slice is too short. Looks at each of the 64
 // bits once.
-pub fn members(set: u64, out: &mut [usize]) -> Listed
+pub fn members(set: u64, out: &mut [usize]) -> Result<usize, Refusal>
     ensures answer { result ≡ counted (sets.list_members set (room out)) }
     ensures stored { Fills (sets.list_members set (room out)) out }
 {
     let n = count(set);
     if out.len() < n {
-        return Listed::Refused(Refusal::NoRoom);
+        return Err(Refusal::NoRoom);
     }
     let mut at = 0;
     let mut x = 0;
@@ -70,7 +70,7 @@ pub fn members(set: u64, out: &mut [usize]) -> Listed
         }
         x += 1;
     }
-    Listed::Count(n)
+    Ok(n)
 }
 
 // As `contains`, of a number that is known to be below 64.

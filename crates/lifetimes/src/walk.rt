@@ -10,17 +10,10 @@ use super::env::LifetimeEnv;
 use super::lifetime::Lifetime;
 use super::set;
 
-// What a step yields: the next unseen lifetime, or none.
-#[derive(Clone, Copy)]
-enum Next {
-    Yield(Lifetime),
-    Nothing,
-}
-
 // What a step yields, and where the traversal stands after it: the chain that it is in, and how many the stack holds.
 #[derive(Clone, Copy)]
 struct Stepped {
-    next: Next,
+    next: Option<Lifetime>,
     at: usize,
     depth: usize,
 }
@@ -51,7 +44,7 @@ fn advance(
     let next = 'pending: loop {
         if at == 0 {
             if depth == 0 {
-                break 'pending Next::Nothing;
+                break 'pending None;
             }
             depth -= 1;
             at = stack[depth];
@@ -60,7 +53,7 @@ fn advance(
             let y = far[i] as usize;
             at = before[i] as usize;
             if !set::holds(seen, y) {
-                break 'pending Next::Yield(Lifetime::new(y));
+                break 'pending Some(Lifetime::new(y));
             }
         }
     };
@@ -92,7 +85,7 @@ pub(crate) fn walk(
     while count < limit {
         let stepped = advance(far, before, &stack, seen, at, depth);
         let next = stepped.next;
-        let Next::Yield(lifetime) = next else {
+        let Some(lifetime) = next else {
             return Walked { count, seen };
         };
         let y = lifetime.index();

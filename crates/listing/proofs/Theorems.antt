@@ -1,11 +1,12 @@
 -- The main theorems: terms of the types stated in specs/Theorems.antt.
+use Rattle.std.specs.Prelude.{Ok}
 use Prim.Native.Nat.{ℕ}
 use mathlib.Core.Path.{◌≡◌, refl, sym, ap, ◌∙◌}
 use mathlib.Core.List.{List, map}
 use lib.ListN.{length, get_or}
 use native.Mathlib.Omega.{arith}
 use borrow.Author.Tests.{le-ltb}
-use Rattle.answers.specs.Refusals.{Outcome, Gives, unless, next, end}
+use Rattle.answers.specs.Refusals.{Outcome, unless, next, end}
 use Rattle.lifetimes.specs.Examples as reach
 use Rattle.answers.proofs.RefusalLaws.{due_given, due_refused, none_more}
 use Rattle.lifetimes.proofs.Theorems as reach-proofs
@@ -33,7 +34,7 @@ program_answers bytes = record {
   fits = fit bytes (unless (listing_checks bytes) (whole bytes)) refl;
   same = λ n. due_given (whole bytes)
       (none_more n (next (le-ltb room_bytes (length (whole bytes)) (fits_room bytes n)) end))
-      ∙ ap (λ (o : Outcome (List ℕ)). Gives (said o)) (sym (due_given (whole bytes) n));
+      ∙ ap (λ (o : Outcome (List ℕ)). Ok (said o)) (sym (due_given (whole bytes) n));
 }
 
 pub told_apart : ToldApart

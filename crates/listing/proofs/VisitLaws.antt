@@ -1,4 +1,5 @@
 -- The listing and the visits: with 4,096 edges lent there is room for all exactly where the listing has no more.
+use Rattle.std.specs.Prelude.{Ok}
 use Prim.Native.Nat.{ℕ, ◌*◌, ◌≤◌, ◌<◌}
 use mathlib.Core.Bool.{Bool, true, false}
 use mathlib.Core.Path.{◌≡◌, refl, sym, ◌∙◌}
@@ -8,7 +9,6 @@ use borrow.Author.Tests.{ltb-true, ltb-false}
 use lib.Dec.{ltb}
 use lib.ListN.{length}
 use Rattle.answers.specs.declared.Refusal.TheVariants.{NoRoom}
-use Rattle.answers.specs.declared.Verdict.TheVariants.{Accepted}
 use Rattle.answers.specs.Refusals.{here, NoneDue, next, end}
 use Rattle.answers.proofs.RefusalLaws.{none_first, none_split, none_more, first_after}
 use Rattle.borrowing_param.specs.declared.visitor.ParamBorrowInfo.{ParamBorrowInfo}
@@ -36,7 +36,7 @@ module _ (bytes edges : List ℕ) (fine : NoneDue (sheet_refusals bytes)) (lent 
   room_for_all n = omega (arith, lent, ltb-false most_edges listed (none_first (none_split (sheet_refusals bytes) _ n).1))
 
   -- a refused visit is none that is accepted
-  told : {i : ParamBorrowInfo} → i ≡ refuse NoRoom → i.verdict ≡ Accepted → ⊥
+  told : {i : ParamBorrowInfo} → i ≡ refuse NoRoom → i.verdict ≡ Ok (tt {0}) → ⊥
   told e a = let z : ◌≡◌ {A = ℕ} 0 1 = cc in omega arith
 
   module _ (answered : Answered bytes) (apart : ToldApart) where

@@ -1,5 +1,6 @@
 -- An accepted method, listed from what stands in scratch: all lists and sets as `all_lists` leaves them, the answers
 -- and edges of `borrow_map`.
+use Rattle.std.specs.Prelude.{Ok, Err, Some, None, Option}
 use Prim.Native.Nat.{ℕ, ◌+◌, ◌*◌, ◌-◌, ◌≤◌, ◌<◌, ◌^◌}
 use mathlib.Core.Bool.{Bool, true, false, cond}
 use mathlib.Core.Path.{◌≡◌, refl, sym, ap, subst, ◌∙◌}
@@ -12,11 +13,9 @@ use lib.ListN.{length, take, drop, length-append, length-map}
 use lib.Seq.{take-append_seam}
 use Rattle.answers.specs.declared.Refusal.{Refusal}
 use Rattle.answers.specs.declared.Refusal.TheVariants.{NoRoom}
-use Rattle.answers.specs.declared.Listed.TheVariants as listed
-use Rattle.answers.specs.declared.Verdict.TheVariants as verdict
 use Rattle.lifetimes.specs.declared.env.LifetimeEnv.{LifetimeEnv}
 use Rattle.lifetimes.specs.declared.reach.Lists as reach
-use Rattle.answers.specs.Refusals.{Check, Outcome, Gives, Refuses, FirstDue, here, later, NoneDue, next, end}
+use Rattle.answers.specs.Refusals.{Check, Outcome, FirstDue, here, later, NoneDue, next, end}
 use Rattle.answers.specs.Lent.{written, verdict_of, result_or, room_check}
 use Rattle.answers.specs.Lists.{range}
 use Rattle.lifetimes.specs.Sets as sets
@@ -42,8 +41,6 @@ use Rattle.borrowing_param.specs.BorrowMap.{answers_from, listed_edges}
 use Rattle.borrowing_param.specs.Borrows.{Borrows}
 use Rattle.borrowing_param.proofs.JoinLaws.{words_many, words_read}
 use Rattle.borrowing_param.proofs.ConsistentLaws.{listing_consistent}
-use Rattle.listing.specs.declared.within.Within.{Within}
-use Rattle.listing.specs.declared.within.Within.TheVariants as within
 use Rattle.listing.specs.Listing.{count_heading, lowered_heading, longer_heading, longer_lines, answer_lines}
 use Rattle.listing.specs.Listing.{edge_lines, most_edges}
 use Rattle.text.specs.Printing.{Prints}
@@ -121,7 +118,7 @@ module _ {env : LifetimeEnv} {used : ℕ} {structs params own given taken : List
   lists_many = rw length-map (length_range 0 env.count)
 
   pub lists_short : (lists : List ℕ) {edges : ℕ} {out : List ℕ} → length lists < env.count * env.count
-      → ListsWithin listing ((lists_room ≤ length lists) × (edges_room ≤ edges)) out within.Short out
+      → ListsWithin listing ((lists_room ≤ length lists) × (edges_room ≤ edges)) out None out
   lists_short lists h = (λ a. omega (arith, h, mul-le-mul few few, a.0), refl)
 
   module _ {lists ends : List ℕ} {l : reach.Lists} {lists₁ ends₁ : List ℕ} (all : AllListed env lists ends l lists₁ ends₁) where
@@ -205,8 +202,8 @@ module _ {env : LifetimeEnv} {used : ℕ} {structs params own given taken : List
         verdict_is = ap (λ (x : BorrowMap). x.verdict) maps ∙ go mapped
           where
             go : (o : Outcome Mapping) → (map_answer o).verdict ≡ verdict_of o
-            go (Gives x) = refl
-            go (Refuses k) = refl
+            go (Ok x) = refl
+            go (Err k) = refl
 
         answers_fit : answers_ask.due ≡ false
         answers_fit = le-ltb (length answers) (length (answers_from visitor 0 types)) (omega (arith, few_answers, sixteen))
@@ -215,7 +212,7 @@ module _ {env : LifetimeEnv} {used : ℕ} {structs params own given taken : List
         words_are = words_many (listed_edges visitor types) ∙ ap (λ (es : List LifetimeEdge). width * length es) edges_are
 
         -- more than so many words of edges
-        edges_many : {k : Refusal} → m.verdict ≡ verdict.Refused k → length edges < width * length borrows.edges
+        edges_many : {k : Refusal} → m.verdict ≡ Err k → length edges < width * length borrows.edges
         unfolding borrow_map
         edges_many {k} v =
             go (first_behind (next answers_fit end)
@@ -227,12 +224,12 @@ module _ {env : LifetimeEnv} {used : ℕ} {structs params own given taken : List
             go (here d e) = omega (arith, ltb-true (length edges) (length (flat_map edge_words (listed_edges visitor types))) d, words_are)
             go (later _ x6) = elim x6 [ ]
 
-        pub map_refused : {k : Refusal} (w : Within) (out : List ℕ) → m.verdict ≡ verdict.Refused k → w ≡ edges_overflow (length edges₁)
+        pub map_refused : {k : Refusal} (w : Option (Outcome ℕ)) (out : List ℕ) → m.verdict ≡ Err k → w ≡ edges_overflow (length edges₁)
             → ListsWithin listing ((lists_room ≤ length lists) × (edges_room ≤ length edges)) out w out
         unfolding listed_method borrow_map
         map_refused {k} w out v e = rw (e, same) (go (ltb (length edges) edges_room) refl)
           where
-            refuses : mapped ≡ Refuses k
+            refuses : mapped ≡ Err k
             refuses =
                 due_refused (mapping_of visitor types)
                 (refused_first (mapping_of visitor types) k
@@ -243,7 +240,7 @@ module _ {env : LifetimeEnv} {used : ℕ} {structs params own given taken : List
 
             go : (t : Bool) → ltb (length edges) edges_room ≡ t
                 → ListsWithin listing ((lists_room ≤ length lists) × (edges_room ≤ length edges)) out
-                (cond t within.Short (within.Done (listed.Refused NoRoom))) out
+                (cond t None (Some (Err NoRoom))) out
             go true s = (λ a. omega (arith, ltb-true (length edges) edges_room s, a.1), refl)
             go false s =
                 let many : most_edges < length borrows.edges = omega (arith, ltb-false (length edges) edges_room s, edges_many v) in (
@@ -252,16 +249,16 @@ module _ {env : LifetimeEnv} {used : ℕ} {structs params own given taken : List
                   refl,
                 )
 
-        module _ (fine : m.verdict ≡ verdict.Accepted) where
+        module _ (fine : m.verdict ≡ Ok (tt {0})) where
           map_none : NoneDue (map_checks visitor structs params (length answers) (length edges))
           unfolding borrow_map
           map_none =
               accepted_none (mapping_of visitor types) (map_checks visitor structs params (length answers) (length edges))
               (sym verdict_is ∙ fine)
 
-          map_given : mapped ≡ Gives (record { answers = borrows.answers; edges = borrows.edges })
+          map_given : mapped ≡ Ok (record { answers = borrows.answers; edges = borrows.edges })
           unfolding borrow_map
-          map_given = due_given (mapping_of visitor types) map_none ∙ ap Gives mapping_is
+          map_given = due_given (mapping_of visitor types) map_none ∙ ap Ok mapping_is
 
           edges_fit : width * length borrows.edges ≤ length edges
           edges_fit =
@@ -273,7 +270,7 @@ module _ {env : LifetimeEnv} {used : ℕ} {structs params own given taken : List
                 words_are,
               )
 
-          map_is : m ≡ map_answer (Gives (record { answers = borrows.answers; edges = borrows.edges }))
+          map_is : m ≡ map_answer (Ok (record { answers = borrows.answers; edges = borrows.edges }))
           map_is = maps ∙ ap map_answer map_given
 
           answers_stand : answers₁ ≡ borrows.answers ++ drop (length borrows.answers) answers
@@ -319,7 +316,7 @@ module _ {env : LifetimeEnv} {used : ℕ} {structs params own given taken : List
 
             pub method_listed : {n : ℕ} {out out₁ : List ℕ}
                 → Prints (sections (counts many) own given taken lists₁ ends₁ answers₂ edges₁) 0 out n out₁
-                → ListsWithin listing ((lists_room ≤ length lists) × (edges_room ≤ length edges)) out (within.Done (listed.Count n)) out₁
+                → ListsWithin listing ((lists_room ≤ length lists) × (edges_room ≤ length edges)) out (Some (Ok n)) out₁
             unfolding listed_method
             method_listed p = (
               method_listing env used structs params own given taken,

@@ -1,5 +1,6 @@
 -- Ten records that were read, listed stage by stage: the first refusal due is that of the stage which refuses them; if none
 -- is, the method that the stages leave is listed as the records are.
+use Rattle.std.specs.Prelude.{Ok, Err, Some, None, Option}
 use Prim.Native.Nat.{ℕ, ◌-◌, ◌/◌, ◌≤◌, ◌<◌}
 use mathlib.Core.Bool.{true}
 use mathlib.Core.Path.{◌≡◌, refl, sym, ap, subst, ◌∙◌}
@@ -13,10 +14,8 @@ use lib.ListN.{length, take, drop, length-append, length-map}
 use lib.Seq.{take-append_seam}
 use Rattle.answers.specs.declared.Refusal.{Refusal}
 use Rattle.answers.specs.declared.Refusal.TheVariants.{NoRoom}
-use Rattle.answers.specs.declared.Listed.TheVariants as listed
-use Rattle.answers.specs.declared.Verdict.TheVariants as verdict
 use Rattle.lifetimes.specs.declared.env.LifetimeEnv.{LifetimeEnv}
-use Rattle.answers.specs.Refusals.{Check, check, Outcome, Gives, unless, FirstDue, NoneDue, next, end}
+use Rattle.answers.specs.Refusals.{Check, check, Outcome, unless, FirstDue, NoneDue, next, end}
 use Rattle.answers.specs.Lent.{written}
 use Rattle.lifetimes.specs.LoweredWords.{word_of}
 use Rattle.answers.proofs.RefusalLaws.{due_given, due_refused, first_more, none_first}
@@ -30,8 +29,6 @@ use Rattle.elision.specs.Rfc as rfc
 use Rattle.elision.specs.Lowering.{words, lowered_records, measure_checks, lowering_room_checks, measure_records, lower_records, answered}
 use Rattle.elision.specs.Lowering.{own_words, step_words, return_words}
 use Rattle.elision.proofs.SizeLaws.{lowered_self_lem, lowered_steps_lem, lowered_returns_lem}
-use Rattle.methods.specs.declared.used.UsedLifetimes.{UsedLifetimes}
-use Rattle.methods.specs.declared.used.UsedLifetimes.TheVariants as answer
 use Rattle.methods.specs.Used.{used_set, used_answer}
 use Rattle.text.specs.Decimal.{line}
 use Rattle.records.specs.Reading.{most_words}
@@ -45,8 +42,6 @@ use Rattle.borrowing_param.proofs.NewLaws.{used_refused, gives, accepted, used_b
 use Rattle.borrowing_param.proofs.Condition3Laws.{params_none}
 use Rattle.borrowing_param.proofs.MethodLaws.{names_first, ast_is, names_are, steps_first, env_is, measure_none}
 use Rattle.borrowing_param.proofs.MethodLaws.{method_first, method_none}
-use Rattle.listing.specs.declared.within.Within.{Within}
-use Rattle.listing.specs.declared.within.Within.TheVariants as within
 use Rattle.listing.specs.Listing.{count_lines, lowered_heading, longer_lines, answer_lines, edge_lines, most_edges}
 use Rattle.listing.specs.Listing.{room_bytes, edges_check, listing_of}
 use Rattle.listing.specs.InnerListing.{ListsTo, ListsWithin, Ample, listed_records, method_borrows, method_listing}
@@ -69,7 +64,7 @@ text_by env b own given taken =
     ++ edge_lines b.edges)))
 
 refuses : (r : Records) {k : Refusal} {out : List ℕ} → FirstDue k (lowering_checks r)
-    → ListsTo (listed_records r) out (listed.Refused k) out
+    → ListsTo (listed_records r) out (Err k) out
 refuses r f = (due_refused (listing_of r) (first_more (edges_check r ∷ []) f), refl)
 
 module _ (r : Records) (first : NoneDue (records_checks r)) (given taken : ℕ) where
@@ -91,17 +86,17 @@ module _ (r : Records) (first : NoneDue (records_checks r)) (given taken : ℕ) 
   eighth {room} {n} h k a = omega (arith, h, k, a, div-add-mod' room per_word, mod-lt room {m = per_word} (omega arith))
 
   pub steps_short : {lists edges : ℕ} {out : List ℕ} → given / per_word < length r.steps
-      → ListsWithin (listed_records r) (Ample given taken lists edges) out within.Short out
+      → ListsWithin (listed_records r) (Ample given taken lists edges) out None out
   steps_short h = (λ a. eighth h steps_long a.0, refl)
 
   pub returns_short : {lists edges : ℕ} {out : List ℕ} → taken / per_word < length r.returns
-      → ListsWithin (listed_records r) (Ample given taken lists edges) out within.Short out
+      → ListsWithin (listed_records r) (Ample given taken lists edges) out None out
   returns_short h = (λ a. eighth h returns_long a.1, refl)
 
   module _ (steps_room : length r.steps ≤ given / per_word) (returns_room : length r.returns ≤ taken / per_word)
       {a : ast-made.Made} (is : a ≡ ast.made (ast.named_env [] []) (ast.from_method_item r.names r.bounds r.types)) where
-    pub names_listed : {k : Refusal} {out : List ℕ} → a.verdict ≡ verdict.Refused k
-        → ListsTo (listed_records r) out (listed.Refused k) out
+    pub names_listed : {k : Refusal} {out : List ℕ} → a.verdict ≡ Err k
+        → ListsTo (listed_records r) out (Err k) out
     names_listed v = refuses r (names_first r first is v)
 
     -- with so much room `lower` refuses as `measure` does
@@ -137,12 +132,12 @@ module _ (r : Records) (first : NoneDue (records_checks r)) (given taken : ℕ) 
         unless_before (lowered_records a.env r.self r.steps r.returns)
         (measure_checks a.env r.self r.steps r.returns) (room_none a.env)
 
-    module _ (fine : a.verdict ≡ verdict.Accepted) {l : Lowering} (lowers : l ≡ answered a.env lowered) where
+    module _ (fine : a.verdict ≡ Ok (tt {0})) {l : Lowering} (lowers : l ≡ answered a.env lowered) where
       measures : l ≡ answered a.env (measure_records a.env r.self r.steps r.returns)
       measures = lowers ∙ ap (answered a.env) lower_measures
 
-      pub steps_listed : {k : Refusal} {out : List ℕ} → l.verdict ≡ verdict.Refused k
-          → ListsTo (listed_records r) out (listed.Refused k) out
+      pub steps_listed : {k : Refusal} {out : List ℕ} → l.verdict ≡ Err k
+          → ListsTo (listed_records r) out (Err k) out
       steps_listed v = refuses r (steps_first r first is fine measures v)
 
 -- What the stages have left when the records are lowered: what `from_method_item` answered, and what `lower` answered
@@ -153,7 +148,7 @@ pub record Elided (r : Records) (own given taken : List ℕ) (a : ast-made.Made)
   pub steps_room : length r.steps ≤ length given / per_word
   pub returns_room : length r.returns ≤ length taken / per_word
   pub names : a ≡ ast.made (ast.named_env [] []) (ast.from_method_item r.names r.bounds r.types)
-  pub fine : a.verdict ≡ verdict.Accepted
+  pub fine : a.verdict ≡ Ok (tt {0})
   pub lowers : l ≡ answered a.env (lower_records a.env r.self r.steps r.returns 1 (length given) (length taken))
   pub own_written : own₁
       ≡ written (own_words (lower_records a.env r.self r.steps r.returns 1 (length given) (length taken))) own
@@ -163,7 +158,7 @@ pub record Elided (r : Records) (own given taken : List ℕ) (a : ast-made.Made)
   pub returns_written : taken₁
       ≡ written (return_words (lower_records a.env r.self r.steps r.returns 1 (length given) (length taken)))
       taken
-  pub elides : l.verdict ≡ verdict.Accepted
+  pub elides : l.verdict ≡ Ok (tt {0})
 
 module _ {r : Records} {own given taken : List ℕ} {a : ast-made.Made} {l : Lowering} {own₁ given₁ taken₁ : List ℕ}
     (h : Elided r own given taken a l own₁ given₁ taken₁) where
@@ -174,7 +169,7 @@ module _ {r : Records} {own given taken : List ℕ} {a : ast-made.Made} {l : Low
   measured = measures r h.first (length given) (length taken) h.steps_room h.returns_room h.names h.fine h.lowers
 
   -- what stands in the scratch
-  lowered_is : lowering ≡ Gives (lowered_of r)
+  lowered_is : lowering ≡ Ok (lowered_of r)
   unfolding measure_records
   lowered_is =
       lower_measures r h.first (length given) (length taken) h.steps_room h.returns_room h.names
@@ -184,10 +179,10 @@ module _ {r : Records} {own given taken : List ℕ} {a : ast-made.Made} {l : Low
       (measure_none r h.first h.names h.fine measured h.elides)
       ∙ rw (names_are r h.first h.names h.fine)
 
-  answer_is : l ≡ answered a.env (Gives (lowered_of r))
+  answer_is : l ≡ answered a.env (Ok (lowered_of r))
   answer_is = h.lowers ∙ ap (answered a.env) lowered_is
 
-  stands : (f : Outcome rfc.Method → Outcome (List ℕ)) (ws : List ℕ) → f (Gives (lowered_of r)) ≡ Gives ws → {n : ℕ}
+  stands : (f : Outcome rfc.Method → Outcome (List ℕ)) (ws : List ℕ) → f (Ok (lowered_of r)) ≡ Ok ws → {n : ℕ}
       → n ≡ length ws → (slice : List ℕ) {slice₁ : List ℕ} → slice₁ ≡ written (f lowering) slice
       → (n ≤ length slice₁) × (take (n - 0) (drop 0 slice₁) ≡ ws)
   stands f ws e {n} size slice {slice₁} wrote =
@@ -208,14 +203,14 @@ module _ {r : Records} {own given taken : List ℕ} {a : ast-made.Made} {l : Low
       taken h.returns_written
 
   -- the used lifetimes
-  module _ {u : UsedLifetimes} (uses : u ≡ used_answer (used_set l.env r.structs r.params r.output r.force)) where
-    pub used_listed : {k : Refusal} {out : List ℕ} → u ≡ answer.Refused k → ListsTo (listed_records r) out (listed.Refused k) out
+  module _ {u : Outcome ℕ} (uses : u ≡ used_answer (used_set l.env r.structs r.params r.output r.force)) where
+    pub used_listed : {k : Refusal} {out : List ℕ} → u ≡ Err k → ListsTo (listed_records r) out (Err k) out
     used_listed e =
         refuses r
         (method_first r h.first h.names h.fine measured h.elides
         (used_refused l.env r.structs r.params r.output r.force uses e))
 
-    module _ {used : ℕ} (e : u ≡ answer.Set used) where
+    module _ {used : ℕ} (e : u ≡ Ok used) where
       none : NoneDue (lowering_checks r)
       none = method_none r h.first h.names h.fine measured h.elides
           (accepted l.env r.structs r.params r.output r.force uses e)
@@ -226,7 +221,7 @@ module _ {r : Records} {own given taken : List ℕ} {a : ast-made.Made} {l : Low
       borrows_are : sheet_borrows r ≡ method_borrows l.env used r.structs r.params
       unfolding created
       borrows_are =
-          let g : used_set (env_of_sheet r) r.structs r.params r.output r.force ≡ Gives used =
+          let g : used_set (env_of_sheet r) r.structs r.params r.output r.force ≡ Ok used =
           rw (← the_env) (gives l.env r.structs r.params r.output r.force uses e) in
           rw (g, the_env)
 
@@ -262,7 +257,7 @@ module _ {r : Records} {own given taken : List ℕ} {a : ast-made.Made} {l : Low
                 (subst (λ (b : Borrows). length b.edges ≤ most_edges) (sym borrows_are) few));
           }
 
-      pub records_listed : (lists edges : ℕ) (w : Within) (out out₁ : List ℕ)
+      pub records_listed : (lists edges : ℕ) (w : Option (Outcome ℕ)) (out out₁ : List ℕ)
           → ListsWithin (listed_method l.env used r.structs r.params selves inputs outputs)
           ((lists_room ≤ lists) × (edges_room ≤ edges)) out w out₁
           → ListsWithin (listed_records r) (Ample (length given) (length taken) lists edges) out w out₁
@@ -276,9 +271,9 @@ module _ {r : Records} {own given taken : List ℕ} {a : ast-made.Made} {l : Low
               ∙ ap (λ (t : List ℕ). unless (edges_check r ∷ []) t) (sym text_is)
               ∙ sym (unless_after (listing_of r) (edges_check r ∷ []) none)
 
-          go : (w : Within)
+          go : (w : Option (Outcome ℕ))
               → ListsWithin (listed_method l.env used r.structs r.params selves inputs outputs)
               ((lists_room ≤ lists) × (edges_room ≤ edges)) out w out₁
               → ListsWithin (listed_records r) (Ample (length given) (length taken) lists edges) out w out₁
-          go (within.Done x) h = subst (λ (o : Outcome (List ℕ)). ListsTo o out x out₁) same h
-          go within.Short h = (λ a. h.0 (a.2, a.3), h.1)
+          go (Some x) h = subst (λ (o : Outcome (List ℕ)). ListsTo o out x out₁) same h
+          go None h = (λ a. h.0 (a.2, a.3), h.1)

@@ -1,11 +1,9 @@
 -- For private functions only: a listing made in lent scratch. No public contract cites this file.
-use Rattle.std.specs.Prelude.{ℕ, ◌*◌, ◌≤◌, ◌<◌, true, cond, ◌≡◌, List, [], ◌∷◌, ◌++◌, ltb, length, get_or}
+use Rattle.std.specs.Prelude.{ℕ, ◌*◌, ◌≤◌, ◌<◌, true, cond, ◌≡◌, List, [], ◌∷◌, ◌++◌, ltb, length, get_or, Ok, Err, Some, None, Option}
 use Rattle.std.proofs.lemmas.List.Edits.{sets}
 use Rattle.answers.specs.declared.Refusal.TheVariants.{NoRoom}
-use Rattle.answers.specs.declared.Listed.{Listed}
-use Rattle.answers.specs.declared.Listed.TheVariants as listed
 use Rattle.lifetimes.specs.declared.env.LifetimeEnv.{LifetimeEnv}
-use Rattle.answers.specs.Refusals.{check, Outcome, Gives, Refuses, unless, NoneDue}
+use Rattle.answers.specs.Refusals.{check, Outcome, unless, NoneDue}
 use Rattle.lifetimes.specs.Limits.{most_lifetimes}
 use Rattle.lifetimes.specs.Sets.{member}
 use Rattle.lifetimes.specs.Env.{env_checks}
@@ -18,8 +16,6 @@ use Rattle.borrowing_param.specs.New.{new_visitor}
 use Rattle.borrowing_param.specs.SheetMethod.{lowering_checks}
 use Rattle.borrowing_param.specs.Borrows.{Borrows, borrows_by}
 use Rattle.borrowing_param.specs.InnerSheet.{OfMethod}
-use Rattle.listing.specs.declared.within.Within.{Within}
-use Rattle.listing.specs.declared.within.Within.TheVariants as within
 use Rattle.listing.specs.Listing.{count_heading, count_lines, lowered_heading, longer_heading, longer_lines}
 use Rattle.listing.specs.Listing.{answer_lines, edge_lines, most_edges, edges_check, listing_of, listing_checks}
 use Rattle.listing.specs.Listing.{room_bytes}
@@ -40,9 +36,9 @@ pub record StandsInFront (text out : List ℕ) (n : ℕ) (out₁ : List ℕ) : T
 
 -- what a function answers and leaves that lists into a slice: the text's length, and the text stored from the front as
 -- far as the slice goes; or a refusal, and the slice as it was
-abbrev pub ListsTo : Outcome (List ℕ) → List ℕ → Listed → List ℕ → Type 0
-ListsTo o out (listed.Count n) out₁ = (text : List ℕ) × (o ≡ Gives text) × StandsInFront text out n out₁
-ListsTo o out (listed.Refused k) out₁ = (o ≡ Refuses k) × (out₁ ≡ out)
+abbrev pub ListsTo : Outcome (List ℕ) → List ℕ → Outcome ℕ → List ℕ → Type 0
+ListsTo o out (Ok n) out₁ = (text : List ℕ) × (o ≡ Ok text) × StandsInFront text out n out₁
+ListsTo o out (Err k) out₁ = (o ≡ Err k) × (out₁ ≡ out)
 
 -- Scratch of these sizes is enough for any sheet. A step has two words or more and gives at most 16 lifetimes, so that
 -- a word of steps or returns gives at most eight
@@ -63,9 +59,9 @@ Ample given taken lists edges =
     (lowered_room ≤ given) × (lowered_room ≤ taken) × (lists_room ≤ lists) × (edges_room ≤ edges)
 
 -- the same in scratch that may be too short; only where it is not ample
-abbrev pub ListsWithin : Outcome (List ℕ) → Type 0 → List ℕ → Within → List ℕ → Type 0
-ListsWithin o ample out (within.Done answer) out₁ = ListsTo o out answer out₁
-ListsWithin o ample out within.Short out₁ = (ample → ⊥) × (out₁ ≡ out)
+abbrev pub ListsWithin : Outcome (List ℕ) → Type 0 → List ℕ → Option (Outcome ℕ) → List ℕ → Type 0
+ListsWithin o ample out (Some answer) out₁ = ListsTo o out answer out₁
+ListsWithin o ample out None out₁ = (ample → ⊥) × (out₁ ≡ out)
 
 -- an accepted method: its environment, used lifetimes, structs and params, and the lowered words of its records
 abbrev pub method_borrows : LifetimeEnv → ℕ → List ℕ → List ℕ → Borrows
@@ -102,5 +98,5 @@ sections counts own given taken lists ends answers edges =
     ++ edge_lines (edges_in (get_or counts 3 0) edges))))
 
 -- the edges do not fit so many words
-abbrev pub edges_overflow : ℕ → Within
-edges_overflow room = cond (ltb room edges_room) within.Short (within.Done (listed.Refused NoRoom))
+abbrev pub edges_overflow : ℕ → Option (Outcome ℕ)
+edges_overflow room = cond (ltb room edges_room) None (Some (Err NoRoom))

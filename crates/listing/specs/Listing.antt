@@ -1,12 +1,12 @@
 -- The listing of a sheet (01, "The listing"): bytes, from the sheet's records. Each part is of the definitions that the
 -- contracts of the crates below cite.
-use Rattle.std.specs.Prelude.{ℕ, ◌*◌, true, ltb, length}
+use Rattle.std.specs.Prelude.{ℕ, ◌*◌, true, ltb, length, Ok, Err}
 use mathlib.Core.List.{List, [], ◌∷◌, ◌++◌, flat_map}
 use Rattle.answers.specs.declared.Refusal.{Refusal}
 use Rattle.answers.specs.declared.Refusal.TheVariants.{NoRoom}
 use Rattle.lifetimes.specs.declared.env.LifetimeEnv.{LifetimeEnv}
 use Rattle.answers.specs.Lists.{range, numbered}
-use Rattle.answers.specs.Refusals.{Check, check, Outcome, Gives, Refuses, unless, number_of}
+use Rattle.answers.specs.Refusals.{Check, check, Outcome, unless, number_of}
 use Rattle.answers.specs.Lent.{room_check}
 use Rattle.lifetimes.specs.Reach.{reach_list}
 use Rattle.elision.specs.Rfc as rfc
@@ -105,8 +105,8 @@ abbrev pub refusal_text : Refusal → List ℕ
 refusal_text k = refusal_heading ++ line (number_of k ∷ [])
 
 abbrev pub said : Outcome (List ℕ) → List ℕ
-said (Gives text) = text
-said (Refuses k) = refusal_text k
+said (Ok text) = text
+said (Err k) = refusal_text k
 
 unfoldable pub response : List ℕ → List ℕ
 response bytes = said (unless (listing_checks bytes) (listing_of (sheet_of bytes)))

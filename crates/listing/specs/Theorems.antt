@@ -1,9 +1,8 @@
 -- The main theorems, stated. Their proofs are the terms of these types in proofs/Theorems.antt.
-use Rattle.std.specs.Prelude.{ℕ, ◌*◌, ◌≤◌, ◌<◌, ◌≡◌, ◌⊎◌, ◌↔◌, List, length, get_or}
+use Rattle.std.specs.Prelude.{ℕ, ◌*◌, ◌≤◌, ◌<◌, ◌≡◌, ◌⊎◌, ◌↔◌, List, length, get_or, Ok}
 use Rattle.answers.specs.declared.Refusal.{Refusal}
 use Rattle.answers.specs.declared.Refusal.TheVariants.{NoRoom}
-use Rattle.answers.specs.declared.Verdict.TheVariants.{Accepted}
-use Rattle.answers.specs.Refusals.{Gives, FirstDue, NoneDue}
+use Rattle.answers.specs.Refusals.{FirstDue, NoneDue}
 use Rattle.sheet.specs.Text.{Records}
 use Rattle.sheet.specs.Reading.{sheet_of}
 use Rattle.methods.specs.Method.{types_in}
@@ -29,7 +28,7 @@ pub record Answered (bytes : List ℕ) : Type 0 where
   -- it fits into the room of `respond`, so that 9 comes from the edges alone
   pub fits : length (response bytes) ≤ room_bytes
   -- `listing`, lent as much, gives the same
-  pub same : NoneDue (listing_checks bytes) → listing bytes room_bytes ≡ Gives (response bytes)
+  pub same : NoneDue (listing_checks bytes) → listing bytes room_bytes ≡ Ok (response bytes)
 
 abbrev pub ProgramAnswers : Type 0
 ProgramAnswers = (bytes : List ℕ) → Answered bytes
@@ -57,7 +56,7 @@ pub record AsListed (bytes edges : List ℕ) : Type 0 where
   -- else each visit answers the number that is listed, and each lifetime has the edges that are listed, in the same
   -- order
   pub answers : NoneDue (listing_checks bytes) → (p : ℕ) → p < params_of bytes
-      → ((visit_to bytes edges p).verdict ≡ Accepted)
+      → ((visit_to bytes edges p).verdict ≡ Ok (tt {0}))
       × ((visit_to bytes edges p).number ≡ get_or (sheet_borrows (sheet_of bytes)).answers p 0)
   pub brings : NoneDue (listing_checks bytes) → (used : ℕ)
       → edges_of used (edges_in (left_by_visits bytes edges).visitor.stored (left_by_visits bytes edges).words)

@@ -10,8 +10,8 @@ ghost use Rattle.listing.specs.Listing as spec;
 ghost use Rattle.listing.specs.InnerListing.{listed_sheet, ListsTo, ListsWithin};
 
 use super::sections::put_refusal;
-use super::within::{EDGES_ROOM, LISTS_ROOM, LOWERED_ROOM, PER_WORD, Within, list_within};
-use answers::{Listed, Refusal};
+use super::within::{EDGES_ROOM, LISTS_ROOM, LOWERED_ROOM, PER_WORD, list_within};
+use answers::Refusal;
 use borrowing_param::BorrowingParamVisitor;
 use sheet::Text;
 
@@ -20,7 +20,7 @@ pub const ROOM: usize = 2 * Text::MAX_BYTES;
 
 // Write the listing of a sheet to a slice. The answer is how many bytes it has. Refused as the sheet is (10; 1 over all
 // records; 13; 2 to 7 at the first bad place; 8), then by 9 for more than 4,096 edges or where the slice is too short.
-pub fn listing(sheet: &[u8], out: &mut [u8]) -> Listed
+pub fn listing(sheet: &[u8], out: &mut [u8]) -> Result<usize, Refusal>
     ensures answer { result ≡ counted (spec.listing sheet.now (room out)) }
     ensures stored { Fills (spec.listing sheet.now (room out)) out }
 {
@@ -31,17 +31,17 @@ pub fn listing(sheet: &[u8], out: &mut [u8]) -> Listed
 }
 
 // The same where the slice may be too short: the listing is measured first.
-fn list_tight(sheet: &[u8], out: &mut [u8]) -> Listed
+fn list_tight(sheet: &[u8], out: &mut [u8]) -> Result<usize, Refusal>
     ensures value { result ≡ counted (spec.listing sheet.now (room out)) }
     ensures fills { Fills (spec.listing sheet.now (room out)) out }
 {
     let mut none = [0u8; 0];
     let measured = list_sheet(sheet, &mut none);
-    let Listed::Count(count) = measured else {
+    let Ok(count) = measured else {
         return measured;
     };
     if out.len() < count {
-        return Listed::Refused(Refusal::NoRoom);
+        return Err(Refusal::NoRoom);
     }
     list_sheet(sheet, out)
 }
@@ -54,8 +54,8 @@ pub fn respond(sheet: &[u8], out: &mut [u8; ROOM]) -> usize
 {
     let answer = list_sheet(sheet, out);
     match answer {
-        Listed::Count(count) => count,
-        Listed::Refused(refusal) => {
+        Ok(count) => count,
+        Err(refusal) => {
             let number = [refusal.number(); 1];
             put_refusal(out, 0, &number)
         }
@@ -63,7 +63,7 @@ pub fn respond(sheet: &[u8], out: &mut [u8; ROOM]) -> usize
 }
 
 // List a sheet, as far as the slice goes.
-fn list_sheet(sheet: &[u8], out: &mut [u8]) -> Listed
+fn list_sheet(sheet: &[u8], out: &mut [u8]) -> Result<usize, Refusal>
     ensures { ListsTo (listed_sheet sheet.now) (held out) result (left out) }
 {
     list_sized(sheet, out, Text::SMALL)
@@ -71,26 +71,26 @@ fn list_sheet(sheet: &[u8], out: &mut [u8]) -> Listed
 
 // The same in scratch for sheets of so many bytes, and where that is too short, in the next larger. That it calls
 // itself keeps the arrays of the larger sizes out of the frame of the smaller ones.
-fn list_sized(sheet: &[u8], out: &mut [u8], bytes: usize) -> Listed
+fn list_sized(sheet: &[u8], out: &mut [u8], bytes: usize) -> Result<usize, Refusal>
     ensures { ListsTo (listed_sheet sheet.now) (held out) result (left out) }
 {
     if bytes <= Text::SMALL {
         let tried = list_256(sheet, out);
-        let Within::Done(answer) = tried else {
+        let Some(answer) = tried else {
             return list_sized(sheet, out, Text::MIDDLE);
         };
         return answer;
     }
     if bytes <= Text::MIDDLE {
         let tried = list_1024(sheet, out);
-        let Within::Done(answer) = tried else {
+        let Some(answer) = tried else {
             return list_sized(sheet, out, Text::LARGE);
         };
         return answer;
     }
     if bytes <= Text::LARGE {
         let tried = list_4096(sheet, out);
-        let Within::Done(answer) = tried else {
+        let Some(answer) = tried else {
             return list_sized(sheet, out, Text::MAX_BYTES);
         };
         return answer;
@@ -100,11 +100,11 @@ fn list_sized(sheet: &[u8], out: &mut [u8], bytes: usize) -> Listed
 
 // In scratch of one size: for the words of any sheet of at most so many bytes, a word to two bytes; for what 24 words
 // of steps and 12 of returns give; for 12 lifetimes; for 20 edges.
-fn list_256(sheet: &[u8], out: &mut [u8]) -> Within
+fn list_256(sheet: &[u8], out: &mut [u8]) -> Option<Result<usize, Refusal>>
     ensures { ListsWithin (listed_sheet sheet.now) ⊥ (held out) result (left out) }
 {
     if Text::SMALL < sheet.len() {
-        return Within::Short;
+        return None;
     }
     let mut words = [0usize; Text::SMALL / 2];
     let mut given = [0usize; 24 * PER_WORD];
@@ -117,11 +117,11 @@ fn list_256(sheet: &[u8], out: &mut [u8]) -> Within
 }
 
 // The same for 64 words of steps, 32 of returns, 32 lifetimes, 128 edges.
-fn list_1024(sheet: &[u8], out: &mut [u8]) -> Within
+fn list_1024(sheet: &[u8], out: &mut [u8]) -> Option<Result<usize, Refusal>>
     ensures { ListsWithin (listed_sheet sheet.now) ⊥ (held out) result (left out) }
 {
     if Text::MIDDLE < sheet.len() {
-        return Within::Short;
+        return None;
     }
     let mut words = [0usize; Text::MIDDLE / 2];
     let mut given = [0usize; 64 * PER_WORD];
@@ -134,11 +134,11 @@ fn list_1024(sheet: &[u8], out: &mut [u8]) -> Within
 }
 
 // The same for 128 words of steps, 64 of returns, 64 lifetimes, 512 edges.
-fn list_4096(sheet: &[u8], out: &mut [u8]) -> Within
+fn list_4096(sheet: &[u8], out: &mut [u8]) -> Option<Result<usize, Refusal>>
     ensures { ListsWithin (listed_sheet sheet.now) ⊥ (held out) result (left out) }
 {
     if Text::LARGE < sheet.len() {
-        return Within::Short;
+        return None;
     }
     let mut words = [0usize; Text::LARGE / 2];
     let mut given = [0usize; 128 * PER_WORD];
@@ -151,7 +151,7 @@ fn list_4096(sheet: &[u8], out: &mut [u8]) -> Within
 }
 
 // In scratch for any sheet.
-fn list_any(sheet: &[u8], out: &mut [u8]) -> Listed
+fn list_any(sheet: &[u8], out: &mut [u8]) -> Result<usize, Refusal>
     ensures { ListsTo (listed_sheet sheet.now) (held out) result (left out) }
 {
     let mut words = [0usize; Text::MAX_WORDS];
@@ -162,8 +162,8 @@ fn list_any(sheet: &[u8], out: &mut [u8]) -> Listed
     let listed = list_within(
         sheet, &mut words, &mut given, &mut taken, &mut lists, &mut edges, out,
     );
-    let Within::Done(answer) = listed else {
-        return Listed::Refused(Refusal::NoRoom);
+    let Some(answer) = listed else {
+        return Err(Refusal::NoRoom);
     };
     answer
 }

@@ -10,19 +10,19 @@ ghost use Rattle.listing.specs.InnerListing.{listed_sheet, listed_records, Ample
 ghost use Rattle.listing.specs.InnerListing.{Listable, edges_overflow, lists_room, edges_room};
 
 use super::whole::put_listing;
-use answers::{Listed, Refusal, Verdict};
+use answers::Refusal;
 use borrowing_param::BorrowingParamVisitor;
 use elision::lower;
 use lifetimes::{LifetimeEnv, set};
-use methods::{MAX_PARAMS, UsedLifetimes, used_method_lifetimes};
-use records::End;
+use methods::{MAX_PARAMS, used_method_lifetimes};
+use records::MAX_WORDS;
 use sheet::{Text, read_sheet, record_words};
 
 // How many lowered words a word of steps or returns gives at most: a step has two words or more and gives at most 16.
 pub(crate) const PER_WORD: usize = 8;
 
 // So many words take what any steps, and any returns, give.
-pub(crate) const LOWERED_ROOM: usize = PER_WORD * End::MAX_WORDS;
+pub(crate) const LOWERED_ROOM: usize = PER_WORD * MAX_WORDS;
 
 // So many words take the longer lists of any method.
 pub(crate) const LISTS_ROOM: usize = LifetimeEnv::MAX_LIFETIMES * LifetimeEnv::MAX_LIFETIMES;
@@ -32,13 +32,6 @@ const MAX_EDGES: usize = 4096;
 
 // So many words take them.
 pub(crate) const EDGES_ROOM: usize = BorrowingParamVisitor::EDGE_WORDS * MAX_EDGES;
-
-// The answer, or that the scratch is too short.
-#[derive(Clone, Copy)]
-pub(crate) enum Within {
-    Done(Listed),
-    Short,
-}
 
 // List a sheet. `words` takes the words of any sheet of so many bytes; `given` and `taken` are for the lowered words of
 // steps and returns, `lists` for the longer lists, `edges` for the edges.
@@ -50,15 +43,15 @@ pub(crate) fn list_within(
     lists: &mut [usize],
     edges: &mut [usize],
     out: &mut [u8],
-) -> Within
+) -> Option<Result<usize, Refusal>>
     requires { Roomy sheet.now (length words.old) × (length edges.old ≤ edges_room) }
     ensures { ListsWithin (listed_sheet sheet.now) (Ample (room given) (room taken) (room lists) (room edges))
         (held out) result (left out) }
 {
     let text = read_sheet(sheet, words);
     let verdict = text.verdict;
-    if let Verdict::Refused(refusal) = verdict {
-        return Within::Done(Listed::Refused(refusal));
+    if let Err(refusal) = verdict {
+        return Some(Err(refusal));
     }
     let ends = text.ends;
     list_laid(words, ends, given, taken, lists, edges, out)
@@ -73,7 +66,7 @@ fn list_laid(
     lists: &mut [usize],
     edges: &mut [usize],
     out: &mut [u8],
-) -> Within
+) -> Option<Result<usize, Refusal>>
     requires { NoneDue (records_checks (records_at words.now ends)) × (length edges.old ≤ edges_room) }
     ensures { ListsWithin (listed_records (records_at words.now ends))
         (Ample (room given) (room taken) (room lists) (room edges)) (held out) result (left out) }
@@ -114,7 +107,7 @@ fn list_records(
     lists: &mut [usize],
     edges: &mut [usize],
     out: &mut [u8],
-) -> Within
+) -> Option<Result<usize, Refusal>>
     requires { NoneDue (records_checks
         (ten_records names.now bounds.now types.now receiver.now steps.now returns.now structs.now
         params.now output.now force.now)) × (length edges.old ≤ edges_room) }
@@ -125,29 +118,29 @@ fn list_records(
         (held out) result (left out) }
 {
     if given.len() / PER_WORD < steps.len() {
-        return Within::Short;
+        return None;
     }
     if taken.len() / PER_WORD < returns.len() {
-        return Within::Short;
+        return None;
     }
     let ast = ast_lifetimes::LifetimeEnv::from_method_item(names, bounds, types);
     let declared = ast.verdict;
-    if let Verdict::Refused(refusal) = declared {
-        return Within::Done(Listed::Refused(refusal));
+    if let Err(refusal) = declared {
+        return Some(Err(refusal));
     }
     let mut own = [0usize; 1];
     let lowered = lower(ast.env, receiver, steps, returns, &mut own, given, taken);
     let elided = lowered.verdict;
-    if let Verdict::Refused(refusal) = elided {
-        return Within::Done(Listed::Refused(refusal));
+    if let Err(refusal) = elided {
+        return Some(Err(refusal));
     }
     let selves = lowered.selves;
     let stepped = lowered.steps;
     let returned = lowered.returns;
     let used = used_method_lifetimes(lowered.env, structs, params, output, force);
     match used {
-        UsedLifetimes::Refused(refusal) => Within::Done(Listed::Refused(refusal)),
-        UsedLifetimes::Set(members) => list_method(
+        Err(refusal) => Some(Err(refusal)),
+        Ok(members) => list_method(
             lowered.env,
             members,
             structs,
@@ -174,7 +167,7 @@ fn list_method(
     lists: &mut [usize],
     edges: &mut [usize],
     out: &mut [u8],
-) -> Within
+) -> Option<Result<usize, Refusal>>
     requires { Listable env used structs.now params.now own.now given.now taken.now
         × (length edges.old ≤ edges_room) }
     ensures { ListsWithin
@@ -183,7 +176,7 @@ fn list_method(
 {
     let count = env.count;
     if lists.len() < count * count {
-        return Within::Short;
+        return None;
     }
     let mut ends = [0usize; LifetimeEnv::MAX_LIFETIMES];
     let longer = env.all_lists(true, lists, &mut ends);
@@ -191,7 +184,7 @@ fn list_method(
     let mut answers = [0usize; MAX_PARAMS];
     let map = visitor.borrow_map(structs, params, &mut answers, edges);
     let verdict = map.verdict;
-    if let Verdict::Refused(_) = verdict {
+    if let Err(_) = verdict {
         return too_many(edges.len());
     }
     let params = map.params;
@@ -207,15 +200,15 @@ fn list_method(
         &answers[0..params],
         edges,
     );
-    Within::Done(Listed::Count(length))
+    Some(Ok(length))
 }
 
 // More edges than so many words take: the scratch is too short, or they are more than a listing has.
-fn too_many(room: usize) -> Within
+fn too_many(room: usize) -> Option<Result<usize, Refusal>>
     ensures { result ≡ edges_overflow room }
 {
     if room < EDGES_ROOM {
-        return Within::Short;
+        return None;
     }
-    Within::Done(Listed::Refused(Refusal::NoRoom))
+    Some(Err(Refusal::NoRoom))
 }

@@ -1,4 +1,5 @@
 -- `compute_for_struct_field`: skipping types and rows, the field asked for, its pairs, and the ways out.
+use Rattle.std.specs.Prelude.{Ok, Err}
 use Prim.Native.Nat.{ℕ, zero, suc, ◌+◌, ◌-◌, ◌≤◌, ◌<◌}
 use mathlib.Core.Bool.{Bool, true, false, cond, not, ◌&&◌}
 use mathlib.Core.Path.{◌≡◌, refl, sym, ap, subst, ◌∙◌}
@@ -14,10 +15,6 @@ use borrow.Author.Tests.{lt-ltb, le-ltb, ltb-true, ltb-false, eqb-true, not-fals
 use Rattle.records.proofs.ReadingLaws.{passed, fails_read}
 use Rattle.answers.specs.declared.Refusal.{Refusal}
 use Rattle.answers.specs.declared.Refusal.TheVariants.{Malformed}
-use Rattle.answers.specs.declared.Listed.{Listed}
-use Rattle.answers.specs.declared.Listed.TheVariants as listed
-use Rattle.answers.specs.declared.Verdict.{Verdict}
-use Rattle.answers.specs.declared.Verdict.TheVariants.{Accepted, Refused}
 use Rattle.lifetimes.specs.declared.def_lifetime.DefLifetime.{DefLifetime}
 use Rattle.lifetimes.specs.declared.linked.LinkedPair.{LinkedPair}
 use Rattle.lifetimes.specs.declared.linked.LinkedPair.TheVariants.{Pair}
@@ -25,7 +22,7 @@ use Rattle.lifetimes.specs.declared.maybe_static.MaybeStaticDef.{MaybeStaticDef}
 use Rattle.lifetimes.specs.declared.maybe_static.MaybeStaticDef.TheVariants.{Static, NonStatic}
 use Rattle.lifetimes.specs.Numbers.{def_lifetime}
 use Rattle.lifetimes.specs.LoweredWords.{def_from_word}
-use Rattle.answers.specs.Refusals.{unless, FirstDue, NoneDue, later, end, next}
+use Rattle.answers.specs.Refusals.{unless, FirstDue, NoneDue, later, end, next, Outcome, Verdict}
 use Rattle.lifetimes.specs.Linked.{linked_pair, pair_answer}
 use Rattle.answers.proofs.RefusalLaws.{due_given, due_refused, refused_first, accepted_none, none_first, none_rest}
 use Rattle.answers.proofs.RefusalLaws.{none_split}
@@ -336,8 +333,8 @@ fits_linked rows t {inner} e h =
 
 -- ---- the ways out
 
-pub compute_torn : (structs : List ℕ) (row field : ℕ) {sh : Listed}
-    → sh ≡ how_many (structs_in_shape structs) (rows_of structs) → {r : Refusal} → sh ≡ listed.Refused r
+pub compute_torn : (structs : List ℕ) (row field : ℕ) {sh : Outcome ℕ}
+    → sh ≡ how_many (structs_in_shape structs) (rows_of structs) → {r : Refusal} → sh ≡ Err r
     → record { answer = answer.Refused Malformed; pairs = placed [] } ≡ field_answer (field_pairs structs row field)
 unfolding field_pairs unless
 compute_torn structs row field q e = rw (refused_shape (structs_in_shape structs) (rows_of structs) q e)
@@ -382,7 +379,7 @@ module _ {structs : List ℕ} {row field inner from count : ℕ} {lifetimes : Li
   fine : not (structs_in_shape structs && is_struct (field_at (rows_of structs) row field).kind) ≡ false
   fine = rw (x.shape, asked.0)
 
-  pub compute_refused : {s : Refusal} → v ≡ Refused s
+  pub compute_refused : {s : Refusal} → v ≡ Err s
       → record { answer = answer.Refused s; pairs = placed [] } ≡ field_answer (field_pairs structs row field)
   unfolding field_pairs
   compute_refused {s} z =
@@ -391,7 +388,7 @@ module _ {structs : List ℕ} {row field inner from count : ℕ} {lifetimes : Li
       (refused_first (tt {0}) s (row_checks (rows_of structs) 0 (rows_of structs)) (sym x.index.verdict ∙ z)) in
       rw (due_refused (pairs_from (row_at (rows_of structs) row).lifetimes 0 (field_at (rows_of structs) row field).path) due)
 
-  module _ (z : v ≡ Accepted) where
+  module _ (z : v ≡ Ok (tt {0})) where
     pub few_rows : (row < 32) × (inner < 32)
     few_rows = (omega (arith, asked_row, x.index.few z), omega (arith, asked_row, asked.1, x.index.few z))
 

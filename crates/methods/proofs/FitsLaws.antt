@@ -1,4 +1,5 @@
 -- Struct types that fit their rows: one type, the loop over types, the parameters.
+use Rattle.std.specs.Prelude.{Ok, Err, Some, None, Option}
 use Prim.Native.Nat.{ℕ, zero, suc, ◌+◌, ◌-◌, ◌≤◌, ◌<◌}
 use mathlib.Core.Bool.{Bool, true, false, cond}
 use mathlib.Core.Path.{◌≡◌, refl, sym, subst, ◌∙◌}
@@ -7,9 +8,7 @@ use native.Mathlib.Omega.{arith}
 use lib.ListN.{length, take, drop}
 use borrow.Author.Tests.{ltb-true, le-leb, lt-leb}
 use Rattle.answers.specs.declared.Refusal.TheVariants.{Full, Mismatch}
-use Rattle.answers.specs.declared.Verdict.{Verdict}
-use Rattle.answers.specs.declared.Verdict.TheVariants.{Accepted, Refused}
-use Rattle.answers.specs.Refusals.{check, unless}
+use Rattle.answers.specs.Refusals.{check, unless, Verdict}
 use Rattle.records.specs.Reading.{Read, Fails}
 use Rattle.answers.specs.Lent.{judged}
 use Rattle.answers.proofs.VerdictLaws.{judged_after, judged_stays}
@@ -19,8 +18,6 @@ use Rattle.hir_types.specs.declared.types.Parts.{Parts}
 use Rattle.hir_types.specs.LoweredTypes.{LoweredType, read_lowered, knows}
 use Rattle.hir_types.specs.Rows.{Row, read_known, read_types}
 use Rattle.hir_types.proofs.FoundLaws.{Found}
-use Rattle.methods.specs.declared.fits.Fit.{Fit}
-use Rattle.methods.specs.declared.fits.Fit.TheVariants.{To, Misfit}
 use Rattle.methods.specs.Method.{misfit, misfits, type_checks, param_checks}
 use Rattle.methods.specs.Inner.{Holding, misfit_in, FitIs, fits, unfit, TypeFits, TypesFit, ParamsFit}
 use Rattle.records.proofs.ReadingLaws.{fails_read}
@@ -40,13 +37,13 @@ same_misfit rows n lifetimes h Slice count k = refl
 
 -- what a check of one type says
 one_judged : (rows : List Row) (t : LoweredType) (b : Bool) → misfits rows t ≡ b
-    → judged (type_checks rows (t ∷ [])) ≡ cond b (Refused Mismatch) Accepted
+    → judged (type_checks rows (t ∷ [])) ≡ cond b (Err Mismatch) (Ok (tt {0}))
 unfolding unless
 one_judged rows t true e = rw e
 one_judged rows t false e = rw e
 
 module _ (words : List ℕ) (at : ℕ) (lifetimes : List ℕ) where
-  pub type_missing : read_lowered (drop at words) ≡ Fails → TypeFits words at lifetimes Misfit
+  pub type_missing : read_lowered (drop at words) ≡ Fails → TypeFits words at lifetimes None
   type_missing f rows n t rest few h e = fails_read (sym f ∙ (known_read n (drop at words) e).reads)
 
   module _ {p : Parts} (f : Found words at (read_lowered (drop at words)) p) where
@@ -57,10 +54,10 @@ module _ (words : List ℕ) (at : ℕ) (lifetimes : List ℕ) where
         let s = same_found f n e in
         rw (← s.stands.kind, ← s.stands.count) (sym (same_misfit rows n lifetimes h p.kind p.count s.known) ∙ m)
 
-    pub type_unfit : misfit_in lifetimes p.kind p.count ≡ true → TypeFits words at lifetimes Misfit
+    pub type_unfit : misfit_in lifetimes p.kind p.count ≡ true → TypeFits words at lifetimes None
     type_unfit m rows n t rest few h e = rw (one_judged rows t true (right true m rows n t rest h e)) unfit
 
-    pub type_fit : misfit_in lifetimes p.kind p.count ≡ false → TypeFits words at lifetimes (To p.next)
+    pub type_fit : misfit_in lifetimes p.kind p.count ≡ false → TypeFits words at lifetimes (Some p.next)
     type_fit m rows n t rest few h e =
         let s = (same_found f n e).stands in
         rw (one_judged rows t false (right false m rows n t rest h e))
@@ -70,22 +67,22 @@ module _ (words : List ℕ) (at : ℕ) (lifetimes : List ℕ) where
 
 -- what is known of a fit once it is known which it is
 pub record Goes (words : List ℕ) (from : ℕ) (rest : List ℕ) (v : Verdict) (next : ℕ) : Type 0 where
-  pub accepted : v ≡ Accepted
+  pub accepted : v ≡ Ok (tt {0})
   pub left : drop next words ≡ rest
   pub past : from ≤ next
   pub within : next ≤ length words
 
-module _ {words rest : List ℕ} {from : ℕ} {v : Verdict} {r : Fit} (f : FitIs words from rest v r) where
-  pub fit_goes : {next : ℕ} → r ≡ To next → Goes words from rest v next
+module _ {words rest : List ℕ} {from : ℕ} {v : Verdict} {r : Option ℕ} (f : FitIs words from rest v r) where
+  pub fit_goes : {next : ℕ} → r ≡ Some next → Goes words from rest v next
   fit_goes {next} e = go (subst (FitIs words from rest v) e f)
     where
-      go : {v : Verdict} → FitIs words from rest v (To next) → Goes words from rest v next
+      go : {v : Verdict} → FitIs words from rest v (Some next) → Goes words from rest v next
       go (fits d b e) = record { accepted = refl; left = d; past = b; within = e }
 
-  pub fit_stops : r ≡ Misfit → v ≡ Refused Mismatch
+  pub fit_stops : r ≡ None → v ≡ Err Mismatch
   fit_stops e = go (subst (FitIs words from rest v) e f)
     where
-      go : {v : Verdict} → FitIs words from rest v Misfit → v ≡ Refused Mismatch
+      go : {v : Verdict} → FitIs words from rest v None → v ≡ Err Mismatch
       go unfit = refl
 
 -- the types that are left to check, for types that were read
@@ -122,17 +119,17 @@ module _ {words : List ℕ} {from count : ℕ} {lifetimes : List ℕ} {at i : �
         → judged (type_checks rows types) ≡ judged (type_checks rows (t ∷ []) ++ type_checks rows more)
     both_judged rows t more types e = rw e
 
-    pub fitting_stops : {r : Fit} → TypeFits words at lifetimes r → r ≡ Misfit → TypesFit words from count lifetimes Misfit
+    pub fitting_stops : {r : Option ℕ} → TypeFits words at lifetimes r → r ≡ None → TypesFit words from count lifetimes None
     fitting_stops f e rows n types rest few k reads =
         let l = inv.onto rows n types rest few k reads in
         let x = next_left l in
         let s = fit_stops (f rows n x.type x.behind few k x.first) e in
-        let v : judged (type_checks rows types) ≡ Refused Mismatch =
+        let v : judged (type_checks rows types) ≡ Err Mismatch =
         l.same ∙ both_judged rows x.type x.more l.left x.all
         ∙ judged_stays (type_checks rows (x.type ∷ [])) (type_checks rows x.more) s in
         rw v unfit
 
-    pub fitting_more : {r : Fit} → TypeFits words at lifetimes r → {next : ℕ} → r ≡ To next
+    pub fitting_more : {r : Option ℕ} → TypeFits words at lifetimes r → {next : ℕ} → r ≡ Some next
         → Fitting words from count lifetimes next (i + 1)
     fitting_more f {next} e = record {
       onto = λ rows n types rest few k reads.
@@ -149,13 +146,13 @@ module _ {words : List ℕ} {from count : ℕ} {lifetimes : List ℕ} {at i : �
           };
     }
 
-  pub fitting_end : count ≤ i → TypesFit words from count lifetimes (To at)
+  pub fitting_end : count ≤ i → TypesFit words from count lifetimes (Some at)
   unfolding unless
   fitting_end h rows n types rest few k reads =
       let l = inv.onto rows n types rest few k reads in
       let z : count - i ≡ 0 = omega arith in
       let none = types_none n (drop at words) (rw z at l.reads) in
-      let v : judged (type_checks rows types) ≡ Accepted = l.same ∙ rw none.0 in
+      let v : judged (type_checks rows types) ≡ (Ok (tt {0})) = l.same ∙ rw none.0 in
       rw v (fits {next = at} (sym none.1) l.past l.within)
 
 -- ---- the parameters
@@ -189,7 +186,7 @@ params_many rows number (suc k) (t ∷ types) e h =
     go false e = e
 
 module _ (params : List ℕ) (count : ℕ) (lifetimes : List ℕ) where
-  module _ (h : 16 < count) {r : Fit} (f : TypesFit params 0 16 lifetimes r) where
+  module _ (h : 16 < count) {r : Option ℕ} (f : TypesFit params 0 16 lifetimes r) where
     first_read : (n : ℕ) (types : List LoweredType) (rest : List ℕ) → read_types n count params ≡ Read types rest
         → (behind : List ℕ) × (read_types n 16 params ≡ Read (take 16 types) behind)
     first_read n types rest e = let z : count ≡ 16 + (count - 16) = omega arith in
@@ -198,14 +195,14 @@ module _ (params : List ℕ) (count : ℕ) (lifetimes : List ℕ) where
     many : (n : ℕ) (types : List LoweredType) (rest : List ℕ) → read_types n count params ≡ Read types rest → 16 < length types
     many n types rest e = rw (types_length n count params e) h
 
-    pub params_unfit : r ≡ Misfit → ParamsFit params count lifetimes (Refused Mismatch)
+    pub params_unfit : r ≡ None → ParamsFit params count lifetimes (Err Mismatch)
     params_unfit e rows n types rest few k reads =
         let x = first_read n types rest reads in
         let s = fit_stops (f rows n (take 16 types) x.0 few k x.1) e in
         sym (params_many rows 0 16 types refl (many n types rest reads)
         ∙ judged_stays (type_checks rows (take 16 types)) (check true Full ∷ []) s)
 
-    pub params_full : {next : ℕ} → r ≡ To next → ParamsFit params count lifetimes (Refused Full)
+    pub params_full : {next : ℕ} → r ≡ Some next → ParamsFit params count lifetimes (Err Full)
     unfolding unless
     params_full e rows n types rest few k reads =
         let x = first_read n types rest reads in
@@ -213,13 +210,13 @@ module _ (params : List ℕ) (count : ℕ) (lifetimes : List ℕ) where
         sym (params_many rows 0 16 types refl (many n types rest reads)
         ∙ judged_after (type_checks rows (take 16 types)) (check true Full ∷ []) g.accepted)
 
-  module _ (h : count ≤ 16) {r : Fit} (f : TypesFit params 0 count lifetimes r) where
-    pub params_misfit : r ≡ Misfit → ParamsFit params count lifetimes (Refused Mismatch)
+  module _ (h : count ≤ 16) {r : Option ℕ} (f : TypesFit params 0 count lifetimes r) where
+    pub params_misfit : r ≡ None → ParamsFit params count lifetimes (Err Mismatch)
     params_misfit e rows n types rest few k reads =
         sym (params_few rows 0 types (omega (arith, types_length n count params reads))
         ∙ fit_stops (f rows n types rest few k reads) e)
 
-    pub params_fit : {next : ℕ} → r ≡ To next → ParamsFit params count lifetimes Accepted
+    pub params_fit : {next : ℕ} → r ≡ Some next → ParamsFit params count lifetimes (Ok (tt {0}))
     params_fit e rows n types rest few k reads =
         sym (params_few rows 0 types (omega (arith, types_length n count params reads))
         ∙ (fit_goes (f rows n types rest few k reads) e).accepted)

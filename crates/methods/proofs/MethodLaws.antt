@@ -1,4 +1,5 @@
 -- The refusal of a method, one stage after another: each stage answers the verdict of its own checks.
+use Rattle.std.specs.Prelude.{Ok, Err, Some, None, Option}
 use Prim.Native.Nat.{ℕ, ◌≤◌, ◌<◌}
 use mathlib.Core.Bool.{true, false}
 use mathlib.Core.Path.{◌≡◌, refl, sym, ap, subst, ◌∙◌}
@@ -7,12 +8,8 @@ use lib.ListN.{length}
 use borrow.Author.Tests.{lt-ltb, le-ltb, not-false}
 use Rattle.answers.specs.declared.Refusal.{Refusal}
 use Rattle.answers.specs.declared.Refusal.TheVariants.{Malformed, Full, Mismatch, OutOfRange}
-use Rattle.answers.specs.declared.Verdict.{Verdict}
-use Rattle.answers.specs.declared.Verdict.TheVariants.{Accepted, Refused}
-use Rattle.answers.specs.declared.Listed.{Listed}
-use Rattle.answers.specs.declared.Listed.TheVariants as listed
 use Rattle.lifetimes.specs.declared.env.LifetimeEnv.{LifetimeEnv}
-use Rattle.answers.specs.Refusals.{Check, check, unless, NoneDue}
+use Rattle.answers.specs.Refusals.{Check, check, unless, NoneDue, Outcome, Verdict}
 use Rattle.lifetimes.specs.Env.{limit_checks, range_checks, env_checks}
 use Rattle.lifetimes.specs.Sets.{set_of}
 use Rattle.answers.proofs.RefusalLaws.{due_given, accepted_none, none_first}
@@ -23,10 +20,6 @@ use Rattle.hir_types.specs.declared.shapes.Shape.{Shape}
 use Rattle.hir_types.specs.Rows.{read_known, read_types, rows_of, structs_in_shape, params_in_shape, types_of}
 use Rattle.hir_types.specs.Rows.{method_in_shape, shape_checks, method_shape, how_many}
 use Rattle.hir_types.proofs.ShapeLaws.{counted_shape, refused_shape, four_in_shape, shape_verdict_lem}
-use Rattle.methods.specs.declared.fits.Fit.{Fit}
-use Rattle.methods.specs.declared.fits.Fit.TheVariants.{To, Misfit}
-use Rattle.methods.specs.declared.output.Collected.{Collected}
-use Rattle.methods.specs.declared.output.Collected.TheVariants.{Set, Past}
 use Rattle.methods.specs.declared.method.Judged.{Judged}
 use Rattle.methods.specs.Method.{type_checks, row_checks, param_checks, place_checks, types_in}
 use Rattle.methods.specs.Method.{structs_and_params_checks, output_lifetimes, any_past, method_checks}
@@ -56,10 +49,10 @@ module _ {structs params output lifetimes : List ℕ} {rows inputs outputs : ℕ
   abbrev output_part : List Check
   output_part = type_checks (rows_of structs) (types_in structs output)
 
-  pub places_rows : {r : Refusal} → v ≡ Refused r → v ≡ judged (place_checks structs params output)
+  pub places_rows : {r : Refusal} → v ≡ Err r → v ≡ judged (place_checks structs params output)
   places_rows k = k ∙ sym (judged_stays rows_part (params_part ++ output_part) (sym x.verdict ∙ k))
 
-  module _ (a : v ≡ Accepted) {w : Verdict} (f : ParamsFit params inputs lifetimes w) where
+  module _ (a : v ≡ Ok (tt {0})) {w : Verdict} (f : ParamsFit params inputs lifetimes w) where
     past_rows : judged (place_checks structs params output) ≡ judged (params_part ++ output_part)
     past_rows = judged_after rows_part (params_part ++ output_part) (sym x.verdict ∙ a)
 
@@ -68,10 +61,10 @@ module _ {structs params output lifetimes : List ℕ} {rows inputs outputs : ℕ
         let t = types_read (length (rows_of structs)) params s.params_shape s.input_count in
         f (rows_of structs) (length (rows_of structs)) (types_in structs params) t.0 (x.few a) (x.holding a) t.1
 
-    pub places_params : {r : Refusal} → w ≡ Refused r → w ≡ judged (place_checks structs params output)
+    pub places_params : {r : Refusal} → w ≡ Err r → w ≡ judged (place_checks structs params output)
     places_params k = k ∙ sym (past_rows ∙ judged_stays params_part output_part (sym params_judged ∙ k))
 
-    module _ (b : w ≡ Accepted) {t : Fit} (g : TypesFit output 0 outputs lifetimes t) where
+    module _ (b : w ≡ Ok (tt {0})) {t : Option ℕ} (g : TypesFit output 0 outputs lifetimes t) where
       past_params : judged (place_checks structs params output) ≡ judged output_part
       past_params = past_rows ∙ judged_after params_part output_part (sym params_judged ∙ b)
 
@@ -80,10 +73,10 @@ module _ {structs params output lifetimes : List ℕ} {rows inputs outputs : ℕ
           let o = types_read (length (rows_of structs)) output s.output_shape s.output_count in
           (o.0, g (rows_of structs) (length (rows_of structs)) (types_in structs output) o.0 (x.few a) (x.holding a) o.1)
 
-      pub places_output : t ≡ Misfit → Refused Mismatch ≡ judged (place_checks structs params output)
+      pub places_output : t ≡ None → Err Mismatch ≡ judged (place_checks structs params output)
       places_output k = sym (past_params ∙ fit_stops output_fits.1 k)
 
-      pub places_all : {next : ℕ} → t ≡ To next → Accepted ≡ judged (place_checks structs params output)
+      pub places_all : {next : ℕ} → t ≡ Some next → Ok (tt {0}) ≡ judged (place_checks structs params output)
       places_all k = sym (past_params ∙ (fit_goes output_fits.1 k).accepted)
 
 -- ---- the whole
@@ -107,10 +100,10 @@ module _ (structs params output force : List ℕ) {sh : Shape} (q : sh ≡ metho
   verdict_judged : sh.verdict ≡ judged first
   verdict_judged = ap (λ (s : Shape). s.verdict) q ∙ shape_verdict_lem structs params output force
 
-  torn : (env : LifetimeEnv) {r : Refusal} → sh.verdict ≡ Refused r → judged (method_checks env structs params output force) ≡ Refused r
+  torn : (env : LifetimeEnv) {r : Refusal} → sh.verdict ≡ Err r → judged (method_checks env structs params output force) ≡ Err r
   torn env k = judged_stays first (behind_shape env structs params output) (sym verdict_judged ∙ k)
 
-  module _ (k : sh.verdict ≡ Accepted) where
+  module _ (k : sh.verdict ≡ Ok (tt {0})) where
     none_torn : NoneDue first
     none_torn = accepted_none (tt {0}) first (sym verdict_judged ∙ k)
 
@@ -139,22 +132,22 @@ abbrev only : Verdict → Judged
 only v = record { verdict = v; used = 0 }
 
 refused_judges : {env : LifetimeEnv} {structs params output force : List ℕ} {v : Verdict} {r : Refusal}
-    → v ≡ judged (method_checks env structs params output force) → v ≡ Refused r
+    → v ≡ judged (method_checks env structs params output force) → v ≡ Err r
     → JudgesMethod env structs params output force (only v)
 refused_judges e k = record { verdict = e; used = λ a. refused_accepted (sym k ∙ a) }
 
 module _ {env : LifetimeEnv} {structs params output force : List ℕ} {sh : Shape}
     (q : sh ≡ method_shape structs params output force) where
-  pub judge_torn : {r : Refusal} → sh.verdict ≡ Refused r → JudgesMethod env structs params output force (only sh.verdict)
+  pub judge_torn : {r : Refusal} → sh.verdict ≡ Err r → JudgesMethod env structs params output force (only sh.verdict)
   judge_torn k = refused_judges (k ∙ sym (torn structs params output force q env k)) k
 
-  module _ (a : sh.verdict ≡ Accepted) where
-    pub judge_lifetimes : 64 < env.count → JudgesMethod env structs params output force (only (Refused Full))
+  module _ (a : sh.verdict ≡ Ok (tt {0})) where
+    pub judge_lifetimes : 64 < env.count → JudgesMethod env structs params output force (only (Err Full))
     unfolding unless
     judge_lifetimes h =
         refused_judges (sym (past_shape structs params output force q a env ∙ rw (lt-ltb 64 env.count h))) refl
 
-    pub judge_bounds : env.count ≤ 64 → 256 < env.bounds.pushed → JudgesMethod env structs params output force (only (Refused Full))
+    pub judge_bounds : env.count ≤ 64 → 256 < env.bounds.pushed → JudgesMethod env structs params output force (only (Err Full))
     unfolding unless
     judge_bounds lifetimes h =
         refused_judges
@@ -164,7 +157,7 @@ module _ {env : LifetimeEnv} {structs params output force : List ℕ} {sh : Shap
 -- a method in shape and within the limits, with a verdict over its places
 pub record Judging (env : LifetimeEnv) (structs params output force : List ℕ) (sh : Shape) (v : Verdict) : Type 0 where
   pub shape : sh ≡ method_shape structs params output force
-  pub accepted : sh.verdict ≡ Accepted
+  pub accepted : sh.verdict ≡ Ok (tt {0})
   pub lifetimes : env.count ≤ 64
   pub bounds : env.bounds.pushed ≤ 256
   pub by_place : v ≡ judged (place_checks structs params output)
@@ -178,14 +171,14 @@ module _ {env : LifetimeEnv} {structs params output force : List ℕ} {sh : Shap
       past_shape structs params output force j.shape j.accepted env
       ∙ rw (le-ltb 64 env.count j.lifetimes, le-ltb 256 env.bounds.pushed j.bounds)
 
-  pub judge_place : {r : Refusal} → v ≡ Refused r → JudgesMethod env structs params output force (only v)
+  pub judge_place : {r : Refusal} → v ≡ Err r → JudgesMethod env structs params output force (only v)
   judge_place k =
       refused_judges
       (k ∙ sym (past_limits ∙ judged_stays (place_checks structs params output) (behind_places env structs output)
       (sym j.by_place ∙ k)))
       k
 
-  module _ (b : v ≡ Accepted) {w : Verdict} (y : w ≡ judged (env_checks env)) where
+  module _ (b : v ≡ Ok (tt {0})) {w : Verdict} (y : w ≡ judged (env_checks env)) where
     past_places : judged (method_checks env structs params output force) ≡ judged (behind_places env structs output)
     past_places =
         past_limits ∙ judged_after (place_checks structs params output) (behind_places env structs output)
@@ -195,13 +188,13 @@ module _ {env : LifetimeEnv} {structs params output force : List ℕ} {sh : Shap
     unfolding unless
     env_judged = y ∙ rw (le-ltb 64 env.count j.lifetimes, le-ltb 256 env.bounds.pushed j.bounds)
 
-    pub judge_env : {r : Refusal} → w ≡ Refused r → JudgesMethod env structs params output force (only w)
+    pub judge_env : {r : Refusal} → w ≡ Err r → JudgesMethod env structs params output force (only w)
     judge_env k =
         refused_judges
         (k ∙ sym (past_places ∙ judged_stays (range_checks env) (outside env structs output) (sym env_judged ∙ k)))
         k
 
-    module _ (d : w ≡ Accepted) {t : Collected} (z : TypesCollect output 0 sh.outputs env.count 0 t) where
+    module _ (d : w ≡ Ok (tt {0})) {t : Option ℕ} (z : TypesCollect output 0 sh.outputs env.count 0 t) where
       past_env : judged (method_checks env structs params output force) ≡ judged (outside env structs output)
       past_env = past_places ∙ judged_after (range_checks env) (outside env structs output) (sym env_judged ∙ d)
 
@@ -211,25 +204,25 @@ module _ {env : LifetimeEnv} {structs params output force : List ℕ} {sh : Shap
           let o = types_read (length (rows_of structs)) output i.output_shape i.output_count in
           z (length (rows_of structs)) (types_in structs output) o.0 o.1
 
-      pub judge_outside : t ≡ Past → JudgesMethod env structs params output force (only (Refused OutOfRange))
+      pub judge_outside : t ≡ None → JudgesMethod env structs params output force (only (Err OutOfRange))
       unfolding unless
       judge_outside k =
           refused_judges
           (sym (past_env ∙ rw (go (subst (CollectIs env.count 0 (output_lifetimes structs output)) k collected))))
           refl
         where
-          go : CollectIs env.count 0 (output_lifetimes structs output) Past
+          go : CollectIs env.count 0 (output_lifetimes structs output) None
               → any_past env.count (output_lifetimes structs output) ≡ true
           go (past h) = h
 
-      pub judge_all : {used : ℕ} → t ≡ Set used
-          → JudgesMethod env structs params output force (record { verdict = Accepted; used = used })
+      pub judge_all : {used : ℕ} → t ≡ Some used
+          → JudgesMethod env structs params output force (record { verdict = Ok (tt {0}); used = used })
       unfolding unless
       judge_all {used} k =
           let g = go (subst (CollectIs env.count 0 (output_lifetimes structs output)) k collected) in
           record { verdict = sym (past_env ∙ rw g.0); used = λ e. g.1 }
         where
-          go : CollectIs env.count 0 (output_lifetimes structs output) (Set used)
+          go : CollectIs env.count 0 (output_lifetimes structs output) (Some used)
               → (any_past env.count (output_lifetimes structs output) ≡ false) × (used ≡ set_of (output_numbers structs output))
           go (within h e) = (h, e)
 
@@ -239,24 +232,24 @@ module _ (structs params : List ℕ) where
   abbrev alone : List Check
   alone = structs_and_params_checks structs params
 
-  pub alone_structs : {a : Listed} {r : Refusal} → a ≡ how_many (structs_in_shape structs) (rows_of structs)
-      → a ≡ listed.Refused r → Refused Malformed ≡ judged alone
+  pub alone_structs : {a : Outcome ℕ} {r : Refusal} → a ≡ how_many (structs_in_shape structs) (rows_of structs)
+      → a ≡ Err r → Err Malformed ≡ judged alone
   unfolding unless
   alone_structs e k = rw (refused_shape (structs_in_shape structs) (rows_of structs) e k)
 
-  module _ {a : Listed} {rows : ℕ} (e : a ≡ how_many (structs_in_shape structs) (rows_of structs))
-      (k : a ≡ listed.Count rows) {b : Listed}
+  module _ {a : Outcome ℕ} {rows : ℕ} (e : a ≡ how_many (structs_in_shape structs) (rows_of structs))
+      (k : a ≡ Ok rows) {b : Outcome ℕ}
       (f : b ≡ how_many (params_in_shape rows params) (types_of rows params)) where
     structs_are : (structs_in_shape structs ≡ true) × (length (rows_of structs) ≡ rows)
     structs_are = counted_shape (structs_in_shape structs) (rows_of structs) e k
 
-    pub alone_params : {r : Refusal} → b ≡ listed.Refused r → Refused Malformed ≡ judged alone
+    pub alone_params : {r : Refusal} → b ≡ Err r → Err Malformed ≡ judged alone
     unfolding unless
     alone_params l =
         let p : params_in_shape rows params ≡ false = refused_shape (params_in_shape rows params) (types_of rows params) f l in
         rw (structs_are.0, structs_are.1, p)
 
-    module _ {inputs : ℕ} (l : b ≡ listed.Count inputs) {lifetimes : List ℕ} {v : Verdict}
+    module _ {inputs : ℕ} (l : b ≡ Ok inputs) {lifetimes : List ℕ} {v : Verdict}
         (x : Indexes structs lifetimes v) where
       params_are : (params_in_shape (length (rows_of structs)) params ≡ true) × (inputs ≡ length (types_in structs params))
       params_are =
@@ -269,13 +262,13 @@ module _ (structs params : List ℕ) where
       unfolding unless
       in_place = rw (structs_are.0, params_are.0)
 
-      pub alone_rows : {r : Refusal} → v ≡ Refused r → v ≡ judged alone
+      pub alone_rows : {r : Refusal} → v ≡ Err r → v ≡ judged alone
       alone_rows q =
           q ∙ sym (in_place
           ∙ judged_stays (row_checks (rows_of structs) 0 (rows_of structs))
           (param_checks (rows_of structs) 0 (types_in structs params)) (sym x.verdict ∙ q))
 
-      pub alone_fits : v ≡ Accepted → {w : Verdict} → ParamsFit params inputs lifetimes w → w ≡ judged alone
+      pub alone_fits : v ≡ Ok (tt {0}) → {w : Verdict} → ParamsFit params inputs lifetimes w → w ≡ judged alone
       alone_fits q {w} fits =
           let t = types_read (length (rows_of structs)) params params_are.0 params_are.1 in
           let own : w ≡ judged (param_checks (rows_of structs) 0 (types_in structs params)) =

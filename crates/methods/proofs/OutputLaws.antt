@@ -1,4 +1,5 @@
 -- The lifetimes of the output, put into a set one after another.
+use Rattle.std.specs.Prelude.{Some, None, Option}
 use Prim.Native.Nat.{ℕ, suc, ◌+◌, ◌-◌, ◌≤◌, ◌<◌}
 use mathlib.Core.Bool.{cond}
 use mathlib.Core.Path.{◌≡◌, refl, sym, subst, ◌∙◌}
@@ -18,14 +19,10 @@ use Rattle.lifetimes.proofs.SetLaws.{insert_all_append}
 use Rattle.records.specs.Reading.{Read, Fails}
 use Rattle.hir_types.specs.declared.types.Own.{Own}
 use Rattle.hir_types.specs.declared.types.Parts.{Parts}
-use Rattle.hir_types.specs.declared.types.OwnLifetime.{OwnLifetime}
-use Rattle.hir_types.specs.declared.types.OwnLifetime.TheVariants as behind
 use Rattle.hir_types.specs.LoweredTypes.{LoweredType, read_lowered, own_lifetimes, lifetimes_of, own_lifetime}
 use Rattle.hir_types.proofs.LifetimeLaws.{own_one, own_none}
 use Rattle.hir_types.specs.Rows.{read_known, read_types}
 use Rattle.hir_types.proofs.FoundLaws.{Found, path_inside}
-use Rattle.methods.specs.declared.output.Collected.{Collected}
-use Rattle.methods.specs.declared.output.Collected.TheVariants.{Set, Past}
 use Rattle.methods.specs.Method.{is_past}
 use Rattle.methods.specs.Used.{number}
 use Rattle.methods.specs.Inner.{CollectIs, within, past, PathThere, TypesCollect}
@@ -36,48 +33,48 @@ use Rattle.answers.proofs.ListLaws.{any_append}
 
 -- ---- one list after another
 
-pub collect_then : {count s t : ℕ} {l m : List MaybeStatic} {r : Collected} → CollectIs count s l (Set t)
+pub collect_then : {count s t : ℕ} {l m : List MaybeStatic} {r : Option ℕ} → CollectIs count s l (Some t)
     → CollectIs count t m r → CollectIs count s (l ++ m) r
 collect_then {count} {s} {t} {l} {m} (within h e) (within {more = all} k f) =
     within {more = all} (rw (any_append (is_past count) l m, h) k) (rw (filter_map-append number l m, insert_all_append, ← e) f)
 collect_then {count} {s} {t} {l} {m} (within h e) (past k) = past (rw (any_append (is_past count) l m, h) k)
 
-pub collect_stops : {count s : ℕ} {l : List MaybeStatic} (m : List MaybeStatic) → CollectIs count s l Past
-    → CollectIs count s (l ++ m) Past
+pub collect_stops : {count s : ℕ} {l : List MaybeStatic} (m : List MaybeStatic) → CollectIs count s l None
+    → CollectIs count s (l ++ m) None
 collect_stops {count} {s} {l} m (past h) = past (rw (any_append (is_past count) l m, h))
 
-pub collect_told : {count s : ℕ} {l : List MaybeStatic} {r q : Collected} → CollectIs count s l r → r ≡ q → CollectIs count s l q
+pub collect_told : {count s : ℕ} {l : List MaybeStatic} {r q : Option ℕ} → CollectIs count s l r → r ≡ q → CollectIs count s l q
 collect_told {count} {s} {l} h e = subst (CollectIs count s l) e h
 
-pub collect_none : (count s : ℕ) → CollectIs count s [] (Set s)
+pub collect_none : (count s : ℕ) → CollectIs count s [] (Some s)
 unfolding filter_map insert_all any
 collect_none count s = within refl refl
 
 -- ---- one lifetime
 
 module _ (count s : ℕ) where
-  pub collect_static : {m : MaybeStatic} → m ≡ Static → CollectIs count s (m ∷ []) (Set s)
+  pub collect_static : {m : MaybeStatic} → m ≡ Static → CollectIs count s (m ∷ []) (Some s)
   unfolding filter_map insert_all any
   collect_static e = rw e (within refl refl)
 
   module _ {m : MaybeStatic} {l : Lifetime} (e : m ≡ NonStatic l) where
-    pub collect_past : count ≤ l.0 → CollectIs count s (m ∷ []) Past
+    pub collect_past : count ≤ l.0 → CollectIs count s (m ∷ []) None
     unfolding any
     collect_past h = rw e (past (rw (le-leb count l.0 h)))
 
     pub collect_one : count ≤ 64 → l.0 < count → {t : ℕ} → t ≡ cond (ltb l.0 64) (insert s l.0) s
-        → CollectIs count s (m ∷ []) (Set t)
+        → CollectIs count s (m ∷ []) (Some t)
     unfolding filter_map insert_all any
     collect_one few h q = rw e (within (rw (lt-leb count l.0 h)) (q ∙ rw (lt-ltb l.0 64 (omega arith))))
 
 -- ---- a type's own lifetime
 
-module _ (count s : ℕ) (o : Own) {e : OwnLifetime} (q : e ≡ own_lifetime o) where
-  pub own_collected : {m : MaybeStatic} → e ≡ behind.Lifetime m → {r : Collected} → CollectIs count s (m ∷ []) r
+module _ (count s : ℕ) (o : Own) {e : Option MaybeStatic} (q : e ≡ own_lifetime o) where
+  pub own_collected : {m : MaybeStatic} → e ≡ Some m → {r : Option ℕ} → CollectIs count s (m ∷ []) r
       → CollectIs count s (own_lifetimes o) r
   own_collected k h = rw (own_one o q k) h
 
-  pub own_absent : e ≡ behind.Absent → CollectIs count s (own_lifetimes o) (Set s)
+  pub own_absent : e ≡ None → CollectIs count s (own_lifetimes o) (Some s)
   own_absent k = rw (own_none o q k) (collect_none count s)
 
 -- ---- path words: what is left to put in, put in from here, gives what all gives
@@ -87,7 +84,7 @@ path_of words from n = take n (drop from words)
 
 pub record Pathing (words : List ℕ) (from n count before used i : ℕ) : Type 0 where
   pub counted : i ≤ n
-  pub onto : (r : Collected) → CollectIs count used (map from_word (drop i (path_of words from n))) r
+  pub onto : (r : Option ℕ) → CollectIs count used (map from_word (drop i (path_of words from n))) r
       → CollectIs count before (map from_word (path_of words from n)) r
 
 pub pathing_start : (words : List ℕ) (from n count before : ℕ) → Pathing words from n count before before 0
@@ -101,25 +98,25 @@ module _ {words : List ℕ} {from n count before used i : ℕ} (inv : Pathing wo
         drop-cons (path_of words from n) i 0 (simp (length-take, length-drop) (omega arith))
         ∙ rw (add-one, get_or-take n (drop from words) i 0 h, get_or-drop from words i 0)
 
-    module _ {m : MaybeStatic} (e : m ≡ from_word (get_or words (from + i) 0)) {r : Collected}
+    module _ {m : MaybeStatic} (e : m ≡ from_word (get_or words (from + i) 0)) {r : Option ℕ}
         (k : CollectIs count used (m ∷ []) r) where
       one : CollectIs count used (from_word (get_or words (from + i) 0) ∷ []) r
       one = rw (← e) k
 
-      pub pathing_stops : r ≡ Past → CollectIs count before (map from_word (path_of words from n)) Past
+      pub pathing_stops : r ≡ None → CollectIs count before (map from_word (path_of words from n)) None
       pathing_stops q =
-          inv.onto Past
+          inv.onto None
           (rw path_next (collect_stops (map from_word (drop (i + 1) (path_of words from n))) (collect_told one q)))
 
-      pub pathing_more : {next : ℕ} → r ≡ Set next → Pathing words from n count before next (i + 1)
+      pub pathing_more : {next : ℕ} → r ≡ Some next → Pathing words from n count before next (i + 1)
       pathing_more q = record {
         counted = omega arith;
         onto = λ s l. inv.onto s (rw path_next (collect_then (collect_told one q) l));
       }
 
-  pub pathing_end : n ≤ i → CollectIs count before (map from_word (path_of words from n)) (Set used)
+  pub pathing_end : n ≤ i → CollectIs count before (map from_word (path_of words from n)) (Some used)
   pathing_end h =
-      inv.onto (Set used)
+      inv.onto (Some used)
       (rw (drop_of_length-le (path_of words from n) {i = i} (simp (length-take, length-drop) (omega arith)))
       (collect_none count used))
 
@@ -129,7 +126,7 @@ module _ {words : List ℕ} {from n count before used i : ℕ} (inv : Pathing wo
 pub record Rest (words : List ℕ) (types count at used i n : ℕ) (ts : List LoweredType) (rest : List ℕ) : Type 0 where
   pub left : List LoweredType
   pub reads : read_types n (types - i) (drop at words) ≡ Read left rest
-  pub onto : (r : Collected) → CollectIs count used (flat_map lifetimes_of left) r → CollectIs count 0 (flat_map lifetimes_of ts) r
+  pub onto : (r : Option ℕ) → CollectIs count used (flat_map lifetimes_of left) r → CollectIs count 0 (flat_map lifetimes_of ts) r
 
 pub record Collecting (words : List ℕ) (types count at used i : ℕ) : Type 0 where
   pub each : (n : ℕ) (ts : List LoweredType) (rest : List ℕ) → read_types n types (drop 0 words) ≡ Read ts rest
@@ -147,19 +144,19 @@ module _ {words : List ℕ} {types count at used i : ℕ} (inv : Collecting word
     next_type {n} l = let z : types - i ≡ suc (types - (i + 1)) = omega arith in
         types_next n (types - (i + 1)) (drop at words) (rw z at l.reads)
 
-    pub collecting_lost : read_lowered (drop at words) ≡ Fails → TypesCollect words 0 types count 0 Past
+    pub collecting_lost : read_lowered (drop at words) ≡ Fails → TypesCollect words 0 types count 0 None
     collecting_lost f n ts rest e =
         let l = inv.each n ts rest e in
         let x = next_type l in
         fails_read (sym f ∙ (known_read n (drop at words) x.first).reads)
 
-  pub collecting_end : types ≤ i → TypesCollect words 0 types count 0 (Set used)
+  pub collecting_end : types ≤ i → TypesCollect words 0 types count 0 (Some used)
   unfolding flat_map
   collecting_end h n ts rest e =
       let l = inv.each n ts rest e in
       let z : types - i ≡ 0 = omega arith in
       let none = types_none n (drop at words) (rw z at l.reads) in
-      l.onto (Set used) (rw none.0 (collect_none count used))
+      l.onto (Some used) (rw none.0 (collect_none count used))
 
 -- one more type is there
 pub record Reading (words : List ℕ) (types count at used i : ℕ) (p : Parts) : Type 0 where
@@ -171,34 +168,34 @@ module _ {words : List ℕ} {types count at used i : ℕ} {p : Parts} (t : Readi
   pub path_there : PathThere (length words) p.from p.count
   path_there i k = path_inside t.found.stands i k
 
-  module _ {r : Collected} (path : CollectIs count used (map from_word (path_of words p.from p.count)) r) where
-    pub collecting_past : r ≡ Past → TypesCollect words 0 types count 0 Past
+  module _ {r : Option ℕ} (path : CollectIs count used (map from_word (path_of words p.from p.count)) r) where
+    pub collecting_past : r ≡ None → TypesCollect words 0 types count 0 None
     unfolding flat_map
     collecting_past q n ts rest e =
         let l = t.collecting.each n ts rest e in
         let x = next_type t.collecting t.left l in
         let s = (same_found t.found n x.first).stands in
-        let here : CollectIs count used (map from_word x.type.path) Past = rw s.path at (collect_told path q) in
-        let type : CollectIs count used (lifetimes_of x.type) Past = collect_stops (own_lifetimes x.type.own) here in
-        l.onto Past (rw x.all (collect_stops (flat_map lifetimes_of x.more) type))
+        let here : CollectIs count used (map from_word x.type.path) None = rw s.path at (collect_told path q) in
+        let type : CollectIs count used (lifetimes_of x.type) None = collect_stops (own_lifetimes x.type.own) here in
+        l.onto None (rw x.all (collect_stops (flat_map lifetimes_of x.more) type))
 
-    module _ {more : ℕ} (q : r ≡ Set more) {r₂ : Collected} (own : CollectIs count more (own_lifetimes p.own) r₂) where
-      whole : (n : ℕ) {t₁ : LoweredType} {behind : List ℕ} {r₃ : Collected}
+    module _ {more : ℕ} (q : r ≡ Some more) {r₂ : Option ℕ} (own : CollectIs count more (own_lifetimes p.own) r₂) where
+      whole : (n : ℕ) {t₁ : LoweredType} {behind : List ℕ} {r₃ : Option ℕ}
           → read_known n (drop at words) ≡ Read t₁ behind → r₂ ≡ r₃ → CollectIs count used (lifetimes_of t₁) r₃
       whole n {t₁} {behind} {r₃} e k =
           let s = (same_found t.found n e).stands in
-          let here : CollectIs count used (map from_word t₁.path) (Set more) = rw s.path at (collect_told path q) in
+          let here : CollectIs count used (map from_word t₁.path) (Some more) = rw s.path at (collect_told path q) in
           let mine : CollectIs count more (own_lifetimes t₁.own) r₃ = rw s.own at (collect_told own k) in
           collect_then here mine
 
-      pub collecting_own : r₂ ≡ Past → TypesCollect words 0 types count 0 Past
+      pub collecting_own : r₂ ≡ None → TypesCollect words 0 types count 0 None
       unfolding flat_map
       collecting_own k n ts rest e =
           let l = t.collecting.each n ts rest e in
           let x = next_type t.collecting t.left l in
-          l.onto Past (rw x.all (collect_stops (flat_map lifetimes_of x.more) (whole n x.first k)))
+          l.onto None (rw x.all (collect_stops (flat_map lifetimes_of x.more) (whole n x.first k)))
 
-      pub collecting_more : {all : ℕ} → r₂ ≡ Set all → Collecting words types count p.next all (i + 1)
+      pub collecting_more : {all : ℕ} → r₂ ≡ Some all → Collecting words types count p.next all (i + 1)
       unfolding flat_map
       collecting_more k = record {
         each = λ n ts rest e.

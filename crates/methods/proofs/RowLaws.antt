@@ -1,4 +1,5 @@
 -- The rows that were checked: the loop of `index_rows`.
+use Rattle.std.specs.Prelude.{Ok, Err, Some, None, Option}
 use Prim.Native.Nat.{ℕ, suc, ◌+◌, ◌-◌, ◌≤◌, ◌<◌}
 use mathlib.Core.Bool.{true}
 use mathlib.Core.Path.{◌≡◌, refl, sym, ◌∙◌}
@@ -11,14 +12,10 @@ use lib.ListN.{length, get_or, set, drop, length-set, drop_of_length-le}
 use lib.Seq.{drop-cons, get_or-set_same, get_or-set_other}
 use borrow.Author.Tests.{le-leb, lt-leb}
 use Rattle.answers.specs.declared.Refusal.TheVariants.{Full, Mismatch}
-use Rattle.answers.specs.declared.Verdict.{Verdict}
-use Rattle.answers.specs.declared.Verdict.TheVariants.{Accepted, Refused}
-use Rattle.answers.specs.Refusals.{unless}
+use Rattle.answers.specs.Refusals.{unless, Verdict}
 use Rattle.answers.specs.Lent.{judged}
 use Rattle.answers.proofs.VerdictLaws.{judged_after, judged_stays, refused_accepted}
 use Rattle.hir_types.specs.Rows.{Row, row_with, read_row, rows_of, structs_in_shape}
-use Rattle.methods.specs.declared.fits.Fit.{Fit}
-use Rattle.methods.specs.declared.fits.Fit.TheVariants.{To, Misfit}
 use Rattle.methods.specs.Method.{row_at, type_checks, row_checks}
 use Rattle.methods.specs.Inner.{Holding, TypesFit, Indexes}
 use Rattle.methods.proofs.PassLaws.{Items, items_start, NextItem, items_next, RowParts, row_parts}
@@ -60,7 +57,7 @@ holding_set rows number value lifetimes size h e k row l =
 -- a refusal beside any array
 refused_index : (structs lifetimes : List ℕ) {r : Verdict} → length lifetimes ≡ 32
     → r ≡ judged (row_checks (rows_of structs) 0 (rows_of structs))
-    → (r ≡ Accepted → ⊥) → Indexes structs lifetimes r
+    → (r ≡ Ok (tt {0}) → ⊥) → Indexes structs lifetimes r
 refused_index structs lifetimes s e n =
     record { verdict = e; size = s; few = λ k. absurd (n k); holding = λ k. absurd (n k) }
 
@@ -79,7 +76,7 @@ module _ {structs lifetimes : List ℕ} {at number : ℕ} (inv : Indexing struct
     pub row_here : at + 1 < length structs
     row_here = parts.here
 
-    pub indexing_full : 32 ≤ number → Indexes structs lifetimes (Refused Full)
+    pub indexing_full : 32 ≤ number → Indexes structs lifetimes (Err Full)
     unfolding numbered unless
     indexing_full k =
         refused_index structs lifetimes inv.size
@@ -101,9 +98,9 @@ module _ {structs lifetimes : List ℕ} {at number : ℕ} (inv : Indexing struct
       unfolding numbered unless
       judged_row = inv.same ∙ rw (rows_next, lt-leb 32 number k)
 
-      module _ {r : Fit} (f : TypesFit structs (at + 2) (get_or structs (at + 1) 0) (set lifetimes number (get_or structs at 0)) r) where
-        pub indexing_stops : r ≡ Misfit
-            → Indexes structs (set lifetimes number (get_or structs at 0)) (Refused Mismatch)
+      module _ {r : Option ℕ} (f : TypesFit structs (at + 2) (get_or structs (at + 1) 0) (set lifetimes number (get_or structs at 0)) r) where
+        pub indexing_stops : r ≡ None
+            → Indexes structs (set lifetimes number (get_or structs at 0)) (Err Mismatch)
         indexing_stops e =
             refused_index structs (set lifetimes number (get_or structs at 0)) size₁
             (sym (judged_row
@@ -114,7 +111,7 @@ module _ {structs lifetimes : List ℕ} {at number : ℕ} (inv : Indexing struct
             (λ row l. holding₁ row (omega arith)) parts.fields) e)))
             (λ e. refused_accepted e)
 
-        pub indexing_more : {place : ℕ} → r ≡ To place
+        pub indexing_more : {place : ℕ} → r ≡ Some place
             → Indexing structs (set lifetimes number (get_or structs at 0)) place (number + 1)
         indexing_more {place} e =
             let g = fit_goes
@@ -133,7 +130,7 @@ module _ {structs lifetimes : List ℕ} {at number : ℕ} (inv : Indexing struct
               holding = holding₁;
             }
 
-  pub indexing_end : length (rows_of structs) ≤ number → Indexes structs lifetimes Accepted
+  pub indexing_end : length (rows_of structs) ≤ number → Indexes structs lifetimes (Ok (tt {0}))
   unfolding numbered unless
   indexing_end h =
       let z : number ≡ length (rows_of structs) = omega (arith, inv.before) in

@@ -1,6 +1,6 @@
 -- `compute_for_struct_field`: for one struct-typed field of a row, each lifetime of the field's definition with the
 -- outer row's lifetime that fills it.
-use Rattle.std.specs.Prelude.{ℕ, ◌-◌, Bool, true, false, cond, not, ◌&&◌, List, [], ◌∷◌, ◌++◌, ltb, length}
+use Rattle.std.specs.Prelude.{ℕ, ◌-◌, Bool, true, false, cond, not, ◌&&◌, List, [], ◌∷◌, ◌++◌, ltb, length, Ok, Err}
 use Rattle.std.specs.Prelude.{get_or, replicate}
 use Rattle.answers.specs.declared.Refusal.TheVariants.{Malformed}
 use Rattle.lifetimes.specs.declared.maybe_static.MaybeStaticDef.{MaybeStaticDef}
@@ -8,7 +8,7 @@ use Rattle.lifetimes.specs.declared.maybe_static.MaybeStaticDef.TheVariants.{Sta
 use Rattle.lifetimes.specs.Numbers.{def_lifetime}
 use Rattle.lifetimes.specs.LoweredWords.{def_from_word}
 use Rattle.answers.specs.Lists.{numbered}
-use Rattle.answers.specs.Refusals.{Check, check, Outcome, Gives, Refuses, unless}
+use Rattle.answers.specs.Refusals.{Check, check, Outcome, unless}
 use Rattle.hir_types.specs.declared.types.Kind.{Kind}
 use Rattle.hir_types.specs.declared.types.Kind.TheVariants.{Plain, Opaque, Struct, Slice}
 use Rattle.hir_types.specs.declared.types.Own.TheVariants as own
@@ -67,5 +67,5 @@ given_pairs [] = record { answer = answer.Absent; pairs = placed [] }
 given_pairs (p ∷ ps) = record { answer = answer.Pairs (length (p ∷ ps)); pairs = placed (p ∷ ps) }
 
 abbrev pub field_answer : Outcome (List FieldPair) → FieldLifetimes
-field_answer (Gives pairs) = given_pairs pairs
-field_answer (Refuses r) = record { answer = answer.Refused r; pairs = placed [] }
+field_answer (Ok pairs) = given_pairs pairs
+field_answer (Err r) = record { answer = answer.Refused r; pairs = placed [] }

@@ -1,23 +1,17 @@
 -- For private functions only: what a pass over types says, and what is held of the rows. No public contract cites this
 -- file.
-use Rattle.std.specs.Prelude.{ℕ, ◌+◌, ◌≤◌, ◌<◌, Bool, true, false, not, ◌≡◌, eqb, length, get_or, take, drop}
+use Rattle.std.specs.Prelude.{ℕ, ◌+◌, ◌≤◌, ◌<◌, Bool, true, false, not, ◌≡◌, eqb, length, get_or, take, drop, Ok, Err, Some, None, Option}
 use mathlib.Core.List.{List, [], ◌∷◌, flat_map}
 use Rattle.answers.specs.declared.Refusal.TheVariants.{Mismatch}
-use Rattle.answers.specs.declared.Verdict.{Verdict}
-use Rattle.answers.specs.declared.Verdict.TheVariants.{Accepted, Refused}
 use Rattle.records.specs.Reading.{Read, most_list}
 use Rattle.answers.specs.Lent.{judged}
 use Rattle.hir_types.specs.declared.types.Kind.{Kind}
 use Rattle.hir_types.specs.declared.types.Kind.TheVariants.{Plain, Opaque, Struct, Slice}
 use Rattle.hir_types.specs.LoweredTypes.{LoweredType, lifetimes_of}
 use Rattle.hir_types.specs.Rows.{Row, read_known, read_types, read_row, rows_of, structs_in_shape, params_in_shape}
-use Rattle.methods.specs.declared.fits.Fit.{Fit}
-use Rattle.methods.specs.declared.fits.Fit.TheVariants.{To, Misfit}
 use Rattle.lifetimes.specs.declared.maybe_static.MaybeStatic.{MaybeStatic}
 use Rattle.lifetimes.specs.declared.env.LifetimeEnv.{LifetimeEnv}
 use Rattle.lifetimes.specs.Sets.{insert_all, set_of}
-use Rattle.methods.specs.declared.output.Collected.{Collected}
-use Rattle.methods.specs.declared.output.Collected.TheVariants.{Set, Past}
 use Rattle.methods.specs.declared.method.Judged.{Judged}
 use Rattle.methods.specs.Method.{row_at, type_checks, row_checks, param_checks, types_in, any_past, most_rows}
 use Rattle.methods.specs.Method.{method_checks}
@@ -25,6 +19,7 @@ use Rattle.methods.specs.Fields.{field_at, is_struct}
 use Rattle.methods.specs.Used.{numbers_of, output_numbers}
 use Rattle.methods.specs.declared.fields.Field.{Field}
 use Rattle.methods.specs.declared.fields.Field.TheVariants as a_field
+use Rattle.answers.specs.Refusals.{Verdict}
 
 -- the lifetimes of the first rows, by number
 abbrev pub Holding : List Row → ℕ → List ℕ → Type 0
@@ -41,20 +36,20 @@ misfit_in lifetimes (Struct row) n = not (eqb n (row_lifetimes lifetimes row))
 misfit_in lifetimes Slice n = false
 
 -- where types end whose checks have a verdict
-pub data FitIs (words : List ℕ) (from : ℕ) (rest : List ℕ) : Verdict → Fit → Type 0 where
+pub data FitIs (words : List ℕ) (from : ℕ) (rest : List ℕ) : Verdict → Option ℕ → Type 0 where
   fits : {next : ℕ} → drop next words ≡ rest → from ≤ next → next ≤ length words
-      → FitIs words from rest Accepted (To next)
-  unfit : FitIs words from rest (Refused Mismatch) Misfit
+      → FitIs words from rest (Ok (tt {0})) (Some next)
+  unfit : FitIs words from rest (Err Mismatch) None
 
 -- the type at a place, that names a row below n, fits or does not
-abbrev pub TypeFits : List ℕ → ℕ → List ℕ → Fit → Type 0
+abbrev pub TypeFits : List ℕ → ℕ → List ℕ → Option ℕ → Type 0
 TypeFits words at lifetimes r =
     (rows : List Row) (n : ℕ) (t : LoweredType) (rest : List ℕ) → n ≤ most_rows → Holding rows n lifetimes
     → read_known n (drop at words) ≡ Read t rest
     → FitIs words at rest (judged (type_checks rows (t ∷ []))) r
 
 -- so many types from a place on, that name rows below n, fit or do not
-abbrev pub TypesFit : List ℕ → ℕ → ℕ → List ℕ → Fit → Type 0
+abbrev pub TypesFit : List ℕ → ℕ → ℕ → List ℕ → Option ℕ → Type 0
 TypesFit words from count lifetimes r =
     (rows : List Row) (n : ℕ) (types : List LoweredType) (rest : List ℕ) → n ≤ most_rows → Holding rows n lifetimes
     → read_types n count (drop from words) ≡ Read types rest
@@ -70,21 +65,21 @@ pub record RowStands (structs : List ℕ) (row place : ℕ) : Type 0 where
 pub record Indexes (structs lifetimes : List ℕ) (r : Verdict) : Type 0 where
   pub verdict : r ≡ judged (row_checks (rows_of structs) 0 (rows_of structs))
   pub size : length lifetimes ≡ most_rows
-  pub few : r ≡ Accepted → length (rows_of structs) ≤ most_rows
-  pub holding : r ≡ Accepted → Holding (rows_of structs) (length (rows_of structs)) lifetimes
+  pub few : r ≡ Ok (tt {0}) → length (rows_of structs) ≤ most_rows
+  pub holding : r ≡ Ok (tt {0}) → Holding (rows_of structs) (length (rows_of structs)) lifetimes
 
 -- the set with the numbers of some lifetimes put in, if none is past the count
-pub data CollectIs (count set : ℕ) (l : List MaybeStatic) : Collected → Type 0 where
+pub data CollectIs (count set : ℕ) (l : List MaybeStatic) : Option ℕ → Type 0 where
   within : {more : ℕ} → any_past count l ≡ false → more ≡ insert_all set (numbers_of l)
-      → CollectIs count set l (Set more)
-  past : any_past count l ≡ true → CollectIs count set l Past
+      → CollectIs count set l (Some more)
+  past : any_past count l ≡ true → CollectIs count set l None
 
 -- so many words from a place on are there, if any
 abbrev pub PathThere : ℕ → ℕ → ℕ → Type 0
 PathThere size from n = (i : ℕ) → i < n → from + i < size
 
 -- the lifetimes of so many types from a place on
-abbrev pub TypesCollect : List ℕ → ℕ → ℕ → ℕ → ℕ → Collected → Type 0
+abbrev pub TypesCollect : List ℕ → ℕ → ℕ → ℕ → ℕ → Option ℕ → Type 0
 TypesCollect words from types count set r =
     (n : ℕ) (ts : List LoweredType) (rest : List ℕ) → read_types n types (drop from words) ≡ Read ts rest
     → CollectIs count set (flat_map lifetimes_of ts) r
@@ -108,7 +103,7 @@ pub record InShape (structs params output : List ℕ) (rows inputs outputs : ℕ
 -- a method that was judged: the verdict; accepted, the lifetimes of its output
 pub record JudgesMethod (env : LifetimeEnv) (structs params output force : List ℕ) (r : Judged) : Type 0 where
   pub verdict : r.verdict ≡ judged (method_checks env structs params output force)
-  pub used : r.verdict ≡ Accepted → r.used ≡ set_of (output_numbers structs output)
+  pub used : r.verdict ≡ Ok (tt {0}) → r.used ≡ set_of (output_numbers structs output)
 
 -- `compute_for_struct_field`
 

@@ -6,9 +6,8 @@ use Rattle.answers.specs.declared.Refusal.TheVariants.{Malformed, Full, Mismatch
 use Rattle.lifetimes.specs.declared.maybe_static.MaybeStatic.{MaybeStatic}
 use Rattle.lifetimes.specs.declared.maybe_static.MaybeStatic.TheVariants.{Static, NonStatic}
 use Rattle.lifetimes.specs.declared.env.LifetimeEnv.{LifetimeEnv}
-use Rattle.answers.specs.declared.Verdict.{Verdict}
 use Rattle.answers.specs.Lists.{any, numbered}
-use Rattle.answers.specs.Refusals.{Check, check}
+use Rattle.answers.specs.Refusals.{Check, check, Verdict}
 use Rattle.answers.specs.Lent.{judged}
 use Rattle.lifetimes.specs.Env.{limit_checks, range_checks}
 use Rattle.hir_types.specs.declared.types.Kind.{Kind}

@@ -1,6 +1,6 @@
 -- The main theorems of this crate, stated. Each has its proof, a term of exactly this type and of the same name in
 -- small letters, in proofs/Theorems.antt.
-use Rattle.std.specs.Prelude.{ℕ, ◌≤◌, ◌<◌, true, false, ◌≡◌, ◌↔◌, length, get_or}
+use Rattle.std.specs.Prelude.{ℕ, ◌≤◌, ◌<◌, true, false, ◌≡◌, ◌↔◌, length, get_or, Ok, Err}
 use mathlib.Core.List.{List, Memᴰ, Pairwise}
 use Rattle.answers.specs.declared.Refusal.TheVariants.{Malformed, Retired}
 use Rattle.lifetimes.specs.declared.maybe_static.MaybeStatic.TheVariants.{NonStatic}
@@ -8,7 +8,6 @@ use Rattle.lifetimes.specs.declared.maybe_static.MaybeStaticDef.TheVariants as d
 use Rattle.lifetimes.specs.declared.env.LifetimeEnv.{LifetimeEnv}
 use Rattle.lifetimes.specs.Numbers.{lifetime, def_lifetime}
 use Rattle.lifetimes.specs.LoweredWords.{def_from_word}
-use Rattle.answers.specs.Refusals.{Gives, Refuses}
 use Rattle.lifetimes.specs.Sets.{member, cardinality}
 use Rattle.hir_types.specs.Rows.{rows_of, forced, method_in_shape}
 use Rattle.methods.specs.declared.fields.FieldPair.{FieldPair}
@@ -26,15 +25,15 @@ pub record Uses (structs output : List ℕ) (set : ℕ) : Type 0 where
 
 abbrev pub UsedLifetimesAre : Type 0
 UsedLifetimesAre = (env : LifetimeEnv) (structs params output force : List ℕ) (set : ℕ)
-    → used_set env structs params output force ≡ Gives set → Uses structs output set
+    → used_set env structs params output force ≡ Ok set → Uses structs output set
 
 -- `force` 1 is accepted nowhere, so that no method uses anything by it
 abbrev pub ForceIsRetired : Type 0
 ForceIsRetired = (env : LifetimeEnv) (structs params output force : List ℕ) → forced force ≡ true
     → (method_in_shape structs params output force ≡ true
-    → used_set env structs params output force ≡ Refuses Retired)
+    → used_set env structs params output force ≡ Err Retired)
     × (method_in_shape structs params output force ≡ false
-    → used_set env structs params output force ≡ Refuses Malformed)
+    → used_set env structs params output force ≡ Err Malformed)
 
 -- in ascending order of the field's lifetime, each once
 abbrev pub PairsByDef : FieldPair → FieldPair → Type 0
@@ -50,7 +49,7 @@ pub record FieldFilled (declared : ℕ) (path : List ℕ) (pairs : List FieldPai
 -- field's definition with the outer row's lifetime that fills it; static and numbers past the row's d are left out")
 abbrev pub FieldPairsAre : Type 0
 FieldPairsAre = (structs : List ℕ) (row field : ℕ) (pairs : List FieldPair) → field_pairs structs row field
-    ≡ Gives pairs
+    ≡ Ok pairs
     → FieldFilled (row_at (rows_of structs) row).lifetimes (field_at (rows_of structs) row field).path pairs
 
 -- The examples

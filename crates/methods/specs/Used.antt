@@ -1,15 +1,13 @@
 -- The lifetimes that a method uses: those of its output that are not static (01: "the output's non-static lifetimes").
-use Rattle.std.specs.Prelude.{ℕ, ◌+◌, ◌*◌}
+use Rattle.std.specs.Prelude.{ℕ, ◌+◌, ◌*◌, Ok, Err}
 use mathlib.Core.List.{List, filter_map}
 use Rattle.std.proofs.Math.Option.{Option, none, some}
 use Rattle.lifetimes.specs.declared.maybe_static.MaybeStatic.{MaybeStatic}
 use Rattle.lifetimes.specs.declared.maybe_static.MaybeStatic.TheVariants.{Static, NonStatic}
 use Rattle.lifetimes.specs.declared.env.LifetimeEnv.{LifetimeEnv}
-use Rattle.answers.specs.Refusals.{Outcome, Gives, Refuses, unless}
+use Rattle.answers.specs.Refusals.{Outcome, unless}
 use Rattle.lifetimes.specs.Sets.{set_of}
 use Rattle.records.specs.Reading.{most_list}
-use Rattle.methods.specs.declared.used.UsedLifetimes.{UsedLifetimes}
-use Rattle.methods.specs.declared.used.UsedLifetimes.TheVariants as answer
 use Rattle.methods.specs.Method.{output_lifetimes, method_checks}
 
 -- the numbers of those that are not static
@@ -33,6 +31,6 @@ abbrev pub most_used : ℕ
 most_used = 2 * (most_list + 1)
 
 -- what the call answers
-abbrev pub used_answer : Outcome ℕ → UsedLifetimes
-used_answer (Gives set) = answer.Set set
-used_answer (Refuses r) = answer.Refused r
+abbrev pub used_answer : Outcome ℕ → Outcome ℕ
+used_answer (Ok set) = Ok set
+used_answer (Err r) = Err r

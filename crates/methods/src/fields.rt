@@ -7,10 +7,10 @@ ghost use Rattle.methods.specs.Inner.{RowStands, TypesSkip, FieldIs};
 ghost use Rattle.records.specs.Reading.{most_list};
 
 use super::fits::{MAX_ROWS, index_rows};
-use answers::{Listed, Refusal, Verdict};
-use hir_types::{Kind, Located, path_words, structs_shape, type_at};
+use answers::Refusal;
+use hir_types::{Kind, path_words, structs_shape, type_at};
 use lifetimes::{DefLifetime, LinkedPair, MaybeStaticDef, linked_pair};
-use records::End;
+use records::MAX_LIST;
 
 // A lifetime of a field's definition, and the lifetime of the outer definition that fills it.
 #[derive(Clone, Copy)]
@@ -31,7 +31,7 @@ pub enum FieldAnswer {
 #[derive(Clone, Copy)]
 pub struct FieldLifetimes {
     pub answer: FieldAnswer,
-    pub pairs: [FieldPair; End::MAX_LIST],
+    pub pairs: [FieldPair; MAX_LIST],
 }
 
 // A struct-typed field: the row that it names, and where its path words start and how many they are. Missing where
@@ -53,7 +53,7 @@ pub fn compute_for_struct_field(structs: &[usize], row: usize, field: usize) -> 
     ensures answer { result ≡ field_answer (field_pairs structs.now row field) }
 {
     let shape = structs_shape(structs);
-    let Listed::Count(rows) = shape else {
+    let Ok(rows) = shape else {
         return refused(Refusal::Malformed);
     };
     let found = field_at(structs, rows, row, field);
@@ -68,8 +68,8 @@ pub fn compute_for_struct_field(structs: &[usize], row: usize, field: usize) -> 
     let mut lifetimes = [0usize; MAX_ROWS];
     let verdict = index_rows(structs, rows, &mut lifetimes);
     match verdict {
-        Verdict::Refused(refusal) => refused(refusal),
-        Verdict::Accepted => {
+        Err(refusal) => refused(refusal),
+        Ok(()) => {
             let declared = lifetimes[row];
             let linked = lifetimes[inner];
             let path = path_words(structs, from, count);
@@ -87,7 +87,7 @@ fn pairs_of(path: &[usize], count: usize, declared: usize) -> FieldLifetimes
         def: DefLifetime::new(0),
         outer: DefLifetime::new(0),
     };
-    let mut pairs = [none; End::MAX_LIST];
+    let mut pairs = [none; MAX_LIST];
     let mut n = 0;
     let mut i = 0;
     while i < count {
@@ -127,7 +127,7 @@ fn refused(refusal: Refusal) -> FieldLifetimes
         def: DefLifetime::new(0),
         outer: DefLifetime::new(0),
     };
-    let pairs = [none; End::MAX_LIST];
+    let pairs = [none; MAX_LIST];
     FieldLifetimes {
         answer: FieldAnswer::Refused(refusal),
         pairs,
@@ -149,7 +149,7 @@ fn field_at(structs: &[usize], rows: usize, row: usize, field: usize) -> Field
     }
     let at = skip_types(structs, place + 2, field);
     let found = type_at(structs, at);
-    let Located::At(parts) = found else {
+    let Some(parts) = found else {
         return Field::Missing;
     };
     let kind = parts.kind;
@@ -188,7 +188,7 @@ fn skip_types(words: &[usize], from: usize, count: usize) -> usize
     let mut i = 0;
     while i < count {
         let found = type_at(words, at);
-        let Located::At(parts) = found else {
+        let Some(parts) = found else {
             return at;
         };
         at = parts.next;

@@ -5,8 +5,8 @@ ghost use Rattle.hir_types.specs.Rows.{rows_of, structs_in_shape};
 ghost use Rattle.methods.specs.Inner.{ParamsFit, TypesFit, Indexes, TypeFits, row_lifetimes, misfit_in};
 ghost use Rattle.methods.specs.Method.{most_rows};
 
-use answers::{Refusal, Verdict};
-use hir_types::{Kind, Located, type_at};
+use answers::Refusal;
+use hir_types::{Kind, type_at};
 
 // How many rows a method's structs may have.
 pub(crate) const MAX_ROWS: usize = 32;
@@ -14,20 +14,13 @@ pub(crate) const MAX_ROWS: usize = 32;
 // How many parameters a method may have.
 pub const MAX_PARAMS: usize = 16;
 
-// Where types end that fit; or that one does not.
-#[derive(Clone, Copy)]
-pub(crate) enum Fit {
-    To(usize),
-    Misfit,
-}
-
 // Whether the rows of `structs`, so many, are not too many and their fields fit. Accepted, the array holds each row's
 // lifetimes.
 pub(crate) fn index_rows(
     structs: &[usize],
     rows: usize,
     lifetimes: &mut [usize; MAX_ROWS],
-) -> Verdict
+) -> Result<(), Refusal>
     requires structs_value { (structs_in_shape structs.now ≡ true) × (length (rows_of structs.now) ≡ rows) }
     requires lifetimes_len { length lifetimes.old ≡ most_rows }
     ensures { Indexes structs.now (left lifetimes) result }
@@ -36,38 +29,38 @@ pub(crate) fn index_rows(
     let mut number = 0;
     while number < rows {
         if MAX_ROWS <= number {
-            return Verdict::Refused(Refusal::Full);
+            return Err(Refusal::Full);
         }
         let declared = structs[at];
         let fields = structs[at + 1];
         lifetimes[number] = declared;
         let fit = types_fit(structs, at + 2, fields, lifetimes);
-        let Fit::To(next) = fit else {
-            return Verdict::Refused(Refusal::Mismatch);
+        let Some(next) = fit else {
+            return Err(Refusal::Mismatch);
         };
         at = next;
         number += 1;
     }
-    Verdict::Accepted
+    Ok(())
 }
 
 // Whether parameters, so many, are not too many and fit: a misfit before the 17th comes first.
-pub(crate) fn params_fit(params: &[usize], count: usize, lifetimes: &[usize; MAX_ROWS]) -> Verdict
+pub(crate) fn params_fit(params: &[usize], count: usize, lifetimes: &[usize; MAX_ROWS]) -> Result<(), Refusal>
     requires { length lifetimes.now ≡ most_rows }
     ensures { ParamsFit params.now count lifetimes.now result }
 {
     if MAX_PARAMS < count {
         let first = types_fit(params, 0, MAX_PARAMS, lifetimes);
-        let Fit::To(_) = first else {
-            return Verdict::Refused(Refusal::Mismatch);
+        let Some(_) = first else {
+            return Err(Refusal::Mismatch);
         };
-        return Verdict::Refused(Refusal::Full);
+        return Err(Refusal::Full);
     }
     let all = types_fit(params, 0, count, lifetimes);
-    let Fit::To(_) = all else {
-        return Verdict::Refused(Refusal::Mismatch);
+    let Some(_) = all else {
+        return Err(Refusal::Mismatch);
     };
-    Verdict::Accepted
+    Ok(())
 }
 
 // Whether so many types fit that stand one after another from a place on, by the lifetimes of the rows that they may
@@ -77,7 +70,7 @@ pub(crate) fn types_fit(
     from: usize,
     count: usize,
     lifetimes: &[usize; MAX_ROWS],
-) -> Fit
+) -> Option<usize>
     requires { (from ≤ length words.now) × (length lifetimes.now ≡ most_rows) }
     ensures { TypesFit words.now from count lifetimes.now result }
 {
@@ -85,31 +78,31 @@ pub(crate) fn types_fit(
     let mut i = 0;
     while i < count {
         let fit = type_fits(words, at, lifetimes);
-        let Fit::To(next) = fit else {
-            return Fit::Misfit;
+        let Some(next) = fit else {
+            return None;
         };
         at = next;
         i += 1;
     }
-    Fit::To(at)
+    Some(at)
 }
 
 // Whether the type at a place fits.
-fn type_fits(words: &[usize], at: usize, lifetimes: &[usize; MAX_ROWS]) -> Fit
+fn type_fits(words: &[usize], at: usize, lifetimes: &[usize; MAX_ROWS]) -> Option<usize>
     requires { length lifetimes.now ≡ most_rows }
     ensures { TypeFits words.now at lifetimes.now result }
 {
     let found = type_at(words, at);
-    let Located::At(parts) = found else {
-        return Fit::Misfit;
+    let Some(parts) = found else {
+        return None;
     };
     let kind = parts.kind;
     let count = parts.count;
     let next = parts.next;
     if is_misfit(kind, count, lifetimes) {
-        return Fit::Misfit;
+        return None;
     }
-    Fit::To(next)
+    Some(next)
 }
 
 // Whether a type with so many path words is a struct whose row has not as many lifetimes.

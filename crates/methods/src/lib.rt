@@ -19,4 +19,4 @@ mod used;
 pub use fields::{FieldAnswer, FieldLifetimes, FieldPair, compute_for_struct_field};
 pub use fits::MAX_PARAMS;
 pub use method::{check_method, check_structs_and_params};
-pub use used::{UsedLifetimes, used_method_lifetimes};
+pub use used::used_method_lifetimes;

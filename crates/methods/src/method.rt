@@ -5,16 +5,16 @@ ghost use Rattle.methods.specs.Inner.{InShape, JudgesMethod};
 ghost use Rattle.answers.specs.Lent.{held};
 ghost use Rattle.answers.specs.Lent.{judged};
 
-use super::fits::{Fit, MAX_ROWS, index_rows, params_fit, types_fit};
-use super::output::{Collected, collect_types};
-use answers::{Listed, Refusal, Verdict};
+use super::fits::{MAX_ROWS, index_rows, params_fit, types_fit};
+use super::output::collect_types;
+use answers::Refusal;
 use hir_types::{method_shape, params_shape, structs_shape};
 use lifetimes::{Bounds, LifetimeEnv};
 
 // A method that was judged, and the lifetimes of its output; beside a refusal none.
 #[derive(Clone, Copy)]
 pub(crate) struct Judged {
-    pub(crate) verdict: Verdict,
+    pub(crate) verdict: Result<(), Refusal>,
     pub(crate) used: u64,
 }
 
@@ -27,7 +27,7 @@ pub fn check_method(
     params: &[usize],
     output: &[usize],
     force: &[usize],
-) -> Verdict
+) -> Result<(), Refusal>
     ensures answer { result ≡ method_verdict env structs.now params.now output.now force.now }
 {
     let judged = judge(env, structs, params, output, force);
@@ -36,20 +36,20 @@ pub fn check_method(
 
 // Whether two records can be those of a method, whatever else it has. Refused by 1, then by 4 and 7 at the first bad
 // place. No environment is looked at, so none is passed.
-pub fn check_structs_and_params(structs: &[usize], params: &[usize]) -> Verdict
+pub fn check_structs_and_params(structs: &[usize], params: &[usize]) -> Result<(), Refusal>
     ensures answer { result ≡ structs_and_params_verdict structs.now params.now }
 {
     let counted = structs_shape(structs);
-    let Listed::Count(rows) = counted else {
-        return Verdict::Refused(Refusal::Malformed);
+    let Ok(rows) = counted else {
+        return Err(Refusal::Malformed);
     };
     let listed = params_shape(params, rows);
-    let Listed::Count(inputs) = listed else {
-        return Verdict::Refused(Refusal::Malformed);
+    let Ok(inputs) = listed else {
+        return Err(Refusal::Malformed);
     };
     let mut lifetimes = [0usize; MAX_ROWS];
     let verdict = index_rows(structs, rows, &mut lifetimes);
-    let Verdict::Accepted = verdict else {
+    let Ok(()) = verdict else {
         return verdict;
     };
     params_fit(params, inputs, &lifetimes)
@@ -67,40 +67,40 @@ pub(crate) fn judge(
 {
     let shape = method_shape(structs, params, output, force);
     let first = shape.verdict;
-    let Verdict::Accepted = first else {
+    let Ok(()) = first else {
         return refused(first);
     };
     let count = env.count;
     let pushed = env.bounds.pushed;
     if LifetimeEnv::MAX_LIFETIMES < count {
-        return refused(Verdict::Refused(Refusal::Full));
+        return refused(Err(Refusal::Full));
     }
     if Bounds::MAX < pushed {
-        return refused(Verdict::Refused(Refusal::Full));
+        return refused(Err(Refusal::Full));
     }
     let rows = shape.rows;
     let inputs = shape.params;
     let outputs = shape.outputs;
     let second = judge_places(structs, params, output, rows, inputs, outputs);
-    let Verdict::Accepted = second else {
+    let Ok(()) = second else {
         return refused(second);
     };
     let third = env.check();
-    let Verdict::Accepted = third else {
+    let Ok(()) = third else {
         return refused(third);
     };
     let collected = collect_types(output, outputs, count);
-    let Collected::Set(used) = collected else {
-        return refused(Verdict::Refused(Refusal::OutOfRange));
+    let Some(used) = collected else {
+        return refused(Err(Refusal::OutOfRange));
     };
     Judged {
-        verdict: Verdict::Accepted,
+        verdict: Ok(()),
         used,
     }
 }
 
 // A refusal alone.
-fn refused(verdict: Verdict) -> Judged
+fn refused(verdict: Result<(), Refusal>) -> Judged
     ensures { result ≡ record { verdict = verdict; used = 0 } }
 {
     Judged { verdict, used: 0 }
@@ -114,22 +114,22 @@ fn judge_places(
     rows: usize,
     inputs: usize,
     outputs: usize,
-) -> Verdict
+) -> Result<(), Refusal>
     requires { InShape structs.now params.now output.now rows inputs outputs }
     ensures { result ≡ judged (place_checks structs.now params.now output.now) }
 {
     let mut lifetimes = [0usize; MAX_ROWS];
     let first = index_rows(structs, rows, &mut lifetimes);
-    let Verdict::Accepted = first else {
+    let Ok(()) = first else {
         return first;
     };
     let second = params_fit(params, inputs, &lifetimes);
-    let Verdict::Accepted = second else {
+    let Ok(()) = second else {
         return second;
     };
     let third = types_fit(output, 0, outputs, &lifetimes);
-    let Fit::To(_) = third else {
-        return Verdict::Refused(Refusal::Mismatch);
+    let Some(_) = third else {
+        return Err(Refusal::Mismatch);
     };
-    Verdict::Accepted
+    Ok(())
 }

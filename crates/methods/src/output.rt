@@ -6,18 +6,11 @@ ghost use Rattle.hir_types.specs.LoweredTypes.{own_lifetimes};
 ghost use Rattle.methods.specs.Inner.{CollectIs, PathThere, TypesCollect};
 ghost use Rattle.lifetimes.specs.Limits.{most_lifetimes};
 
-use hir_types::{Located, Own, OwnLifetime, type_at};
+use hir_types::{Own, type_at};
 use lifetimes::{MaybeStatic, set};
 
-// The set so far, or that a lifetime is past the count.
-#[derive(Clone, Copy)]
-pub(crate) enum Collected {
-    Set(u64),
-    Past,
-}
-
 // The lifetimes of so many types, which stand at the front of some words, as a set; or that one is past the count.
-pub(crate) fn collect_types(words: &[usize], types: usize, count: usize) -> Collected
+pub(crate) fn collect_types(words: &[usize], types: usize, count: usize) -> Option<u64>
     requires { count ≤ most_lifetimes }
     ensures { TypesCollect words.now 0 types count 0 result }
 {
@@ -26,30 +19,30 @@ pub(crate) fn collect_types(words: &[usize], types: usize, count: usize) -> Coll
     let mut i = 0;
     while i < types {
         let found = type_at(words, at);
-        let Located::At(parts) = found else {
-            return Collected::Past;
+        let Some(parts) = found else {
+            return None;
         };
         let from = parts.from;
         let n = parts.count;
         let own = parts.own;
         let next = parts.next;
         let path = collect_path(words, from, n, count, used);
-        let Collected::Set(more) = path else {
-            return Collected::Past;
+        let Some(more) = path else {
+            return None;
         };
         let last = collect_own(own, count, more);
-        let Collected::Set(all) = last else {
-            return Collected::Past;
+        let Some(all) = last else {
+            return None;
         };
         used = all;
         at = next;
         i += 1;
     }
-    Collected::Set(used)
+    Some(used)
 }
 
 // Put the lifetimes of so many words, from a place on, into a set.
-fn collect_path(words: &[usize], from: usize, n: usize, count: usize, before: u64) -> Collected
+fn collect_path(words: &[usize], from: usize, n: usize, count: usize, before: u64) -> Option<u64>
     requires { (count ≤ most_lifetimes) × (PathThere (length words.now) from n) }
     ensures { CollectIs count before (map from_word (take n (drop from words.now))) result }
 {
@@ -58,37 +51,37 @@ fn collect_path(words: &[usize], from: usize, n: usize, count: usize, before: u6
     while i < n {
         let word = words[from + i];
         let one = collect(MaybeStatic::from_word(word), count, used);
-        let Collected::Set(more) = one else {
-            return Collected::Past;
+        let Some(more) = one else {
+            return None;
         };
         used = more;
         i += 1;
     }
-    Collected::Set(used)
+    Some(used)
 }
 
 // Put a type's own lifetime into a set, if it has one.
-fn collect_own(own: Own, count: usize, before: u64) -> Collected
+fn collect_own(own: Own, count: usize, before: u64) -> Option<u64>
     requires { count ≤ most_lifetimes }
     ensures { CollectIs count before (own_lifetimes own) result }
 {
     let lifetime = own.lifetime();
     match lifetime {
-        OwnLifetime::Lifetime(one) => collect(one, count, before),
-        OwnLifetime::Absent => Collected::Set(before),
+        Some(one) => collect(one, count, before),
+        None => Some(before),
     }
 }
 
 // Put one lifetime into a set; static is in none.
-fn collect(lifetime: MaybeStatic, count: usize, before: u64) -> Collected
+fn collect(lifetime: MaybeStatic, count: usize, before: u64) -> Option<u64>
     requires { count ≤ most_lifetimes }
     ensures { CollectIs count before (lifetime ∷ []) result }
 {
     let MaybeStatic::NonStatic(l) = lifetime else {
-        return Collected::Set(before);
+        return Some(before);
     };
     if count <= l.index() {
-        return Collected::Past;
+        return None;
     }
-    Collected::Set(set::insert(before, l))
+    Some(set::insert(before, l))
 }

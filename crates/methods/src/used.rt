@@ -4,15 +4,8 @@ ghost use Rattle.methods.specs.Used.{used_set, used_answer};
 ghost use Rattle.answers.specs.Lent.{held};
 
 use super::method::judge;
-use answers::{Refusal, Verdict};
+use answers::Refusal;
 use lifetimes::LifetimeEnv;
-
-// A set of lifetimes, or why the call is refused.
-#[derive(Clone, Copy)]
-pub enum UsedLifetimes {
-    Set(u64),
-    Refused(Refusal),
-}
 
 // The lifetimes that a method uses: those of its output that are not static, at most 34. Refused as the method is (1,
 // 13, 4, 7, 8): `force` is one of its records. Reads each row once.
@@ -22,13 +15,13 @@ pub fn used_method_lifetimes(
     params: &[usize],
     output: &[usize],
     force: &[usize],
-) -> UsedLifetimes
+) -> Result<u64, Refusal>
     ensures answer { result ≡ used_answer (used_set env structs.now params.now output.now force.now) }
 {
     let judged = judge(env, structs, params, output, force);
     let verdict = judged.verdict;
     match verdict {
-        Verdict::Refused(refusal) => UsedLifetimes::Refused(refusal),
-        Verdict::Accepted => UsedLifetimes::Set(judged.used),
+        Err(refusal) => Err(refusal),
+        Ok(()) => Ok(judged.used),
     }
 }

@@ -1,6 +1,6 @@
 // Writing: a line of numbers, one blank between; bytes as they are, counted.
 use super::scan;
-use answers::Verdict;
+use answers::Refusal;
 
 // The first number of a line.
 pub(crate) fn first(rt: &impl Print, number: usize) {
@@ -35,9 +35,9 @@ pub(crate) fn counted(rt: &impl Print, text: &[u8]) {
 }
 
 // The number of a verdict: 0 where nothing is refused.
-pub(crate) fn number_of(verdict: Verdict) -> usize {
+pub(crate) fn number_of(verdict: Result<(), Refusal>) -> usize {
     match verdict {
-        Verdict::Accepted => 0,
-        Verdict::Refused(refusal) => refusal.number(),
+        Ok(()) => 0,
+        Err(refusal) => refusal.number(),
     }
 }

@@ -1,4 +1,5 @@
 -- Copying the first words of a record to a slice that has room for them, or none of them.
+use Rattle.std.specs.Prelude.{Ok, Err}
 use Prim.Native.Nat.{ℕ, ◌≤◌, ◌<◌, min}
 use mathlib.Core.Bool.{Bool, true, false}
 use mathlib.Core.Path.{◌≡◌, refl, sym, ap, ◌∙◌}
@@ -10,9 +11,7 @@ use lib.ListN.{length, take}
 use lib.Seq.{sets, take_all, length-take-le}
 use Rattle.answers.specs.declared.Refusal.{Refusal}
 use Rattle.answers.specs.declared.Refusal.TheVariants.{NoRoom}
-use Rattle.answers.specs.declared.Listed.{Listed}
-use Rattle.answers.specs.declared.Listed.TheVariants as listed
-use Rattle.answers.specs.Refusals.{Check, Outcome, Gives, Refuses, unless, FirstDue, here, later, end}
+use Rattle.answers.specs.Refusals.{Check, Outcome, unless, FirstDue, here, later, end}
 use Rattle.answers.specs.Lent.{counted, written, room_check}
 use Rattle.answers.proofs.RefusalLaws.{due_given, refused_due, given_due, none_first}
 use Rattle.answers.proofs.LentLaws.{answers_refusal, answers_list, no_room, has_room}
@@ -36,19 +35,19 @@ module _ (count : ℕ) (words : List ℕ) where
 
   -- what the call answers and leaves, by whether the slice takes them
   module _ {n : ℕ} (e : n ≡ min count (length words)) (out : List ℕ) where
-    pub copy_refused : length out < n → (listed.Refused NoRoom ≡ counted (copied words count (length out)))
+    pub copy_refused : length out < n → (Err NoRoom ≡ counted (copied words count (length out)))
         × (out ≡ written (copied words count (length out)) out)
     unfolding copied
     copy_refused h = answers_refusal (take count words) out (no_room (length out) (take count words) (omega (arith, how_many_lem, e)))
 
     pub copy_done : {i : ℕ} {out' : List ℕ} → n ≤ length out → Copying words n 0 out out' i → n ≤ i
-        → (listed.Count n ≡ counted (copied words count (length out))) × (out' ≡ written (copied words count (length out)) out)
+        → (Ok n ≡ counted (copied words count (length out))) × (out' ≡ written (copied words count (length out)) out)
     unfolding copied
     copy_done {i} {out'} room inv h =
         let all = answers_list (take count words) out (has_room (length out) (take count words) (omega (arith, how_many_lem, e)) end) in
         let same : take n words ≡ take count words = rw e taken in
         let stored : out' ≡ sets out 0 (take count words) = rw same at (copying_end inv (omega (arith, e)) h) in (
-          ap (λ (k : ℕ). listed.Count k) (e ∙ sym how_many_lem) ∙ all.0,
+          ap (λ (k : ℕ). Ok k) (e ∙ sym how_many_lem) ∙ all.0,
           stored ∙ sets_front out (take count words) (omega (arith, how_many_lem, e)) ∙ all.1,
         )
 
@@ -69,29 +68,29 @@ module _ (words : List ℕ) (count : ℕ) (out : List ℕ) (most : count ≤ len
       let given = due_given (take count words) (has_room (length out) (take count words) (omega (arith, size)) end) in
       w ∙ rw given (sym (sets_front out (take count words) (omega (arith, size))))
 
-  module _ {r : Listed} (e : r ≡ counted (copied words count (length out))) where
-    pub copied_all : {n : ℕ} → r ≡ listed.Count n → count ≤ length out
+  module _ {r : Outcome ℕ} (e : r ≡ counted (copied words count (length out))) where
+    pub copied_all : {n : ℕ} → r ≡ Ok n → count ≤ length out
     unfolding copied
     copied_all {n} c = go (unless (room_check (length out) (take count words) ∷ []) (take count words)) refl (sym e ∙ c)
       where
         go : (o : Outcome (List ℕ)) → unless (room_check (length out) (take count words) ∷ []) (take count words) ≡ o
-            → counted o ≡ listed.Count n → count ≤ length out
-        go (Gives l) u z =
+            → counted o ≡ Ok n → count ≤ length out
+        go (Ok l) u z =
             omega (
               arith,
               size,
               ltb-false (length out) (length (take count words)) (none_first (given_due (take count words) l _ u).0),
             )
-        go (Refuses k) u z = let no : ◌≡◌ {A = ℕ} 0 1 = cc in absurd (omega arith)
+        go (Err k) u z = let no : ◌≡◌ {A = ℕ} 0 1 = cc in absurd (omega arith)
 
-    pub copied_none : {k : Refusal} → r ≡ listed.Refused k → (length out < count) × (out' ≡ out)
+    pub copied_none : {k : Refusal} → r ≡ Err k → (length out < count) × (out' ≡ out)
     unfolding copied
     copied_none {k} c = go (unless (room_check (length out) (take count words) ∷ []) (take count words)) refl (sym e ∙ c)
       where
         go : (o : Outcome (List ℕ)) → unless (room_check (length out) (take count words) ∷ []) (take count words) ≡ o
-            → counted o ≡ listed.Refused k → (length out < count) × (out' ≡ out)
-        go (Gives l) u z = let no : ◌≡◌ {A = ℕ} 0 1 = cc in absurd (omega arith)
-        go (Refuses j) u z = (
+            → counted o ≡ Err k → (length out < count) × (out' ≡ out)
+        go (Ok l) u z = let no : ◌≡◌ {A = ℕ} 0 1 = cc in absurd (omega arith)
+        go (Err j) u z = (
           omega (
             arith,
             size,

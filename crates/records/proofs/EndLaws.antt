@@ -1,4 +1,5 @@
 -- Where a reading ends: laws of `EndsAt`, and the ways out of `lifetimes_end`.
+use Rattle.std.specs.Prelude.{Some, None, Option}
 use Prim.Native.Nat.{ℕ, suc, ◌+◌, ◌-◌, ◌≤◌, ◌<◌}
 use mathlib.Core.Bool.{Bool, true, false, cond, ◌&&◌, and-eq-true_iff}
 use mathlib.Core.Path.{◌≡◌, refl, sym, ap, subst, ◌∙◌}
@@ -9,27 +10,25 @@ use lib.Dec.{leb}
 use lib.ListN.{length, get_or, take, drop, length-drop, drop_of_length-le}
 use lib.Seq.{drop-cons, drop-drop}
 use borrow.Author.Tests.{le-leb, lt-leb, leb-true}
-use Rattle.records.specs.declared.End.{End}
-use Rattle.records.specs.declared.End.TheVariants.{At, Missing}
 use Rattle.records.specs.Reading.{Reading, Read, Fails, onward, read_lifetimes, end_of}
 use Rattle.records.specs.Ends.{EndsAt, ends, missing}
 
 -- ---- `EndsAt`
 
 -- where a call ended, once it is known which way it came out
-pub ends_told : {A : Type 0} {words : List ℕ} {at : ℕ} {reading : Reading A} {r s : End} → EndsAt words at reading r
+pub ends_told : {A : Type 0} {words : List ℕ} {at : ℕ} {reading : Reading A} {r s : Option ℕ} → EndsAt words at reading r
     → r ≡ s → EndsAt words at reading s
 ends_told {words = words} {at} {reading} h e = subst (EndsAt words at reading) e h
 
-pub ends_past : {A : Type 0} {words : List ℕ} {at next : ℕ} {reading : Reading A} → EndsAt words at reading (At next) → at < next
+pub ends_past : {A : Type 0} {words : List ℕ} {at next : ℕ} {reading : Reading A} → EndsAt words at reading (Some next) → at < next
 ends_past (ends d b e) = b
 
-pub ends_within : {A : Type 0} {words : List ℕ} {at next : ℕ} {reading : Reading A} → EndsAt words at reading (At next)
+pub ends_within : {A : Type 0} {words : List ℕ} {at next : ℕ} {reading : Reading A} → EndsAt words at reading (Some next)
     → next ≤ length words
 ends_within (ends d b e) = e
 
 -- a reading that only wraps what was read ends where that ends
-pub wrapped : {A B : Type 0} {words : List ℕ} {from : ℕ} {reading : Reading A} {r : End} (at : ℕ) → at ≤ from
+pub wrapped : {A B : Type 0} {words : List ℕ} {from : ℕ} {reading : Reading A} {r : Option ℕ} (at : ℕ) → at ≤ from
     → (f : A → B) → EndsAt words from reading r
     → EndsAt words at (onward reading (λ a rest. Read (f a) rest)) r
 wrapped at l f (ends {next = next} d b e) = ends {next = next} d (omega arith) e
@@ -37,28 +36,28 @@ wrapped at l f missing = missing
 
 -- of two readings, the second starts where the first ends
 pub wrapped_missing : {A B C : Type 0} {words : List ℕ} {from : ℕ} {reading : Reading A} (at : ℕ) (next : List ℕ
-    → Reading B) (f : A → B → C) → EndsAt words from reading Missing
-    → EndsAt words at (onward reading (λ a rest. onward (next rest) (λ b behind. Read (f a b) behind))) Missing
+    → Reading B) (f : A → B → C) → EndsAt words from reading None
+    → EndsAt words at (onward reading (λ a rest. onward (next rest) (λ b behind. Read (f a b) behind))) None
 wrapped_missing at next f missing = missing
 
-pub wrapped_both : {A B C : Type 0} {words : List ℕ} {from second : ℕ} {reading : Reading A} {r : End} (at : ℕ)
+pub wrapped_both : {A B C : Type 0} {words : List ℕ} {from second : ℕ} {reading : Reading A} {r : Option ℕ} (at : ℕ)
     → at ≤ from → (next : List ℕ → Reading B) (f : A → B → C)
-    → EndsAt words from reading (At second) → EndsAt words second (next (drop second words)) r
+    → EndsAt words from reading (Some second) → EndsAt words second (next (drop second words)) r
     → EndsAt words at (onward reading (λ a rest. onward (next rest) (λ b behind. Read (f a b) behind))) r
 wrapped_both at l next f (ends {a} d b e) h = rw (← d) (wrapped at (omega arith) (f a) h)
 
 -- ---- `lifetimes_end`
 
 module _ (words : List ℕ) (at : ℕ) where
-  pub end_none : length words ≤ at → Missing ≡ end_of (length words) (read_lifetimes (drop at words))
+  pub end_none : length words ≤ at → None ≡ end_of (length words) (read_lifetimes (drop at words))
   end_none h = rw (drop_of_length-le words {i = at} h)
 
   module _ (h : at < length words) where
-    pub end_many : 16 < get_or words at 0 → Missing ≡ end_of (length words) (read_lifetimes (drop at words))
+    pub end_many : 16 < get_or words at 0 → None ≡ end_of (length words) (read_lifetimes (drop at words))
     end_many m = rw (drop-cons words at 0 h, lt-leb (get_or words at 0) 16 m)
 
     module _ (few : get_or words at 0 ≤ 16) where
-      pub end_short : length words - (at + 1) < get_or words at 0 → Missing ≡ end_of (length words) (read_lifetimes (drop at words))
+      pub end_short : length words - (at + 1) < get_or words at 0 → None ≡ end_of (length words) (read_lifetimes (drop at words))
       end_short m =
           rw (
             drop-cons words at 0 h,
@@ -68,7 +67,7 @@ module _ (words : List ℕ) (at : ℕ) where
           )
 
       pub end_whole : get_or words at 0 ≤ length words - (at + 1)
-          → At (at + 1 + get_or words at 0) ≡ end_of (length words) (read_lifetimes (drop at words))
+          → Some (at + 1 + get_or words at 0) ≡ end_of (length words) (read_lifetimes (drop at words))
       end_whole m =
           let e : length words - (length words - suc at - get_or words at 0) ≡ at + 1 + get_or words at 0 = omega arith in
           rw (
@@ -82,7 +81,7 @@ module _ (words : List ℕ) (at : ℕ) where
           )
 
 -- what the call says of the place where it ends
-pub lifetimes_end : (words : List ℕ) (at : ℕ) {r : End} → r ≡ end_of (length words) (read_lifetimes (drop at words))
+pub lifetimes_end : (words : List ℕ) (at : ℕ) {r : Option ℕ} → r ≡ end_of (length words) (read_lifetimes (drop at words))
     → EndsAt words at (read_lifetimes (drop at words)) r
 lifetimes_end words at q = rw q (go (drop at words) refl)
   where

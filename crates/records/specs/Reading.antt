@@ -1,10 +1,7 @@
 -- Reading a record: what stands in front of some words, and the words behind it; items one after another to the end.
-use Rattle.std.specs.Prelude.{ℕ, zero, suc, ◌-◌, Bool, true, false, cond, ◌&&◌, List, [], ◌∷◌, leb, length, take, drop}
+use Rattle.std.specs.Prelude.{ℕ, zero, suc, ◌-◌, Bool, true, false, cond, ◌&&◌, List, [], ◌∷◌, leb, length, take, drop, Ok, Err, Some, None, Option}
 use Rattle.answers.specs.declared.Refusal.TheVariants.{Malformed}
-use Rattle.answers.specs.declared.Verdict.{Verdict}
-use Rattle.answers.specs.declared.Verdict.TheVariants.{Accepted, Refused}
-use Rattle.records.specs.declared.End.{End}
-use Rattle.records.specs.declared.End.TheVariants.{At, Missing}
+use Rattle.answers.specs.Refusals.{Verdict}
 
 -- what stands in front of some words, and the words behind it; or that there is no such thing
 pub data Reading (A : Type 0) : Type 0 where
@@ -71,10 +68,10 @@ items_of item words = read_or [] (read_all item 0 (length words) words)
 
 -- a record in shape is accepted; one that is not is refused by 1
 abbrev pub shape_verdict : Bool → Verdict
-shape_verdict true = Accepted
-shape_verdict false = Refused Malformed
+shape_verdict true = Ok (tt {0})
+shape_verdict false = Err Malformed
 
 -- where, in so many words, a reading ends
-abbrev pub end_of : {A : Type 0} → ℕ → Reading A → End
-end_of n (Read a rest) = At (n - length rest)
-end_of n Fails = Missing
+abbrev pub end_of : {A : Type 0} → ℕ → Reading A → Option ℕ
+end_of n (Read a rest) = Some (n - length rest)
+end_of n Fails = None

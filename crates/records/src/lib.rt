@@ -2,7 +2,7 @@
 //
 // A record is a lent slice of words. What is read from it are items, one after another to its end; most of them hold
 // lifetimes, as many as a word in front says. The scope paper ("01") decides what is right. Where the words do not make
-// an item the answer is `Missing`; which refusal that is, the caller says.
+// an item the answer is none; which refusal that is, the caller says.
 #![tactic(auto)]
 
 ghost use Rattle.std.specs.Prelude.{min, ◌≡◌, length, drop};
@@ -10,66 +10,45 @@ ghost use Rattle.answers.specs.Lent.{counted, held, room, Fills};
 ghost use Rattle.records.specs.Copied.{copied};
 ghost use Rattle.records.specs.Reading.{read_lifetimes, end_of};
 
-use answers::{Listed, Refusal};
+use answers::Refusal;
 
-// Where an item of a record ends: the place behind its last word. Missing where the words do not make one.
-#[derive(Clone, Copy)]
-pub enum End {
-    At(usize),
-    Missing,
-}
+// How many words a record may have.
+pub const MAX_WORDS: usize = 1024;
 
-impl End {
-    // How many words a record may have.
-    pub const MAX_WORDS: usize = 1024;
-
-    // How many lifetimes may stand in one list.
-    pub const MAX_LIST: usize = 16;
-}
+// How many lifetimes may stand in one list.
+pub const MAX_LIST: usize = 16;
 
 // Where a list of lifetimes ends: how many they are, at most 16, then they.
-pub fn lifetimes_end(words: &[usize], at: usize) -> End
+pub fn lifetimes_end(words: &[usize], at: usize) -> Option<usize>
     ensures answer { result ≡ end_of (length words.now) (read_lifetimes (drop at words.now)) }
 {
     let n = words.len();
     if n <= at {
-        return End::Missing;
+        return None;
     }
     let count = words[at];
-    if End::MAX_LIST < count {
-        return End::Missing;
+    if MAX_LIST < count {
+        return None;
     }
     let from = at + 1;
     if n - from < count {
-        return End::Missing;
+        return None;
     }
-    End::At(from + count)
+    Some(from + count)
 }
 
 // Copy the first words of a record, so many, to the front of a slice; where the record has fewer, all of them. Refused
 // by 9 where the slice is too short for them.
-pub fn copy_words(words: &[usize], count: usize, out: &mut [usize]) -> Listed
+pub fn copy_words(words: &[usize], count: usize, out: &mut [usize]) -> Result<usize, Refusal>
     ensures answer { result ≡ counted (copied words.now count (room out)) }
     ensures stored { Fills (copied words.now count (room out)) out }
 {
-    let n = least(count, words.len());
+    let n = count.min(words.len());
     if out.len() < n {
-        return Listed::Refused(Refusal::NoRoom);
+        return Err(Refusal::NoRoom);
     }
-    let mut i = 0;
-    while i < n {
+    for i in 0..n {
         out[i] = words[i];
-        i += 1;
     }
-    Listed::Count(n)
-}
-
-// The smaller of two numbers.
-fn least(a: usize, b: usize) -> usize
-    ensures { result ≡ min a b }
-{
-    if a < b {
-        return a;
-    }
-    b
+    Ok(n)
 }

@@ -6,7 +6,7 @@
 
 ghost use Rattle.std.specs.Prelude.{◌≤◌, ◌≡◌, length};
 
-use answers::{Listed, Refusal, Verdict};
+use answers::Refusal;
 use input::read_input;
 use sheet::{Text, read_sheet};
 use sheet_writer::{MAX_WRITTEN, write_laid};
@@ -53,14 +53,14 @@ fn rewrite(sheet: &[u8], out: &mut [u8]) -> usize {
     let mut words = [0usize; Text::MAX_WORDS];
     let text = read_sheet(sheet, &mut words);
     let verdict = text.verdict;
-    if let Verdict::Refused(refusal) = verdict {
+    if let Err(refusal) = verdict {
         return refuse(refusal, out);
     }
     let ends = text.ends;
     let written = write_laid(&words, &ends, out);
     match written {
-        Listed::Count(count) => count,
-        Listed::Refused(refusal) => refuse(refusal, out),
+        Ok(count) => count,
+        Err(refusal) => refuse(refusal, out),
     }
 }
 

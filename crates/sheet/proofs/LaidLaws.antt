@@ -1,4 +1,5 @@
 -- Records one after another: each stands between two ends, and the whole is the sheet.
+use Rattle.std.specs.Prelude.{Ok, Err}
 use Prim.Native.Nat.{ℕ, zero, suc, ◌+◌, ◌*◌, ◌-◌, ◌≤◌, ◌<◌}
 use mathlib.Core.Bool.{Bool, true, false, ◌&&◌, true≢false, false≢true}
 use mathlib.Core.Path.{◌≡◌, refl, sym, ap, ◌∙◌}
@@ -11,15 +12,11 @@ use lib.ListN.{length, get_or, take, drop, length-append}
 use lib.Seq.{sets, slice, take-append_seam}
 use Rattle.answers.specs.declared.Refusal.{Refusal}
 use Rattle.answers.specs.declared.Refusal.TheVariants.{Malformed, NoRoom}
-use Rattle.answers.specs.declared.Verdict.TheVariants as verdict
-use Rattle.answers.specs.declared.Listed.{Listed}
-use Rattle.answers.specs.declared.Listed.TheVariants.{Count, Refused}
 use Rattle.answers.specs.Lent as lent
 use Rattle.answers.specs.Lent.{written, is_accepted}
 use Rattle.answers.proofs.Copying.{sets_front}
-use Rattle.answers.specs.Refusals.{Refuses, unless, NoneDue}
+use Rattle.answers.specs.Refusals.{unless, NoneDue, Outcome, Verdict}
 use Rattle.answers.proofs.RefusalLaws.{due_given}
-use Rattle.answers.specs.declared.Verdict.{Verdict}
 use Rattle.records.specs.Reading.{shape_verdict}
 use Rattle.records.specs.Copied.{copied}
 use Rattle.records.proofs.CopyLaws.{copied_stores, copied_all, copied_none}
@@ -180,7 +177,7 @@ roomy_fits bytes roomy n =
 -- an accepted text that `scan` left in such scratch: its records stand there, their verdict is the sheet's, and what is
 -- copied from the front are its words
 module _ (bytes scratch : List ℕ) (roomy : Roomy bytes (length scratch)) {j : Text} (m : j ≡ measured bytes)
-    (e : j.verdict ≡ verdict.Accepted)
+    (e : j.verdict ≡ Ok (tt {0}))
     {scratch₁ : List ℕ} (w : NoneDue (text_checks bytes) → scratch₁ ≡ sets scratch 0 (words_of (sheet_of bytes))) where
   ends_counted : Counted bytes j.ends
   ends_counted = counted bytes j m e
@@ -202,17 +199,17 @@ module _ (bytes scratch : List ℕ) (roomy : Roomy bytes (length scratch)) {j : 
   unfolding counted_laid scanned_laid sheet_of
   inside = rw (scanned_laid.stored, length-append) (omega (arith, counted_end ends_counted))
 
-  module _ {v : Verdict} (shape : v ≡ records_verdict (records_at scratch₁ j.ends)) (right : v ≡ verdict.Accepted)
+  module _ {v : Verdict} (shape : v ≡ records_verdict (records_at scratch₁ j.ends)) (right : v ≡ Ok (tt {0}))
       (words : List ℕ) {words' : List ℕ}
-      (left : words' ≡ written (copied scratch₁ (get_or j.ends 9 0) (length words)) words) {r : Listed}
+      (left : words' ≡ written (copied scratch₁ (get_or j.ends 9 0) (length words)) words) {r : Outcome ℕ}
       (told : r ≡ lent.counted (copied scratch₁ (get_or j.ends 9 0) (length words))) where
-    pub scanned_short : {k : Refusal} → r ≡ Refused k → (text_answer (Refuses NoRoom) ≡ sheet_answer bytes (length words))
+    pub scanned_short : {k : Refusal} → r ≡ Err k → (text_answer (Err NoRoom) ≡ sheet_answer bytes (length words))
         × (words' ≡ written (sheet_words bytes (length words)) words)
     scanned_short c =
         let none = copied_none scratch₁ (get_or j.ends 9 0) words inside left told c in
         sheet_short bytes words j m e (scanned_shape shape) right {fits = false} (sym (lt-leb _ _ none.0)) none.1 refl
 
-    pub scanned_wrote : {n : ℕ} → r ≡ Count n → (j ≡ sheet_answer bytes (length words))
+    pub scanned_wrote : {n : ℕ} → r ≡ Ok n → (j ≡ sheet_answer bytes (length words))
         × (words' ≡ written (sheet_words bytes (length words)) words)
     scanned_wrote c =
         let fits = copied_all scratch₁ (get_or j.ends 9 0) words inside left told c in
@@ -243,7 +240,7 @@ module _ (r : Records) {t u x : Bool}
   unfolding sheet_in_shape
   of_parts = rw (e, f)
 
-  pub sheet_torn : x ≡ false → verdict.Refused Malformed ≡ records_verdict r
+  pub sheet_torn : x ≡ false → Err Malformed ≡ records_verdict r
   unfolding unless
   sheet_torn h = rw (of_parts ∙ go t u (sym g ∙ h))
     where

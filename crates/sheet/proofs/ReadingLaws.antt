@@ -1,5 +1,6 @@
 -- Answers: what the parts of a text say of the whole, what `measure` answers, and what `read_text` and `read_sheet`
 -- answer and write.
+use Rattle.std.specs.Prelude.{Ok, Err}
 use Prim.Native.Nat.{ℕ, zero, suc, ◌+◌, ◌≤◌, ◌<◌}
 use mathlib.Core.Bool.{Bool, true, false, cond}
 use mathlib.Core.Path.{◌≡◌, refl, sym, ap, subst, ◌∙◌}
@@ -13,9 +14,7 @@ use lib.ListN.{length, get_or, take, drop, length-append}
 use lib.Seq.{sets, slice, drop-append_seam, drop_at, take_at}
 use Rattle.answers.specs.declared.Refusal.{Refusal}
 use Rattle.answers.specs.declared.Refusal.TheVariants.{Malformed, NoRoom, Unreadable}
-use Rattle.answers.specs.declared.Verdict.{Verdict}
-use Rattle.answers.specs.declared.Verdict.TheVariants as verdict
-use Rattle.answers.specs.Refusals.{Check, Gives, Refuses, unless, FirstDue, NoneDue, end}
+use Rattle.answers.specs.Refusals.{Check, unless, FirstDue, NoneDue, end, Verdict}
 use Rattle.answers.specs.Lent.{written}
 use Rattle.answers.proofs.RefusalLaws.{due_given, due_refused, given_due, refused_due, refused_first, accepted_none}
 use Rattle.answers.proofs.RefusalLaws.{none_first, first_more, first_after, none_more}
@@ -59,16 +58,16 @@ module _ (bytes : List ℕ) where
 
 -- what `measure` answers
 module _ (bytes : List ℕ) where
-  pub measured_none : sheet_in bytes ≡ none → text_answer (Refuses Unreadable) ≡ measured bytes
+  pub measured_none : sheet_in bytes ≡ none → text_answer (Err Unreadable) ≡ measured bytes
   unfolding measured text_checks unless
   measured_none e = rw e
 
   module _ (ls : List (List ℕ)) (e : sheet_in bytes ≡ some (records_of ls)) (t : length ls ≡ 10) where
-    pub measured_long : all_short ls ≡ false → text_answer (Refuses Malformed) ≡ measured bytes
+    pub measured_long : all_short ls ≡ false → text_answer (Err Malformed) ≡ measured bytes
     unfolding measured text_checks sheet_of unless
     measured_long f = rw (e, lists_of_ten ls t, f)
 
-    pub measured_good : all_short ls ≡ true → text_answer (Gives (ends_from 0 ls)) ≡ measured bytes
+    pub measured_good : all_short ls ≡ true → text_answer (Ok (ends_from 0 ls)) ≡ measured bytes
     unfolding measured text_checks sheet_of unless
     measured_good f = rw (e, lists_of_ten ls t, f)
 
@@ -83,15 +82,15 @@ module _ (bytes : List ℕ) (t : Bool) (e : strip_prefix heading bytes ≡ cond 
 -- what `scan` answers, by what `lines` answers
 module _ (bytes words words' ends : List ℕ) {r : Judged} (l : LinesRead bytes 66 words words' ends r)
     (h : length bytes ≤ most_bytes) (e : strip_prefix heading bytes ≡ some (drop 66 bytes)) where
-  pub measured_unreadable : r ≡ judged.Unreadable → text_answer (Refuses Unreadable) ≡ measured bytes
+  pub measured_unreadable : r ≡ judged.Unreadable → text_answer (Err Unreadable) ≡ measured bytes
   measured_unreadable q = measured_none bytes (not_ten bytes h e (subst (LinesRead bytes 66 words words' ends) q l))
 
-  pub measured_malformed : r ≡ judged.TooLong → text_answer (Refuses Malformed) ≡ measured bytes
+  pub measured_malformed : r ≡ judged.TooLong → text_answer (Err Malformed) ≡ measured bytes
   measured_malformed q =
       let t : TenAt bytes 66 words words' ends false = subst (LinesRead bytes 66 words words' ends) q l in
       measured_long bytes t.lines (are_ten bytes h e t.lines t.reads t.count) t.count t.size
 
-  pub measured_accepted : r ≡ judged.Good → record { verdict = verdict.Accepted; ends = ends } ≡ measured bytes
+  pub measured_accepted : r ≡ judged.Good → record { verdict = Ok (tt {0}); ends = ends } ≡ measured bytes
   measured_accepted q =
       let t : TenAt bytes 66 words words' ends true = subst (LinesRead bytes 66 words words' ends) q l in
       rw t.placed (measured_good bytes t.lines (are_ten bytes h e t.lines t.reads t.count) t.count t.size)
@@ -127,7 +126,7 @@ module _ (bytes words words' ends : List ℕ) (none : NoneDue (text_checks bytes
   wrote judged.Good l = wrote_ten l
 
 -- a text that `scan` refuses is not an accepted one
-pub scan_refused : {A : Type 0} (bytes : List ℕ) {k : Refusal} → text_answer (Refuses k) ≡ measured bytes
+pub scan_refused : {A : Type 0} (bytes : List ℕ) {k : Refusal} → text_answer (Err k) ≡ measured bytes
     → NoneDue (text_checks bytes) → A
 unfolding measured
 scan_refused bytes e n =
@@ -145,7 +144,7 @@ module _ (count : ℕ) (words all : List ℕ) where
   left_short f = rw f
 
 -- an accepted text, by what `measure` or `scan` answers
-module _ (bytes : List ℕ) (j : Text) (m : j ≡ measured bytes) (e : j.verdict ≡ verdict.Accepted) where
+module _ (bytes : List ℕ) (j : Text) (m : j ≡ measured bytes) (e : j.verdict ≡ Ok (tt {0})) where
   pub none_due : NoneDue (text_checks bytes)
   unfolding measured
   none_due = accepted_none (ends_from 0 (lists (sheet_of bytes))) (text_checks bytes) (sym (ap (λ (x : Text). x.verdict) m) ∙ e)
@@ -160,13 +159,13 @@ module _ (bytes : List ℕ) (j : Text) (m : j ≡ measured bytes) (e : j.verdict
   pub ends_end : get_or j.ends 9 0 ≡ length (words_of (sheet_of bytes))
   ends_end = rw ends_at (last_end 0 (sheet_of bytes).names _ ∙ omega arith)
 
-  measured_given : j ≡ text_answer (Gives (ends_from 0 (lists (sheet_of bytes))))
+  measured_given : j ≡ text_answer (Ok (ends_from 0 (lists (sheet_of bytes))))
   unfolding measured
   measured_given = m ∙ rw (due_given (ends_from 0 (lists (sheet_of bytes))) none_due)
 
 -- a refused text, by what they answer
-measured_refused : (bytes : List ℕ) (j : Text) → j ≡ measured bytes → {k : Refusal} → j.verdict ≡ verdict.Refused k
-    → FirstDue k (text_checks bytes) × (j ≡ text_answer (Refuses k))
+measured_refused : (bytes : List ℕ) (j : Text) → j ≡ measured bytes → {k : Refusal} → j.verdict ≡ Err k
+    → FirstDue k (text_checks bytes) × (j ≡ text_answer (Err k))
 unfolding measured
 measured_refused bytes j m {k} e =
     let f : FirstDue k (text_checks bytes) =
@@ -181,19 +180,19 @@ module _ (checks : List Check) (s : Records) (words : List ℕ) where
       (a ≡ text_answer (unless (with_room checks (length words) s) (ends_from 0 (lists s))))
       × (words' ≡ written (unless (with_room checks (length words) s) (words_of s)) words)
 
-  call_refuses : {k : Refusal} → FirstDue k (with_room checks (length words) s) → Answers (text_answer (Refuses k)) words
+  call_refuses : {k : Refusal} → FirstDue k (with_room checks (length words) s) → Answers (text_answer (Err k)) words
   call_refuses f = (rw (due_refused (ends_from 0 (lists s)) f), rw (due_refused (words_of s) f))
 
   -- by what `write_all` says and leaves
   module _ (n : NoneDue checks) {count : ℕ} (c : count ≡ length (words_of s)) {fits : Bool} (l : fits ≡ leb count (length words))
       {words' : List ℕ} (w : words' ≡ cond fits (sets words 0 (words_of s)) words) where
-    call_short : fits ≡ false → Answers (text_answer (Refuses NoRoom)) words'
+    call_short : fits ≡ false → Answers (text_answer (Err NoRoom)) words'
     call_short f =
         let h : length words < count = leb-false count (length words) (sym l ∙ f) in
         let kept : words' ≡ words = rw f at w in
         let a = call_refuses (first_after n (no_room (length words) (words_of s) (omega (arith, c)))) in (a.0, kept ∙ a.1)
 
-    call_writes : fits ≡ true → Answers (text_answer (Gives (ends_from 0 (lists s)))) words'
+    call_writes : fits ≡ true → Answers (text_answer (Ok (ends_from 0 (lists s)))) words'
     call_writes t =
         let some : count ≤ length words = leb-true count (length words) (sym l ∙ t) in
         let h : length (words_of s) ≤ length words = omega (arith, c) in
@@ -206,15 +205,15 @@ module _ (bytes words : List ℕ) (j : Text) (m : j ≡ measured bytes) where
   abbrev Reads : Text → List ℕ → Type 0
   Reads a words' = (a ≡ read_answer bytes (length words)) × (words' ≡ written (read_words bytes (length words)) words)
 
-  pub read_refused : {k : Refusal} → j.verdict ≡ verdict.Refused k → Reads j words
+  pub read_refused : {k : Refusal} → j.verdict ≡ Err k → Reads j words
   unfolding read_answer read_ends read_words
   read_refused e =
       let f = measured_refused bytes j m e in
       let a = call_refuses (text_checks bytes) (sheet_of bytes) words (first_more _ f.0) in (f.1 ∙ a.0, a.1)
 
-  module _ (e : j.verdict ≡ verdict.Accepted) {fits : Bool} (l : fits ≡ leb (get_or j.ends 9 0) (length words))
+  module _ (e : j.verdict ≡ Ok (tt {0})) {fits : Bool} (l : fits ≡ leb (get_or j.ends 9 0) (length words))
       {words' : List ℕ} (w : words' ≡ cond fits (sets words 0 (words_of (sheet_of bytes))) words) where
-    pub read_short : fits ≡ false → Reads (text_answer (Refuses NoRoom)) words'
+    pub read_short : fits ≡ false → Reads (text_answer (Err NoRoom)) words'
     unfolding read_answer read_ends read_words
     read_short = call_short (text_checks bytes) (sheet_of bytes) words (none_due bytes j m e) (ends_end bytes j m e) l w
 
@@ -229,16 +228,16 @@ module _ (bytes words : List ℕ) (j : Text) (m : j ≡ measured bytes) where
   abbrev ReadsSheet : Text → List ℕ → Type 0
   ReadsSheet a words' = (a ≡ sheet_answer bytes (length words)) × (words' ≡ written (sheet_words bytes (length words)) words)
 
-  module _ (e : j.verdict ≡ verdict.Accepted) where
+  module _ (e : j.verdict ≡ Ok (tt {0})) where
     module _ {v : Verdict} (s : v ≡ records_verdict (sheet_of bytes)) where
-      pub sheet_unshaped : {k : Refusal} → v ≡ verdict.Refused k → ReadsSheet (text_answer (Refuses k)) words
+      pub sheet_unshaped : {k : Refusal} → v ≡ Err k → ReadsSheet (text_answer (Err k)) words
       unfolding sheet_answer sheet_ends sheet_words sheet_checks
       sheet_unshaped {k} f =
           let d : FirstDue k (sheet_checks bytes) =
           first_after (none_due bytes j m e) (refused_first (tt {0}) k (records_checks (sheet_of bytes)) (sym s ∙ f)) in
           call_refuses (sheet_checks bytes) (sheet_of bytes) words (first_more _ d)
 
-      module _ (f : v ≡ verdict.Accepted) where
+      module _ (f : v ≡ Ok (tt {0})) where
         sheet_none : NoneDue (sheet_checks bytes)
         unfolding sheet_checks
         sheet_none =
@@ -246,7 +245,7 @@ module _ (bytes words : List ℕ) (j : Text) (m : j ≡ measured bytes) where
 
         module _ {fits : Bool} (l : fits ≡ leb (get_or j.ends 9 0) (length words)) {words' : List ℕ}
             (w : words' ≡ cond fits (sets words 0 (words_of (sheet_of bytes))) words) where
-          pub sheet_short : fits ≡ false → ReadsSheet (text_answer (Refuses NoRoom)) words'
+          pub sheet_short : fits ≡ false → ReadsSheet (text_answer (Err NoRoom)) words'
           unfolding sheet_answer sheet_ends sheet_words
           sheet_short = call_short (sheet_checks bytes) (sheet_of bytes) words sheet_none (ends_end bytes j m e) l w
 
@@ -256,7 +255,7 @@ module _ (bytes words : List ℕ) (j : Text) (m : j ≡ measured bytes) where
               let a = call_writes (sheet_checks bytes) (sheet_of bytes) words sheet_none (ends_end bytes j m e) l w t in
               (measured_given bytes j m e ∙ a.0, a.1)
 
-  pub sheet_refused : {k : Refusal} → j.verdict ≡ verdict.Refused k → ReadsSheet j words
+  pub sheet_refused : {k : Refusal} → j.verdict ≡ Err k → ReadsSheet j words
   unfolding sheet_answer sheet_ends sheet_words sheet_checks
   sheet_refused e =
       let f = measured_refused bytes j m e in

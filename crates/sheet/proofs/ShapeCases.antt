@@ -1,4 +1,5 @@
 -- Reading with the shapes, by its cases: no sheet; records in shape, `force` 1 or not; records that are not.
+use Rattle.std.specs.Prelude.{Ok, Err, None}
 use Prim.Native.Nat.{ℕ}
 use mathlib.Core.Bool.{Bool, true, false, not, ◌&&◌, true≢false, false≢true, and-eq-true_iff}
 use mathlib.Core.Logic.{inl, inr}
@@ -9,7 +10,7 @@ use borrow.Author.Tests.{leb-true, le-leb, eqb-false}
 use lib.Dec.{leb}
 use lib.ListN.{length}
 use Rattle.answers.specs.declared.Refusal.TheVariants.{Malformed, Unreadable, Retired}
-use Rattle.answers.specs.Refusals.{Gives, Refuses, FirstDue, here, later, NoneDue, end, next}
+use Rattle.answers.specs.Refusals.{FirstDue, here, later, NoneDue, end, next}
 use Rattle.answers.proofs.RefusalLaws.{due_given, due_refused, given_due, refused_due, first_more, first_after}
 use Rattle.answers.proofs.RefusalLaws.{none_more}
 use Rattle.records.specs.Reading.{Reading, few_words, in_shape}
@@ -105,11 +106,11 @@ tenth_line r e =
     (four_in_shape r.structs r.params r.output r.force (sheet_parts r e).2).force_shape
 
 data Shaped (bytes : List ℕ) : Type 0 where
-  None : read_sheet bytes ≡ Refuses Unreadable → ((r : Records) → IsSheet bytes r → ⊥) → Shaped bytes
-  Good : (r : Records) → read_sheet bytes ≡ Gives r → IsSheet bytes r → sheet_in_shape r ≡ true → forced r.force ≡ false
+  None : read_sheet bytes ≡ Err Unreadable → ((r : Records) → IsSheet bytes r → ⊥) → Shaped bytes
+  Good : (r : Records) → read_sheet bytes ≡ Ok r → IsSheet bytes r → sheet_in_shape r ≡ true → forced r.force ≡ false
       → Shaped bytes
-  Bad : (r : Records) → read_sheet bytes ≡ Refuses Malformed → IsSheet bytes r → sheet_in_shape r ≡ false → Shaped bytes
-  Old : (r : Records) → read_sheet bytes ≡ Refuses Retired → IsSheet bytes r → sheet_in_shape r ≡ true → forced r.force ≡ true
+  Bad : (r : Records) → read_sheet bytes ≡ Err Malformed → IsSheet bytes r → sheet_in_shape r ≡ false → Shaped bytes
+  Old : (r : Records) → read_sheet bytes ≡ Err Retired → IsSheet bytes r → sheet_in_shape r ≡ true → forced r.force ≡ true
       → Shaped bytes
 
 shaped : (bytes : List ℕ) → Read bytes → Shaped bytes
@@ -139,7 +140,7 @@ shaped bytes (Few r e s f) =
         let n : NoneDue (sheet_checks bytes) =
         none_more g.0 (next (ap not (ap sheet_in_shape g.1 ∙ q))
         (next (ap (λ (x : Records). forced x.force) g.1 ∙ o) end)) in
-        Good r (due_given (sheet_of bytes) n ∙ ap Gives g.1) s q o
+        Good r (due_given (sheet_of bytes) n ∙ ap Ok g.1) s q o
 
 -- two of the same sheet
 module _ {bytes : List ℕ} {q r : Records} (a : IsSheet bytes q) (b : IsSheet bytes r) where

@@ -1,4 +1,5 @@
 -- Sheets: ten lines and ten records, the bytes that are a sheet, and when reading gives it or refuses it.
+use Rattle.std.specs.Prelude.{Ok, Err}
 use Prim.Native.Nat.{ℕ, ◌+◌, ◌*◌, ◌≤◌, ◌<◌}
 use mathlib.Core.Bool.{Bool, true, false, cond}
 use mathlib.Core.Logic.{⊎_elim}
@@ -12,7 +13,7 @@ use lib.Dec.{leb, eqb}
 use lib.ListN.{length, length-append, drop_of_length-le}
 use lib.Seq.{drop-cons}
 use Rattle.answers.specs.declared.Refusal.TheVariants.{Malformed, Unreadable}
-use Rattle.answers.specs.Refusals.{Gives, Refuses, unless}
+use Rattle.answers.specs.Refusals.{unless}
 use Rattle.text.specs.Decimal.{line, following}
 use Rattle.sheet.specs.Text.{heading, Records, lists, words_of, text, most_word, most_bytes}
 use Rattle.records.specs.Reading.{most_words, few_words}
@@ -102,9 +103,9 @@ total_words (l ∷ ls) h =
 -- What reading does: the bytes are no sheet, a sheet whose records have few words, or one with a record that has too
 -- many
 pub data Read (bytes : List ℕ) : Type 0 where
-  NoSheet : read_text bytes ≡ Refuses Unreadable → ((r : Records) → IsSheet bytes r → ⊥) → Read bytes
-  Few : (r : Records) → read_text bytes ≡ Gives r → IsSheet bytes r → all_short (lists r) ≡ true → Read bytes
-  Many : (r : Records) → read_text bytes ≡ Refuses Malformed → IsSheet bytes r → all_short (lists r) ≡ false → Read bytes
+  NoSheet : read_text bytes ≡ Err Unreadable → ((r : Records) → IsSheet bytes r → ⊥) → Read bytes
+  Few : (r : Records) → read_text bytes ≡ Ok r → IsSheet bytes r → all_short (lists r) ≡ true → Read bytes
+  Many : (r : Records) → read_text bytes ≡ Err Malformed → IsSheet bytes r → all_short (lists r) ≡ false → Read bytes
 
 pub read_cases : (bytes : List ℕ) → Read bytes
 unfolding read_text text_checks sheet_of unless

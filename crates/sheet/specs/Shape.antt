@@ -1,8 +1,7 @@
 -- The shape of a sheet's ten records (refusal 1, 01's "torn"): each as the crate that reads it says; and what the
 -- reader refuses.
 use Rattle.std.specs.Prelude.{ℕ, Bool, ◌&&◌, List, ◌++◌}
-use Rattle.answers.specs.declared.Verdict.{Verdict}
-use Rattle.answers.specs.Refusals.{Check, Outcome, unless}
+use Rattle.answers.specs.Refusals.{Check, Outcome, unless, Verdict}
 use Rattle.answers.specs.Lent.{judged}
 use Rattle.ast_lifetimes.specs.Shapes.{names_in_shape, bounds_in_shape}
 use Rattle.ast_lifetimes.specs.Types.{types_in_shape}

@@ -1,11 +1,11 @@
 -- The main theorems of this crate, stated. Each has its proof, a term of exactly this type and of the same name in
 -- small letters, in proofs/Theorems.antt.
-use Rattle.std.specs.Prelude.{ℕ, ◌*◌, ◌≤◌, ◌<◌, true, false, ◌≡◌, ◌↔◌, ◌⊎◌, length, get_or}
+use Rattle.std.specs.Prelude.{ℕ, ◌*◌, ◌≤◌, ◌<◌, true, false, ◌≡◌, ◌↔◌, ◌⊎◌, length, get_or, Ok, Err}
 use mathlib.Core.List.{List, [], ◌∷◌, ◌++◌, Memᴰ}
 use Rattle.std.proofs.Math.Seq.{slice}
 use Rattle.answers.specs.declared.Refusal.{Refusal}
 use Rattle.answers.specs.declared.Refusal.TheVariants.{Malformed, NoRoom, Unreadable, Retired}
-use Rattle.answers.specs.Refusals.{Outcome, Gives, Refuses}
+use Rattle.answers.specs.Refusals.{Outcome}
 use Rattle.hir_types.specs.Rows.{forced}
 use Rattle.records.specs.Reading.{most_words}
 use Rattle.sheet.specs.Text.{record_count, Records, lists, words_of, text, most_word, most_bytes, WordsUpTo}
@@ -29,12 +29,12 @@ pub record IsSheet (bytes : List ℕ) (r : Records) : Type 0 where
 -- with 10 exactly if the bytes are no sheet; with 1 exactly if they are a sheet with a longer record; and with nothing
 -- else.
 pub record ReadsBack (bytes : List ℕ) : Type 0 where
-  pub given : (r : Records) → (read_text bytes ≡ Gives r)
+  pub given : (r : Records) → (read_text bytes ≡ Ok r)
       ↔ (IsSheet bytes r × ((l : List ℕ) → Memᴰ l (lists r) → length l ≤ most_words))
-  pub unreadable : (read_text bytes ≡ Refuses Unreadable) ↔ ((r : Records) → IsSheet bytes r → ⊥)
-  pub malformed : (read_text bytes ≡ Refuses Malformed)
+  pub unreadable : (read_text bytes ≡ Err Unreadable) ↔ ((r : Records) → IsSheet bytes r → ⊥)
+  pub malformed : (read_text bytes ≡ Err Malformed)
       ↔ ((r : Records) × IsSheet bytes r × ((l : List ℕ) × Memᴰ l (lists r) × (most_words < length l)))
-  pub refusals : (k : Refusal) → read_text bytes ≡ Refuses k → (k ≡ Unreadable) ⊎ (k ≡ Malformed)
+  pub refusals : (k : Refusal) → read_text bytes ≡ Err k → (k ≡ Unreadable) ⊎ (k ≡ Malformed)
 
 abbrev pub ReadingIsInverse : Type 0
 ReadingIsInverse = (bytes : List ℕ) → ReadsBack bytes
@@ -44,16 +44,16 @@ ReadingIsInverse = (bytes : List ℕ) → ReadsBack bytes
 -- all in shape (a record above 1,024 words is not); with 13 exactly if they are a sheet in shape whose `force` is 1;
 -- and with nothing else. 02: "The sheet keeps its tenth line, which must be 0."
 pub record ReadsInShape (bytes : List ℕ) : Type 0 where
-  pub given : (r : Records) → (read_sheet bytes ≡ Gives r)
+  pub given : (r : Records) → (read_sheet bytes ≡ Ok r)
       ↔ (IsSheet bytes r × (sheet_in_shape r ≡ true) × (forced r.force ≡ false))
-  pub unreadable : (read_sheet bytes ≡ Refuses Unreadable) ↔ ((r : Records) → IsSheet bytes r → ⊥)
-  pub malformed : (read_sheet bytes ≡ Refuses Malformed) ↔ ((r : Records) × IsSheet bytes r × (sheet_in_shape r
+  pub unreadable : (read_sheet bytes ≡ Err Unreadable) ↔ ((r : Records) → IsSheet bytes r → ⊥)
+  pub malformed : (read_sheet bytes ≡ Err Malformed) ↔ ((r : Records) × IsSheet bytes r × (sheet_in_shape r
       ≡ false))
-  pub retired : (read_sheet bytes ≡ Refuses Retired)
+  pub retired : (read_sheet bytes ≡ Err Retired)
       ↔ ((r : Records) × IsSheet bytes r × (sheet_in_shape r ≡ true) × (forced r.force ≡ true))
-  pub refusals : (k : Refusal) → read_sheet bytes ≡ Refuses k
+  pub refusals : (k : Refusal) → read_sheet bytes ≡ Err k
       → (k ≡ Unreadable) ⊎ ((k ≡ Malformed) ⊎ (k ≡ Retired))
-  pub tenth : (r : Records) → read_sheet bytes ≡ Gives r → r.force ≡ 0 ∷ []
+  pub tenth : (r : Records) → read_sheet bytes ≡ Ok r → r.force ≡ 0 ∷ []
 
 abbrev pub ReadingJudgesShapes : Type 0
 ReadingJudgesShapes = (bytes : List ℕ) → ReadsInShape bytes
@@ -65,11 +65,11 @@ ShapesAreShort = (r : Records) → sheet_in_shape r ≡ true → (l : List ℕ) 
 -- What a call answers and writes, from what reading gives: the words and ends of the sheet's records; 9 where the words
 -- are more than the slice takes; else the refusal of the reading.
 pub record CallGives (reading : Outcome Records) (words ends : Outcome (List ℕ)) (room : ℕ) : Type 0 where
-  pub given : (r : Records) → reading ≡ Gives r → length (words_of r) ≤ room → (words ≡ Gives (words_of r))
-      × (ends ≡ Gives (ends_from 0 (lists r)))
-  pub short : (r : Records) → reading ≡ Gives r → room < length (words_of r) → (words ≡ Refuses NoRoom)
-      × (ends ≡ Refuses NoRoom)
-  pub refused : (k : Refusal) → reading ≡ Refuses k → (words ≡ Refuses k) × (ends ≡ Refuses k)
+  pub given : (r : Records) → reading ≡ Ok r → length (words_of r) ≤ room → (words ≡ Ok (words_of r))
+      × (ends ≡ Ok (ends_from 0 (lists r)))
+  pub short : (r : Records) → reading ≡ Ok r → room < length (words_of r) → (words ≡ Err NoRoom)
+      × (ends ≡ Err NoRoom)
+  pub refused : (k : Refusal) → reading ≡ Err k → (words ≡ Err k) × (ends ≡ Err k)
 
 -- `read_text`, and `read_sheet`
 abbrev pub CallReadsText : Type 0
@@ -88,12 +88,12 @@ RecordsInPlace = (r : Records) (rest : List ℕ) (i : ℕ) → i < record_count
 
 -- A slice of 10,240 words takes any sheet that reading gives
 abbrev pub RoomForAnySheet : Type 0
-RoomForAnySheet = (bytes : List ℕ) (r : Records) → read_text bytes ≡ Gives r
+RoomForAnySheet = (bytes : List ℕ) (r : Records) → read_text bytes ≡ Ok r
     → length (words_of r) ≤ record_count * most_words
 
 -- and a sheet has at most half as many words as bytes, so that a small sheet needs little room
 abbrev pub WordsTakeTwoBytes : Type 0
-WordsTakeTwoBytes = (bytes : List ℕ) (r : Records) → read_text bytes ≡ Gives r → 2 * length (words_of r) ≤ length bytes
+WordsTakeTwoBytes = (bytes : List ℕ) (r : Records) → read_text bytes ≡ Ok r → 2 * length (words_of r) ≤ length bytes
 
 -- The examples
 abbrev pub ExamplesHold : Type 0

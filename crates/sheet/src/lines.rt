@@ -9,7 +9,7 @@ ghost use Rattle.sheet.specs.Inner.{LineRead, LinesRead};
 ghost use Rattle.sheet.specs.Text.{record_count};
 
 use super::reading::Text;
-use records::End;
+use records::MAX_WORDS;
 use text::{Found, read_number};
 
 // The place behind a line, and how many words are read so far; or none.
@@ -76,7 +76,7 @@ pub(crate) enum Judged {
 fn also(before: Judged, count: usize) -> Judged
     ensures { result ≡ cond (leb count most_words) before TooLong }
 {
-    if End::MAX_WORDS < count {
+    if MAX_WORDS < count {
         return Judged::TooLong;
     }
     before

@@ -10,14 +10,14 @@ ghost use Rattle.sheet.specs.Answer.{text_answer, measured, read_answer, read_wo
 
 use super::lines::{Judged, lines};
 use super::shapes::both;
-use answers::{Refusal, Verdict};
-use records::End;
+use answers::Refusal;
+use records::MAX_WORDS;
 
 // Whether a text is refused, and where the words of each of its ten records end, one record after another. Beside a
 // refusal all ends are 0.
 #[derive(Clone, Copy)]
 pub struct Text {
-    pub verdict: Verdict,
+    pub verdict: Result<(), Refusal>,
     pub ends: [usize; Text::RECORDS],
 }
 
@@ -36,7 +36,7 @@ impl Text {
     pub const MAX_WORD: usize = 65535;
 
     // How many words its records may have together.
-    pub const MAX_WORDS: usize = Text::RECORDS * End::MAX_WORDS;
+    pub const MAX_WORDS: usize = Text::RECORDS * MAX_WORDS;
 
     // How many records it has, and the number of each.
     pub const RECORDS: usize = 10;
@@ -75,7 +75,7 @@ pub fn read_text(sheet: &[u8], words: &mut [usize]) -> Text
 {
     let judged = measure(sheet);
     let verdict = judged.verdict;
-    let Verdict::Accepted = verdict else {
+    let Ok(()) = verdict else {
         return judged;
     };
     let ends = judged.ends;
@@ -90,7 +90,7 @@ pub(crate) fn refused(refusal: Refusal) -> Text
     ensures { result ≡ text_answer (Refuses refusal) }
 {
     Text {
-        verdict: Verdict::Refused(refusal),
+        verdict: Err(refusal),
         ends: [0; Text::RECORDS],
     }
 }
@@ -120,7 +120,7 @@ pub(crate) fn scan(sheet: &[u8], scratch: &mut [usize]) -> Text
         Judged::Unreadable => refused(Refusal::Unreadable),
         Judged::TooLong => refused(Refusal::Malformed),
         Judged::Good => Text {
-            verdict: Verdict::Accepted,
+            verdict: Ok(()),
             ends,
         },
     }

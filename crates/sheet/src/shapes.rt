@@ -10,7 +10,7 @@ ghost use Rattle.sheet.specs.Shape.{records_verdict};
 
 use super::reading::Text;
 use super::record::record_words;
-use answers::{Refusal, Verdict};
+use answers::Refusal;
 use ast_lifetimes::{bounds_shape, names_shape, types_shape};
 use elision::{self_shape, steps_shape};
 use hir_types::method_shape;
@@ -28,7 +28,7 @@ pub fn sheet_shape(
     params: &[usize],
     output: &[usize],
     force: &[usize],
-) -> Verdict
+) -> Result<(), Refusal>
     ensures answer { result ≡ records_verdict
         (records_in names.now bounds.now types.now own.now steps.now
         returns.now structs.now params.now output.now force.now) }
@@ -36,14 +36,14 @@ pub fn sheet_shape(
     let environment = environment_in_shape(names, bounds, types);
     let elision = elision_in_shape(own, steps, returns);
     if !both(environment, elision) {
-        return Verdict::Refused(Refusal::Malformed);
+        return Err(Refusal::Malformed);
     }
     let shape = method_shape(structs, params, output, force);
     shape.verdict
 }
 
 // The same of records whose words stand one record after another.
-pub(crate) fn judge_laid(words: &[usize], ends: [usize; Text::RECORDS]) -> Verdict
+pub(crate) fn judge_laid(words: &[usize], ends: [usize; Text::RECORDS]) -> Result<(), Refusal>
     ensures { result ≡ records_verdict (records_at words.now ends) }
 {
     sheet_shape(
@@ -78,12 +78,12 @@ fn elision_in_shape(own: &[usize], steps: &[usize], returns: &[usize]) -> bool
     both(received, both(given, returned))
 }
 
-fn accepted(verdict: Verdict) -> bool
+fn accepted(verdict: Result<(), Refusal>) -> bool
     ensures { result ≡ is_accepted verdict }
 {
     match verdict {
-        Verdict::Accepted => true,
-        Verdict::Refused(_) => false,
+        Ok(()) => true,
+        Err(_) => false,
     }
 }
 

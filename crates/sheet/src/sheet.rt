@@ -9,8 +9,8 @@ ghost use Rattle.sheet.specs.Inner.{Roomy};
 
 use super::reading::{Text, refused, scan};
 use super::shapes::judge_laid;
-use answers::{Listed, Refusal, Verdict};
-use records::copy_words;
+use answers::Refusal;
+use records::{MAX_WORDS, copy_words};
 
 // Read a sheet whose records are all in shape. The words of its ten records are written to a slice, one record after
 // another; the answer says where each ends. Refused by 10 where the bytes are not the text of a sheet, then by 1 where
@@ -92,15 +92,15 @@ fn read_within(sheet: &[u8], scratch: &mut [usize], words: &mut [usize]) -> Text
 {
     let text = scan(sheet, scratch);
     let verdict = text.verdict;
-    let Verdict::Accepted = verdict else {
+    let Ok(()) = verdict else {
         return text;
     };
     let ends = text.ends;
     let shape = judge_laid(scratch, ends);
-    if let Verdict::Refused(refusal) = shape {
+    if let Err(refusal) = shape {
         return refused(refusal);
     }
-    let Listed::Count(_) = copy_words(scratch, ends[Text::FORCE], words) else {
+    let Ok(_) = copy_words(scratch, ends[Text::FORCE], words) else {
         return refused(Refusal::NoRoom);
     };
     text

@@ -1,4 +1,5 @@
 -- Records one after another: the loop of `ascend`, ten ends as an array, and the ways out of the call.
+use Rattle.std.specs.Prelude.{Err}
 use Prim.Native.Nat.{ℕ, suc, ◌+◌, ◌≤◌, ◌<◌}
 use mathlib.Core.Bool.{Bool, true, false, ◌&&◌, and-eq-true_iff}
 use mathlib.Core.Path.{◌≡◌, refl, sym, ◌∙◌}
@@ -10,9 +11,7 @@ use lib.Dec.{leb, eqb}
 use lib.ListN.{length, get_or, take, drop, replicate, length-append, length-replicate, drop_of_length-le}
 use lib.Seq.{drop-cons, take_all}
 use Rattle.answers.specs.declared.Refusal.TheVariants.{Malformed}
-use Rattle.answers.specs.declared.Listed.{Listed}
-use Rattle.answers.specs.declared.Listed.TheVariants as listed
-use Rattle.answers.specs.Refusals.{unless, end}
+use Rattle.answers.specs.Refusals.{unless, end, Outcome}
 use Rattle.answers.specs.Lent.{counted, written}
 use Rattle.answers.specs.Lists.{ends_from}
 use Rattle.answers.proofs.LentLaws.{answers_list, has_room}
@@ -90,7 +89,7 @@ module _ (words ends : List ℕ) (room : ℕ) where
   laid_same h = rw h
 
 pub laid_torn : (words ends out : List ℕ) {t : Bool} → t ≡ are_ends (length words) ends → t ≡ false
-    → (listed.Refused Malformed ≡ counted (write_laid words ends (length out)))
+    → (Err Malformed ≡ counted (write_laid words ends (length out)))
     × (out ≡ written (write_laid words ends (length out)) out)
 unfolding write_laid unless
 laid_torn words ends out e h = rw (sym e ∙ h) (refl, refl)
@@ -99,7 +98,7 @@ module _ (words ends out : List ℕ) (fine : are_ends (length words) ends ≡ tr
     (pa : a ≡ record_words words ends 0) (pb : b ≡ record_words words ends 1) (pc : c ≡ record_words words ends 2)
     (pd : d ≡ record_words words ends 3) (pe : e ≡ record_words words ends 4) (pf : f ≡ record_words words ends 5)
     (pg : g ≡ record_words words ends 6) (ph : h ≡ record_words words ends 7) (pi : i ≡ record_words words ends 8)
-    (pj : j ≡ record_words words ends 9) {l : Listed} {out₁ : List ℕ}
+    (pj : j ≡ record_words words ends 9) {l : Outcome ℕ} {out₁ : List ℕ}
     (told : (l ≡ counted (write_sheet (ten_records a b c d e f g h i j) (length out)))
     × (out₁ ≡ written (write_sheet (ten_records a b c d e f g h i j) (length out)) out)) where
   pub ten_written : (l ≡ counted (write_laid words ends (length out)))
@@ -108,7 +107,7 @@ module _ (words ends out : List ℕ) (fine : are_ends (length words) ends ≡ tr
       rw (laid_same words ends (length out) fine, ← ten_found words ends pa pb pc pd pe pf pg ph pi pj) told
 
 -- the same by the array
-pub laid_written : (words ends out : List ℕ) {ten : List ℕ} → ten ≡ ends → {l : Listed} {out₁ : List ℕ}
+pub laid_written : (words ends out : List ℕ) {ten : List ℕ} → ten ≡ ends → {l : Outcome ℕ} {out₁ : List ℕ}
     → (l ≡ counted (write_laid words ten (length out))) × (out₁ ≡ written (write_laid words ten (length out)) out)
     → (l ≡ counted (write_laid words ends (length out))) × (out₁ ≡ written (write_laid words ends (length out)) out)
 laid_written words ends out q told = rw (← q) told

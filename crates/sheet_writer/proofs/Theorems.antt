@@ -1,4 +1,5 @@
 -- The main theorems, proved: for each statement of specs/Theorems.antt a term of exactly its type.
+use Rattle.std.specs.Prelude.{Ok}
 use Prim.Native.Nat.{ℕ, ◌≤◌}
 use mathlib.Core.Bool.{not, true, false}
 use mathlib.Core.Path.{◌≡◌, refl, sym, ap, subst, ◌∙◌}
@@ -7,7 +8,7 @@ use native.Mathlib.Omega.{arith}
 use borrow.Author.Tests.{le-ltb, ltb-false}
 use lib.ListN.{length}
 use Rattle.answers.specs.Lists.{any, all, ends_from}
-use Rattle.answers.specs.Refusals.{Gives, NoneDue, unless, next, end}
+use Rattle.answers.specs.Refusals.{NoneDue, unless, next, end}
 use Rattle.answers.specs.Lent.{room_check}
 use Rattle.answers.proofs.RefusalLaws.{due_given, given_due, none_split, none_more, none_first, none_rest, further}
 use Rattle.records.specs.Reading.{in_shape, items_of, read_all}
@@ -32,7 +33,7 @@ Written r room bytes =
     (bytes ≡ text r) × WordsUpTo most_word r × (sheet_in_shape r ≡ true) × (forced r.force ≡ false)
     × (length (text r) ≤ room)
 
-given_so : (r : Records) (room : ℕ) (bytes : List ℕ) → write_sheet r room ≡ Gives bytes → Written r room bytes
+given_so : (r : Records) (room : ℕ) (bytes : List ℕ) → write_sheet r room ≡ Ok bytes → Written r room bytes
 unfolding write_sheet Written
 given_so r room bytes e =
     let g = given_due (text r) bytes (write_checks r ++ (room_check room (text r) ∷ [])) e in
@@ -44,14 +45,14 @@ given_so r room bytes e =
       ltb-false room (length (text r)) (none_first n.1),
     )
 
-so_given : (r : Records) (room : ℕ) (bytes : List ℕ) → Written r room bytes → write_sheet r room ≡ Gives bytes
+so_given : (r : Records) (room : ℕ) (bytes : List ℕ) → Written r room bytes → write_sheet r room ≡ Ok bytes
 unfolding write_sheet Written
 so_given r room bytes (spelt, words, shape, force, fits) =
     let n : NoneDue (write_checks r) =
     next ((none_large r).1 words) (next (ap not shape) (next force end)) in
-    due_given (text r) (none_more n (next (le-ltb room (length (text r)) fits) end)) ∙ ap (λ (b : List ℕ). Gives b) (sym spelt)
+    due_given (text r) (none_more n (next (le-ltb room (length (text r)) fits) end)) ∙ ap (λ (b : List ℕ). Ok b) (sym spelt)
 
-read_back : (r : Records) (room : ℕ) (bytes : List ℕ) → Written r room bytes → read_sheet bytes ≡ Gives r
+read_back : (r : Records) (room : ℕ) (bytes : List ℕ) → Written r room bytes → read_sheet bytes ≡ Ok r
 unfolding Written
 read_back r room bytes (spelt, words, shape, force, fits) =
     let size : length bytes ≤ 65536 =

@@ -1,4 +1,5 @@
 -- Writing ten records: the verdict on them, how many bytes their text has at most, and the ways out of the call.
+use Rattle.std.specs.Prelude.{Ok, Err}
 use Prim.Native.Nat.{ℕ, suc, ◌*◌, ◌≤◌}
 use mathlib.Core.Bool.{Bool, true, false}
 use mathlib.Core.Path.{◌≡◌, refl, sym, ap, ◌∙◌}
@@ -12,10 +13,7 @@ use lib.Dec.{leb}
 use lib.ListN.{length, replicate, length-append}
 use Rattle.answers.specs.declared.Refusal.{Refusal}
 use Rattle.answers.specs.declared.Refusal.TheVariants.{NoRoom, Unreadable}
-use Rattle.answers.specs.declared.Verdict.{Verdict}
-use Rattle.answers.specs.declared.Verdict.TheVariants as verdict
-use Rattle.answers.specs.declared.Listed.TheVariants as listed
-use Rattle.answers.specs.Refusals.{Check, unless, FirstDue, NoneDue, end}
+use Rattle.answers.specs.Refusals.{Check, unless, FirstDue, NoneDue, end, Verdict}
 use Rattle.answers.specs.Lent.{counted, judged, written, room_check}
 use Rattle.answers.proofs.RefusalLaws.{refused_first, accepted_none, first_more, first_after, none_more, none_first}
 use Rattle.answers.proofs.RefusalLaws.{none_rest}
@@ -35,7 +33,7 @@ use Rattle.sheet_writer.proofs.LargeLaws.{none_large}
 -- ---- the verdict
 
 module _ (r : Records) {t : Bool} (e : t ≡ has_large (words_of r)) where
-  pub large_first : t ≡ true → verdict.Refused Unreadable ≡ judged (write_checks r)
+  pub large_first : t ≡ true → Err Unreadable ≡ judged (write_checks r)
   unfolding unless
   large_first h = rw (sym e ∙ h)
 
@@ -103,20 +101,20 @@ module _ (r : Records) (out : List ℕ) {v : Verdict} (told : v ≡ judged (writ
   abbrev checks : List Check
   checks = write_checks r ++ (room_check (length out) (text r) ∷ [])
 
-  pub write_refused : {k : Refusal} → v ≡ verdict.Refused k
-      → (listed.Refused k ≡ counted (write_sheet r (length out))) × (out ≡ written (write_sheet r (length out)) out)
+  pub write_refused : {k : Refusal} → v ≡ Err k
+      → (Err k ≡ counted (write_sheet r (length out))) × (out ≡ written (write_sheet r (length out)) out)
   unfolding write_sheet
   write_refused {k} e =
       let due : FirstDue k checks = first_more _ (refused_first (tt {0}) k (write_checks r) (sym told ∙ e)) in
       answers_refusal (text r) out due
 
-  module _ (fine : v ≡ verdict.Accepted) where
+  module _ (fine : v ≡ Ok (tt {0})) where
     pub none_due : NoneDue (write_checks r)
     none_due = accepted_none (tt {0}) (write_checks r) (sym told ∙ fine)
 
     module _ {t : Bool} (fits : t ≡ leb (length (text r)) (length out)) where
       pub write_short : t ≡ false
-          → (listed.Refused NoRoom ≡ counted (write_sheet r (length out))) × (out ≡ written (write_sheet r (length out)) out)
+          → (Err NoRoom ≡ counted (write_sheet r (length out))) × (out ≡ written (write_sheet r (length out)) out)
       unfolding write_sheet
       write_short e =
           let due : FirstDue NoRoom checks =
@@ -124,11 +122,11 @@ module _ (r : Records) (out : List ℕ) {v : Verdict} (told : v ≡ judged (writ
           answers_refusal (text r) out due
 
       pub write_given : t ≡ true → {count : ℕ} {out₁ : List ℕ} → Prints (text r) 0 out count out₁
-          → (listed.Count count ≡ counted (write_sheet r (length out))) × (out₁ ≡ written (write_sheet r (length out)) out)
+          → (Ok count ≡ counted (write_sheet r (length out))) × (out₁ ≡ written (write_sheet r (length out)) out)
       unfolding write_sheet
       write_given e {count} p =
           let room : length (text r) ≤ length out = leb-true (length (text r)) (length out) (sym fits ∙ e) in
           let due : NoneDue checks = none_more none_due (has_room (length out) (text r) room end) in
           let all = answers_list (text r) out due in
           let n : count ≡ length (text r) = prints_length p (omega (arith, text_short r none_due)) ∙ zero-add _ in
-          (ap (λ (k : ℕ). listed.Count k) n ∙ all.0, prints_front p room ∙ all.1)
+          (ap (λ (k : ℕ). Ok k) n ∙ all.0, prints_front p room ∙ all.1)

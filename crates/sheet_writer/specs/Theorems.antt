@@ -1,7 +1,7 @@
 -- The main theorems of this crate, stated. Each has its proof, a term of exactly this type and of the same name in
 -- small letters, in proofs/Theorems.antt.
-use Rattle.std.specs.Prelude.{ℕ, ◌≤◌, true, false, ◌≡◌, ◌↔◌, List, ◌++◌, length}
-use Rattle.answers.specs.Refusals.{Gives, unless}
+use Rattle.std.specs.Prelude.{ℕ, ◌≤◌, true, false, ◌≡◌, ◌↔◌, List, ◌++◌, length, Ok}
+use Rattle.answers.specs.Refusals.{unless}
 use Rattle.answers.specs.Lists.{ends_from}
 use Rattle.hir_types.specs.Rows.{forced}
 use Rattle.sheet.specs.Text.{Records, lists, words_of, text, most_word, WordsUpTo}
@@ -14,19 +14,19 @@ use Rattle.sheet_writer.specs.Examples.{examples, AsExpected}
 pub record Inverse : Type 0 where
   -- ten records are written exactly if no word is above 65535, all are in shape, `force` is not 1 and there is room;
   -- whatever else a sheet is refused by does not prevent it
-  pub given : (r : Records) (room : ℕ) (bytes : List ℕ) → (write_sheet r room ≡ Gives bytes)
+  pub given : (r : Records) (room : ℕ) (bytes : List ℕ) → (write_sheet r room ≡ Ok bytes)
       ↔ ((bytes ≡ text r) × WordsUpTo most_word r × (sheet_in_shape r ≡ true) × (forced r.force ≡ false)
       × (length (text r) ≤ room))
   -- "The reader .. takes it back to equal records"
-  pub back : (r : Records) (room : ℕ) (bytes : List ℕ) → write_sheet r room ≡ Gives bytes → read_sheet bytes ≡ Gives r
+  pub back : (r : Records) (room : ℕ) (bytes : List ℕ) → write_sheet r room ≡ Ok bytes → read_sheet bytes ≡ Ok r
   -- "each accepted sheet, read and written, comes out byte for byte"
-  pub again : (bytes : List ℕ) (r : Records) (room : ℕ) → read_sheet bytes ≡ Gives r → length bytes ≤ room
-      → write_sheet r room ≡ Gives bytes
+  pub again : (bytes : List ℕ) (r : Records) (room : ℕ) → read_sheet bytes ≡ Ok r → length bytes ≤ room
+      → write_sheet r room ≡ Ok bytes
   -- "no two sheets have the same records"
-  pub one : (bytes other : List ℕ) (r : Records) → read_sheet bytes ≡ Gives r → read_sheet other ≡ Gives r → bytes
+  pub one : (bytes other : List ℕ) (r : Records) → read_sheet bytes ≡ Ok r → read_sheet other ≡ Ok r → bytes
       ≡ other
   -- a written sheet has at most 61,506 bytes
-  pub short : (r : Records) (room : ℕ) (bytes : List ℕ) → write_sheet r room ≡ Gives bytes → length bytes ≤ most_written
+  pub short : (r : Records) (room : ℕ) (bytes : List ℕ) → write_sheet r room ≡ Ok bytes → length bytes ≤ most_written
 
 abbrev pub WritingIsInverse : Type 0
 WritingIsInverse = Inverse

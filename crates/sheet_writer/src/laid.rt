@@ -5,25 +5,25 @@ ghost use Rattle.sheet.specs.Text.{record_count};
 ghost use Rattle.sheet_writer.specs.Laid.{ascend_to, are_ends, write_laid};
 
 use super::write::write_sheet;
-use answers::{Listed, Refusal};
+use answers::Refusal;
 use records::copy_words;
 use sheet::{Text, record_words};
 
 // Write the sheet of ten records whose words stand one record after another; `ends` says where each ends. Refused by 1
 // where these are not ten ends, where they do not ascend, or where one is past the words: there are no ten records
 // then. Else as `write_sheet` writes the ten. Words behind the last end are not looked at.
-pub fn write_laid(words: &[usize], ends: &[usize], out: &mut [u8]) -> Listed
+pub fn write_laid(words: &[usize], ends: &[usize], out: &mut [u8]) -> Result<usize, Refusal>
     ensures answer { result ≡ counted (write_laid words.now ends.now (room out)) }
     ensures stored { Fills (write_laid words.now ends.now (room out)) out }
 {
     if !are_ends(words.len(), ends) {
-        return Listed::Refused(Refusal::Malformed);
+        return Err(Refusal::Malformed);
     }
     write_ten(words, ten_of(ends), out)
 }
 
 // The same with ten ends that are known to be such.
-fn write_ten(words: &[usize], ends: [usize; Text::RECORDS], out: &mut [u8]) -> Listed
+fn write_ten(words: &[usize], ends: [usize; Text::RECORDS], out: &mut [u8]) -> Result<usize, Refusal>
     requires { are_ends (length words.now) ends ≡ true }
     ensures value { result ≡ counted (write_laid words.now ends (room out)) }
     ensures fills { Fills (write_laid words.now ends (room out)) out }

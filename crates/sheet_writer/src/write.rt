@@ -10,7 +10,7 @@ ghost use Rattle.sheet_writer.specs.Writing.{write_checks, write_sheet};
 
 use super::large::any_large;
 use super::print::put_sheet;
-use answers::{Listed, Refusal, Verdict};
+use answers::Refusal;
 use sheet::{Text, sheet_shape};
 
 // So many bytes take any sheet that is written: the heading, and for each word at most five digits and the byte behind
@@ -33,7 +33,7 @@ pub fn write_sheet(
     output: &[usize],
     force: &[usize],
     out: &mut [u8],
-) -> Listed
+) -> Result<usize, Refusal>
     ensures answer { result ≡ counted (write_sheet
         (records_in names.now bounds.now types.now own.now steps.now
         returns.now structs.now params.now output.now force.now) (room out)) }
@@ -44,16 +44,16 @@ pub fn write_sheet(
     let verdict = judge(
         names, bounds, types, own, steps, returns, structs, params, output, force,
     );
-    if let Verdict::Refused(refusal) = verdict {
-        return Listed::Refused(refusal);
+    if let Err(refusal) = verdict {
+        return Err(refusal);
     }
     let room = out.len();
     if !fits(
         room, names, bounds, types, own, steps, returns, structs, params, output, force,
     ) {
-        return Listed::Refused(Refusal::NoRoom);
+        return Err(Refusal::NoRoom);
     }
-    Listed::Count(put_sheet(
+    Ok(put_sheet(
         out, names, bounds, types, own, steps, returns, structs, params, output, force,
     ))
 }
@@ -70,7 +70,7 @@ fn judge(
     params: &[usize],
     output: &[usize],
     force: &[usize],
-) -> Verdict
+) -> Result<(), Refusal>
     ensures { result ≡ judged (write_checks
         (records_in names.now bounds.now types.now own.now steps.now
         returns.now structs.now params.now output.now force.now)) }
@@ -78,7 +78,7 @@ fn judge(
     if any_large(
         names, bounds, types, own, steps, returns, structs, params, output, force,
     ) {
-        return Verdict::Refused(Refusal::Unreadable);
+        return Err(Refusal::Unreadable);
     }
     sheet_shape(
         names, bounds, types, own, steps, returns, structs, params, output, force,

@@ -6,7 +6,7 @@
 ghost use Rattle.std.specs.Prelude.{◌≤◌, length};
 
 use super::{bounds, print, scan};
-use answers::{Listed, Verdict};
+use answers::Refusal;
 use ast_lifetimes::LifetimeEnv;
 use lifetimes::Bounds;
 
@@ -29,7 +29,7 @@ pub(crate) fn from_method_item(rt: &impl Print, words: &[usize], names: usize) -
     );
     let verdict = made.verdict;
     print::first(rt, print::number_of(verdict));
-    if let Verdict::Accepted = verdict {
+    if let Ok(()) = verdict {
         let env = made.env;
         print_environment(rt, env);
     }
@@ -208,7 +208,7 @@ fn print_room(rt: &impl Print, env: LifetimeEnv, name: usize, longer: bool, n: u
 }
 
 // `longer_than` or `shorter_than`.
-fn list(env: LifetimeEnv, name: usize, longer: bool, out: &mut [usize]) -> Listed {
+fn list(env: LifetimeEnv, name: usize, longer: bool, out: &mut [usize]) -> Result<usize, Refusal> {
     if longer {
         return env.longer_than(name, out);
     }

@@ -2,11 +2,11 @@
 ghost use Rattle.std.specs.Prelude.{◌≤◌, length};
 
 use super::{environments, print, scan};
-use answers::Verdict;
+use answers::Refusal;
 use hir_types::LifetimeAt;
 use lifetimes::{Lifetime, MaybeStatic, set};
-use methods::{FieldAnswer, FieldLifetimes, UsedLifetimes};
-use records::End;
+use methods::{FieldAnswer, FieldLifetimes};
+use records::MAX_LIST;
 
 // Kind 10: an environment made by hand, records structs, params, output, force. `check_method`: the refusal's number or
 // 0. Then `used_method_lifetimes`: the refusal's number; or 0 and the set, ascending.
@@ -76,7 +76,7 @@ pub(crate) fn behind_method(words: &[usize], at: usize) -> usize
 }
 
 // `check_method` of the method that is asked for at a place.
-fn checked(words: &[usize], at: usize) -> Verdict
+fn checked(words: &[usize], at: usize) -> Result<(), Refusal>
     requires { at ≤ length words.now }
 {
     let env = environments::made_by_hand(words, at);
@@ -94,7 +94,7 @@ fn checked(words: &[usize], at: usize) -> Verdict
 }
 
 // `used_method_lifetimes` of it.
-fn used_at(words: &[usize], at: usize) -> UsedLifetimes
+fn used_at(words: &[usize], at: usize) -> Result<u64, Refusal>
     requires { at ≤ length words.now }
 {
     let env = environments::made_by_hand(words, at);
@@ -112,10 +112,10 @@ fn used_at(words: &[usize], at: usize) -> UsedLifetimes
 }
 
 // The used lifetimes of a method.
-fn print_used(rt: &impl Print, used: UsedLifetimes) {
+fn print_used(rt: &impl Print, used: Result<u64, Refusal>) {
     match used {
-        UsedLifetimes::Refused(refusal) => print::next(rt, refusal.number()),
-        UsedLifetimes::Set(set) => {
+        Err(refusal) => print::next(rt, refusal.number()),
+        Ok(set) => {
             print::next(rt, 0);
             print_members(rt, set);
         }
@@ -156,7 +156,7 @@ fn print_field(rt: &impl Print, lifetimes: FieldLifetimes) {
         FieldAnswer::Pairs(count) => {
             print::first(rt, 0);
             print::next(rt, count);
-            print_pairs(rt, lifetimes, scan::least(count, End::MAX_LIST));
+            print_pairs(rt, lifetimes, scan::least(count, MAX_LIST));
         }
     }
 }

@@ -6,10 +6,9 @@
 ghost use Rattle.std.specs.Prelude.{◌≤◌, length};
 
 use super::{ast, print, scan};
-use answers::Verdict;
 use elision::{ElisionSource, Lifetimes, Lowered, Lowerer, Seen, Stepped};
-use lifetimes::{LoweredWord, MaybeStatic};
-use records::End;
+use lifetimes::MaybeStatic;
+use records::MAX_LIST;
 
 // Kind 14: record of names, a lowerer made by hand, and a step: its kind, the number of generics (kind 0: the
 // lifetime), the record of lifetimes, whether it is in the output (0 no). Of kind 3 is a step by its words
@@ -95,7 +94,7 @@ fn started(names: &[usize], receiver: &[usize]) -> Stepped {
     let lowerer = Lowerer::no_self_ref(names);
     let list = list_of(&[]);
     Stepped {
-        verdict: Verdict::Accepted,
+        verdict: Ok(()),
         lowerer,
         lifetimes: Lifetimes { n: 0, list },
     }
@@ -173,12 +172,12 @@ fn source_of(code: usize, word: usize) -> ElisionSource {
 }
 
 // Lowered words as a list of lifetimes.
-fn list_of(words: &[usize]) -> [Lowered; End::MAX_LIST] {
+fn list_of(words: &[usize]) -> [Lowered; MAX_LIST] {
     let none = Lowered {
         lifetime: MaybeStatic::Static,
     };
-    let mut list = [none; End::MAX_LIST];
-    let n = scan::least(words.len(), End::MAX_LIST);
+    let mut list = [none; MAX_LIST];
+    let n = scan::least(words.len(), MAX_LIST);
     let mut i = 0;
     while i < n {
         let lifetime = MaybeStatic::from_word(words[i]);
@@ -224,8 +223,8 @@ fn print_coded(rt: &impl Print, code: usize, lifetime: MaybeStatic) {
 fn print_word(rt: &impl Print, lifetime: MaybeStatic) {
     let answer = lifetime.word();
     match answer {
-        LoweredWord::Word(word) => print::next(rt, word),
-        LoweredWord::Absent => print::next(rt, usize::MAX),
+        Some(word) => print::next(rt, word),
+        None => print::next(rt, usize::MAX),
     }
 }
 
@@ -233,7 +232,7 @@ fn print_word(rt: &impl Print, lifetime: MaybeStatic) {
 fn print_list(rt: &impl Print, lifetimes: Lifetimes) {
     print::next(rt, lifetimes.n);
     let mut i = 0;
-    while i < End::MAX_LIST {
+    while i < MAX_LIST {
         let lowered = lifetimes.list[i];
         let lifetime = lowered.lifetime;
         print_word(rt, lifetime);

@@ -2,7 +2,6 @@
 ghost use Rattle.std.specs.Prelude.{◌≤◌, length};
 
 use super::{print, rooms, scan};
-use answers::Verdict;
 use ast_lifetimes::LifetimeEnv;
 
 // The longest slice that is lent for the lowered `self`: more than the one word that it may have.
@@ -26,8 +25,8 @@ pub(crate) fn lower(rt: &impl Print, words: &[usize], names: usize) -> usize
     );
     let verdict = made.verdict;
     match verdict {
-        Verdict::Refused(refusal) => print::first(rt, refusal.number()),
-        Verdict::Accepted => {
+        Err(refusal) => print::first(rt, refusal.number()),
+        Ok(()) => {
             let env = made.env;
             print_lowered(rt, env, words, receiver);
         }

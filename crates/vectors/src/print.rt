@@ -1,6 +1,6 @@
 // Writing: a line of numbers, one blank between.
 use super::scan;
-use answers::{Listed, Verdict};
+use answers::Refusal;
 
 // The first number of a line.
 pub(crate) fn first(rt: &impl Print, number: usize) {
@@ -51,29 +51,29 @@ pub(crate) fn bytes(rt: &impl Print, bytes: &[u8]) {
 }
 
 // What a call wrote to a slice, its length in front; or the refusal's number.
-pub(crate) fn listed(rt: &impl Print, listed: Listed, out: &[usize]) {
+pub(crate) fn listed(rt: &impl Print, listed: Result<usize, Refusal>, out: &[usize]) {
     match listed {
-        Listed::Count(count) => {
+        Ok(count) => {
             next(rt, count);
             some(rt, out, count);
         }
-        Listed::Refused(refusal) => next(rt, refusal.number()),
+        Err(refusal) => next(rt, refusal.number()),
     }
 }
 
 // The number of a refused list: 0 where it is not refused.
-pub(crate) fn number_in(listed: Listed) -> usize {
+pub(crate) fn number_in(listed: Result<usize, Refusal>) -> usize {
     match listed {
-        Listed::Count(_) => 0,
-        Listed::Refused(refusal) => refusal.number(),
+        Ok(_) => 0,
+        Err(refusal) => refusal.number(),
     }
 }
 
 // How many a list has: 0 where it is refused.
-pub(crate) fn count_in(listed: Listed) -> usize {
+pub(crate) fn count_in(listed: Result<usize, Refusal>) -> usize {
     match listed {
-        Listed::Count(count) => count,
-        Listed::Refused(_) => 0,
+        Ok(count) => count,
+        Err(_) => 0,
     }
 }
 
@@ -83,15 +83,15 @@ pub(crate) fn end(rt: &impl Print) {
 }
 
 // The number of a verdict: 0 where nothing is refused.
-pub(crate) fn number_of(verdict: Verdict) -> usize {
+pub(crate) fn number_of(verdict: Result<(), Refusal>) -> usize {
     match verdict {
-        Verdict::Accepted => 0,
-        Verdict::Refused(refusal) => refusal.number(),
+        Ok(()) => 0,
+        Err(refusal) => refusal.number(),
     }
 }
 
 // The line of a verdict.
-pub(crate) fn verdict(rt: &impl Print, verdict: Verdict) {
+pub(crate) fn verdict(rt: &impl Print, verdict: Result<(), Refusal>) {
     first(rt, number_of(verdict));
     end(rt);
 }

@@ -2,7 +2,7 @@
 ghost use Rattle.std.specs.Prelude.{◌≤◌, length};
 
 use super::{environments, print, scan};
-use answers::{Listed, Verdict};
+use answers::Refusal;
 use lifetimes::{Lifetime, LifetimeEnv};
 
 // Kind 16: an environment made by hand as in environments.rt. The number of `check`; and if it is 0, for each lifetime
@@ -15,7 +15,7 @@ pub(crate) fn all_lists(rt: &impl Print, words: &[usize], at: usize) -> usize
     let env = environments::made_by_hand(words, at);
     let verdict = env.check();
     print::first(rt, print::number_of(verdict));
-    if let Verdict::Accepted = verdict {
+    if let Ok(()) = verdict {
         print_lists(
             rt,
             env,
@@ -44,7 +44,7 @@ fn print_list(rt: &impl Print, env: LifetimeEnv, lifetime: usize, longer: bool) 
 }
 
 // `all_longer_lifetimes` or `all_shorter_lifetimes`.
-fn list(env: LifetimeEnv, lifetime: usize, longer: bool, out: &mut [usize]) -> Listed {
+fn list(env: LifetimeEnv, lifetime: usize, longer: bool, out: &mut [usize]) -> Result<usize, Refusal> {
     if longer {
         return env.all_longer_lifetimes(Lifetime::new(lifetime), out);
     }

@@ -2,10 +2,9 @@
 ghost use Rattle.std.specs.Prelude.{◌≤◌, length};
 
 use super::{environments, lowered, print, rooms, scan, words};
-use answers::Verdict;
-use borrowing_param::{BorrowingParamVisitor, EdgeAt, LifetimeEdge, ParamBorrowInfo, edge_at};
+use borrowing_param::{BorrowingParamVisitor, LifetimeEdge, ParamBorrowInfo, edge_at};
 use lifetimes::{LifetimeEnv, set};
-use records::End;
+use records::MAX_LIST;
 
 // Kind 13: an environment made by hand as in environments.rt, records structs, params, output, force, how many words
 // the lent slice has, at most 20,480, and the record of the params to visit. The number of `new` if it refuses; else 0,
@@ -28,7 +27,7 @@ pub(crate) fn visit_params(rt: &impl Print, words: &[usize], at: usize) -> usize
     );
     let verdict = created.verdict;
     print::first(rt, print::number_of(verdict));
-    if let Verdict::Accepted = verdict {
+    if let Ok(()) = verdict {
         let visitor = created.visitor;
         print_visits(rt, visitor, words, structs);
     }
@@ -128,7 +127,7 @@ fn print_info(rt: &impl Print, info: ParamBorrowInfo) {
 fn paired(info: ParamBorrowInfo) -> usize {
     let mut count = 0;
     let mut i = 0;
-    while i < End::MAX_LIST {
+    while i < MAX_LIST {
         count += one(info.pairs[i]);
         i += 1;
     }
@@ -148,7 +147,7 @@ fn one(used: u64) -> usize
 // Their pairs.
 fn print_pairs(rt: &impl Print, info: ParamBorrowInfo) {
     let mut i = 0;
-    while i < End::MAX_LIST {
+    while i < MAX_LIST {
         print_pair(rt, i, info.pairs[i]);
         i += 1;
     }
@@ -171,8 +170,8 @@ pub(crate) fn edge(rt: &impl Print, words: &[usize], at: usize) -> usize
     let place = scan::behind_record(words, at);
     let found = edge_at(scan::record(words, at), scan::number(words, place));
     match found {
-        EdgeAt::Absent => print::first(rt, 0),
-        EdgeAt::Edge(edge) => print_edge(rt, edge),
+        None => print::first(rt, 0),
+        Some(edge) => print_edge(rt, edge),
     }
     print::end(rt);
     scan::behind(words, place)

@@ -3,8 +3,8 @@
 ghost use Rattle.std.specs.Prelude.{◌≤◌, length};
 
 use super::{print, rooms, scan};
-use answers::Listed;
-use lifetimes::{DefLifetime, Lifetime, LoweredWord, MaybeStatic, MaybeStaticDef, set};
+use answers::Refusal;
+use lifetimes::{DefLifetime, Lifetime, MaybeStatic, MaybeStaticDef, set};
 use records::copy_words;
 
 // Kind 19: 0 for `set::members`, 1 for `copy_words`; a record, a number, and how long the lent slice is. The set is
@@ -64,7 +64,7 @@ fn print_lent(rt: &impl Print, copied: bool, given: &[usize], count: usize, out:
 }
 
 // `copy_words`, or `set::members`.
-fn list_to(copied: bool, given: &[usize], count: usize, out: &mut [usize]) -> Listed {
+fn list_to(copied: bool, given: &[usize], count: usize, out: &mut [usize]) -> Result<usize, Refusal> {
     if copied {
         return copy_words(given, count, out);
     }
@@ -83,7 +83,7 @@ pub(crate) fn set_of(lifetimes: &[usize]) -> u64 {
 }
 
 // The word of a lifetime of a method.
-fn word_of(code: usize, number: usize) -> LoweredWord {
+fn word_of(code: usize, number: usize) -> Option<usize> {
     if code == 0 {
         return MaybeStatic::Static.word();
     }
@@ -92,7 +92,7 @@ fn word_of(code: usize, number: usize) -> LoweredWord {
 }
 
 // That of a lifetime of a definition.
-fn def_word_of(code: usize, number: usize) -> LoweredWord {
+fn def_word_of(code: usize, number: usize) -> Option<usize> {
     if code == 0 {
         return MaybeStaticDef::Static.word();
     }
@@ -101,17 +101,17 @@ fn def_word_of(code: usize, number: usize) -> LoweredWord {
 }
 
 // 1 where there is no word.
-fn absent(word: LoweredWord) -> usize {
+fn absent(word: Option<usize>) -> usize {
     match word {
-        LoweredWord::Word(_) => 0,
-        LoweredWord::Absent => 1,
+        Some(_) => 0,
+        None => 1,
     }
 }
 
 // A lowered word; 0 where there is none.
-fn value(word: LoweredWord) -> usize {
+fn value(word: Option<usize>) -> usize {
     match word {
-        LoweredWord::Word(number) => number,
-        LoweredWord::Absent => 0,
+        Some(number) => number,
+        None => 0,
     }
 }

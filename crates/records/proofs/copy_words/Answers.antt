@@ -7,7 +7,7 @@ use Rattle.records.proofs.CopyLaws.{copy_refused, copy_done}
 use Rattle.records.proofs.copy_words.Goals as goal
 
 pub returns-then-out-n : goal.returns-then-out-n
-returns-then-out-n c = let it = copy_refused c.args.count c.args.words.now c.least-n.ensures c.args.out.now
+returns-then-out-n c = let it = copy_refused c.args.count c.args.words.now c.min-n.ensures c.args.out.now
     c.if-out-n.true in
     record { answer = it.0; stored = it.1 }
 

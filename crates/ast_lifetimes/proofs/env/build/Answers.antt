@@ -55,7 +55,7 @@ pub push_pairs-bounded-requires : goal.push_pairs-bounded-requires
 push_pairs-bounded-requires c =
     let shape : Shaped c.args.names.now c.args.bounds.now c.args.types.now = shaped _ _ _ c.requires.names_value in
     let one : ImplNamed c.args.names.now c.args.bounds.now c.args.types.now
-    c.declare_all-named.new.names = impl_named shape c.declare_all-named.ensures c.in-Accepted.is in
+    c.declare_all-named.new.names = impl_named shape c.declare_all-named.ensures c.in-Ok.is in
     let o = one in
     let h = o.shaped.in_bounds in
     record {
@@ -68,7 +68,7 @@ pub returns-in_default-bounded : goal.returns-in_default-bounded
 returns-in_default-bounded c =
     let shape : Shaped c.args.names.now c.args.bounds.now c.args.types.now = shaped _ _ _ c.requires.names_value in
     let one : ImplNamed c.args.names.now c.args.bounds.now c.args.types.now
-    c.declare_all-named.new.names = impl_named shape c.declare_all-named.ensures c.in-Accepted.is in
+    c.declare_all-named.new.names = impl_named shape c.declare_all-named.ensures c.in-Ok.is in
     impl_pairs_refused one
     c.push_pairs-bounded.ensures c.in_default-bounded.is
 
@@ -76,20 +76,20 @@ pub overflow_add-impls-2 : goal.overflow_add-impls-2
 overflow_add-impls-2 c =
     let shape : Shaped c.args.names.now c.args.bounds.now c.args.types.now = shaped _ _ _ c.requires.names_value in
     let one : ImplNamed c.args.names.now c.args.bounds.now c.args.types.now
-    c.declare_all-named.new.names = impl_named shape c.declare_all-named.ensures c.in-Accepted.is in
+    c.declare_all-named.new.names = impl_named shape c.declare_all-named.ensures c.in-Ok.is in
     let two : ImplBound c.args.names.now c.args.bounds.now c.args.types.now
     c.declare_all-named.new.names c.push_pairs-bounded.new.longs c.push_pairs-bounded.new.shorts = impl_bound one
-    c.push_pairs-bounded.ensures c.in-Accepted-bounded.is in
+    c.push_pairs-bounded.ensures c.in-Ok-bounded.is in
     let h = two.shaped.in_names in omega (arith, h.few, h.fits)
 
 pub declare_all-renamed-requires : goal.declare_all-renamed-requires
 declare_all-renamed-requires c =
     let shape : Shaped c.args.names.now c.args.bounds.now c.args.types.now = shaped _ _ _ c.requires.names_value in
     let one : ImplNamed c.args.names.now c.args.bounds.now c.args.types.now
-    c.declare_all-named.new.names = impl_named shape c.declare_all-named.ensures c.in-Accepted.is in
+    c.declare_all-named.new.names = impl_named shape c.declare_all-named.ensures c.in-Ok.is in
     let two : ImplBound c.args.names.now c.args.bounds.now c.args.types.now
     c.declare_all-named.new.names c.push_pairs-bounded.new.longs c.push_pairs-bounded.new.shorts = impl_bound one
-    c.push_pairs-bounded.ensures c.in-Accepted-bounded.is in
+    c.push_pairs-bounded.ensures c.in-Ok-bounded.is in
     let t = two in
     let h = t.shaped.in_names in
     record {
@@ -104,10 +104,10 @@ pub returns-in_default-renamed : goal.returns-in_default-renamed
 returns-in_default-renamed c =
     let shape : Shaped c.args.names.now c.args.bounds.now c.args.types.now = shaped _ _ _ c.requires.names_value in
     let one : ImplNamed c.args.names.now c.args.bounds.now c.args.types.now
-    c.declare_all-named.new.names = impl_named shape c.declare_all-named.ensures c.in-Accepted.is in
+    c.declare_all-named.new.names = impl_named shape c.declare_all-named.ensures c.in-Ok.is in
     let two : ImplBound c.args.names.now c.args.bounds.now c.args.types.now
     c.declare_all-named.new.names c.push_pairs-bounded.new.longs c.push_pairs-bounded.new.shorts = impl_bound one
-    c.push_pairs-bounded.ensures c.in-Accepted-bounded.is in
+    c.push_pairs-bounded.ensures c.in-Ok-bounded.is in
     method_names_refused two c.declare_all-renamed.ensures
     c.in_default-renamed.is
 
@@ -115,52 +115,52 @@ pub overflow_mul-first : goal.overflow_mul-first
 overflow_mul-first c =
     let shape : Shaped c.args.names.now c.args.bounds.now c.args.types.now = shaped _ _ _ c.requires.names_value in
     let one : ImplNamed c.args.names.now c.args.bounds.now c.args.types.now
-    c.declare_all-named.new.names = impl_named shape c.declare_all-named.ensures c.in-Accepted.is in
+    c.declare_all-named.new.names = impl_named shape c.declare_all-named.ensures c.in-Ok.is in
     let two : ImplBound c.args.names.now c.args.bounds.now c.args.types.now
     c.declare_all-named.new.names c.push_pairs-bounded.new.longs c.push_pairs-bounded.new.shorts = impl_bound one
-    c.push_pairs-bounded.ensures c.in-Accepted-bounded.is in
+    c.push_pairs-bounded.ensures c.in-Ok-bounded.is in
     let three : AllNamed c.args.names.now c.args.bounds.now c.args.types.now
     c.declare_all-renamed.new.names c.push_pairs-bounded.new.longs c.push_pairs-bounded.new.shorts = all_named two
-    c.declare_all-renamed.ensures c.in-Accepted-renamed.is in
+    c.declare_all-renamed.ensures c.in-Ok-renamed.is in
     let h = three.shaped.in_bounds in omega (arith, h.few, h.fits, h.even)
 
 pub overflow_add-first : goal.overflow_add-first
 overflow_add-first c =
     let shape : Shaped c.args.names.now c.args.bounds.now c.args.types.now = shaped _ _ _ c.requires.names_value in
     let one : ImplNamed c.args.names.now c.args.bounds.now c.args.types.now
-    c.declare_all-named.new.names = impl_named shape c.declare_all-named.ensures c.in-Accepted.is in
+    c.declare_all-named.new.names = impl_named shape c.declare_all-named.ensures c.in-Ok.is in
     let two : ImplBound c.args.names.now c.args.bounds.now c.args.types.now
     c.declare_all-named.new.names c.push_pairs-bounded.new.longs c.push_pairs-bounded.new.shorts = impl_bound one
-    c.push_pairs-bounded.ensures c.in-Accepted-bounded.is in
+    c.push_pairs-bounded.ensures c.in-Ok-bounded.is in
     let three : AllNamed c.args.names.now c.args.bounds.now c.args.types.now
     c.declare_all-renamed.new.names c.push_pairs-bounded.new.longs c.push_pairs-bounded.new.shorts = all_named two
-    c.declare_all-renamed.ensures c.in-Accepted-renamed.is in
+    c.declare_all-renamed.ensures c.in-Ok-renamed.is in
     let h = three.shaped.in_bounds in omega (arith, h.few, h.fits, h.even)
 
 pub overflow_sub-pairs-2 : goal.overflow_sub-pairs-2
 overflow_sub-pairs-2 c =
     let shape : Shaped c.args.names.now c.args.bounds.now c.args.types.now = shaped _ _ _ c.requires.names_value in
     let one : ImplNamed c.args.names.now c.args.bounds.now c.args.types.now
-    c.declare_all-named.new.names = impl_named shape c.declare_all-named.ensures c.in-Accepted.is in
+    c.declare_all-named.new.names = impl_named shape c.declare_all-named.ensures c.in-Ok.is in
     let two : ImplBound c.args.names.now c.args.bounds.now c.args.types.now
     c.declare_all-named.new.names c.push_pairs-bounded.new.longs c.push_pairs-bounded.new.shorts = impl_bound one
-    c.push_pairs-bounded.ensures c.in-Accepted-bounded.is in
+    c.push_pairs-bounded.ensures c.in-Ok-bounded.is in
     let three : AllNamed c.args.names.now c.args.bounds.now c.args.types.now
     c.declare_all-renamed.new.names c.push_pairs-bounded.new.longs c.push_pairs-bounded.new.shorts = all_named two
-    c.declare_all-renamed.ensures c.in-Accepted-renamed.is in
+    c.declare_all-renamed.ensures c.in-Ok-renamed.is in
     three.shaped.in_bounds.fits
 
 pub push_pairs-rebounded-requires : goal.push_pairs-rebounded-requires
 push_pairs-rebounded-requires c =
     let shape : Shaped c.args.names.now c.args.bounds.now c.args.types.now = shaped _ _ _ c.requires.names_value in
     let one : ImplNamed c.args.names.now c.args.bounds.now c.args.types.now
-    c.declare_all-named.new.names = impl_named shape c.declare_all-named.ensures c.in-Accepted.is in
+    c.declare_all-named.new.names = impl_named shape c.declare_all-named.ensures c.in-Ok.is in
     let two : ImplBound c.args.names.now c.args.bounds.now c.args.types.now
     c.declare_all-named.new.names c.push_pairs-bounded.new.longs c.push_pairs-bounded.new.shorts = impl_bound one
-    c.push_pairs-bounded.ensures c.in-Accepted-bounded.is in
+    c.push_pairs-bounded.ensures c.in-Ok-bounded.is in
     let three : AllNamed c.args.names.now c.args.bounds.now c.args.types.now
     c.declare_all-renamed.new.names c.push_pairs-bounded.new.longs c.push_pairs-bounded.new.shorts = all_named two
-    c.declare_all-renamed.ensures c.in-Accepted-renamed.is in
+    c.declare_all-renamed.ensures c.in-Ok-renamed.is in
     let t = three in
     let h = t.shaped.in_bounds in
     record {
@@ -173,13 +173,13 @@ pub returns-in_default-rebounded : goal.returns-in_default-rebounded
 returns-in_default-rebounded c =
     let shape : Shaped c.args.names.now c.args.bounds.now c.args.types.now = shaped _ _ _ c.requires.names_value in
     let one : ImplNamed c.args.names.now c.args.bounds.now c.args.types.now
-    c.declare_all-named.new.names = impl_named shape c.declare_all-named.ensures c.in-Accepted.is in
+    c.declare_all-named.new.names = impl_named shape c.declare_all-named.ensures c.in-Ok.is in
     let two : ImplBound c.args.names.now c.args.bounds.now c.args.types.now
     c.declare_all-named.new.names c.push_pairs-bounded.new.longs c.push_pairs-bounded.new.shorts = impl_bound one
-    c.push_pairs-bounded.ensures c.in-Accepted-bounded.is in
+    c.push_pairs-bounded.ensures c.in-Ok-bounded.is in
     let three : AllNamed c.args.names.now c.args.bounds.now c.args.types.now
     c.declare_all-renamed.new.names c.push_pairs-bounded.new.longs c.push_pairs-bounded.new.shorts = all_named two
-    c.declare_all-renamed.ensures c.in-Accepted-renamed.is in
+    c.declare_all-renamed.ensures c.in-Ok-renamed.is in
     method_pairs_refused three
     c.push_pairs-rebounded.ensures c.in_default-rebounded.is
 
@@ -187,16 +187,16 @@ pub close-requires : goal.close-requires
 close-requires c =
     let shape : Shaped c.args.names.now c.args.bounds.now c.args.types.now = shaped _ _ _ c.requires.names_value in
     let one : ImplNamed c.args.names.now c.args.bounds.now c.args.types.now
-    c.declare_all-named.new.names = impl_named shape c.declare_all-named.ensures c.in-Accepted.is in
+    c.declare_all-named.new.names = impl_named shape c.declare_all-named.ensures c.in-Ok.is in
     let two : ImplBound c.args.names.now c.args.bounds.now c.args.types.now
     c.declare_all-named.new.names c.push_pairs-bounded.new.longs c.push_pairs-bounded.new.shorts = impl_bound one
-    c.push_pairs-bounded.ensures c.in-Accepted-bounded.is in
+    c.push_pairs-bounded.ensures c.in-Ok-bounded.is in
     let three : AllNamed c.args.names.now c.args.bounds.now c.args.types.now
     c.declare_all-renamed.new.names c.push_pairs-bounded.new.longs c.push_pairs-bounded.new.shorts = all_named two
-    c.declare_all-renamed.ensures c.in-Accepted-renamed.is in
+    c.declare_all-renamed.ensures c.in-Ok-renamed.is in
     let four : AllBound c.args.names.now c.args.bounds.now c.args.types.now
     c.declare_all-renamed.new.names c.push_pairs-rebounded.new.longs c.push_pairs-rebounded.new.shorts = all_bound
-    three c.push_pairs-rebounded.ensures c.in-Accepted-rebounded.is in
+    three c.push_pairs-rebounded.ensures c.in-Ok-rebounded.is in
     let f = four in
     record {
       named_le_most_names = (f.named.few, f.sides.few, bound_below f);
@@ -211,16 +211,16 @@ pub push_types-implied-requires : goal.push_types-implied-requires
 push_types-implied-requires c =
     let shape : Shaped c.args.names.now c.args.bounds.now c.args.types.now = shaped _ _ _ c.requires.names_value in
     let one : ImplNamed c.args.names.now c.args.bounds.now c.args.types.now
-    c.declare_all-named.new.names = impl_named shape c.declare_all-named.ensures c.in-Accepted.is in
+    c.declare_all-named.new.names = impl_named shape c.declare_all-named.ensures c.in-Ok.is in
     let two : ImplBound c.args.names.now c.args.bounds.now c.args.types.now
     c.declare_all-named.new.names c.push_pairs-bounded.new.longs c.push_pairs-bounded.new.shorts = impl_bound one
-    c.push_pairs-bounded.ensures c.in-Accepted-bounded.is in
+    c.push_pairs-bounded.ensures c.in-Ok-bounded.is in
     let three : AllNamed c.args.names.now c.args.bounds.now c.args.types.now
     c.declare_all-renamed.new.names c.push_pairs-bounded.new.longs c.push_pairs-bounded.new.shorts = all_named two
-    c.declare_all-renamed.ensures c.in-Accepted-renamed.is in
+    c.declare_all-renamed.ensures c.in-Ok-renamed.is in
     let four : AllBound c.args.names.now c.args.bounds.now c.args.types.now
     c.declare_all-renamed.new.names c.push_pairs-rebounded.new.longs c.push_pairs-rebounded.new.shorts = all_bound
-    three c.push_pairs-rebounded.ensures c.in-Accepted-rebounded.is in
+    three c.push_pairs-rebounded.ensures c.in-Ok-rebounded.is in
     let f = four in record {
       ts_value = (type_names_of _, f.shaped.in_types);
       named_le_most_names =
@@ -233,14 +233,14 @@ pub returns : goal.returns
 returns c =
     let shape : Shaped c.args.names.now c.args.bounds.now c.args.types.now = shaped _ _ _ c.requires.names_value in
     let one : ImplNamed c.args.names.now c.args.bounds.now c.args.types.now
-    c.declare_all-named.new.names = impl_named shape c.declare_all-named.ensures c.in-Accepted.is in
+    c.declare_all-named.new.names = impl_named shape c.declare_all-named.ensures c.in-Ok.is in
     let two : ImplBound c.args.names.now c.args.bounds.now c.args.types.now
     c.declare_all-named.new.names c.push_pairs-bounded.new.longs c.push_pairs-bounded.new.shorts = impl_bound one
-    c.push_pairs-bounded.ensures c.in-Accepted-bounded.is in
+    c.push_pairs-bounded.ensures c.in-Ok-bounded.is in
     let three : AllNamed c.args.names.now c.args.bounds.now c.args.types.now
     c.declare_all-renamed.new.names c.push_pairs-bounded.new.longs c.push_pairs-bounded.new.shorts = all_named two
-    c.declare_all-renamed.ensures c.in-Accepted-renamed.is in
+    c.declare_all-renamed.ensures c.in-Ok-renamed.is in
     let four : AllBound c.args.names.now c.args.bounds.now c.args.types.now
     c.declare_all-renamed.new.names c.push_pairs-rebounded.new.longs c.push_pairs-rebounded.new.shorts = all_bound
-    three c.push_pairs-rebounded.ensures c.in-Accepted-rebounded.is in
+    three c.push_pairs-rebounded.ensures c.in-Ok-rebounded.is in
     all_built four c.push_types-implied.ensures

@@ -41,11 +41,11 @@ assembled-requires c =
     let all =
     extended_few c.args.env c.args.types.now c.split.ensures
     (c.push_types-implied.ensures _ (types_encoded _ c.requires.1))
-    c.in-Accepted.is in
+    c.in-Ok.is in
     let small =
     extended_small c.args.env c.args.types.now c.split.ensures
     (c.push_types-implied.ensures _ (types_encoded _ c.requires.1))
-    c.in-Accepted.is c.requires.0 in
+    c.in-Ok.is c.requires.0 in
     record {
       named_le_most_names = (valid_named c.args.env c.requires.0, all.0);
       declared_len = (
@@ -58,5 +58,5 @@ assembled-requires c =
 
 pub returns : goal.returns
 returns c = extended_given c.args.env c.args.types.now c.split.ensures
-    (c.push_types-implied.ensures _ (types_encoded _ c.requires.1)) c.in-Accepted.is
+    (c.push_types-implied.ensures _ (types_encoded _ c.requires.1)) c.in-Ok.is
     c.assembled.ensures

@@ -8,10 +8,10 @@ use Rattle.ast_lifetimes.specs.Env.{env_checks}
 use Rattle.ast_lifetimes.proofs.ThanLaws.{few_names, than_refused, than_unknown, than_traversal}
 use Rattle.ast_lifetimes.proofs.env.list_than.Goals as goal
 
-pub returns-in-Refused : goal.returns-in-Refused
-returns-in-Refused c = let it = let s = c.args in
+pub returns-in-Err : goal.returns-in-Err
+returns-in-Err c = let it = let s = c.args in
     than_refused s.longer s.env s.name s.out.now
-    (refused_first (tt {0}) _ (env_checks s.env) (sym c.check-verdict.ensures.answer ∙ c.in-Refused.is)) in
+    (refused_first (tt {0}) _ (env_checks s.env) (sym c.check-verdict.ensures.answer ∙ c.in-Err.is)) in
     record { value = it.0; fills = it.1 }
 
 pub position-at-requires : goal.position-at-requires

@@ -92,7 +92,7 @@ pub join-requires : goal.join-requires
 join-requires c =
     let named_long : length (take c.args.named c.args.names.now) ≡ c.args.named =
     length-take-le c.args.named c.args.names.now (omega (arith, c.requires.named_le_most_names)) in
-    let sides = accepted_sides c.push_pair-verdict.ensures c.in-Accepted.is in (
+    let sides = accepted_sides c.push_pair-verdict.ensures c.in-Ok.is in (
       omega (arith, c.requires.named_le_most_names),
       omega (arith, named_long, sides, c.position-long.ensures),
       omega (arith, named_long, sides, c.position-short.ensures),
@@ -132,7 +132,7 @@ lifetimes-2-preserved c =
     (place (take c.args.named c.args.names.now) (get_or c.args.words.now c.lifetimes-2.at 0))
     (place (take c.args.named c.args.names.now) c.args.behind) c.lifetimes-2.reach c.join.new.reach = rw
     (named_long, ← c.position-long.ensures, ← c.position-short.ensures) c.join.ensures in
-    let e = c.in-Accepted.is in (
+    let e = c.in-Ok.is in (
       omega arith,
       omega arith,
       run_more c.lifetimes-2.invariant.2 _ _ (pushed_next c.if-not-is_implied.false)

@@ -92,7 +92,7 @@ returns-in_default c = λ ts e. implying_refused (c.words.invariant ts e) c.word
 
 pub words-preserved : goal.words-preserved
 words-preserved c = λ ts e. implying_path (c.words.invariant ts e) c.words-test.true c.if-code-ne1.false
-    c.if-behind-lt2.false c.push_path-done.ensures c.in-Accepted.is
+    c.if-behind-lt2.false c.push_path-done.ensures c.in-Ok.is
 
 pub returns : goal.returns
 returns c = λ ts e. implying_end (c.words.invariant ts e) c.words-test.false

@@ -50,13 +50,13 @@ returns-in_default t c =
 
 pub type_end-requires-then-code-eq4 : goal.type_end-requires-then-code-eq4
 type_end-requires-then-code-eq4 t c =
-    (search rules, ends_within (ends_told c.type_end-first.ensures c.in-At.is))
+    (search rules, ends_within (ends_told c.type_end-first.ensures c.in-Some.is))
 
 pub returns-then-code-eq4 : goal.returns-then-code-eq4
 returns-then-code-eq4 t c =
     let stands : Stands c.args.words.now c.args.at c.args.nesting =
     record { some = c.if-nesting-eq0.false; here = c.if-n-at.false } in
-    type_result stands c.if-code-eq4.true (ends_told c.type_end-first.ensures c.in-At.is)
+    type_result stands c.if-code-eq4.true (ends_told c.type_end-first.ensures c.in-Some.is)
     c.type_end-then-code-eq4.ensures
 
 pub returns : goal.returns

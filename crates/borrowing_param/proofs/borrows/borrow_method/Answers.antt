@@ -3,8 +3,8 @@ use Rattle.borrowing_param.proofs.BorrowLaws.{method_unborrowed, method_of_lem, 
 use borrow.Author.Rules.{rules}
 use Rattle.borrowing_param.proofs.borrows.borrow_method.Goals as goal
 
-pub returns-in-Refused : goal.returns-in-Refused
-returns-in-Refused c = search (method_unborrowed, rules)
+pub returns-in-Err : goal.returns-in-Err
+returns-in-Err c = search (method_unborrowed, rules)
 
 pub borrow_by-requires : goal.borrow_by-requires
 borrow_by-requires c = search (method_of_lem, rules)

@@ -3,8 +3,8 @@ use Rattle.borrowing_param.proofs.BorrowLaws.{sheet_unborrowed, sheet_borrowed}
 use borrow.Author.Rules.{rules}
 use Rattle.borrowing_param.proofs.borrows.borrow_within.Goals as goal
 
-pub returns-in-Refused : goal.returns-in-Refused
-returns-in-Refused c = search (sheet_unborrowed, rules)
+pub returns-in-Err : goal.returns-in-Err
+returns-in-Err c = search (sheet_unborrowed, rules)
 
 pub returns : goal.returns
 returns c = sheet_borrowed _ _ _ _ c.judge_sheet-method.ensures c.in_default.is

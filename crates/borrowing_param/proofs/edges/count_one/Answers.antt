@@ -4,8 +4,8 @@ use Rattle.borrowing_param.specs.Inner.{one_if}
 use Rattle.borrowing_param.proofs.EdgesLaws.{first_any, none_any}
 use Rattle.borrowing_param.proofs.edges.count_one.Goals as goal
 
-pub returns-in-At : goal.returns-in-At
-returns-in-At c = sym (ap one_if (first_any _ 0 _ (sym c.in-At.is ∙ c.first_drawn-first.ensures)))
+pub returns-in-Some : goal.returns-in-Some
+returns-in-Some c = sym (ap one_if (first_any _ 0 _ (sym c.in-Some.is ∙ c.first_drawn-first.ensures)))
 
 pub returns-in-Absent : goal.returns-in-Absent
 returns-in-Absent c = sym (ap one_if (none_any _ 0 _ (sym c.in-Absent.is ∙ c.first_drawn-first.ensures)))

@@ -3,8 +3,8 @@ use Rattle.borrowing_param.proofs.EdgesLaws.{drawn_path, drawn_own, drawn_absent
 use borrow.Author.Rules.{rules}
 use Rattle.borrowing_param.proofs.edges.first_drawn.Goals as goal
 
-pub returns-in-At : goal.returns-in-At
-returns-in-At c = search (drawn_path, rules)
+pub returns-in-Some : goal.returns-in-Some
+returns-in-Some c = search (drawn_path, rules)
 
 pub returns-in-Lifetime : goal.returns-in-Lifetime
 returns-in-Lifetime c = search (drawn_own, rules)

@@ -10,7 +10,7 @@ returns-in_default c = none_stored _ _ _ _ _ _ _ (none_any _ 0 _ (sym c.in_defau
 
 pub put-requires : goal.put-requires
 put-requires c = one_room _ _ _ _ _ _ c.args.edges.now
-    (first_any _ 0 _ (sym c.in-At.is ∙ c.first_drawn-first.ensures))
+    (first_any _ 0 _ (sym c.in-Some.is ∙ c.first_drawn-first.ensures))
     c.requires.1
 
 pub overflow_add-result : goal.overflow_add-result
@@ -18,5 +18,5 @@ overflow_add-result c = search (first_any, one_room, rules)
 
 pub returns : goal.returns
 returns c = one_stored
-    _ _ _ _ _ _ _ (first_any _ 0 _ (sym c.in-At.is
+    _ _ _ _ _ _ _ (first_any _ 0 _ (sym c.in-Some.is
     ∙ c.first_drawn-first.ensures)) c.put.ensures

@@ -17,7 +17,7 @@ returns-in_default c = search (passing_missing, rules)
 pub count_all-brought-requires : goal.count_all-brought-requires
 count_all-brought-requires c = let o = passing_next c.loop-at.invariant.passing
     c.loop-at-test.true c.type_at-found.ensures.answer
-    c.in-At.is in
+    c.in-Some.is in
     (o.inside, o.few, c.requires.1)
 
 pub number_of-requires : goal.number_of-requires
@@ -29,13 +29,13 @@ offset_bounds-numbers-param c = search (one_more, passing_next, rules)
 pub bounds-numbers-param : goal.bounds-numbers-param
 bounds-numbers-param c = let o = passing_next c.loop-at.invariant.passing
     c.loop-at-test.true
-    c.type_at-found.ensures.answer c.in-At.is in
+    c.type_at-found.ensures.answer c.in-Some.is in
     one_more c.loop-at.invariant o
 
 pub overflow_add-total : goal.overflow_add-total
 overflow_add-total c = let o = passing_next c.loop-at.invariant.passing
     c.loop-at-test.true
-    c.type_at-found.ensures.answer c.in-At.is in
+    c.type_at-found.ensures.answer c.in-Some.is in
     omega (
       arith,
       one_more c.loop-at.invariant o,
@@ -50,13 +50,13 @@ overflow_add-param c = search (one_more, passing_next, rules)
 pub loop-at-smaller : goal.loop-at-smaller
 loop-at-smaller c = let o = passing_next c.loop-at.invariant.passing
     c.loop-at-test.true
-    c.type_at-found.ensures.answer c.in-At.is in
+    c.type_at-found.ensures.answer c.in-Some.is in
     omega (arith, o.past, o.within)
 
 pub loop-at-preserved : goal.loop-at-preserved
 loop-at-preserved c = let o = passing_next c.loop-at.invariant.passing
     c.loop-at-test.true
-    c.type_at-found.ensures.answer c.in-At.is in
+    c.type_at-found.ensures.answer c.in-Some.is in
     params_more c.loop-at.invariant o c.count_all-brought.ensures
     c.number_of.ensures
 

@@ -15,7 +15,7 @@ returns-in_default c = search (passing_missing, rules)
 pub store_for-next-requires : goal.store_for-next-requires
 store_for-next-requires c = let o = passing_next c.loop-place.invariant.passing c.loop-place-test.true
     c.type_at-found.ensures.answer
-    c.in-At.is in
+    c.in-Some.is in
     record {
       inside = (o.inside, o.few, c.requires.params.1, c.loop-place.invariant.storing.sets16);
       parts_in_bounds = to_fits c.loop-place.invariant o;
@@ -27,13 +27,13 @@ overflow_add-param c = search (to_few, passing_next, rules)
 pub loop-place-smaller : goal.loop-place-smaller
 loop-place-smaller c = let o = passing_next c.loop-place.invariant.passing c.loop-place-test.true
     c.type_at-found.ensures.answer
-    c.in-At.is in
+    c.in-Some.is in
     omega (arith, o.past, o.within)
 
 pub loop-place-preserved : goal.loop-place-preserved
 loop-place-preserved c = let o = passing_next c.loop-place.invariant.passing c.loop-place-test.true
     c.type_at-found.ensures.answer
-    c.in-At.is in
+    c.in-Some.is in
     to_more c.loop-place.invariant o c.store_for-next.ensures
 
 pub returns : goal.returns

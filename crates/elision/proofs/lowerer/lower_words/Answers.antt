@@ -8,11 +8,11 @@ use Rattle.elision.proofs.lowerer.lower_words.Goals as goal
 pub loop-i-init : goal.loop-i-init
 loop-i-init c = search (running_start, rules)
 
-pub returns-in-Refused : goal.returns-in-Refused
-returns-in-Refused c = rw c.no_lifetimes.ensures
+pub returns-in-Err : goal.returns-in-Err
+returns-in-Err c = rw c.no_lifetimes.ensures
     (running_refused c.loop-i.invariant c.loop-i-test.true
     c.word_or_anonymous-word.ensures c.lower_word-done.ensures
-    c.in-Refused.is)
+    c.in-Err.is)
 
 pub bounds-list-i : goal.bounds-list-i
 bounds-list-i c = search (running_few, rules)

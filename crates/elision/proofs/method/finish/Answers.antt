@@ -3,11 +3,11 @@ use Rattle.elision.proofs.EntryLaws.{finish_env_lem, finish_refused, finish_give
 use borrow.Author.Rules.{rules}
 use Rattle.elision.proofs.method.finish.Goals as goal
 
-pub returns-in-Refused : goal.returns-in-Refused
-returns-in-Refused c = search (finish_env_lem, rules)
+pub returns-in-Err : goal.returns-in-Err
+returns-in-Err c = search (finish_env_lem, rules)
 
-pub returns-in-Refused-verdict : goal.returns-in-Refused-verdict
-returns-in-Refused-verdict c = search (finish_refused, rules)
+pub returns-in-Err-verdict : goal.returns-in-Err-verdict
+returns-in-Err-verdict c = search (finish_refused, rules)
 
 pub returns : goal.returns
 returns c = search (finish_given, rules)

@@ -7,10 +7,10 @@ use Rattle.elision.proofs.EntryLaws.{lower_given, lower_taken, lower_all}
 use borrow.Author.Rules.{rules}
 use Rattle.elision.proofs.method.lower.Goals as goal
 
-pub returns-in-Refused : goal.returns-in-Refused
-returns-in-Refused c = record {
+pub returns-in-Err : goal.returns-in-Err
+returns-in-Err c = record {
   answer = lower_refused _ _ _ _ _ _ _ c.measure-measured.ensures.answer
-      c.in-Refused.is refl refl refl;
+      c.in-Err.is refl refl refl;
 }
 
 pub returns-then-own-measured : goal.returns-then-own-measured

@@ -9,17 +9,17 @@ use Rattle.elision.proofs.EntryLaws.{measure_refused, measure_all}
 use borrow.Author.Rules.{rules}
 use Rattle.elision.proofs.method.measure.Goals as goal
 
-pub returns-in-Refused : goal.returns-in-Refused
-returns-in-Refused c = search (measure_shape, rules)
+pub returns-in-Err : goal.returns-in-Err
+returns-in-Err c = search (measure_shape, rules)
 
-pub returns-in-Refused-valid : goal.returns-in-Refused-valid
-returns-in-Refused-valid c =
+pub returns-in-Err-valid : goal.returns-in-Err-valid
+returns-in-Err-valid c =
     let shaped : Shaped c.args.env c.args.receiver.now c.args.steps.now c.args.returns.now =
     shape_told _ _ _ _ c.shape_of-shape.ensures c.in_default.is in
     record {
       answer = measure_env shaped
-          (refused_first _ _ _ (sym c.check-valid.ensures.answer ∙ c.in-Refused-valid.is))
-          c.refused_lowering-in-Refused-valid.ensures;
+          (refused_first _ _ _ (sym c.check-valid.ensures.answer ∙ c.in-Err-valid.is))
+          c.refused_lowering-in-Err-valid.ensures;
     }
 
 pub slice_bounds-judge-end : goal.slice_bounds-judge-end
@@ -40,8 +40,8 @@ judge-totals-requires c =
     shape_told _ _ _ _ c.shape_of-shape.ensures c.in_default.is in
     measure_shaped shaped
 
-pub returns-in-Refused-verdict : goal.returns-in-Refused-verdict
-returns-in-Refused-verdict c =
+pub returns-in-Err-verdict : goal.returns-in-Err-verdict
+returns-in-Err-verdict c =
     let shaped : Shaped c.args.env c.args.receiver.now c.args.steps.now c.args.returns.now =
     shape_told _ _ _ _ c.shape_of-shape.ensures c.in_default.is in
     let valid : Valid c.args.env c.args.receiver.now c.args.steps.now c.args.returns.now = record {
@@ -50,8 +50,8 @@ returns-in-Refused-verdict c =
           ∙ c.in_default-valid.is);
     } in
     record {
-      answer = measure_refused valid c.judge-totals.ensures c.in-Refused-verdict.is
-          c.refused_lowering-in-Refused-verdict.ensures;
+      answer = measure_refused valid c.judge-totals.ensures c.in-Err-verdict.is
+          c.refused_lowering-in-Err-verdict.ensures;
     }
 
 pub returns : goal.returns

@@ -9,16 +9,16 @@ use Rattle.elision.proofs.MethodLaws.{all_first, all_second, all_third, all_give
 use borrow.Author.Rules.{rules}
 use Rattle.elision.proofs.method.run.Goals as goal
 
-pub returns-in-Refused : goal.returns-in-Refused
-returns-in-Refused c = search (all_first, rules)
+pub returns-in-Err : goal.returns-in-Err
+returns-in-Err c = search (all_first, rules)
 
-pub returns-in-Refused-two : goal.returns-in-Refused-two
-returns-in-Refused-two c =
+pub returns-in-Err-two : goal.returns-in-Err-two
+returns-in-Err-two c =
     let one : Given (lower_self c.args.names.now (receiver_of c.args.receiver.now)) 0 (replicate 16 0) c.args.own.now
     c.put_receiver-first.new.out c.put_receiver-first.result = (c.put_receiver-first.ensures.by_index (replicate 16
     0) refl).accepted c.in_default.is in
     all_second _ _ _ _ one c.put_record-second.ensures.lowers
-    c.in-Refused-two.is c.refused_totals-in-Refused-two.ensures
+    c.in-Err-two.is c.refused_totals-in-Err-two.ensures
 
 pub put_record-third-requires : goal.put_record-third-requires
 put_record-third-requires c = (
@@ -26,8 +26,8 @@ put_record-third-requires c = (
   c.put_record-second.ensures.own_le_most_list,
 )
 
-pub returns-in-Refused-three : goal.returns-in-Refused-three
-returns-in-Refused-three c =
+pub returns-in-Err-three : goal.returns-in-Err-three
+returns-in-Err-three c =
     let one : Given (lower_self c.args.names.now (receiver_of c.args.receiver.now)) 0 (replicate 16 0) c.args.own.now
     c.put_receiver-first.new.out c.put_receiver-first.result = (c.put_receiver-first.ensures.by_index (replicate 16
     0) refl).accepted c.in_default.is in
@@ -37,7 +37,7 @@ returns-in-Refused-three c =
     one.it.left
     one.shows).accepted c.in_default-two.is in
     all_third _ _ _ _ one two c.put_record-third.ensures.lowers
-    c.in-Refused-three.is c.refused_totals-in-Refused-three.ensures
+    c.in-Err-three.is c.refused_totals-in-Err-three.ensures
 
 pub returns : goal.returns
 returns c =

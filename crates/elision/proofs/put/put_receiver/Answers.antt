@@ -6,8 +6,8 @@ use Rattle.elision.proofs.put.put_receiver.Goals as goal
 pub returns-then-receiver-eq0 : goal.returns-then-receiver-eq0
 returns-then-receiver-eq0 c = search (receiver_none, rules)
 
-pub returns-in-Refused : goal.returns-in-Refused
-returns-in-Refused c = search (receiver_refused, rules)
+pub returns-in-Err : goal.returns-in-Err
+returns-in-Err c = search (receiver_refused, rules)
 
 pub returns : goal.returns
 returns c = search (receiver_given, rules)

@@ -6,8 +6,8 @@ use Rattle.elision.proofs.put.put_self.Goals as goal
 pub returns-then-kept : goal.returns-then-kept
 returns-then-kept c = search (self_again, rules)
 
-pub returns-in-Refused : goal.returns-in-Refused
-returns-in-Refused c = search (self_refused, rules)
+pub returns-in-Err : goal.returns-in-Err
+returns-in-Err c = search (self_refused, rules)
 
 pub returns : goal.returns
 returns c = search (self_first, rules)

@@ -12,9 +12,9 @@ loop-at-init c = search (recording_start, rules)
 pub put_step-took-requires : goal.put_step-took-requires
 put_step-took-requires c = search (recording_room, rules)
 
-pub returns-in-Refused : goal.returns-in-Refused
-returns-in-Refused c = let it = recording_refused c.loop-at.invariant c.put_step-took.ensures c.loop-at-test.true
-    c.in-Refused.is in
+pub returns-in-Err : goal.returns-in-Err
+returns-in-Err c = let it = recording_refused c.loop-at.invariant c.put_step-took.ensures c.loop-at-test.true
+    c.in-Err.is in
     record { own_le_most_list = it.0; lowers = it.1 }
 
 pub loop-at-smaller : goal.loop-at-smaller

@@ -7,8 +7,8 @@ use Rattle.elision.proofs.put.put_words.Goals as goal
 pub loop-i-init : goal.loop-i-init
 loop-i-init c = search (putting_start, rules)
 
-pub returns-in-Refused : goal.returns-in-Refused
-returns-in-Refused c = search (putting_refused, rules)
+pub returns-in-Err : goal.returns-in-Err
+returns-in-Err c = search (putting_refused, rules)
 
 pub loop-i-preserved : goal.loop-i-preserved
 loop-i-preserved c = search (putting_more, rules)

@@ -3,10 +3,10 @@
 use Rattle.exports.proofs.ExportLaws.{unborrowed_given, unborrowed_refused}
 use Rattle.exports.proofs.sheets.unborrowed.Goals as goal
 
-pub returns-in-Accepted : goal.returns-in-Accepted
-returns-in-Accepted c = unborrowed_given c.args.sheet.now c.borrow_sheet-borrows.result
-    c.borrow_sheet-borrows.ensures.answer.counts c.in-Accepted.is
+pub returns-in-Ok : goal.returns-in-Ok
+returns-in-Ok c = unborrowed_given c.args.sheet.now c.borrow_sheet-borrows.result
+    c.borrow_sheet-borrows.ensures.answer.counts c.in-Ok.is
 
-pub returns-in-Refused : goal.returns-in-Refused
-returns-in-Refused c = unborrowed_refused c.args.sheet.now c.borrow_sheet-borrows.result c.in-Refused.refusal
-    c.borrow_sheet-borrows.ensures.answer.counts c.in-Refused.is
+pub returns-in-Err : goal.returns-in-Err
+returns-in-Err c = unborrowed_refused c.args.sheet.now c.borrow_sheet-borrows.result c.in-Err.refusal
+    c.borrow_sheet-borrows.ensures.answer.counts c.in-Err.is

@@ -6,8 +6,8 @@ use Rattle.exports.proofs.written.borrows_write_sheet.Goals as goal
 pub returns-then-written-lt1 : goal.returns-then-written-lt1
 returns-then-written-lt1 c = search (text_unplaced, rules)
 
-pub returns-in-Count : goal.returns-in-Count
-returns-in-Count c = search (text_given, is_writing, rules)
+pub returns-in-Ok : goal.returns-in-Ok
+returns-in-Ok c = search (text_given, is_writing, rules)
 
-pub returns-in-Refused : goal.returns-in-Refused
-returns-in-Refused c = search (text_refused, is_writing, rules)
+pub returns-in-Err : goal.returns-in-Err
+returns-in-Err c = search (text_refused, is_writing, rules)

@@ -2,11 +2,11 @@
 use Rattle.exports.proofs.ExportLaws.{untold_given, untold_refused, is_writing}
 use Rattle.exports.proofs.written.unwritten.Goals as goal
 
-pub returns-in-Count : goal.returns-in-Count
-returns-in-Count c = untold_given _ _ _ (is_writing c.args.words.now c.args.ends.now 0) c.write_laid-answer.result
-    c.write_laid-answer.ensures.answer _ c.in-Count.is
+pub returns-in-Ok : goal.returns-in-Ok
+returns-in-Ok c = untold_given _ _ _ (is_writing c.args.words.now c.args.ends.now 0) c.write_laid-answer.result
+    c.write_laid-answer.ensures.answer _ c.in-Ok.is
 
-pub returns-in-Refused : goal.returns-in-Refused
-returns-in-Refused c = untold_refused _ _ _ (is_writing c.args.words.now c.args.ends.now 0)
+pub returns-in-Err : goal.returns-in-Err
+returns-in-Err c = untold_refused _ _ _ (is_writing c.args.words.now c.args.ends.now 0)
     c.write_laid-answer.result c.write_laid-answer.ensures.answer
-    c.in-Refused.refusal c.in-Refused.is
+    c.in-Err.refusal c.in-Err.is

@@ -16,7 +16,7 @@ pub returns-in_default-second : goal.returns-in_default-second
 returns-in_default-second c = record {
   answer = let s = c.args in
       c.no_shape-in_default-second.ensures ∙ method_params s.structs.now s.params.now s.output.now s.force.now
-      c.structs_shape-first.ensures.answer c.in-Count.is
+      c.structs_shape-first.ensures.answer c.in-Ok.is
       c.params_shape-second.ensures.answer c.in_default-second.is;
 }
 
@@ -24,19 +24,19 @@ pub returns-in_default-third : goal.returns-in_default-third
 returns-in_default-third c = record {
   answer = let s = c.args in
       c.no_shape-in_default-third.ensures ∙ method_output s.structs.now s.params.now s.output.now s.force.now
-      c.structs_shape-first.ensures.answer c.in-Count.is
-      c.params_shape-second.ensures.answer c.in-Count-second.is
+      c.structs_shape-first.ensures.answer c.in-Ok.is
+      c.params_shape-second.ensures.answer c.in-Ok-second.is
       c.output_shape-third.ensures.answer c.in_default-third.is;
 }
 
-pub returns-in-Refused : goal.returns-in-Refused
-returns-in-Refused c = record {
+pub returns-in-Err : goal.returns-in-Err
+returns-in-Err c = record {
   answer = let s = c.args in
-      c.no_shape-in-Refused.ensures ∙ method_force s.structs.now s.params.now s.output.now s.force.now
-      c.structs_shape-first.ensures.answer c.in-Count.is
-      c.params_shape-second.ensures.answer c.in-Count-second.is
-      c.output_shape-third.ensures.answer c.in-Count-third.is
-      c.force_shape-last.ensures.answer c.in-Refused.is;
+      c.no_shape-in-Err.ensures ∙ method_force s.structs.now s.params.now s.output.now s.force.now
+      c.structs_shape-first.ensures.answer c.in-Ok.is
+      c.params_shape-second.ensures.answer c.in-Ok-second.is
+      c.output_shape-third.ensures.answer c.in-Ok-third.is
+      c.force_shape-last.ensures.answer c.in-Err.is;
 }
 
 pub returns : goal.returns

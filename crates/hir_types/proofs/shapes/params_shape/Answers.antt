@@ -16,7 +16,7 @@ pub returns-in_default : goal.returns-in_default
 returns-in_default c = search (ends_told, counting_missing, rules)
 
 pub loop-at-smaller : goal.loop-at-smaller
-loop-at-smaller c = omega (arith, ends_past (ends_told c.type_end-end.ensures c.in-At.is))
+loop-at-smaller c = omega (arith, ends_past (ends_told c.type_end-end.ensures c.in-Some.is))
 
 pub loop-at-preserved : goal.loop-at-preserved
 loop-at-preserved c = search (ends_told, counting_more, rules)

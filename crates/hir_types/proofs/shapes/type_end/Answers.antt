@@ -12,9 +12,9 @@ returns-in_default c = search (missing_told, known_missing, type_located, rules)
 pub returns-then-not-known : goal.returns-then-not-known
 returns-then-not-known c = known_no_row
     _ _ _ (found_told (type_located _ _ c.type_at-found.ensures.answer)
-    c.in-At.is) (sym c.known.ensures ∙ c.if-not-known.true)
+    c.in-Some.is) (sym c.known.ensures ∙ c.if-not-known.true)
 
 pub returns : goal.returns
 returns c = known_ends
     _ _ _ (found_told (type_located _ _ c.type_at-found.ensures.answer)
-    c.in-At.is) (sym c.known.ensures ∙ c.if-not-known.false)
+    c.in-Some.is) (sym c.known.ensures ∙ c.if-not-known.false)

@@ -27,19 +27,19 @@ returns-in_default c = search (path_missing, slice_missing, rules)
 
 pub returns-then-n-own : goal.returns-then-n-own
 returns-then-n-own c = slice_unowned _ _ _ c.if-n-at.false c.if-code-eq3.true
-    (path_at _ _ c.lifetimes_end-path.ensures.answer c.in-At.is).1
+    (path_at _ _ c.lifetimes_end-path.ensures.answer c.in-Some.is).1
     c.if-n-own.true
 
 pub overflow_sub-count : goal.overflow_sub-count
 overflow_sub-count c = omega (
   arith,
   path_past c.args.words.now (c.args.at + 2) c.lifetimes_end-path.ensures.answer
-      c.in-At.is,
+      c.in-Some.is,
 )
 
 pub returns-then-code-eq3 : goal.returns-then-code-eq3
 returns-then-code-eq3 c = slice_opaques _ _ _ c.if-n-at.false c.if-code-eq3.true
-    (path_at _ _ c.lifetimes_end-path.ensures.answer c.in-At.is).1 c.if-n-own.false
+    (path_at _ _ c.lifetimes_end-path.ensures.answer c.in-Some.is).1 c.if-n-own.false
 
 pub returns : goal.returns
 returns c = search (slice_no_code, rules)

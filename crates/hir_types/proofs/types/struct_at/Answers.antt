@@ -17,9 +17,9 @@ overflow_sub-count c = omega (
   arith,
   path_past c.args.words.now
       (c.args.at + 2)
-      c.lifetimes_end-path.ensures.answer c.in-At.is,
+      c.lifetimes_end-path.ensures.answer c.in-Some.is,
 )
 
 pub returns : goal.returns
 returns c = struct_whole _ _ _ c.if-n-at.false
-    (path_at _ _ c.lifetimes_end-path.ensures.answer c.in-At.is).1
+    (path_at _ _ c.lifetimes_end-path.ensures.answer c.in-Some.is).1

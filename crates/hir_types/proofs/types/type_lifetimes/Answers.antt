@@ -14,22 +14,22 @@ pub returns-then-next-words : goal.returns-then-next-words
 returns-then-next-words c = record {
   answer = lifetimes_over
       _ _ (found_told (type_located _ _ c.type_at-found.ensures.answer)
-      c.in-At.is) c.if-next-words.true;
+      c.in-Some.is) c.if-next-words.true;
 }
 
 pub overflow_add-word : goal.overflow_add-word
 overflow_add-word c = let s = c.args in
-    let f = found_told (type_located s.words.now 0 c.type_at-found.ensures.answer) c.in-At.is in
+    let f = found_told (type_located s.words.now 0 c.type_at-found.ensures.answer) c.in-Some.is in
     omega (arith, path_inside f.stands s.index c.if-index-count.true)
 
 pub offset_bounds-words-from : goal.offset_bounds-words-from
 offset_bounds-words-from c = let s = c.args in
-    let f = found_told (type_located s.words.now 0 c.type_at-found.ensures.answer) c.in-At.is in
+    let f = found_told (type_located s.words.now 0 c.type_at-found.ensures.answer) c.in-Some.is in
     omega (arith, path_inside f.stands s.index c.if-index-count.true)
 
 pub bounds-words-from : goal.bounds-words-from
 bounds-words-from c = let f = found_told (type_located c.args.words.now 0 c.type_at-found.ensures.answer)
-    c.in-At.is in
+    c.in-Some.is in
     omega (arith, path_inside f.stands c.args.index c.if-index-count.true)
 
 pub returns-then-index-count : goal.returns-then-index-count

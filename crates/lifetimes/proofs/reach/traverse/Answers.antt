@@ -10,12 +10,12 @@ use Rattle.answers.proofs.RefusalLaws.{refused_first, accepted_none}
 use Rattle.lifetimes.proofs.ReachAnswers.{list_refused, list_past, list_short, list_given}
 use Rattle.lifetimes.proofs.reach.traverse.Goals as goal
 
-pub returns-in-Refused : goal.returns-in-Refused
-returns-in-Refused c =
+pub returns-in-Err : goal.returns-in-Err
+returns-in-Err c =
     let asked : List ℕ = list_by c.args.ast c.args.longer c.args.env c.args.lifetime.0 in
     let it = list_refused c.args.env c.args.lifetime.0 asked c.args.out.now
     (refused_first (tt {0}) _ (env_checks c.args.env)
-    (sym c.check-verdict.ensures.answer ∙ c.in-Refused.is)) in
+    (sym c.check-verdict.ensures.answer ∙ c.in-Err.is)) in
     record { value = it.0; fills = it.1 }
 
 pub returns-then-env-start : goal.returns-then-env-start

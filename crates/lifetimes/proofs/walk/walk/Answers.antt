@@ -59,7 +59,7 @@ with-seen-requires-in-loop-count c =
       arith,
       c.index-y.ensures.answer,
       c.requires.walkable.1,
-      walking_small k w c.requires.walkable.1 (c.loop-count.invariant.3 g k w) (steps g k w) c.in-Yield.is,
+      walking_small k w c.requires.walkable.1 (c.loop-count.invariant.3 g k w) (steps g k w) c.in-Some.is,
     ) in
     small
 
@@ -121,7 +121,7 @@ offset_bounds-last-y c =
       arith,
       c.index-y.ensures.answer,
       c.requires.walkable.1,
-      walking_small k w c.requires.walkable.1 (c.loop-count.invariant.3 g k w) (steps g k w) c.in-Yield.is,
+      walking_small k w c.requires.walkable.1 (c.loop-count.invariant.3 g k w) (steps g k w) c.in-Some.is,
     ) in
     omega (arith, small)
 
@@ -135,7 +135,7 @@ bounds-last-y c =
       arith,
       c.index-y.ensures.answer,
       c.requires.walkable.1,
-      walking_small k w c.requires.walkable.1 (c.loop-count.invariant.3 g k w) (steps g k w) c.in-Yield.is,
+      walking_small k w c.requires.walkable.1 (c.loop-count.invariant.3 g k w) (steps g k w) c.in-Some.is,
     ) in
     small
 
@@ -149,7 +149,7 @@ overflow_cast-at-in-loop-count c =
       arith,
       c.index-y.ensures.answer,
       c.requires.walkable.1,
-      walking_small k w c.requires.walkable.1 (c.loop-count.invariant.3 g k w) (steps g k w) c.in-Yield.is,
+      walking_small k w c.requires.walkable.1 (c.loop-count.invariant.3 g k w) (steps g k w) c.in-Some.is,
     ) in
     omega (arith, last_small c.requires.walkable.0.1 c.index-y.result small)
 
@@ -176,7 +176,7 @@ loop-count-preserved c =
         λ g k w.
             let inv = c.loop-count.invariant.3 g k w in
             let st = steps g k w in
-            let h = c.in-Yield.is in
+            let h = c.in-Some.is in
             rw (c.with-seen-in-loop-count.ensures, c.index-y.ensures.answer)
             (walking_more k w c.requires.walkable.1 inv st h c.loop-count-test.true c.loop-count.invariant.0
             (omega (arith, v.depth-is))
@@ -191,7 +191,7 @@ loop-count-preserved c =
         λ g k w.
             let inv = c.loop-count.invariant.3 g k w in
             let st = steps g k w in
-            let h = c.in-Yield.is in
+            let h = c.in-Some.is in
             rw (c.with-seen-in-loop-count.ensures, c.index-y.ensures.answer)
             (walking_more k w c.requires.walkable.1 inv st h c.loop-count-test.true c.loop-count.invariant.0
             (omega (arith, v.depth-is))

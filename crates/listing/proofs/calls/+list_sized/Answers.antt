@@ -10,7 +10,7 @@ returns-in_default t c =
 pub returns-then-bytes-le-SMALL : goal.returns-then-bytes-le-SMALL
 returns-then-bytes-le-SMALL t c =
     tried_done c.args.sheet.now ⊥ c.list_256-tried.result _ c.args.out.now c.list_256-tried.new.out
-    c.list_256-tried.ensures c.in-Done.is
+    c.list_256-tried.ensures c.in-Some.is
 
 pub returns-in_default-tried : goal.returns-in_default-tried
 returns-in_default-tried t c =
@@ -22,7 +22,7 @@ returns-in_default-tried t c =
 pub returns-then-bytes-le-MIDDLE : goal.returns-then-bytes-le-MIDDLE
 returns-then-bytes-le-MIDDLE t c =
     tried_done c.args.sheet.now ⊥ c.list_1024-tried.result _ c.args.out.now c.list_1024-tried.new.out
-    c.list_1024-tried.ensures c.in-Done-tried.is
+    c.list_1024-tried.ensures c.in-Some-tried.is
 
 pub returns-in_default-tried-2 : goal.returns-in_default-tried-2
 returns-in_default-tried-2 t c =
@@ -34,4 +34,4 @@ returns-in_default-tried-2 t c =
 pub returns-then-bytes-le-LARGE : goal.returns-then-bytes-le-LARGE
 returns-then-bytes-le-LARGE t c =
     tried_done c.args.sheet.now ⊥ c.list_4096-tried.result _ c.args.out.now c.list_4096-tried.new.out
-    c.list_4096-tried.ensures c.in-Done-tried-2.is
+    c.list_4096-tried.ensures c.in-Some-tried-2.is

@@ -11,7 +11,7 @@ returns-in_default c = let it = measured_refused c.args.sheet.now c.args.out.now
 pub returns-then-out-count : goal.returns-then-out-count
 returns-then-out-count c = let it = too_long c.args.sheet.now c.args.out.now c.list_sheet-measured.result []
     c.list_sheet-measured.new.out c.list_sheet-measured.ensures
-    c.in-Count.is c.if-out-count.true in
+    c.in-Ok.is c.if-out-count.true in
     record { value = it.0; fills = it.1 }
 
 pub returns : goal.returns
@@ -19,5 +19,5 @@ returns c = let it = listed_so c.args.sheet.now c.args.out.now c.list_sheet.resu
     c.list_sheet.new.out c.list_sheet.ensures
     (measured_enough c.args.sheet.now c.args.out.now c.list_sheet-measured.result [] c.list_sheet-measured.new.out
     c.list_sheet-measured.ensures
-    c.in-Count.is c.if-out-count.false) in
+    c.in-Ok.is c.if-out-count.false) in
     record { value = it.0; fills = it.1 }

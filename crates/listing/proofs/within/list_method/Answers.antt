@@ -15,8 +15,8 @@ overflow_mul-count c = let few = lifetimes_few c.args.env c.requires.0.valid in
 pub returns-then-lists-count : goal.returns-then-lists-count
 returns-then-lists-count c = lists_short c.requires.0 c.args.lists.now c.if-lists-count.true
 
-pub returns-in-Refused : goal.returns-in-Refused
-returns-in-Refused c =
+pub returns-in-Err : goal.returns-in-Err
+returns-in-Err c =
     let all_listed : AllListed c.args.env c.args.lists.now (replicate 64 0) c.all_lists-longer.result
     c.all_lists-longer.new.words c.all_lists-longer.new.ends = record {
       places = refl;
@@ -36,7 +36,7 @@ returns-in-Refused c =
       stored = c.borrow_map-map.ensures.answer.edges_filled;
     } in
     map_refused c.requires.0 all_listed c.from_sets-visitor.ensures.answer mapped
-    _ c.args.out.now c.in-Refused.is c.too_many.ensures
+    _ c.args.out.now c.in-Err.is c.too_many.ensures
 
 pub slice_bounds-put_listing-end : goal.slice_bounds-put_listing-end
 slice_bounds-put_listing-end c =

@@ -13,11 +13,11 @@ returns-then-given-steps c = search (steps_short, rules)
 pub returns-then-taken-returns : goal.returns-then-taken-returns
 returns-then-taken-returns c = search (returns_short, rules)
 
-pub returns-in-Refused : goal.returns-in-Refused
-returns-in-Refused c = search (names_listed, rules)
+pub returns-in-Err : goal.returns-in-Err
+returns-in-Err c = search (names_listed, rules)
 
-pub returns-in-Refused-elided : goal.returns-in-Refused-elided
-returns-in-Refused-elided c =
+pub returns-in-Err-elided : goal.returns-in-Err-elided
+returns-in-Err-elided c =
     let sheet_in : Records = ten_records c.args.names.now c.args.bounds.now c.args.types.now c.args.receiver.now
     c.args.steps.now c.args.returns.now c.args.structs.now c.args.params.now
     c.args.output.now c.args.force.now in
@@ -25,7 +25,7 @@ returns-in-Refused-elided c =
     c.if-given-steps.false c.if-taken-returns.false
     c.from_method_item-ast.ensures.answer c.in_default.is
     c.lower-lowered.ensures.answer.answer
-    c.in-Refused-elided.is
+    c.in-Err-elided.is
 
 pub slice_bounds-list_method-end : goal.slice_bounds-list_method-end
 slice_bounds-list_method-end c =
@@ -121,8 +121,8 @@ list_method-requires c =
       c.requires.1,
     )
 
-pub returns-in-Refused-used : goal.returns-in-Refused-used
-returns-in-Refused-used c =
+pub returns-in-Err-used : goal.returns-in-Err-used
+returns-in-Err-used c =
     let sheet_in : Records = ten_records c.args.names.now c.args.bounds.now c.args.types.now c.args.receiver.now
     c.args.steps.now c.args.returns.now c.args.structs.now c.args.params.now
     c.args.output.now c.args.force.now in
@@ -143,7 +143,7 @@ returns-in-Refused-used c =
       elides = c.in_default-elided.is;
     } in
     used_listed elided
-    c.used_method_lifetimes-used.ensures.answer c.in-Refused-used.is
+    c.used_method_lifetimes-used.ensures.answer c.in-Err-used.is
 
 pub returns-in-Set : goal.returns-in-Set
 returns-in-Set c =

@@ -4,8 +4,8 @@ use Rattle.listing.proofs.CallsLaws.{text_refused, text_listed}
 use borrow.Author.Rules.{rules}
 use Rattle.listing.proofs.within.list_within.Goals as goal
 
-pub returns-in-Refused : goal.returns-in-Refused
-returns-in-Refused c = search (text_refused, rules)
+pub returns-in-Err : goal.returns-in-Err
+returns-in-Err c = search (text_refused, rules)
 
 pub list_laid-requires : goal.list_laid-requires
 list_laid-requires c = let shape =

@@ -21,15 +21,15 @@ returns-in_default c = record {
 pub field_at-found-requires : goal.field_at-found-requires
 field_at-found-requires c =
     let in_order : let s = c.args.structs.now in
-    (structs_in_shape s ≡ true) × (length (rows_of s) ≡ c.in-Count.rows) = let s = c.args.structs.now in
-    counted_shape (structs_in_shape s) (rows_of s) c.structs_shape-shape.ensures.answer c.in-Count.is in
+    (structs_in_shape s ≡ true) × (length (rows_of s) ≡ c.in-Ok.rows) = let s = c.args.structs.now in
+    counted_shape (structs_in_shape s) (rows_of s) c.structs_shape-shape.ensures.answer c.in-Ok.is in
     in_order
 
 pub returns-in_default-found : goal.returns-in_default-found
 returns-in_default-found c =
     let in_order : let s = c.args.structs.now in
-    (structs_in_shape s ≡ true) × (length (rows_of s) ≡ c.in-Count.rows) = let s = c.args.structs.now in
-    counted_shape (structs_in_shape s) (rows_of s) c.structs_shape-shape.ensures.answer c.in-Count.is in
+    (structs_in_shape s ≡ true) × (length (rows_of s) ≡ c.in-Ok.rows) = let s = c.args.structs.now in
+    counted_shape (structs_in_shape s) (rows_of s) c.structs_shape-shape.ensures.answer c.in-Ok.is in
     record {
       answer = let s = c.args in
           c.refused-in_default-found.ensures ∙ compute_other in_order.0
@@ -40,15 +40,15 @@ returns-in_default-found c =
 pub index_rows-verdict-requires : goal.index_rows-verdict-requires
 index_rows-verdict-requires c =
     let in_order : let s = c.args.structs.now in
-    (structs_in_shape s ≡ true) × (length (rows_of s) ≡ c.in-Count.rows) = let s = c.args.structs.now in
-    counted_shape (structs_in_shape s) (rows_of s) c.structs_shape-shape.ensures.answer c.in-Count.is in
+    (structs_in_shape s ≡ true) × (length (rows_of s) ≡ c.in-Ok.rows) = let s = c.args.structs.now in
+    counted_shape (structs_in_shape s) (rows_of s) c.structs_shape-shape.ensures.answer c.in-Ok.is in
     record { structs_value = in_order; lifetimes_len = refl }
 
 pub offset_bounds-lifetimes-row : goal.offset_bounds-lifetimes-row
 offset_bounds-lifetimes-row c =
     let in_order : let s = c.args.structs.now in
-    (structs_in_shape s ≡ true) × (length (rows_of s) ≡ c.in-Count.rows) = let s = c.args.structs.now in
-    counted_shape (structs_in_shape s) (rows_of s) c.structs_shape-shape.ensures.answer c.in-Count.is in
+    (structs_in_shape s ≡ true) × (length (rows_of s) ≡ c.in-Ok.rows) = let s = c.args.structs.now in
+    counted_shape (structs_in_shape s) (rows_of s) c.structs_shape-shape.ensures.answer c.in-Ok.is in
     let indexed : let s = c.args in Indexed s.structs.now s.row s.field c.in-Struct.inner c.in-Struct.from
     c.in-Struct.count c.index_rows-verdict.new.lifetimes
     c.index_rows-verdict.result = let s = c.args in
@@ -58,14 +58,14 @@ offset_bounds-lifetimes-row c =
           c.field_at-found.ensures;
       index = c.index_rows-verdict.ensures;
     } in
-    let few : (c.args.row < 32) × (c.in-Struct.inner < 32) = few_rows indexed c.in-Accepted.is in
+    let few : (c.args.row < 32) × (c.in-Struct.inner < 32) = few_rows indexed c.in-Ok.is in
     omega (arith, few.0)
 
 pub bounds-lifetimes-row : goal.bounds-lifetimes-row
 bounds-lifetimes-row c =
     let in_order : let s = c.args.structs.now in
-    (structs_in_shape s ≡ true) × (length (rows_of s) ≡ c.in-Count.rows) = let s = c.args.structs.now in
-    counted_shape (structs_in_shape s) (rows_of s) c.structs_shape-shape.ensures.answer c.in-Count.is in
+    (structs_in_shape s ≡ true) × (length (rows_of s) ≡ c.in-Ok.rows) = let s = c.args.structs.now in
+    counted_shape (structs_in_shape s) (rows_of s) c.structs_shape-shape.ensures.answer c.in-Ok.is in
     let indexed : let s = c.args in Indexed s.structs.now s.row s.field c.in-Struct.inner c.in-Struct.from
     c.in-Struct.count c.index_rows-verdict.new.lifetimes
     c.index_rows-verdict.result = let s = c.args in
@@ -75,14 +75,14 @@ bounds-lifetimes-row c =
           c.field_at-found.ensures;
       index = c.index_rows-verdict.ensures;
     } in
-    let few : (c.args.row < 32) × (c.in-Struct.inner < 32) = few_rows indexed c.in-Accepted.is in
+    let few : (c.args.row < 32) × (c.in-Struct.inner < 32) = few_rows indexed c.in-Ok.is in
     few.0
 
 pub offset_bounds-lifetimes-inner : goal.offset_bounds-lifetimes-inner
 offset_bounds-lifetimes-inner c =
     let in_order : let s = c.args.structs.now in
-    (structs_in_shape s ≡ true) × (length (rows_of s) ≡ c.in-Count.rows) = let s = c.args.structs.now in
-    counted_shape (structs_in_shape s) (rows_of s) c.structs_shape-shape.ensures.answer c.in-Count.is in
+    (structs_in_shape s ≡ true) × (length (rows_of s) ≡ c.in-Ok.rows) = let s = c.args.structs.now in
+    counted_shape (structs_in_shape s) (rows_of s) c.structs_shape-shape.ensures.answer c.in-Ok.is in
     let indexed : let s = c.args in Indexed s.structs.now s.row s.field c.in-Struct.inner c.in-Struct.from
     c.in-Struct.count c.index_rows-verdict.new.lifetimes
     c.index_rows-verdict.result = let s = c.args in
@@ -92,14 +92,14 @@ offset_bounds-lifetimes-inner c =
           c.field_at-found.ensures;
       index = c.index_rows-verdict.ensures;
     } in
-    let few : (c.args.row < 32) × (c.in-Struct.inner < 32) = few_rows indexed c.in-Accepted.is in
+    let few : (c.args.row < 32) × (c.in-Struct.inner < 32) = few_rows indexed c.in-Ok.is in
     omega (arith, few.1)
 
 pub bounds-lifetimes-inner : goal.bounds-lifetimes-inner
 bounds-lifetimes-inner c =
     let in_order : let s = c.args.structs.now in
-    (structs_in_shape s ≡ true) × (length (rows_of s) ≡ c.in-Count.rows) = let s = c.args.structs.now in
-    counted_shape (structs_in_shape s) (rows_of s) c.structs_shape-shape.ensures.answer c.in-Count.is in
+    (structs_in_shape s ≡ true) × (length (rows_of s) ≡ c.in-Ok.rows) = let s = c.args.structs.now in
+    counted_shape (structs_in_shape s) (rows_of s) c.structs_shape-shape.ensures.answer c.in-Ok.is in
     let indexed : let s = c.args in Indexed s.structs.now s.row s.field c.in-Struct.inner c.in-Struct.from
     c.in-Struct.count c.index_rows-verdict.new.lifetimes
     c.index_rows-verdict.result = let s = c.args in
@@ -109,14 +109,14 @@ bounds-lifetimes-inner c =
           c.field_at-found.ensures;
       index = c.index_rows-verdict.ensures;
     } in
-    let few : (c.args.row < 32) × (c.in-Struct.inner < 32) = few_rows indexed c.in-Accepted.is in
+    let few : (c.args.row < 32) × (c.in-Struct.inner < 32) = few_rows indexed c.in-Ok.is in
     few.1
 
 pub pairs_of-requires : goal.pairs_of-requires
 pairs_of-requires c =
     let in_order : let s = c.args.structs.now in
-    (structs_in_shape s ≡ true) × (length (rows_of s) ≡ c.in-Count.rows) = let s = c.args.structs.now in
-    counted_shape (structs_in_shape s) (rows_of s) c.structs_shape-shape.ensures.answer c.in-Count.is in
+    (structs_in_shape s ≡ true) × (length (rows_of s) ≡ c.in-Ok.rows) = let s = c.args.structs.now in
+    counted_shape (structs_in_shape s) (rows_of s) c.structs_shape-shape.ensures.answer c.in-Ok.is in
     let indexed : let s = c.args in Indexed s.structs.now s.row s.field c.in-Struct.inner c.in-Struct.from
     c.in-Struct.count c.index_rows-verdict.new.lifetimes
     c.index_rows-verdict.result = let s = c.args in
@@ -126,13 +126,13 @@ pairs_of-requires c =
           c.field_at-found.ensures;
       index = c.index_rows-verdict.ensures;
     } in
-    path_linked indexed c.in-Accepted.is c.path_words-path.ensures.answer
+    path_linked indexed c.in-Ok.is c.path_words-path.ensures.answer
 
-pub returns-in-Refused : goal.returns-in-Refused
-returns-in-Refused c =
+pub returns-in-Err : goal.returns-in-Err
+returns-in-Err c =
     let in_order : let s = c.args.structs.now in
-    (structs_in_shape s ≡ true) × (length (rows_of s) ≡ c.in-Count.rows) = let s = c.args.structs.now in
-    counted_shape (structs_in_shape s) (rows_of s) c.structs_shape-shape.ensures.answer c.in-Count.is in
+    (structs_in_shape s ≡ true) × (length (rows_of s) ≡ c.in-Ok.rows) = let s = c.args.structs.now in
+    counted_shape (structs_in_shape s) (rows_of s) c.structs_shape-shape.ensures.answer c.in-Ok.is in
     let indexed : let s = c.args in Indexed s.structs.now s.row s.field c.in-Struct.inner c.in-Struct.from
     c.in-Struct.count c.index_rows-verdict.new.lifetimes
     c.index_rows-verdict.result = let s = c.args in
@@ -143,15 +143,15 @@ returns-in-Refused c =
       index = c.index_rows-verdict.ensures;
     } in
     record {
-      answer = c.refused-in-Refused.ensures ∙ compute_refused indexed
-          c.in-Refused.is;
+      answer = c.refused-in-Err.ensures ∙ compute_refused indexed
+          c.in-Err.is;
     }
 
-pub returns-in-Accepted : goal.returns-in-Accepted
-returns-in-Accepted c =
+pub returns-in-Ok : goal.returns-in-Ok
+returns-in-Ok c =
     let in_order : let s = c.args.structs.now in
-    (structs_in_shape s ≡ true) × (length (rows_of s) ≡ c.in-Count.rows) = let s = c.args.structs.now in
-    counted_shape (structs_in_shape s) (rows_of s) c.structs_shape-shape.ensures.answer c.in-Count.is in
+    (structs_in_shape s ≡ true) × (length (rows_of s) ≡ c.in-Ok.rows) = let s = c.args.structs.now in
+    counted_shape (structs_in_shape s) (rows_of s) c.structs_shape-shape.ensures.answer c.in-Ok.is in
     let indexed : let s = c.args in Indexed s.structs.now s.row s.field c.in-Struct.inner c.in-Struct.from
     c.in-Struct.count c.index_rows-verdict.new.lifetimes
     c.index_rows-verdict.result = let s = c.args in
@@ -162,6 +162,6 @@ returns-in-Accepted c =
       index = c.index_rows-verdict.ensures;
     } in
     record {
-      answer = compute_given indexed c.in-Accepted.is
+      answer = compute_given indexed c.in-Ok.is
           c.path_words-path.ensures.answer c.pairs_of.ensures;
     }

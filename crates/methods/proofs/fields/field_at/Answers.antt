@@ -34,7 +34,7 @@ returns-in-Struct c =
     FieldStands s.structs.now s.row s.field c.skip_types-at.result = field_stands c.row_place-place.ensures
     c.if-count-field.false c.skip_types-at.ensures in
     field_struct stands
-    (found_told (type_located _ _ c.type_at-found.ensures.answer) c.in-At.is)
+    (found_told (type_located _ _ c.type_at-found.ensures.answer) c.in-Some.is)
     c.in-Struct.is
 
 pub returns-in-Plain : goal.returns-in-Plain
@@ -42,9 +42,9 @@ returns-in-Plain c =
     let stands : let s = c.args in
     FieldStands s.structs.now s.row s.field c.skip_types-at.result = field_stands c.row_place-place.ensures
     c.if-count-field.false c.skip_types-at.ensures in
-    let not_struct : is_struct c.in-At.parts.kind ≡ false → let s = c.args in
+    let not_struct : is_struct c.in-Some.parts.kind ≡ false → let s = c.args in
     FieldIs s.structs.now s.row s.field Missing = λ e. field_other stands
-    (found_told (type_located _ _ c.type_at-found.ensures.answer) c.in-At.is) e in
+    (found_told (type_located _ _ c.type_at-found.ensures.answer) c.in-Some.is) e in
     not_struct (ap is_struct c.in-Plain.is)
 
 pub returns-in-Opaque : goal.returns-in-Opaque
@@ -52,9 +52,9 @@ returns-in-Opaque c =
     let stands : let s = c.args in
     FieldStands s.structs.now s.row s.field c.skip_types-at.result = field_stands c.row_place-place.ensures
     c.if-count-field.false c.skip_types-at.ensures in
-    let not_struct : is_struct c.in-At.parts.kind ≡ false → let s = c.args in
+    let not_struct : is_struct c.in-Some.parts.kind ≡ false → let s = c.args in
     FieldIs s.structs.now s.row s.field Missing = λ e. field_other stands
-    (found_told (type_located _ _ c.type_at-found.ensures.answer) c.in-At.is) e in
+    (found_told (type_located _ _ c.type_at-found.ensures.answer) c.in-Some.is) e in
     not_struct (ap is_struct c.in-Opaque.is)
 
 pub returns-in-Slice : goal.returns-in-Slice
@@ -62,7 +62,7 @@ returns-in-Slice c =
     let stands : let s = c.args in
     FieldStands s.structs.now s.row s.field c.skip_types-at.result = field_stands c.row_place-place.ensures
     c.if-count-field.false c.skip_types-at.ensures in
-    let not_struct : is_struct c.in-At.parts.kind ≡ false → let s = c.args in
+    let not_struct : is_struct c.in-Some.parts.kind ≡ false → let s = c.args in
     FieldIs s.structs.now s.row s.field Missing = λ e. field_other stands
-    (found_told (type_located _ _ c.type_at-found.ensures.answer) c.in-At.is) e in
+    (found_told (type_located _ _ c.type_at-found.ensures.answer) c.in-Some.is) e in
     not_struct (ap is_struct c.in-Slice.is)

@@ -12,9 +12,9 @@ returns-in_default c = search (missing_told, type_missing, type_located, rules)
 pub returns-then-is_misfit : goal.returns-then-is_misfit
 returns-then-is_misfit c = type_unfit
     _ _ _ (found_told (type_located _ _ c.type_at-found.ensures.answer)
-    c.in-At.is) (sym c.is_misfit.ensures ∙ c.if-is_misfit.true)
+    c.in-Some.is) (sym c.is_misfit.ensures ∙ c.if-is_misfit.true)
 
 pub returns : goal.returns
 returns c = type_fit
     _ _ _ (found_told (type_located _ _ c.type_at-found.ensures.answer)
-    c.in-At.is) (sym c.is_misfit.ensures ∙ c.if-is_misfit.false)
+    c.in-Some.is) (sym c.is_misfit.ensures ∙ c.if-is_misfit.false)

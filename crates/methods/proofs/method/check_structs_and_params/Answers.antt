@@ -14,7 +14,7 @@ returns-in_default-listed c = search (alone_params, rules)
 pub index_rows-verdict-requires : goal.index_rows-verdict-requires
 index_rows-verdict-requires c = record {
   structs_value = counted_shape _ _ c.structs_shape-counted.ensures.answer
-      c.in-Count.is;
+      c.in-Ok.is;
   lifetimes_len = refl;
 }
 

@@ -9,11 +9,11 @@ returns-in_default c = rw c.refused.ensures (judge_torn c.method_shape-shape.ens
 
 pub returns-then-count-gt-MAX_LIFETIMES : goal.returns-then-count-gt-MAX_LIFETIMES
 returns-then-count-gt-MAX_LIFETIMES c = rw c.refused-then-count-gt-MAX_LIFETIMES.ensures
-    (judge_lifetimes c.method_shape-shape.ensures.answer c.in-Accepted.is c.if-count-gt-MAX_LIFETIMES.true)
+    (judge_lifetimes c.method_shape-shape.ensures.answer c.in-Ok.is c.if-count-gt-MAX_LIFETIMES.true)
 
 pub returns-then-pushed-gt-MAX : goal.returns-then-pushed-gt-MAX
 returns-then-pushed-gt-MAX c = rw c.refused-then-pushed-gt-MAX.ensures
-    (judge_bounds c.method_shape-shape.ensures.answer c.in-Accepted.is
+    (judge_bounds c.method_shape-shape.ensures.answer c.in-Ok.is
     c.if-count-gt-MAX_LIFETIMES.false c.if-pushed-gt-MAX.true)
 
 pub judge_places-second-requires : goal.judge_places-second-requires
@@ -25,7 +25,7 @@ returns-in_default-second c =
     Judging s.env s.structs.now s.params.now s.output.now s.force.now
     c.method_shape-shape.result c.judge_places-second.result = record {
       shape = c.method_shape-shape.ensures.answer;
-      accepted = c.in-Accepted.is;
+      accepted = c.in-Ok.is;
       lifetimes = c.if-count-gt-MAX_LIFETIMES.false;
       bounds = c.if-pushed-gt-MAX.false;
       by_place = c.judge_places-second.ensures;
@@ -38,13 +38,13 @@ returns-in_default-third c =
     Judging s.env s.structs.now s.params.now s.output.now s.force.now
     c.method_shape-shape.result c.judge_places-second.result = record {
       shape = c.method_shape-shape.ensures.answer;
-      accepted = c.in-Accepted.is;
+      accepted = c.in-Ok.is;
       lifetimes = c.if-count-gt-MAX_LIFETIMES.false;
       bounds = c.if-pushed-gt-MAX.false;
       by_place = c.judge_places-second.ensures;
     } in
     rw c.refused-in_default-third.ensures
-    (judge_env judging c.in-Accepted-second.is
+    (judge_env judging c.in-Ok-second.is
     c.check-third.ensures.answer c.in_default-third.is)
 
 pub returns-in_default-collected : goal.returns-in_default-collected
@@ -53,14 +53,14 @@ returns-in_default-collected c =
     Judging s.env s.structs.now s.params.now s.output.now s.force.now
     c.method_shape-shape.result c.judge_places-second.result = record {
       shape = c.method_shape-shape.ensures.answer;
-      accepted = c.in-Accepted.is;
+      accepted = c.in-Ok.is;
       lifetimes = c.if-count-gt-MAX_LIFETIMES.false;
       bounds = c.if-pushed-gt-MAX.false;
       by_place = c.judge_places-second.ensures;
     } in
     rw c.refused-in_default-collected.ensures
-    (judge_outside judging c.in-Accepted-second.is
-    c.check-third.ensures.answer c.in-Accepted-third.is c.collect_types-collected.ensures
+    (judge_outside judging c.in-Ok-second.is
+    c.check-third.ensures.answer c.in-Ok-third.is c.collect_types-collected.ensures
     c.in_default-collected.is)
 
 pub returns : goal.returns

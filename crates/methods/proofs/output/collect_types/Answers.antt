@@ -16,20 +16,20 @@ returns-in_default c = search (missing_told, collecting_lost, type_located, rule
 pub collect_path-path-requires : goal.collect_path-path-requires
 collect_path-path-requires c =
     let reading : let s = c.args in Reading s.words.now s.types s.count c.loop-i.at c.loop-i.used c.loop-i.i
-    c.in-At.parts = record {
+    c.in-Some.parts = record {
       collecting = c.loop-i.invariant;
       left = c.loop-i-test.true;
-      found = found_told (type_located _ _ c.type_at-found.ensures.answer) c.in-At.is;
+      found = found_told (type_located _ _ c.type_at-found.ensures.answer) c.in-Some.is;
     } in
     (c.requires, path_there reading)
 
 pub returns-in_default-path : goal.returns-in_default-path
 returns-in_default-path c =
     let reading : let s = c.args in Reading s.words.now s.types s.count c.loop-i.at c.loop-i.used c.loop-i.i
-    c.in-At.parts = record {
+    c.in-Some.parts = record {
       collecting = c.loop-i.invariant;
       left = c.loop-i-test.true;
-      found = found_told (type_located _ _ c.type_at-found.ensures.answer) c.in-At.is;
+      found = found_told (type_located _ _ c.type_at-found.ensures.answer) c.in-Some.is;
     } in
     collecting_past reading c.collect_path-path.ensures
     c.in_default-path.is
@@ -37,10 +37,10 @@ returns-in_default-path c =
 pub returns-in_default-last : goal.returns-in_default-last
 returns-in_default-last c =
     let reading : let s = c.args in Reading s.words.now s.types s.count c.loop-i.at c.loop-i.used c.loop-i.i
-    c.in-At.parts = record {
+    c.in-Some.parts = record {
       collecting = c.loop-i.invariant;
       left = c.loop-i-test.true;
-      found = found_told (type_located _ _ c.type_at-found.ensures.answer) c.in-At.is;
+      found = found_told (type_located _ _ c.type_at-found.ensures.answer) c.in-Some.is;
     } in
     collecting_own reading c.collect_path-path.ensures
     c.in-Set.is c.collect_own-last.ensures c.in_default-last.is
@@ -48,10 +48,10 @@ returns-in_default-last c =
 pub loop-i-preserved : goal.loop-i-preserved
 loop-i-preserved c =
     let reading : let s = c.args in Reading s.words.now s.types s.count c.loop-i.at c.loop-i.used c.loop-i.i
-    c.in-At.parts = record {
+    c.in-Some.parts = record {
       collecting = c.loop-i.invariant;
       left = c.loop-i-test.true;
-      found = found_told (type_located _ _ c.type_at-found.ensures.answer) c.in-At.is;
+      found = found_told (type_located _ _ c.type_at-found.ensures.answer) c.in-Some.is;
     } in
     collecting_more reading c.collect_path-path.ensures
     c.in-Set.is c.collect_own-last.ensures c.in-Set-last.is

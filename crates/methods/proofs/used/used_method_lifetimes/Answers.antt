@@ -3,8 +3,8 @@ use Rattle.methods.proofs.UsedLaws.{used_refused, used_given}
 use borrow.Author.Rules.{rules}
 use Rattle.methods.proofs.used.used_method_lifetimes.Goals as goal
 
-pub returns-in-Refused : goal.returns-in-Refused
-returns-in-Refused c = search (used_refused, rules)
+pub returns-in-Err : goal.returns-in-Err
+returns-in-Err c = search (used_refused, rules)
 
-pub returns-in-Accepted : goal.returns-in-Accepted
-returns-in-Accepted c = search (used_given, rules)
+pub returns-in-Ok : goal.returns-in-Ok
+returns-in-Ok c = search (used_given, rules)

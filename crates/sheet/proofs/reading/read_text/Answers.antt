@@ -13,12 +13,12 @@ write_all-requires c = search (none_due, rules)
 
 pub returns-then-not-write_all : goal.returns-then-not-write_all
 returns-then-not-write_all c = let a = read_short _ c.args.words.now c.measure-judged.result c.measure-judged.ensures
-    c.in-Accepted.is c.write_all.ensures.value c.write_all.ensures.words_value
+    c.in-Ok.is c.write_all.ensures.value c.write_all.ensures.words_value
     c.if-not-write_all.true in
     record { answer = c.refused.ensures ∙ a.0; stored = a.1 }
 
 pub returns : goal.returns
 returns c = let it = read_wrote _ c.args.words.now c.measure-judged.result c.measure-judged.ensures
-    c.in-Accepted.is c.write_all.ensures.value c.write_all.ensures.words_value
+    c.in-Ok.is c.write_all.ensures.value c.write_all.ensures.words_value
     c.if-not-write_all.false in
     record { answer = it.0; stored = it.1 }

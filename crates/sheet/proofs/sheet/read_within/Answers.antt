@@ -9,25 +9,25 @@ returns-in_default c = let it = sheet_refused _ c.args.words.now c.scan-text.res
     c.in_default.is in
     record { value = it.0; fills = it.1 }
 
-pub returns-in-Refused : goal.returns-in-Refused
-returns-in-Refused c = let shape =
-    scanned_shape c.args.sheet.now c.args.scratch.now c.requires c.scan-text.ensures.value c.in-Accepted.is
+pub returns-in-Err : goal.returns-in-Err
+returns-in-Err c = let shape =
+    scanned_shape c.args.sheet.now c.args.scratch.now c.requires c.scan-text.ensures.value c.in-Ok.is
     c.scan-text.ensures.scratch_value c.judge_laid-shape.ensures in
-    let a = sheet_unshaped _ c.args.words.now c.scan-text.result c.scan-text.ensures.value c.in-Accepted.is shape
-    c.in-Refused.is in
+    let a = sheet_unshaped _ c.args.words.now c.scan-text.result c.scan-text.ensures.value c.in-Ok.is shape
+    c.in-Err.is in
     record { value = c.refused.ensures ∙ a.0; fills = a.1 }
 
 pub returns-in_default-copy_words : goal.returns-in_default-copy_words
 returns-in_default-copy_words c = let a = scanned_short c.args.sheet.now c.args.scratch.now c.requires
     c.scan-text.ensures.value
-    c.in-Accepted.is c.scan-text.ensures.scratch_value
+    c.in-Ok.is c.scan-text.ensures.scratch_value
     c.judge_laid-shape.ensures c.in_default-shape.is c.args.words.now
     c.copy_words.ensures.stored c.copy_words.ensures.answer c.in_default-copy_words.is in
     record { value = c.refused-in_default-copy_words.ensures ∙ a.0; fills = a.1 }
 
 pub returns : goal.returns
 returns c = let it = scanned_wrote c.args.sheet.now c.args.scratch.now c.requires c.scan-text.ensures.value
-    c.in-Accepted.is c.scan-text.ensures.scratch_value
+    c.in-Ok.is c.scan-text.ensures.scratch_value
     c.judge_laid-shape.ensures c.in_default-shape.is c.args.words.now
-    c.copy_words.ensures.stored c.copy_words.ensures.answer c.in-Count.is in
+    c.copy_words.ensures.stored c.copy_words.ensures.answer c.in-Ok.is in
     record { value = it.0; fills = it.1 }

@@ -3,12 +3,12 @@ use Rattle.sheet.specs.Text.{Records, ten_records}
 use Rattle.sheet_writer.proofs.WriteLaws.{none_due, write_refused, write_short, write_given}
 use Rattle.sheet_writer.proofs.write.write_sheet.Goals as goal
 
-pub returns-in-Refused : goal.returns-in-Refused
-returns-in-Refused c =
+pub returns-in-Err : goal.returns-in-Err
+returns-in-Err c =
     let records : Records = ten_records c.args.names.now c.args.bounds.now c.args.types.now c.args.own.now
     c.args.steps.now
     c.args.returns.now c.args.structs.now c.args.params.now c.args.output.now c.args.force.now in
-    let it = write_refused records c.args.out.now c.judge-verdict.ensures c.in-Refused.is in
+    let it = write_refused records c.args.out.now c.judge-verdict.ensures c.in-Err.is in
     record { answer = it.0; stored = it.1 }
 
 pub fits-requires : goal.fits-requires

@@ -17,6 +17,6 @@ pub returns : goal.returns
 returns c = record {
   answer = let s = c.args in
       c.extended.ensures ∙ extend_given s.self s.types.now c.types_shape-shape.ensures.answer
-      c.in-Accepted.is
-      (valid s.self c.check-valid.ensures.answer c.in-Accepted-valid.is);
+      c.in-Ok.is
+      (valid s.self c.check-valid.ensures.answer c.in-Ok-valid.is);
 }

@@ -14,20 +14,20 @@ returns-in_default c = record {
 
 pub build-built-requires : goal.build-built-requires
 build-built-requires c = record {
-  names_value = shape_given _ _ _ c.shape_of-shape.ensures c.in-Accepted.is;
+  names_value = shape_given _ _ _ c.shape_of-shape.ensures c.in-Ok.is;
   declared_len = (refl, refl, refl);
 }
 
 pub returns-in_default-verdict : goal.returns-in_default-verdict
 returns-in_default-verdict c = record {
   answer = c.refused-in_default-verdict.ensures
-      ∙ place_refused _ _ _ c.shape_of-shape.ensures c.in-Accepted.is
+      ∙ place_refused _ _ _ c.shape_of-shape.ensures c.in-Ok.is
       c.build-built.ensures c.in_default-verdict.is;
 }
 
 pub assembled-requires : goal.assembled-requires
 assembled-requires c = let b = c.build-built.ensures in
-    let e = c.in-Accepted-verdict.is in
+    let e = c.in-Ok-verdict.is in
     record { named_le_most_names = b.few e; declared_len = b.sizes; shorts_value = built_small b e }
 
 pub returns : goal.returns

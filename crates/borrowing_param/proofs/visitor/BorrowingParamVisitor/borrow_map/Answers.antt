@@ -7,10 +7,10 @@ pub map_params-requires : goal.map_params-requires
 map_params-requires c = let s = c.args in
     are_params s.structs.now s.params.now
     (map_none s.self s.structs.now s.params.now c.check_structs_and_params-verdict.ensures.answer
-    c.in-Accepted.is)
+    c.in-Ok.is)
 
-pub returns-in-Refused : goal.returns-in-Refused
-returns-in-Refused c = search (map_torn, rules)
+pub returns-in-Err : goal.returns-in-Err
+returns-in-Err c = search (map_torn, rules)
 
-pub returns-in-Accepted : goal.returns-in-Accepted
-returns-in-Accepted c = search (map_listed, rules)
+pub returns-in-Ok : goal.returns-in-Ok
+returns-in-Ok c = search (map_listed, rules)

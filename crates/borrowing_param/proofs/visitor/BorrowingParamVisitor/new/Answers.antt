@@ -3,8 +3,8 @@ use Rattle.borrowing_param.proofs.NewLaws.{new_refused, new_given}
 use borrow.Author.Rules.{rules}
 use Rattle.borrowing_param.proofs.visitor.BorrowingParamVisitor.new.Goals as goal
 
-pub returns-in-Refused : goal.returns-in-Refused
-returns-in-Refused c = search (new_refused, rules)
+pub returns-in-Err : goal.returns-in-Err
+returns-in-Err c = search (new_refused, rules)
 
 pub returns-in-Set : goal.returns-in-Set
 returns-in-Set c = search (new_given, rules)

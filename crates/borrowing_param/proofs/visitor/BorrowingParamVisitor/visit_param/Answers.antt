@@ -18,25 +18,25 @@ returns-in_default c = record {
 }
 
 pub visit_parts-requires : goal.visit_parts-requires
-visit_parts-requires c = parts_there c.param_at-found.ensures c.in-At.is
+visit_parts-requires c = parts_there c.param_at-found.ensures c.in-Some.is
 
-pub returns-in-Refused : goal.returns-in-Refused
-returns-in-Refused c = record {
+pub returns-in-Err : goal.returns-in-Err
+returns-in-Err c = record {
   answer = let s = c.args in
-      let answer = ap (λ (x : Visited). outcome x.info (state x.visitor s.edges.now)) c.refused-in-Refused.ensures in
-      let f = found_told c.param_at-found.ensures.found c.in-At.is in
+      let answer = ap (λ (x : Visited). outcome x.info (state x.visitor s.edges.now)) c.refused-in-Err.ensures in
+      let f = found_told c.param_at-found.ensures.found c.in-Some.is in
       answer ∙ sym
       (visit_refuses s.structs.now s.params.now (state s.self s.edges.now) s.param
       (records_refused s.structs.now s.params.now s.param f.reads
-      c.check_structs_and_params-verdict.ensures.answer c.in-Refused.is));
+      c.check_structs_and_params-verdict.ensures.answer c.in-Err.is));
 }
 
-pub returns-in-Accepted : goal.returns-in-Accepted
-returns-in-Accepted c = record {
+pub returns-in-Ok : goal.returns-in-Ok
+returns-in-Ok c = record {
   answer = let s = c.args in
-      let f = found_told c.param_at-found.ensures.found c.in-At.is in
+      let f = found_told c.param_at-found.ensures.found c.in-Some.is in
       let a = records_accepted s.structs.now s.params.now s.param f.reads
-      c.check_structs_and_params-verdict.ensures.answer c.in-Accepted.is in
+      c.check_structs_and_params-verdict.ensures.answer c.in-Ok.is in
       c.visit_parts.ensures
       ∙ sym
       (visit_goes_on s.structs.now s.params.now (state s.self s.edges.now) s.param f.stands

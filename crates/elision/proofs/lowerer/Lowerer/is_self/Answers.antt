@@ -12,11 +12,11 @@ returns-then-words-gt-MAX_LIST c = record {
 pub returns-then-self : goal.returns-then-self
 returns-then-self c = search (self_kept, rules)
 
-pub returns-in-Refused : goal.returns-in-Refused
-returns-in-Refused c = record {
-  answer = rw c.refused-in-Refused.ensures
+pub returns-in-Err : goal.returns-in-Err
+returns-in-Err c = record {
+  answer = rw c.refused-in-Err.ensures
       (type_refused _ _ _ _ c.if-words-gt-MAX_LIST.false c.if-self.false c.lower_words-done.ensures
-      c.in-Refused.is);
+      c.in-Err.is);
 }
 
 pub returns : goal.returns

@@ -15,11 +15,11 @@ returns-then-words-gt-MAX_LIST c = record {
       _ _ _ c.if-generics-gt-MAX_LIST.false c.if-words-gt-MAX_LIST.true);
 }
 
-pub returns-in-Refused : goal.returns-in-Refused
-returns-in-Refused c = record {
-  answer = rw c.refused-in-Refused.ensures
+pub returns-in-Err : goal.returns-in-Err
+returns-in-Err c = record {
+  answer = rw c.refused-in-Err.ensures
       (generics_refused _ _ _ _ _ c.if-generics-gt-MAX_LIST.false c.if-words-gt-MAX_LIST.false c.standing_in.ensures
-      c.lower_words-done.ensures c.in-Refused.is);
+      c.lower_words-done.ensures c.in-Err.is);
 }
 
 pub returns : goal.returns

@@ -3,11 +3,11 @@ use Rattle.elision.proofs.LowererLaws.{self_refused, self_given}
 use borrow.Author.Rules.{rules}
 use Rattle.elision.proofs.lowerer.Lowerer.lower_self_ref.Goals as goal
 
-pub returns-in-Refused : goal.returns-in-Refused
-returns-in-Refused c = record {
+pub returns-in-Err : goal.returns-in-Err
+returns-in-Err c = record {
   answer = rw c.refused.ensures
       (self_refused _ _ c.no_self_ref-fresh.ensures.answer
-      c.lower_word-done.ensures c.in-Refused.is);
+      c.lower_word-done.ensures c.in-Err.is);
 }
 
 pub returns : goal.returns

@@ -19,10 +19,10 @@ use Rattle.lifetimes.proofs.env.LifetimeEnv.all_lists.Goals as goal
 parts : {A B C : Type 0} → A × B × C → A × (B × C)
 parts p = (p.0, (p.1, p.2))
 
-pub returns-in-Refused : goal.returns-in-Refused
-returns-in-Refused c = let it = parts (lists_refused c.args.longer c.args.self c.args.words.now c.args.ends.now
+pub returns-in-Err : goal.returns-in-Err
+returns-in-Err c = let it = parts (lists_refused c.args.longer c.args.self c.args.words.now c.args.ends.now
     (refused_first (tt {0}) _ (env_checks c.args.self)
-    (sym c.check-verdict.ensures.answer ∙ c.in-Refused.is))) in
+    (sym c.check-verdict.ensures.answer ∙ c.in-Err.is))) in
     record { answer = it.0; words_filled = it.1.0; ends_filled = it.1.1 }
 
 pub returns-then-ends-count : goal.returns-then-ends-count

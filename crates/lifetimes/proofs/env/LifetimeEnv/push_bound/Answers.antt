@@ -26,7 +26,7 @@ returns-then-not-numbers_below c =
           rw (c.index-from.ensures.answer, c.index-to.ensures.answer)
           at (sym c.numbers_below.ensures ∙ c.if-not-numbers_below.true) in
           push_outside a.self (above a.longer.0 a.shorter.0) full c.if-at-ge-MAX.false c.check-verdict.ensures.answer
-          c.in-Accepted.is f;
+          c.in-Ok.is f;
     }
 
 pub bound_of-requires : goal.bound_of-requires
@@ -34,7 +34,7 @@ bound_of-requires c =
     let full : length c.args.self.bounds.list ≡ 256 = search rules in
     let a = c.args in
     push_small a.self (above c.index-from.result c.index-to.result)
-    full c.if-at-ge-MAX.false c.check-verdict.ensures.answer c.in-Accepted.is
+    full c.if-at-ge-MAX.false c.check-verdict.ensures.answer c.in-Ok.is
     (sym c.numbers_below.ensures ∙ c.if-not-numbers_below.false)
 
 pub returns : goal.returns
@@ -51,5 +51,5 @@ returns c =
             c.index-to.ensures.answer,
           )
           (push_given a.self (above a.longer.0 a.shorter.0) full c.if-at-ge-MAX.false c.check-verdict.ensures.answer
-          c.in-Accepted.is t);
+          c.in-Ok.is t);
     }

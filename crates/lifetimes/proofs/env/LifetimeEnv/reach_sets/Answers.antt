@@ -23,7 +23,7 @@ returns-in_default c = record {
 pub link-requires : goal.link-requires
 link-requires c =
     let none : NoneDue (env_checks c.args.self) = accepted_none (tt {0}) (env_checks c.args.self)
-    (sym c.check-verdict.ensures.answer ∙ c.in-Accepted.is) in
+    (sym c.check-verdict.ensures.answer ∙ c.in-Ok.is) in
     let holds : Valid c.args.self = valid c.args.self none in
     let full : length c.args.self.bounds.list ≡ 256 = search rules in
     let v = holds in
@@ -32,7 +32,7 @@ link-requires c =
 pub measure-requires : goal.measure-requires
 measure-requires c =
     let none : NoneDue (env_checks c.args.self) = accepted_none (tt {0}) (env_checks c.args.self)
-    (sym c.check-verdict.ensures.answer ∙ c.in-Accepted.is) in
+    (sym c.check-verdict.ensures.answer ∙ c.in-Ok.is) in
     let holds : Valid c.args.self = valid c.args.self none in
     let s = c.args in
     let v = holds in record {
@@ -47,7 +47,7 @@ measure-requires c =
 pub returns : goal.returns
 returns c =
     let none : NoneDue (env_checks c.args.self) = accepted_none (tt {0}) (env_checks c.args.self)
-    (sym c.check-verdict.ensures.answer ∙ c.in-Accepted.is) in
+    (sym c.check-verdict.ensures.answer ∙ c.in-Ok.is) in
     let holds : Valid c.args.self = valid c.args.self none in
     record {
       answer = let s = c.args in
