@@ -230,7 +230,7 @@ module _ {names : List ℕ} {st : Standing} {g : ℕ} {words : List ℕ} {seen :
         stores = λ a k. let same : inv.going.done ≡ a.given = given (sym whole ∙ k) in rw (← same) inv.stored;
       }
     where
-      given : {a : Advanced Seen} → Ok (advanced inv.going.done here) ≡ Ok a → inv.going.done ≡ a.given
+      given : {a : Advanced Seen} → ◌≡◌ {A = Outcome (Advanced Seen)} (Ok (advanced inv.going.done here)) (Ok a) → inv.going.done ≡ a.given
       given {a} k = let q : advanced inv.going.done here ≡ a = cc in ap (λ (x : Advanced Seen). x.given) q
 
   module _ (h : i < total) {word : ℕ} (w : word ≡ get_or words i 1) {r : Worded}

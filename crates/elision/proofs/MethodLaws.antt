@@ -113,10 +113,10 @@ module _ (names : List ℕ) where
 
 -- ---- the three records
 
-refuses_gives : {A B : Type 0} {b : B} {r : Refusal} → Err r ≡ Ok b → A
+refuses_gives : {A B : Type 0} {b : B} {r : Refusal} → ◌≡◌ {A = Outcome B} (Err r) (Ok b) → A
 refuses_gives e = let z : ◌≡◌ {A = ℕ} 0 1 = cc in absurd (omega arith)
 
-given_same : {A : Type 0} {a b : A} → Ok a ≡ Ok b → a ≡ b
+given_same : {A : Type 0} {a b : A} → ◌≡◌ {A = Outcome A} (Ok a) (Ok b) → a ≡ b
 given_same e = cc
 
 abbrev none : Refusal → Totals

@@ -25,5 +25,5 @@ pub shape_out : (a : Bool) {v : Verdict} {r : Refusal} → v ≡ shape_verdict a
 shape_out true e f = refused_accepted (sym f ∙ e)
 shape_out false e f = (refl, same (sym f ∙ e))
   where
-    same : {r s : Refusal} → Err r ≡ Err s → r ≡ s
+    same : {r s : Refusal} → ◌≡◌ {A = Verdict} (Err r) (Err s) → r ≡ s
     same h = cc

@@ -81,5 +81,5 @@ returns-in-Generics c = puts_generics c.read_step-step.ensures _ _ _ _ _ _ _ c.i
 pub returns-in-SelfType : goal.returns-in-SelfType
 returns-in-SelfType c = search (puts_self, rules)
 
-pub returns-in-None : goal.returns-in-None
-returns-in-None c = search (puts_missing, rules)
+pub returns-in-Missing : goal.returns-in-Missing
+returns-in-Missing c = search (puts_missing, rules)

@@ -54,5 +54,5 @@ returns-in-Generics c = search (takes_generics, rules)
 pub returns-in-SelfType : goal.returns-in-SelfType
 returns-in-SelfType c = search (takes_self, rules)
 
-pub returns-in-None : goal.returns-in-None
-returns-in-None c = search (takes_missing, rules)
+pub returns-in-Missing : goal.returns-in-Missing
+returns-in-Missing c = search (takes_missing, rules)

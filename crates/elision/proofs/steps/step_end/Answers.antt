@@ -12,5 +12,5 @@ returns-in-Generics c = search (ends_generics, rules)
 pub returns-in-SelfType : goal.returns-in-SelfType
 returns-in-SelfType c = search (ends_self, rules)
 
-pub returns-in-None : goal.returns-in-None
-returns-in-None c = search (ends_missing, rules)
+pub returns-in-Missing : goal.returns-in-Missing
+returns-in-Missing c = search (ends_missing, rules)

@@ -58,7 +58,7 @@ offset_bounds-lifetimes-row c =
           c.field_at-found.ensures;
       index = c.index_rows-verdict.ensures;
     } in
-    let few : (c.args.row < 32) × (c.in-Struct.inner < 32) = few_rows indexed c.in-Ok.is in
+    let few : (c.args.row < 32) × (c.in-Struct.inner < 32) = few_rows indexed c.in-Ok-verdict.is in
     omega (arith, few.0)
 
 pub bounds-lifetimes-row : goal.bounds-lifetimes-row
@@ -75,7 +75,7 @@ bounds-lifetimes-row c =
           c.field_at-found.ensures;
       index = c.index_rows-verdict.ensures;
     } in
-    let few : (c.args.row < 32) × (c.in-Struct.inner < 32) = few_rows indexed c.in-Ok.is in
+    let few : (c.args.row < 32) × (c.in-Struct.inner < 32) = few_rows indexed c.in-Ok-verdict.is in
     few.0
 
 pub offset_bounds-lifetimes-inner : goal.offset_bounds-lifetimes-inner
@@ -92,7 +92,7 @@ offset_bounds-lifetimes-inner c =
           c.field_at-found.ensures;
       index = c.index_rows-verdict.ensures;
     } in
-    let few : (c.args.row < 32) × (c.in-Struct.inner < 32) = few_rows indexed c.in-Ok.is in
+    let few : (c.args.row < 32) × (c.in-Struct.inner < 32) = few_rows indexed c.in-Ok-verdict.is in
     omega (arith, few.1)
 
 pub bounds-lifetimes-inner : goal.bounds-lifetimes-inner
@@ -109,7 +109,7 @@ bounds-lifetimes-inner c =
           c.field_at-found.ensures;
       index = c.index_rows-verdict.ensures;
     } in
-    let few : (c.args.row < 32) × (c.in-Struct.inner < 32) = few_rows indexed c.in-Ok.is in
+    let few : (c.args.row < 32) × (c.in-Struct.inner < 32) = few_rows indexed c.in-Ok-verdict.is in
     few.1
 
 pub pairs_of-requires : goal.pairs_of-requires
@@ -126,7 +126,7 @@ pairs_of-requires c =
           c.field_at-found.ensures;
       index = c.index_rows-verdict.ensures;
     } in
-    path_linked indexed c.in-Ok.is c.path_words-path.ensures.answer
+    path_linked indexed c.in-Ok-verdict.is c.path_words-path.ensures.answer
 
 pub returns-in-Err : goal.returns-in-Err
 returns-in-Err c =
@@ -147,8 +147,8 @@ returns-in-Err c =
           c.in-Err.is;
     }
 
-pub returns-in-Ok : goal.returns-in-Ok
-returns-in-Ok c =
+pub returns-in-Ok-verdict : goal.returns-in-Ok-verdict
+returns-in-Ok-verdict c =
     let in_order : let s = c.args.structs.now in
     (structs_in_shape s ≡ true) × (length (rows_of s) ≡ c.in-Ok.rows) = let s = c.args.structs.now in
     counted_shape (structs_in_shape s) (rows_of s) c.structs_shape-shape.ensures.answer c.in-Ok.is in
@@ -162,6 +162,6 @@ returns-in-Ok c =
       index = c.index_rows-verdict.ensures;
     } in
     record {
-      answer = compute_given indexed c.in-Ok.is
+      answer = compute_given indexed c.in-Ok-verdict.is
           c.path_words-path.ensures.answer c.pairs_of.ensures;
     }

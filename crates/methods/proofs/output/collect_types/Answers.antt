@@ -43,7 +43,7 @@ returns-in_default-last c =
       found = found_told (type_located _ _ c.type_at-found.ensures.answer) c.in-Some.is;
     } in
     collecting_own reading c.collect_path-path.ensures
-    c.in-Set.is c.collect_own-last.ensures c.in_default-last.is
+    c.in-Some-path.is c.collect_own-last.ensures c.in_default-last.is
 
 pub loop-i-preserved : goal.loop-i-preserved
 loop-i-preserved c =
@@ -54,7 +54,7 @@ loop-i-preserved c =
       found = found_told (type_located _ _ c.type_at-found.ensures.answer) c.in-Some.is;
     } in
     collecting_more reading c.collect_path-path.ensures
-    c.in-Set.is c.collect_own-last.ensures c.in-Set-last.is
+    c.in-Some-path.is c.collect_own-last.ensures c.in-Some-last.is
 
 pub returns : goal.returns
 returns c = search (collecting_end, rules)
