@@ -1,7 +1,6 @@
 // A whole method, and a whole sheet: the used lifetimes, the answers by parameter, and the edges in listing order, each
 // to a lent slice.
-ghost use Rattle.std.specs.Prelude.{◌≤◌, ◌≡◌, length, take};
-ghost use Rattle.answers.specs.Refusals.{Refuses};
+ghost use Rattle.std.specs.Prelude.{◌≤◌, ◌≡◌, length, take, Ok, Err};
 ghost use Rattle.answers.specs.Lent.{held, room, left};
 ghost use Rattle.sheet.specs.Inner.{Roomy};
 ghost use Rattle.borrowing_param.specs.Edges.{edges_in};
@@ -166,7 +165,7 @@ fn borrow_by(
 
 // A refusal alone.
 fn unborrowed(refusal: Refusal) -> Borrows
-    ensures { result ≡ borrows_answer (Refuses refusal) }
+    ensures { result ≡ borrows_answer (Err refusal) }
 {
     Borrows {
         verdict: Err(refusal),

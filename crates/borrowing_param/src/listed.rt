@@ -1,6 +1,5 @@
 // Edges in listing order: by used lifetime, parameter, lifetime of the definition; and the answers by parameter.
-ghost use Rattle.std.specs.Prelude.{◌≡◌, ◌+◌, ◌*◌, ◌≤◌, ◌<◌, length};
-ghost use Rattle.answers.specs.Refusals.{Refuses};
+ghost use Rattle.std.specs.Prelude.{◌≡◌, ◌+◌, ◌*◌, ◌≤◌, ◌<◌, length, Err};
 ghost use Rattle.answers.specs.Lent.{held, room, left};
 ghost use Rattle.lifetimes.specs.Limits.{most_lifetimes};
 ghost use Rattle.methods.specs.Method.{most_params};
@@ -59,7 +58,7 @@ impl BorrowingParamVisitor {
 
 // A refusal alone.
 fn unmapped(refusal: Refusal) -> BorrowMap
-    ensures { result ≡ map_answer (Refuses refusal) }
+    ensures { result ≡ map_answer (Err refusal) }
 {
     BorrowMap {
         verdict: Err(refusal),

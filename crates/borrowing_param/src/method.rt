@@ -2,8 +2,8 @@
 //
 // A refused call writes nothing, so the words are judged in scratch. It has two sizes, so that a small sheet does not
 // pay for a large one.
-ghost use Rattle.std.specs.Prelude.{◌≤◌, ◌≡◌, [], length};
-ghost use Rattle.answers.specs.Refusals.{Refuses, NoneDue};
+ghost use Rattle.std.specs.Prelude.{◌≤◌, ◌≡◌, [], length, Err};
+ghost use Rattle.answers.specs.Refusals.{NoneDue};
 ghost use Rattle.answers.specs.Lent.{held, room, left, Fills};
 ghost use Rattle.lifetimes.specs.Env.{env_of, made};
 ghost use Rattle.sheet.specs.Text.{ten_records};
@@ -167,7 +167,7 @@ fn lower_records(
 
 // A refusal, beside an environment without lifetimes.
 fn refused_env(refusal: Refusal) -> Made
-    ensures { result ≡ made (env_of 0 0 []) (Refuses refusal) }
+    ensures { result ≡ made (env_of 0 0 []) (Err refusal) }
 {
     let none = [0usize; 0];
     let made = LifetimeEnv::new(0, 0, &none);
@@ -180,7 +180,7 @@ fn refused_env(refusal: Refusal) -> Made
 
 // A refusal, beside no records and an environment without lifetimes.
 fn refused_method(refusal: Refusal) -> SheetMethod
-    ensures { result ≡ method_answer (Refuses refusal) }
+    ensures { result ≡ method_answer (Err refusal) }
 {
     let made = refused_env(refusal);
     let env = made.env;

@@ -1,7 +1,6 @@
 // A sheet's listing, with its length in a word beside it.
-ghost use Rattle.std.specs.Prelude.{ℕ, ◌≡◌};
+ghost use Rattle.std.specs.Prelude.{ℕ, ◌≡◌, Err};
 ghost use Rattle.answers.specs.Lent.{held, room};
-ghost use Rattle.answers.specs.Refusals.{Refuses};
 ghost use Rattle.exports.specs.Calls.{listing_to, TextAnswers};
 
 use answers::Refusal;
@@ -29,7 +28,7 @@ pub fn borrows_listing(sheet: &[u8], out: &mut [u8], written: &mut [usize]) -> u
 
 // Why a sheet is refused whose listing's length has no place.
 fn unlisted(sheet: &[u8]) -> Refusal
-    ensures { (room : ℕ) → listing_to sheet.now room 0 ≡ Refuses result }
+    ensures { (room : ℕ) → listing_to sheet.now room 0 ≡ Err result }
 {
     let mut none = [0u8; 0];
     let answer = listing(sheet, &mut none);

@@ -1,6 +1,5 @@
 // What a sheet's wrapper has to hold on to, with the numbers of words in a slice beside it.
-ghost use Rattle.std.specs.Prelude.{ℕ, ◌≤◌, ◌<◌, ◌≡◌, [], ◌∷◌, ◌++◌, length, drop};
-ghost use Rattle.answers.specs.Refusals.{Refuses};
+ghost use Rattle.std.specs.Prelude.{ℕ, ◌≤◌, ◌<◌, ◌≡◌, [], ◌∷◌, ◌++◌, length, drop, Err};
 ghost use Rattle.answers.specs.Lent.{held, room, left};
 ghost use Rattle.exports.specs.Calls.{sheet_to, SheetAnswers};
 
@@ -47,7 +46,7 @@ fn store_counts(counts: &mut [usize], used: usize, params: usize, edges: usize)
 // Why a sheet is refused where `counts` has fewer than three words.
 fn unborrowed(sheet: &[u8]) -> Refusal
     ensures { (used answers edges counts : ℕ) → counts < 3 → sheet_to sheet.now used answers edges counts
-        ≡ Refuses result }
+        ≡ Err result }
 {
     let mut no_used = [0usize; 0];
     let mut no_answers = [0usize; 0];

@@ -1,7 +1,6 @@
 // A sheet written from records one after another, with its length in a word beside it.
-ghost use Rattle.std.specs.Prelude.{ℕ, ◌≡◌};
+ghost use Rattle.std.specs.Prelude.{ℕ, ◌≡◌, Err};
 ghost use Rattle.answers.specs.Lent.{held, room};
-ghost use Rattle.answers.specs.Refusals.{Refuses};
 ghost use Rattle.exports.specs.Calls.{writing_to, TextAnswers};
 
 use answers::Refusal;
@@ -37,7 +36,7 @@ pub fn borrows_write_sheet(
 
 // Why records are refused whose text's length has no place.
 fn unwritten(words: &[usize], ends: &[usize]) -> Refusal
-    ensures { (room : ℕ) → writing_to words.now ends.now room 0 ≡ Refuses result }
+    ensures { (room : ℕ) → writing_to words.now ends.now room 0 ≡ Err result }
 {
     let mut none = [0u8; 0];
     let answer = write_laid(words, ends, &mut none);

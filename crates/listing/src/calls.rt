@@ -3,8 +3,7 @@
 // A sheet is judged and its answers are made in scratch that is lent (`list_within`), of one of four sizes, so that a
 // small sheet does not pay for a large one. Printing into no room at all measures, so nothing is written before it is
 // known that all fits.
-ghost use Rattle.std.specs.Prelude.{◌≡◌, length};
-ghost use Rattle.answers.specs.Refusals.{Gives};
+ghost use Rattle.std.specs.Prelude.{◌≡◌, length, Ok};
 ghost use Rattle.answers.specs.Lent.{counted, held, room, left, Fills};
 ghost use Rattle.listing.specs.Listing as spec;
 ghost use Rattle.listing.specs.InnerListing.{listed_sheet, ListsTo, ListsWithin};
@@ -50,7 +49,7 @@ fn list_tight(sheet: &[u8], out: &mut [u8]) -> Result<usize, Refusal>
 // stands behind the answer stays.
 pub fn respond(sheet: &[u8], out: &mut [u8; ROOM]) -> usize
     ensures answer { result ≡ length (spec.response sheet.now) }
-    ensures stored { Fills (Gives (spec.response sheet.now)) out }
+    ensures stored { Fills (Ok (spec.response sheet.now)) out }
 {
     let answer = list_sheet(sheet, out);
     match answer {

@@ -1,8 +1,8 @@
 // The call that reads ten records of any words: judge and count first, then write.
-ghost use Rattle.std.specs.Prelude.{cond, ◌≡◌, leb, drop};
+ghost use Rattle.std.specs.Prelude.{cond, ◌≡◌, leb, drop, Err};
 ghost use Rattle.std.proofs.Math.Option.{none, some};
 ghost use Rattle.std.proofs.lemmas.List.Edits.{sets};
-ghost use Rattle.answers.specs.Refusals.{Refuses, NoneDue};
+ghost use Rattle.answers.specs.Refusals.{NoneDue};
 ghost use Rattle.answers.specs.Lent.{held, room, left, Fills};
 ghost use Rattle.sheet.specs.Text.{heading, words_of};
 ghost use Rattle.sheet.specs.Reading.{strip_prefix, sheet_of, text_checks};
@@ -87,7 +87,7 @@ pub fn read_text(sheet: &[u8], words: &mut [usize]) -> Text
 
 // A refusal; all ends are 0.
 pub(crate) fn refused(refusal: Refusal) -> Text
-    ensures { result ≡ text_answer (Refuses refusal) }
+    ensures { result ≡ text_answer (Err refusal) }
 {
     Text {
         verdict: Err(refusal),

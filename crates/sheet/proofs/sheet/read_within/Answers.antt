@@ -29,5 +29,5 @@ pub returns : goal.returns
 returns c = let it = scanned_wrote c.args.sheet.now c.args.scratch.now c.requires c.scan-text.ensures.value
     c.in-Ok.is c.scan-text.ensures.scratch_value
     c.judge_laid-shape.ensures c.in_default-shape.is c.args.words.now
-    c.copy_words.ensures.stored c.copy_words.ensures.answer c.in-Ok.is in
+    c.copy_words.ensures.stored c.copy_words.ensures.answer c.in-Ok-copy_words.is in
     record { value = it.0; fills = it.1 }
