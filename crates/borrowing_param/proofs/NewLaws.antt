@@ -155,10 +155,10 @@ set_there env i below =
     ∙ at_place (reach_set true env) 0 env.count i below
     ∙ ap (reach_set true env) (zero-add i)
 
-set_same : {u v : ℕ} → Ok u ≡ Ok v → u ≡ v
+set_same : {u v : ℕ} → ◌≡◌ {A = Outcome ℕ} (Ok u) (Ok v) → u ≡ v
 set_same e = cc
 
-set_refused : {r : Refusal} {v : ℕ} {A : Type 0} → Err r ≡ Ok v → A
+set_refused : {r : Refusal} {v : ℕ} {A : Type 0} → ◌≡◌ {A = Outcome ℕ} (Err r) (Ok v) → A
 set_refused e = let z : ◌≡◌ {A = ℕ} 0 1 = cc in absurd (omega arith)
 
 module _ (env : LifetimeEnv) (structs params output force : List ℕ) {a : Outcome ℕ}

@@ -154,7 +154,7 @@ fn borrow_by(
     if let Err(refusal) = verdict {
         return unborrowed(refusal);
     }
-    set::members(members, used);
+    let _ = set::members(members, used);
     Borrows {
         verdict: Ok(()),
         used: count,

@@ -89,7 +89,7 @@ fn map_params(
     if edges.len() / BorrowingParamVisitor::EDGE_WORDS < total {
         return unmapped(Refusal::NoRoom);
     }
-    copy_words(&numbers, count, answers);
+    let _ = copy_words(&numbers, count, answers);
     let stored = store_listed(used, &draws, params, edges);
     BorrowMap {
         verdict: Ok(()),

@@ -75,6 +75,6 @@ fn ten_of(ends: &[usize]) -> [usize; Text::RECORDS]
     ensures { result ≡ ends.now }
 {
     let mut ten = [0usize; Text::RECORDS];
-    copy_words(ends, Text::RECORDS, &mut ten);
+    let _ = copy_words(ends, Text::RECORDS, &mut ten);
     ten
 }

@@ -6,8 +6,8 @@ use Rattle.borrowing_param.proofs.edges.first_drawn.Goals as goal
 pub returns-in-Some : goal.returns-in-Some
 returns-in-Some c = search (drawn_path, rules)
 
-pub returns-in-Lifetime : goal.returns-in-Lifetime
-returns-in-Lifetime c = search (drawn_own, rules)
+pub returns-in-Some-last : goal.returns-in-Some-last
+returns-in-Some-last c = search (drawn_own, rules)
 
-pub returns-in-Absent : goal.returns-in-Absent
-returns-in-Absent c = search (drawn_absent, rules)
+pub returns-in-None : goal.returns-in-None
+returns-in-None c = search (drawn_absent, rules)

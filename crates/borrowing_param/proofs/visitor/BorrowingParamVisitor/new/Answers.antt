@@ -6,5 +6,5 @@ use Rattle.borrowing_param.proofs.visitor.BorrowingParamVisitor.new.Goals as goa
 pub returns-in-Err : goal.returns-in-Err
 returns-in-Err c = search (new_refused, rules)
 
-pub returns-in-Set : goal.returns-in-Set
-returns-in-Set c = search (new_given, rules)
+pub returns-in-Ok : goal.returns-in-Ok
+returns-in-Ok c = search (new_given, rules)
