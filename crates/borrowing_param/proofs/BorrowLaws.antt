@@ -31,7 +31,7 @@ use Rattle.borrowing_param.specs.declared.listed.BorrowMap.{BorrowMap}
 use Rattle.borrowing_param.specs.declared.method.SheetMethod.{SheetMethod}
 use Rattle.borrowing_param.specs.declared.visitor.BorrowingParamVisitor.{BorrowingParamVisitor}
 use Rattle.borrowing_param.specs.Edges.{edges_in}
-use Rattle.borrowing_param.specs.New.{visitor_of, created}
+use Rattle.borrowing_param.specs.New.{method_visitor, created}
 use Rattle.borrowing_param.specs.BorrowMap as map
 use Rattle.borrowing_param.specs.Consistent.{Consistent}
 use Rattle.borrowing_param.specs.SheetMethod.{env_of_sheet, lowering_checks, sheet_refusals, method_answer}
@@ -156,13 +156,13 @@ module _ (env : LifetimeEnv) (structs params output force : List ℕ) {c : Outco
       → BorrowsTo (outcome (room used) (room answers) (room edges)) r used answers edges
   unfolding created borrow_method
   method_unborrowed {k} w h =
-      let f = refused_due (visitor_of env structs output) k (method_checks env structs params output force) (sym is ∙ w) in
+      let f = refused_due (method_visitor env structs output) k (method_checks env structs params output force) (sym is ∙ w) in
       left_alone (due_refused whole (first_more _ f)) h
 
   module _ {v : BorrowingParamVisitor} (fine : c ≡ Ok v) where
-    given_new : NoneDue (method_checks env structs params output force) × (visitor_of env structs output ≡ v)
+    given_new : NoneDue (method_checks env structs params output force) × (method_visitor env structs output ≡ v)
     unfolding created
-    given_new = given_due (visitor_of env structs output) v (method_checks env structs params output force) (sym is ∙ fine)
+    given_new = given_due (method_visitor env structs output) v (method_checks env structs params output force) (sym is ∙ fine)
 
     method_none : NoneDue (method_checks env structs params output force)
     method_none = given_new.0
@@ -253,7 +253,7 @@ module _ (bytes : List ℕ) (used answers edges : Slice) where
   module _ (n : NoneDue (sheet_refusals bytes)) where
     sheet_consistent : Consistent (sheet_borrows sheet).used (sheet_borrows sheet).answers (sheet_borrows sheet).edges
     sheet_consistent =
-        listing_consistent (visitor_of (env_of_sheet sheet) sheet.structs sheet.output) sheet.structs sheet.params
+        listing_consistent (method_visitor (env_of_sheet sheet) sheet.structs sheet.output) sheet.structs sheet.params
         (params_none (env_of_sheet sheet) sheet.structs sheet.params sheet.output sheet.force (sheet_method bytes n))
 
     sheet_small : Small (sheet_borrows sheet)

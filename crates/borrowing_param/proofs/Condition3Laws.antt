@@ -35,7 +35,7 @@ use Rattle.borrowing_param.specs.Brings.{answer_of}
 use Rattle.borrowing_param.specs.Visit.{used_of, draws_of, bring_to, bring_all, holding, state, visit_with, visit}
 use Rattle.borrowing_param.specs.VisitParam.{type_at, visit_checks, visit_param}
 use Rattle.borrowing_param.specs.Visits.{unrefused_by, all_of}
-use Rattle.borrowing_param.specs.New.{draws_to, visitor_from, visitor_of, created}
+use Rattle.borrowing_param.specs.New.{draws_to, visitor_from, method_visitor, created}
 use Rattle.borrowing_param.specs.Condition3.{Above, Param}
 use Rattle.borrowing_param.specs.Theorems.{IsNew, answer_at, AllVisits}
 use Rattle.borrowing_param.proofs.JoinLaws.{Once, join_part}
@@ -163,7 +163,7 @@ module _ (env : LifetimeEnv) (structs params output force : List ℕ)
   used_given = due_given used none
 
   abbrev new : BorrowingParamVisitor
-  new = visitor_of env structs output
+  new = method_visitor env structs output
 
   pub created_is : created env structs params output force ≡ Ok new
   unfolding created

@@ -27,7 +27,7 @@ use Rattle.borrowing_param.specs.Edges.{width, edges_in, edges_of}
 use Rattle.borrowing_param.specs.Visit.{used_of, bring_to, bring_all, VisitOutcome, state}
 use Rattle.borrowing_param.specs.VisitParam.{type_at, visit_param}
 use Rattle.borrowing_param.specs.Visits.{unrefused_by, Visits}
-use Rattle.borrowing_param.specs.New.{visitor_of}
+use Rattle.borrowing_param.specs.New.{method_visitor}
 use Rattle.borrowing_param.specs.BorrowMap.{listed_to, listed_edges}
 use Rattle.borrowing_param.specs.Theorems.{answer_at, all_params, visit_of, after_all_visits, RoomForAll, AsVisited}
 use Rattle.borrowing_param.proofs.JoinLaws.{of_part, of_others}
@@ -200,9 +200,9 @@ module _ (structs params : List ℕ) (v : BorrowingParamVisitor) (words : List �
 
 pub as_visited : (env : LifetimeEnv) (structs params output force : List ℕ)
     → NoneDue (method_checks env structs params output force) → (words : List ℕ)
-    → AsVisited structs params (visitor_of env structs output) words
+    → AsVisited structs params (method_visitor env structs output) words
 as_visited env structs params output force none words =
-    in_turn_lem structs params (visitor_of env structs output) words
+    in_turn_lem structs params (method_visitor env structs output) words
     (all_visits env structs params output force none words turn within).visits
     (λ i. unrefused_new env structs params output force none words (take i turn) (λ p m. within p (take_member i turn p m)))
   where

@@ -33,7 +33,7 @@ use Rattle.methods.specs.Method.{output_lifetimes, is_past, any_past, place_chec
 use Rattle.methods.specs.Used.{used_set, used_answer, output_numbers}
 use Rattle.methods.proofs.Theorems.{used_lifetimes_are}
 use Rattle.borrowing_param.specs.declared.visitor.BorrowingParamVisitor.{BorrowingParamVisitor}
-use Rattle.borrowing_param.specs.New.{draws_to, visitor_from, visitor_of, created}
+use Rattle.borrowing_param.specs.New.{draws_to, visitor_from, method_visitor, created}
 use Rattle.borrowing_param.specs.Inner.{SetBelow}
 use Rattle.borrowing_param.proofs.EdgesLoops.{past_limit}
 
@@ -176,7 +176,7 @@ module _ (env : LifetimeEnv) (structs params output force : List ℕ) {a : Outco
 
   pub new_refused : {r : Refusal} → a ≡ Err r → Err r ≡ created env structs params output force
   unfolding created
-  new_refused e = sym (due_refused (visitor_of env structs output) (used_refused e))
+  new_refused e = sym (due_refused (method_visitor env structs output) (used_refused e))
 
   module _ {used : ℕ} (e : a ≡ Ok used) where
     pub gives : used_set env structs params output force ≡ Ok used
@@ -201,4 +201,4 @@ module _ (env : LifetimeEnv) (structs params output force : List ℕ) {a : Outco
         let all : r.sets ≡ all_sets true env =
         ap (λ (x : ReachSets). x.sets) q
         ∙ rw (due_given (all_sets true env) (env_none env structs params output force accepted)) in
-        sym (due_given (visitor_of env structs output) accepted ∙ rw (used_is, is, all))
+        sym (due_given (method_visitor env structs output) accepted ∙ rw (used_is, is, all))

@@ -13,7 +13,7 @@ use Rattle.borrowing_param.specs.declared.visitor.LifetimeEdge.{LifetimeEdge}
 use Rattle.borrowing_param.specs.declared.visitor.BorrowingParamVisitor.{BorrowingParamVisitor}
 use Rattle.borrowing_param.specs.Edges.{most_defs, edge_words}
 use Rattle.borrowing_param.specs.Visit.{used_of}
-use Rattle.borrowing_param.specs.New.{visitor_of}
+use Rattle.borrowing_param.specs.New.{method_visitor}
 use Rattle.borrowing_param.specs.BorrowMap.{listed_edges, answers_from}
 use Rattle.borrowing_param.specs.SheetMethod.{env_of_sheet, sheet_refusals}
 
@@ -33,7 +33,7 @@ borrows_by v structs params =
     }
 
 abbrev pub borrows_of : LifetimeEnv → List ℕ → List ℕ → List ℕ → Borrows
-borrows_of env structs params output = borrows_by (visitor_of env structs output) structs params
+borrows_of env structs params output = borrows_by (method_visitor env structs output) structs params
 
 abbrev pub sheet_borrows : Records → Borrows
 sheet_borrows r = borrows_of (env_of_sheet r) r.structs r.params r.output

@@ -23,10 +23,10 @@ abbrev pub new_visitor : ℕ → LifetimeEnv → BorrowingParamVisitor
 new_visitor used env = visitor_from used (all_sets true env)
 
 -- that of a method, by its environment, its structs and its output
-abbrev pub visitor_of : LifetimeEnv → List ℕ → List ℕ → BorrowingParamVisitor
-visitor_of env structs output = new_visitor (set_of (output_numbers structs output)) env
+abbrev pub method_visitor : LifetimeEnv → List ℕ → List ℕ → BorrowingParamVisitor
+method_visitor env structs output = new_visitor (set_of (output_numbers structs output)) env
 
 -- refused as the method is
 unfoldable pub created : LifetimeEnv → List ℕ → List ℕ → List ℕ → List ℕ → Outcome BorrowingParamVisitor
 created env structs params output force =
-    unless (method_checks env structs params output force) (visitor_of env structs output)
+    unless (method_checks env structs params output force) (method_visitor env structs output)

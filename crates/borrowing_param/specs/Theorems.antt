@@ -17,7 +17,7 @@ use Rattle.borrowing_param.specs.Brings.{answer_of}
 use Rattle.borrowing_param.specs.Visit.{used_of, draws_of, bring_to, bring_all, State, state, after_visits, visit_at}
 use Rattle.borrowing_param.specs.VisitParam.{type_at, visit_param}
 use Rattle.borrowing_param.specs.Visits.{Visits}
-use Rattle.borrowing_param.specs.New.{visitor_of, created}
+use Rattle.borrowing_param.specs.New.{method_visitor, created}
 use Rattle.borrowing_param.specs.BorrowMap.{listed_to, listed_edges, answers_from}
 use Rattle.borrowing_param.specs.Borrows.{Borrows, borrows_of, most_listed}
 use Rattle.borrowing_param.specs.Consistent.{Consistent}
@@ -58,7 +58,7 @@ Condition3 =
     → NoneDue (method_checks env structs params output force)
     → (words ps : List ℕ)
     → ((p : ℕ) → Memᴰ p ps → p < length (types_in structs params))
-    → AllVisits env structs params output force (visitor_of env structs output) words ps
+    → AllVisits env structs params output force (method_visitor env structs output) words ps
 
 -- The listing. Whatever the visitor, the used lifetimes, the answers by parameter and the edges that `borrow_map` gives
 -- are what `Consistent` says: in 01's order, each edge of one of the used lifetimes and of one of the parameters, its
@@ -116,7 +116,7 @@ pub record AsVisited (structs params : List ℕ) (v : BorrowingParamVisitor) (wo
 abbrev pub ListingIsVisits : Type 0
 ListingIsVisits = (env : LifetimeEnv) (structs params output force : List ℕ)
     → NoneDue (method_checks env structs params output force) → (words : List ℕ)
-    → AsVisited structs params (visitor_of env structs output) words
+    → AsVisited structs params (method_visitor env structs output) words
 
 -- An edge by its place (`edge_at`): of the edges that stand in a slice the one with that number
 abbrev pub EdgesByPlace : Type 0
