@@ -50,8 +50,8 @@ slice_bounds-list_method-end c =
     } in
     (own_stands elided).0
 
-pub slice_bounds-list_method-end-in-Set : goal.slice_bounds-list_method-end-in-Set
-slice_bounds-list_method-end-in-Set c =
+pub slice_bounds-list_method-end-in-Ok : goal.slice_bounds-list_method-end-in-Ok
+slice_bounds-list_method-end-in-Ok c =
     let sheet_in : Records = ten_records c.args.names.now c.args.bounds.now c.args.types.now c.args.receiver.now
     c.args.steps.now c.args.returns.now c.args.structs.now c.args.params.now
     c.args.output.now c.args.force.now in
@@ -73,8 +73,8 @@ slice_bounds-list_method-end-in-Set c =
     } in
     (steps_stand elided).0
 
-pub slice_bounds-list_method-end-in-Set-2 : goal.slice_bounds-list_method-end-in-Set-2
-slice_bounds-list_method-end-in-Set-2 c =
+pub slice_bounds-list_method-end-in-Ok-2 : goal.slice_bounds-list_method-end-in-Ok-2
+slice_bounds-list_method-end-in-Ok-2 c =
     let sheet_in : Records = ten_records c.args.names.now c.args.bounds.now c.args.types.now c.args.receiver.now
     c.args.steps.now c.args.returns.now c.args.structs.now c.args.params.now
     c.args.output.now c.args.force.now in
@@ -117,7 +117,7 @@ list_method-requires c =
       returns_written = c.lower-lowered.ensures.answer.taken_filled;
       elides = c.in_default-elided.is;
     } in (
-      listable elided c.used_method_lifetimes-used.ensures.answer c.in-Set.is,
+      listable elided c.used_method_lifetimes-used.ensures.answer c.in-Ok.is,
       c.requires.1,
     )
 
@@ -145,8 +145,8 @@ returns-in-Err-used c =
     used_listed elided
     c.used_method_lifetimes-used.ensures.answer c.in-Err-used.is
 
-pub returns-in-Set : goal.returns-in-Set
-returns-in-Set c =
+pub returns-in-Ok : goal.returns-in-Ok
+returns-in-Ok c =
     let sheet_in : Records = ten_records c.args.names.now c.args.bounds.now c.args.types.now c.args.receiver.now
     c.args.steps.now c.args.returns.now c.args.structs.now c.args.params.now
     c.args.output.now c.args.force.now in
@@ -166,7 +166,7 @@ returns-in-Set c =
       returns_written = c.lower-lowered.ensures.answer.taken_filled;
       elides = c.in_default-elided.is;
     } in
-    records_listed elided c.used_method_lifetimes-used.ensures.answer c.in-Set.is
+    records_listed elided c.used_method_lifetimes-used.ensures.answer c.in-Ok.is
     (length c.args.lists.now) (length c.args.edges.now)
     c.list_method.result c.args.out.now
     c.list_method.new.out c.list_method.ensures
