@@ -3,7 +3,7 @@
 use Rattle.std.specs.Prelude.{Ok, Err}
 use Prim.Native.Nat.{ℕ, suc, ◌+◌, ◌-◌, ◌/◌, ◌%◌, ◌≤◌, ◌<◌}
 use mathlib.Core.Bool.{Bool, true, false, and-eq-true_iff}
-use mathlib.Core.Path.{◌≡◌, refl, ap, ◌∙◌}
+use mathlib.Core.Path.{◌≡◌, refl, sym, ap, ◌∙◌}
 use mathlib.Core.List.{List, [], ◌∷◌, ◌++◌}
 use native.Mathlib.Nat.{zero-add}
 use native.Mathlib.Numerals.{add-one}
@@ -18,10 +18,9 @@ use Rattle.answers.specs.declared.Refusal.TheVariants.{Malformed, Full, OutOfRan
 use Rattle.lifetimes.specs.declared.bounds.Bound.{Bound}
 use Rattle.lifetimes.specs.declared.bounds.Bounds.{Bounds}
 use Rattle.lifetimes.specs.declared.env.LifetimeEnv.{LifetimeEnv}
-use Rattle.lifetimes.specs.declared.env.Made.{Made}
 use Rattle.answers.specs.Refusals.{FirstDue, here, later, NoneDue, next}
 use Rattle.lifetimes.specs.Bounds.{above, bounds_from, both_below, all_below}
-use Rattle.lifetimes.specs.Env.{bounds_of, env_checks, bounds_of_pairs, new_checks, env_of, new_env, made}
+use Rattle.lifetimes.specs.Env.{bounds_of, env_checks, bounds_of_pairs, new_checks, env_of, new_env}
 use Rattle.lifetimes.proofs.BoundsLaws.{bounds_made}
 use Rattle.lifetimes.proofs.EnvLaws.{lifetimes_due, bounds_due, declared_due, side_due, none_due}
 use Rattle.answers.proofs.RefusalLaws.{due_given, due_refused}
@@ -150,54 +149,45 @@ module _ (declared count : ℕ) (words : List ℕ) where
   abbrev asked : LifetimeEnv
   asked = env_of declared count (bounds_of_pairs words)
 
-  refused_by_lem : {r : Refusal} {m : Made} → FirstDue r (new_checks declared count words)
-      → m ≡ record { verdict = Err r; env = env_of 0 0 [] } → m ≡ made (env_of 0 0 []) (new_env declared count words)
+  refused_by_lem : {r : Refusal} → FirstDue r (new_checks declared count words) → Err r ≡ new_env declared count words
   unfolding new_env
-  refused_by_lem f e = rw (due_refused asked f) e
+  refused_by_lem f = sym (due_refused asked f)
 
-  pub new_half : {m : Made} → length words % 2 ≡ 1
-      → m ≡ record { verdict = Err Malformed; env = env_of 0 0 [] } → m ≡ made (env_of 0 0 []) (new_env declared count words)
-  new_half h e = refused_by_lem (here (eq-eqb (length words % 2) 1 h) refl) e
+  pub new_half : length words % 2 ≡ 1 → Err Malformed ≡ new_env declared count words
+  new_half h = refused_by_lem (here (eq-eqb (length words % 2) 1 h) refl)
 
   module _ (even : length words % 2 ≡ 1 → ⊥) where
-    new_refused : {r : Refusal} {m : Made} → FirstDue r (env_checks asked)
-        → m ≡ record { verdict = Err r; env = env_of 0 0 [] } → m ≡ made (env_of 0 0 []) (new_env declared count words)
-    new_refused f e = refused_by_lem (later (ne_eqb (length words % 2) 1 even) f) e
+    new_refused : {r : Refusal} → FirstDue r (env_checks asked) → Err r ≡ new_env declared count words
+    new_refused f = refused_by_lem (later (ne_eqb (length words % 2) 1 even) f)
 
-    pub new_lifetimes : {m : Made} → 64 < count → m ≡ record { verdict = Err Full; env = env_of 0 0 [] }
-        → m ≡ made (env_of 0 0 []) (new_env declared count words)
+    pub new_lifetimes : 64 < count → Err Full ≡ new_env declared count words
     unfolding env_of
-    new_lifetimes h e = new_refused (lifetimes_due asked h) e
+    new_lifetimes h = new_refused (lifetimes_due asked h)
 
     module _ (lifetimes : count ≤ 64) where
-      pub new_bounds : {m : Made} → 256 < length words / 2 → m ≡ record { verdict = Err Full; env = env_of 0 0 [] }
-          → m ≡ made (env_of 0 0 []) (new_env declared count words)
+      pub new_bounds : 256 < length words / 2 → Err Full ≡ new_env declared count words
       unfolding env_of bounds_from
-      new_bounds h e = new_refused (bounds_due asked lifetimes (omega (arith, pairs_many words))) e
+      new_bounds h = new_refused (bounds_due asked lifetimes (omega (arith, pairs_many words)))
 
       module _ (few : length words / 2 ≤ 256) where
         few_pairs : length (bounds_of_pairs words) ≤ 256
         few_pairs = omega (arith, pairs_few words)
 
-        pub new_declared : {m : Made} → count < declared → m ≡ record { verdict = Err OutOfRange; env = env_of 0 0 [] }
-            → m ≡ made (env_of 0 0 []) (new_env declared count words)
+        pub new_declared : count < declared → Err OutOfRange ≡ new_env declared count words
         unfolding env_of bounds_from
-        new_declared h e = new_refused (declared_due asked lifetimes few_pairs h) e
+        new_declared h = new_refused (declared_due asked lifetimes few_pairs h)
 
         module _ (declares : declared ≤ count) where
           sides : {t : Bool} → all_below declared (bounds_of_pairs words) ≡ t → all_below declared (bounds_of asked) ≡ t
           unfolding env_of
           sides h = rw (bounds_made (bounds_of_pairs words)) h
 
-          pub new_outside : {m : Made} → all_below declared (bounds_of_pairs words) ≡ false
-              → m ≡ record { verdict = Err OutOfRange; env = env_of 0 0 [] }
-              → m ≡ made (env_of 0 0 []) (new_env declared count words)
+          pub new_outside : all_below declared (bounds_of_pairs words) ≡ false → Err OutOfRange ≡ new_env declared count words
           unfolding env_of bounds_from
-          new_outside h e = new_refused (side_due asked lifetimes few_pairs declares (sides h)) e
+          new_outside h = new_refused (side_due asked lifetimes few_pairs declares (sides h))
 
           pub new_given : {b : Bounds} → all_below declared (bounds_of_pairs words) ≡ true → b ≡ bounds_from (bounds_of_pairs words)
-              → record { verdict = Ok (tt {0}); env = record { declared = declared; count = count; bounds = b } }
-              ≡ made (env_of 0 0 []) (new_env declared count words)
+              → Ok (record { declared = declared; count = count; bounds = b }) ≡ new_env declared count words
           unfolding new_env env_of bounds_from
           new_given h e =
               let none : NoneDue (new_checks declared count words) =

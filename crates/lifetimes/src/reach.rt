@@ -19,25 +19,22 @@ use super::lifetime::Lifetime;
 use super::walk::walk;
 use answers::Refusal;
 
-// The reach of all lifetimes: the set of the lifetime x at place x. Places past the count hold 0, and all do beside a
-// refusal.
-#[derive(Clone, Copy)]
-pub struct ReachSets {
-    pub verdict: Result<(), Refusal>,
-    pub sets: [u64; LifetimeEnv::MAX_LIFETIMES],
-}
-
-// How many words all lists have together, and the sets as in `ReachSets`.
+// All lists of a direction: how many words they have together, and the set of the lifetime x at place x, 0 at places
+// past the count.
 #[derive(Clone, Copy)]
 pub struct Lists {
-    pub listed: Result<usize, Refusal>,
+    pub count: usize,
     pub sets: [u64; LifetimeEnv::MAX_LIFETIMES],
 }
 
 impl LifetimeEnv {
     // Write the lifetimes that outlive a lifetime to a slice, itself first, in the order of the Rust. Refused by 4 and
     // 8 as the environment is, by 8 for a lifetime past the count, by 9 where the slice is too short.
-    pub fn all_longer_lifetimes(self, lifetime: Lifetime, out: &mut [usize]) -> Result<usize, Refusal>
+    pub fn all_longer_lifetimes(
+        self,
+        lifetime: Lifetime,
+        out: &mut [usize],
+    ) -> Result<usize, Refusal>
         ensures answer { result ≡ counted (list_reach true self lifetime.0 (room out)) }
         ensures stored { Fills (list_reach true self lifetime.0 (room out)) out }
     {
@@ -45,7 +42,11 @@ impl LifetimeEnv {
     }
 
     // Write the lifetimes that a lifetime outlives, in the same way.
-    pub fn all_shorter_lifetimes(self, lifetime: Lifetime, out: &mut [usize]) -> Result<usize, Refusal>
+    pub fn all_shorter_lifetimes(
+        self,
+        lifetime: Lifetime,
+        out: &mut [usize],
+    ) -> Result<usize, Refusal>
         ensures answer { result ≡ counted (list_reach false self lifetime.0 (room out)) }
         ensures stored { Fills (list_reach false self lifetime.0 (room out)) out }
     {
@@ -66,69 +67,54 @@ impl LifetimeEnv {
         traverse(self, true, lifetime, longer, out)
     }
 
-    // The reach of all lifetimes as sets, in the direction longer or shorter. Refused by 4 and 8 as the environment is.
-    pub fn reach_sets(self, longer: bool) -> ReachSets
+    // The reach of all lifetimes as sets, in the direction longer or shorter: the set of the lifetime x at place x, 0
+    // at places past the count. Refused by 4 and 8 as the environment is.
+    pub fn reach_sets(self, longer: bool) -> Result<[u64; LifetimeEnv::MAX_LIFETIMES], Refusal>
         ensures answer { result ≡ reach_sets longer self }
     {
-        let mut sets = [0u64; LifetimeEnv::MAX_LIFETIMES];
-        let verdict = self.check();
-        let Ok(()) = verdict else {
-            return ReachSets { verdict, sets };
-        };
+        self.check()?;
         let declared = self.declared;
         let count = self.count;
         let mut far = [0u8; Bounds::MAX];
         let mut before = [0u16; Bounds::MAX];
         let mut last = [0u16; LifetimeEnv::MAX_LIFETIMES];
         link(self.bounds, false, longer, &mut far, &mut before, &mut last);
+        let mut sets = [0u64; LifetimeEnv::MAX_LIFETIMES];
         measure(&far, &before, &last, declared, count, &mut sets);
-        ReachSets {
-            verdict: Ok(()),
-            sets,
-        }
+        Ok(sets)
     }
 
     // Write all lists of a direction, one after another, to one slice, and where each ends to another. Refused by 4 and
     // 8 as the environment is, by 9 where either slice is too short. With as many words for each lifetime as there are
     // lifetimes the lists fit in any case; with less they are measured first.
-    pub fn all_lists(self, longer: bool, words: &mut [usize], ends: &mut [usize]) -> Lists
+    pub fn all_lists(
+        self,
+        longer: bool,
+        words: &mut [usize],
+        ends: &mut [usize],
+    ) -> Result<Lists, Refusal>
         ensures answer { result ≡ lists_answer longer self (room words) (room ends) }
         ensures words_filled { Fills (list_words longer self (room words) (room ends)) words }
         ensures ends_filled { Fills (list_ends longer self (room words) (room ends)) ends }
     {
-        let mut sets = [0u64; LifetimeEnv::MAX_LIFETIMES];
-        let verdict = self.check();
-        if let Err(refusal) = verdict {
-            return Lists {
-                listed: Err(refusal),
-                sets,
-            };
-        }
+        self.check()?;
         let declared = self.declared;
         let count = self.count;
         if ends.len() < count {
-            return Lists {
-                listed: Err(Refusal::NoRoom),
-                sets,
-            };
+            return Err(Refusal::NoRoom);
         }
         let mut far = [0u8; Bounds::MAX];
         let mut before = [0u16; Bounds::MAX];
         let mut last = [0u16; LifetimeEnv::MAX_LIFETIMES];
         link(self.bounds, false, longer, &mut far, &mut before, &mut last);
         if !all_fit(&far, &before, &last, declared, count, words.len()) {
-            return Lists {
-                listed: Err(Refusal::NoRoom),
-                sets,
-            };
+            return Err(Refusal::NoRoom);
         }
+        let mut sets = [0u64; LifetimeEnv::MAX_LIFETIMES];
         let total = lay(
             &far, &before, &last, declared, count, words, ends, &mut sets,
         );
-        Lists {
-            listed: Ok(total),
-            sets,
-        }
+        Ok(Lists { count: total, sets })
     }
 }
 
@@ -143,10 +129,7 @@ fn traverse(
     ensures value { result ≡ counted (list_from env lifetime.0 (list_by ast longer env lifetime.0) (room out)) }
     ensures fills { Fills (list_from env lifetime.0 (list_by ast longer env lifetime.0) (room out)) out }
 {
-    let verdict = env.check();
-    if let Err(refusal) = verdict {
-        return Err(refusal);
-    }
+    env.check()?;
     let start = lifetime.index();
     if env.count <= start {
         return Err(Refusal::OutOfRange);
