@@ -4,21 +4,22 @@ use Rattle.std.specs.Prelude.{Ok, Err}
 use Prim.Native.Nat.{ℕ, ◌+◌, ◌≤◌, ◌<◌}
 use mathlib.Core.Bool.{Bool, true, false, not, ◌&&◌}
 use mathlib.Core.Path.{◌≡◌, refl, sym, ap, ◌∙◌}
-use mathlib.Core.List.{[], ◌∷◌, Memᴰ}
+use mathlib.Core.List.{Memᴰ}
 use native.Mathlib.Decide.{dec_lt}
 use native.Mathlib.Omega.{arith}
 use borrow.Author.Tests.{ltb-true, ltb-false, lt-ltb, le-ltb, not-true, not-false}
 use lib.ListN.{length}
 use Rattle.answers.specs.declared.Refusal.{Refusal}
 use Rattle.answers.specs.declared.Refusal.TheVariants.{Full, OutOfRange}
-use Rattle.answers.specs.Refusals.{unless, FirstDue, here, later, NoneDue, end, next, Verdict}
+use Rattle.answers.specs.Refusals.{unless, FirstDue, here, later, NoneDue, end, next}
 use Rattle.answers.specs.Lists.{all}
 use Rattle.answers.specs.Lent.{judged}
 use Rattle.answers.proofs.RefusalLaws.{due_given, due_refused, given_due, refused_first, accepted_none, none_first, none_rest}
 use Rattle.lifetimes.specs.declared.bounds.Bound.{Bound}
+use Rattle.lifetimes.specs.declared.bounds.Bounds.{Bounds}
 use Rattle.lifetimes.specs.declared.env.LifetimeEnv.{LifetimeEnv}
 use Rattle.lifetimes.specs.Bounds.{both_below, all_below, bounds_checks}
-use Rattle.lifetimes.specs.Env.{bounds_of, too_few, env_checks, with_bound, push_bound}
+use Rattle.lifetimes.specs.Env.{bounds_of, env_checks, with_bound, push_bound}
 use Rattle.lifetimes.specs.Walk.{near, far}
 use Rattle.lifetimes.proofs.BoundsLaws.{both_below_lem, all_below_lem, bounds_pushed}
 
@@ -92,26 +93,7 @@ check_failed e {r} k = refused_first (tt {0}) r (env_checks e) (sym k)
 
 -- ---- `check`
 
--- where the limits are kept and the bounds are inside, what is left to look at is the number of the declared
-ranges : (e : LifetimeEnv) → e.count ≤ 64 → e.bounds.pushed ≤ 256 → all_below e.declared (bounds_of e) ≡ true
-    → judged (too_few e.declared e.count ∷ []) ≡ judged (env_checks e)
-unfolding unless
-ranges e lifetimes few inside = rw (le-ltb 64 e.count lifetimes, le-ltb 256 e.bounds.pushed few, inside)
-
-pub declared_refused : (declared count : ℕ) → count < declared → Err OutOfRange ≡ judged (too_few declared count ∷ [])
-unfolding unless
-declared_refused declared count h = rw (lt-ltb count declared h)
-
-pub declared_accepted : (declared count : ℕ) → declared ≤ count → Ok (tt {0}) ≡ judged (too_few declared count ∷ [])
-unfolding unless
-declared_accepted declared count h = rw (le-ltb count declared h)
-
 module _ (e : LifetimeEnv) where
-  pub check_empty : e.count ≤ 64 → e.bounds.pushed ≡ 0 → {w : Verdict} → w ≡ judged (too_few e.declared e.count ∷ [])
-      → w ≡ judged (env_checks e)
-  unfolding all
-  check_empty lifetimes none p = p ∙ ranges e lifetimes (omega arith) (rw none)
-
   pub check_lifetimes : 64 < e.count → Err Full ≡ judged (env_checks e)
   check_lifetimes h = rw (due_refused (tt {0}) (lifetimes_due e h))
 
@@ -125,11 +107,24 @@ module _ (e : LifetimeEnv) where
         go (later d (here h q)) = rw (← q) (outside_due e lifetimes (ltb-false 256 e.bounds.pushed d) (not-true _ h))
         go (later d (later _ x9)) = elim x9 [ ]
 
-    pub check_rest : Ok (tt {0}) ≡ judged (bounds_checks e.declared e.bounds) → {w : Verdict}
-        → w ≡ judged (too_few e.declared e.count ∷ []) → w ≡ judged (env_checks e)
-    check_rest k p =
-        let none : NoneDue (bounds_checks e.declared e.bounds) = accepted_none (tt {0}) (bounds_checks e.declared e.bounds) (sym k) in
-        p ∙ ranges e lifetimes (ltb-false 256 e.bounds.pushed (none_first none)) (not-false _ (none_first (none_rest none)))
+    -- the bounds pass, as they do where there are none
+    module _ (inside : NoneDue (bounds_checks e.declared e.bounds)) where
+      few : e.bounds.pushed ≤ 256
+      few = ltb-false 256 e.bounds.pushed (none_first inside)
+
+      pub check_declared : e.count < e.declared → Err OutOfRange ≡ judged (env_checks e)
+      check_declared h = rw (due_refused (tt {0}) (declared_due e lifetimes few h))
+
+      pub check_given : e.declared ≤ e.count → Ok (tt {0}) ≡ judged (env_checks e)
+      check_given h = rw (due_given (tt {0}) (none_due e lifetimes few h (not-false _ (none_first (none_rest inside)))))
+
+-- what the bounds' verdict says
+pub bounds_passed : (n : ℕ) (b : Bounds) → Ok (tt {0}) ≡ judged (bounds_checks n b) → NoneDue (bounds_checks n b)
+bounds_passed n b k = accepted_none (tt {0}) (bounds_checks n b) (sym k)
+
+pub bounds_none : (n : ℕ) (b : Bounds) → b.pushed ≡ 0 → NoneDue (bounds_checks n b)
+unfolding all
+bounds_none n b h = next (rw h) (next (rw h) end)
 
 -- ---- `push_bound`
 

@@ -101,27 +101,17 @@ impl LifetimeEnv {
     pub fn check(self) -> Result<(), Refusal>
         ensures answer { result ≡ judged (env_checks self) }
     {
-        let declared = self.declared;
-        let count = self.count;
-        if LifetimeEnv::MAX_LIFETIMES < count {
+        if LifetimeEnv::MAX_LIFETIMES < self.count {
             return Err(Refusal::Full);
         }
-        if self.bounds.pushed == 0 {
-            return check_declared(declared, count);
+        if self.bounds.pushed != 0 {
+            self.bounds.check(self.declared)?;
         }
-        self.bounds.check(declared)?;
-        check_declared(declared, count)
+        if self.count < self.declared {
+            return Err(Refusal::OutOfRange);
+        }
+        Ok(())
     }
-}
-
-// Whether no more lifetimes are declared than there are. Refused by 8.
-fn check_declared(declared: usize, count: usize) -> Result<(), Refusal>
-    ensures { result ≡ judged (too_few declared count ∷ []) }
-{
-    if count < declared {
-        return Err(Refusal::OutOfRange);
-    }
-    Ok(())
 }
 
 // Whether all sides of some pairs are numbered below a limit.
@@ -129,12 +119,10 @@ fn pairs_below(pairs: &[usize], limit: usize) -> bool
     requires { length pairs.now % 2 ≡ 0 }
     ensures { result ≡ all_below limit (bounds_of_pairs pairs.now) }
 {
-    let mut i = 0;
-    while i < pairs.len() {
-        if !numbers_below(pairs[i], pairs[i + 1], limit) {
+    for i in 0..pairs.len() / 2 {
+        if !numbers_below(pairs[2 * i], pairs[2 * i + 1], limit) {
             return false;
         }
-        i += 2;
     }
     true
 }
@@ -146,12 +134,9 @@ fn filled(pairs: &[usize]) -> Bounds
     ensures { result ≡ bounds_from (bounds_of_pairs pairs.now) }
 {
     let mut list = [bound_of(0, 0); Bounds::MAX];
-    let mut pushed = 0;
-    let mut i = 0;
-    while i < pairs.len() {
-        list[pushed] = bound_of(pairs[i], pairs[i + 1]);
-        pushed += 1;
-        i += 2;
+    let pushed = pairs.len() / 2;
+    for i in 0..pushed {
+        list[i] = bound_of(pairs[2 * i], pairs[2 * i + 1]);
     }
     Bounds { pushed, list }
 }

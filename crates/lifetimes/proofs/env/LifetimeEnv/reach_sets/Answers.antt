@@ -1,12 +1,12 @@
 -- `reach_sets` meets its contract: refused as the environment is, or all sets as `measure` gives them.
 use mathlib.Core.Path.{refl}
-use native.Mathlib.Omega.{arith}
 use borrow.Author.Rules.{rules}
 use Rattle.std.proofs.lemmas.Result.{err_from_is_err_and}
+use native.Mathlib.Nat.{le_refl}
 use Rattle.lifetimes.specs.Walk.{LastFirst}
 use Rattle.lifetimes.specs.Index.{graph_of}
-use Rattle.lifetimes.proofs.EnvLaws.{Valid, valid, check_passed, check_failed}
-use Rattle.lifetimes.proofs.IndexLaws.{bounds_length, bounds_fine, bounds_within, zeros}
+use Rattle.lifetimes.proofs.EnvLaws.{check_passed, check_failed, valid}
+use Rattle.lifetimes.proofs.IndexLaws.{bounds_linkable, bounds_within, measurable}
 use Rattle.lifetimes.proofs.ReachAnswers.{sets_refused, sets_given}
 use Rattle.lifetimes.proofs.env.LifetimeEnv.reach_sets.Goals as goal
 
@@ -16,27 +16,22 @@ returns-in_err-check c = record {
       rw (p.1, p.2) (sets_refused c.args.longer c.args.self (check_failed c.args.self c.in_err-check.ensures.answer));
 }
 
-pub link-requires : goal.link-requires
-link-requires c =
-    let v : Valid c.args.self = valid c.args.self (check_passed c.args.self c.in_ok-check.ensures.answer) in
-    record { fine = (bounds_fine v (search rules), bounds_length v (search rules)); zeros = zeros 64; far_len = (refl, refl, refl) }
+pub link-index-requires : goal.link-index-requires
+link-index-requires c =
+    bounds_linkable (valid c.args.self (check_passed c.args.self c.in_ok-check.ensures.answer)) (search rules)
 
 pub measure-requires : goal.measure-requires
 measure-requires c =
-    let v : Valid c.args.self = valid c.args.self (check_passed c.args.self c.in_ok-check.ensures.answer) in
-    let s = c.args in record {
-      measurable = (
-        (graph_of s.longer s.self, c.link.ensures, bounds_within v LastFirst s.longer _ (omega arith)),
-        v.declares,
-        v.counted,
-      );
+    record {
+      measurable = measurable (valid c.args.self (check_passed c.args.self c.in_ok-check.ensures.answer)) c.link-index.ensures;
       reach_len = refl;
     }
 
 pub returns : goal.returns
 returns c = record {
   answer = let s = c.args in
-      let v : Valid s.self = valid s.self (check_passed c.args.self c.in_ok-check.ensures.answer) in
-      sets_given s.longer s.self (check_passed c.args.self c.in_ok-check.ensures.answer)
-      (c.measure.ensures (graph_of s.longer s.self) c.link.ensures (bounds_within v LastFirst s.longer _ (omega arith)));
+      let none = check_passed s.self c.in_ok-check.ensures.answer in
+      sets_given s.longer s.self none
+      (c.measure.ensures (graph_of s.longer s.self) c.link-index.ensures
+      (bounds_within (valid s.self none) LastFirst s.longer _ (le_refl _)));
 }

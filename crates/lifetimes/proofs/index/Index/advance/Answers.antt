@@ -7,7 +7,7 @@ use Rattle.lifetimes.specs.declared.lifetime.Lifetime.{Lifetime}
 use Rattle.lifetimes.proofs.AdvanceLoops.{Skipping, skipping_start, skipping_at, skipping_depth, skipping_top}
 use Rattle.lifetimes.proofs.AdvanceLoops.{skipping_pop, skipping_end, skipping_far, skipping_before, skipping_seen}
 use Rattle.lifetimes.proofs.AdvanceLoops.{skipping_found}
-use Rattle.lifetimes.proofs.walk.advance.Goals as goal
+use Rattle.lifetimes.proofs.index.Index.advance.Goals as goal
 
 pub pending-init : goal.pending-init
 pending-init c = search (skipping_start, rules)
@@ -41,8 +41,8 @@ pub pending-preserved-then-at-eq0 : goal.pending-preserved-then-at-eq0
 pending-preserved-then-at-eq0 c = λ g ch r.
     skipping_pop ch r (c.pending.invariant g ch r) c.if-at-eq0.true (c.pending.depth - 1) (omega arith)
 
-pub bounds-far-i : goal.bounds-far-i
-bounds-far-i c =
+pub bounds-self-i : goal.bounds-self-i
+bounds-self-i c =
     let inv_of : Skipping c.requires.0 c.args.stack.now c.args.seen c.args.from
     c.args.deep c.pending.at c.pending.depth = c.pending.invariant c.requires.0 c.requires.1 c.requires.2 in
     let few_at : c.pending.at ≤ 256 = skipping_at c.requires.1 c.requires.2 inv_of in
@@ -54,15 +54,8 @@ overflow_cast-y c =
     c.args.deep c.pending.at c.pending.depth = c.pending.invariant c.requires.0 c.requires.1 c.requires.2 in
     omega (arith, skipping_far c.requires.1 c.requires.2 inv_of (c.pending.at - 1) (omega arith))
 
-pub offset_bounds-before-i : goal.offset_bounds-before-i
-offset_bounds-before-i c =
-    let inv_of : Skipping c.requires.0 c.args.stack.now c.args.seen c.args.from
-    c.args.deep c.pending.at c.pending.depth = c.pending.invariant c.requires.0 c.requires.1 c.requires.2 in
-    let few_at : c.pending.at ≤ 256 = skipping_at c.requires.1 c.requires.2 inv_of in
-    omega (arith, few_at)
-
-pub bounds-before-i : goal.bounds-before-i
-bounds-before-i c =
+pub bounds-self-i-else-at-eq0 : goal.bounds-self-i-else-at-eq0
+bounds-self-i-else-at-eq0 c =
     let inv_of : Skipping c.requires.0 c.args.stack.now c.args.seen c.args.from
     c.args.deep c.pending.at c.pending.depth = c.pending.invariant c.requires.0 c.requires.1 c.requires.2 in
     let few_at : c.pending.at ≤ 256 = skipping_at c.requires.1 c.requires.2 inv_of in

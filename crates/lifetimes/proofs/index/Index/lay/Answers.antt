@@ -6,7 +6,7 @@ use borrow.Author.Rules.{rules}
 use lib.ListN.{length, take, length-set}
 use lib.Seq.{length-take-le, length-sets}
 use Rattle.lifetimes.proofs.ReachLoops.{laying_start, laying_room, laying_more, laying_end}
-use Rattle.lifetimes.proofs.reach.lay.Goals as goal
+use Rattle.lifetimes.proofs.index.Index.lay.Goals as goal
 
 pub loop-x-init : goal.loop-x-init
 loop-x-init c = search (laying_start, rules)
@@ -36,7 +36,7 @@ copy_to-requires c =
       c.loop-x.invariant.1,
       n,
       ap length done.items,
-      laying_room (c.loop-x.invariant.5 g k h) c.loop-x-test.true (omega (arith, c.loop-x.invariant.1)),
+      laying_room (c.loop-x.invariant.4 g k h) c.loop-x-test.true (omega (arith, c.loop-x.invariant.1)),
     ) in
     (c.walk-walked.ensures.count_le_most_lifetimes.0, c.walk-walked.ensures.count_le_most_lifetimes.1, room)
 
@@ -55,7 +55,7 @@ overflow_add-at c =
       c.loop-x.invariant.1,
       n,
       ap length done.items,
-      laying_room (c.loop-x.invariant.5 g k h) c.loop-x-test.true (omega (arith, c.loop-x.invariant.1)),
+      laying_room (c.loop-x.invariant.4 g k h) c.loop-x-test.true (omega (arith, c.loop-x.invariant.1)),
     ) in
     omega (arith, room)
 
@@ -65,11 +65,10 @@ loop-x-preserved c = let m = c.limit_of-limit.ensures in (
   ap length c.copy_to.ensures ∙ simp length-sets c.loop-x.invariant.1,
   length-set c.loop-x.ends c.loop-x.x _ ∙ c.loop-x.invariant.2,
   length-set c.loop-x.reach c.loop-x.x c.walk-walked.result.seen ∙ c.loop-x.invariant.3,
-  omega arith,
   λ g k h.
       let done = c.walk-walked.ensures.complete g k (λ b i. omega (arith, h b i, m)) in
       rw c.copy_to.ensures
-      (laying_more (c.loop-x.invariant.5 g k h) c.loop-x-test.true _ _ _ done.items
+      (laying_more (c.loop-x.invariant.4 g k h) c.loop-x-test.true _ _ _ done.items
       (sym (length-take-le c.walk-walked.result.count _ (omega (
         arith,
         c.walk-walked.ensures.count_le_most_lifetimes,
@@ -78,4 +77,4 @@ loop-x-preserved c = let m = c.limit_of-limit.ensures in (
 )
 
 pub returns : goal.returns
-returns c = λ g k w. laying_end (c.loop-x.invariant.5 g k w) c.loop-x-test.false
+returns c = λ g k w. laying_end (c.loop-x.invariant.4 g k w) c.loop-x-test.false

@@ -2,10 +2,10 @@
 use Prim.Native.Nat.{◌+◌, ◌*◌}
 use Rattle.lifetimes.specs.Index.{Graph, Chained, Ready}
 use Rattle.lifetimes.proofs.AdvanceLoops.{Skipping}
-use Rattle.lifetimes.proofs.walk.advance.Given as goal
+use Rattle.lifetimes.proofs.index.Index.advance.Given as goal
 
 abbrev pub invariant-pending : goal.invariant-pending
-invariant-pending l = (g : Graph) → Chained g l.far l.before
+invariant-pending l = (g : Graph) → Chained g l.self
     → Ready g l.stack l.from l.deep → Skipping g l.stack l.seen l.from l.deep l.at l.depth
 
 abbrev pub decreases-pending : goal.decreases-pending

@@ -9,7 +9,7 @@ use mathlib.Core.List.{flatten}
 use lib.ListN.{length}
 use Rattle.lifetimes.specs.Index.{lists_from}
 use Rattle.lifetimes.proofs.ReachLoops.{lists_few}
-use Rattle.lifetimes.proofs.reach.all_fit.Goals as goal
+use Rattle.lifetimes.proofs.index.Index.all_fit.Goals as goal
 
 pub overflow_mul-count : goal.overflow_mul-count
 overflow_mul-count c = omega (arith, mul-le-mul few few)
