@@ -2,6 +2,7 @@
 use mathlib.Core.Path.{sym, ap, ◌∙◌}
 use Prim.Native.Nat.{ℕ}
 use native.Mathlib.Omega.{arith}
+use borrow.Author.Tests.{le-ltb}
 use Rattle.lifetimes.specs.Sets.{member}
 use Rattle.lifetimes.proofs.SetLaws.{member_past}
 use Rattle.lifetimes.proofs.set.contains.Goals as goal
@@ -12,9 +13,8 @@ returns-then-number-lt-CAPACITY c = record {
       c.index-number.ensures.answer;
 }
 
-pub returns : goal.returns
-returns c = record {
-  answer = sym
-      (member_past 64 c.args.set c.args.lifetime.0 (omega arith)
-      (omega (arith, c.index-number.ensures.answer)));
+pub returns-else-number-lt-CAPACITY : goal.returns-else-number-lt-CAPACITY
+returns-else-number-lt-CAPACITY c = record {
+  answer = rw (le-ltb c.index-number.result 64 c.if-number-lt-CAPACITY.false)
+      (sym (member_past 64 c.args.set c.args.lifetime.0 (omega arith) (omega (arith, c.index-number.ensures.answer))));
 }
