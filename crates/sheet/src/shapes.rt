@@ -3,7 +3,7 @@ ghost use Rattle.std.specs.Prelude.{◌&&◌, ◌≡◌};
 ghost use Rattle.ast_lifetimes.specs.Shapes.{names_in_shape, bounds_in_shape};
 ghost use Rattle.ast_lifetimes.specs.Types.{types_in_shape};
 ghost use Rattle.elision.specs.Steps.{self_in_shape, steps_in_shape};
-ghost use Rattle.answers.specs.Lent.{held, is_accepted};
+ghost use Rattle.answers.specs.Lent.{held};
 ghost use Rattle.sheet.specs.Text.{records_in};
 ghost use Rattle.sheet.specs.Answer.{records_at};
 ghost use Rattle.sheet.specs.Shape.{records_verdict};
@@ -35,7 +35,7 @@ pub fn sheet_shape(
 {
     let environment = environment_in_shape(names, bounds, types);
     let elision = elision_in_shape(own, steps, returns);
-    if !both(environment, elision) {
+    if !(environment & elision) {
         return Err(Refusal::Malformed);
     }
     let shape = method_shape(structs, params, output, force);
@@ -60,39 +60,15 @@ pub(crate) fn judge_laid(words: &[usize], ends: [usize; Text::RECORDS]) -> Resul
     )
 }
 
+// Each record is judged, whatever the others are.
 fn environment_in_shape(names: &[usize], bounds: &[usize], types: &[usize]) -> bool
     ensures { result ≡ names_in_shape names.now && (bounds_in_shape bounds.now && types_in_shape types.now) }
 {
-    let named = accepted(names_shape(names));
-    let bounded = accepted(bounds_shape(bounds));
-    let typed = accepted(types_shape(types));
-    both(named, both(bounded, typed))
+    names_shape(names).is_ok() & (bounds_shape(bounds).is_ok() & types_shape(types).is_ok())
 }
 
 fn elision_in_shape(own: &[usize], steps: &[usize], returns: &[usize]) -> bool
     ensures { result ≡ self_in_shape own.now && (steps_in_shape steps.now && steps_in_shape returns.now) }
 {
-    let received = accepted(self_shape(own));
-    let given = accepted(steps_shape(steps));
-    let returned = accepted(steps_shape(returns));
-    both(received, both(given, returned))
-}
-
-fn accepted(verdict: Result<(), Refusal>) -> bool
-    ensures { result ≡ is_accepted verdict }
-{
-    match verdict {
-        Ok(()) => true,
-        Err(_) => false,
-    }
-}
-
-// Whether both hold.
-pub(crate) fn both(a: bool, b: bool) -> bool
-    ensures { result ≡ a && b }
-{
-    if a {
-        return b;
-    }
-    false
+    self_shape(own).is_ok() & (steps_shape(steps).is_ok() & steps_shape(returns).is_ok())
 }
