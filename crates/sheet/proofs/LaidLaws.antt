@@ -28,7 +28,7 @@ use Rattle.elision.specs.Steps.{self_in_shape, steps_in_shape}
 use Rattle.hir_types.specs.declared.shapes.Shape.{Shape}
 use Rattle.hir_types.specs.Rows.{method_in_shape, method_shape, checks_verdict}
 use Rattle.hir_types.proofs.ShapeLaws.{shape_verdict_lem}
-use Rattle.sheet.specs.Text.{Records, ten_records, lists, words_of}
+use Rattle.sheet.specs.Text.{Records, lists, words_of}
 use Rattle.sheet.specs.declared.reading.Text.{Text}
 use Rattle.sheet.specs.Reading.{sheet_of, text_checks, read_text}
 use Rattle.answers.specs.Lists.{ends_from}
@@ -133,15 +133,6 @@ module _ {words ends : List ℕ} (l : Laid words ends) where
         laid_record 8 (omega arith),
         laid_record 9 (omega arith),
       )
-
--- ten records, found one by one
-pub ten_found : (words ends : List ℕ) {a b c d e f g h i j : List ℕ}
-    → a ≡ record_words words ends 0 → b ≡ record_words words ends 1 → c ≡ record_words words ends 2
-    → d ≡ record_words words ends 3 → e ≡ record_words words ends 4
-    → f ≡ record_words words ends 5 → g ≡ record_words words ends 6 → h ≡ record_words words ends 7
-    → i ≡ record_words words ends 8 → j ≡ record_words words ends 9
-    → ten_records a b c d e f g h i j ≡ records_at words ends
-ten_found words ends pa pb pc pd pe pf pg ph pi pj = rw (pa, pb, pc, pd, pe, pf, pg, ph, pi, pj)
 
 -- an accepted text in scratch
 module _ {bytes ends : List ℕ} (c : Counted bytes ends) where

@@ -8,7 +8,8 @@ ghost use Rattle.sheet.specs.Shape.{sheet_answer, sheet_words};
 ghost use Rattle.sheet.specs.Inner.{Roomy};
 
 use super::reading::{Text, scan};
-use super::shapes::judge_laid;
+use super::record::Records;
+use super::shapes::sheet_shape;
 use answers::Refusal;
 use records::{MAX_WORDS, copy_words};
 
@@ -91,7 +92,7 @@ fn read_within(sheet: &[u8], scratch: &mut [usize], words: &mut [usize]) -> Resu
     ensures fills { Fills (sheet_words sheet.now (room words)) words }
 {
     let text = scan(sheet, scratch)?;
-    judge_laid(scratch, text.ends)?;
+    sheet_shape(Records::laid(scratch, text.ends))?;
     copy_words(scratch, text.ends[Text::FORCE], words)?;
     Ok(text)
 }
