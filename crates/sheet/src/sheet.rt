@@ -7,8 +7,9 @@ ghost use Rattle.answers.specs.Lent.{held, room, Fills};
 ghost use Rattle.sheet.specs.Shape.{sheet_answer, sheet_words};
 ghost use Rattle.sheet.specs.Inner.{Roomy};
 
-use super::reading::{Text, refused, scan};
-use super::shapes::judge_laid;
+use super::reading::{Text, scan};
+use super::record::Records;
+use super::shapes::sheet_shape;
 use answers::Refusal;
 use records::{MAX_WORDS, copy_words};
 
@@ -16,7 +17,7 @@ use records::{MAX_WORDS, copy_words};
 // another; the answer says where each ends. Refused by 10 where the bytes are not the text of a sheet, then by 1 where
 // a record has more than 1,024 words or is not in shape, then by 13 for 1 in `force`, then by 9 where the slice is too
 // short. 10,240 words are always enough. Reads each byte once.
-pub fn read_sheet(sheet: &[u8], words: &mut [usize]) -> Text
+pub fn read_sheet(sheet: &[u8], words: &mut [usize]) -> Result<Text, Refusal>
     ensures answer { result ≡ sheet_answer sheet.now (room words) }
     ensures stored { Fills (sheet_words sheet.now (room words)) words }
 {
@@ -26,7 +27,7 @@ pub fn read_sheet(sheet: &[u8], words: &mut [usize]) -> Text
 // The same with scratch for sheets of so many bytes, or of more where this sheet has more. That it calls itself keeps
 // the arrays of the larger sizes out of the frame of the smaller ones: the compiler puts no large frame into that of a
 // function that calls itself.
-fn read_sized(sheet: &[u8], words: &mut [usize], bytes: usize) -> Text
+fn read_sized(sheet: &[u8], words: &mut [usize], bytes: usize) -> Result<Text, Refusal>
     ensures value { result ≡ sheet_answer sheet.now (room words) }
     ensures fills { Fills (sheet_words sheet.now (room words)) words }
 {
@@ -49,7 +50,7 @@ fn read_sized(sheet: &[u8], words: &mut [usize], bytes: usize) -> Text
 }
 
 // The same in scratch of one size: a word takes two bytes at least.
-fn read_256(sheet: &[u8], words: &mut [usize]) -> Text
+fn read_256(sheet: &[u8], words: &mut [usize]) -> Result<Text, Refusal>
     requires { length sheet.now ≤ 256 }
     ensures value { result ≡ sheet_answer sheet.now (room words) }
     ensures fills { Fills (sheet_words sheet.now (room words)) words }
@@ -58,7 +59,7 @@ fn read_256(sheet: &[u8], words: &mut [usize]) -> Text
     read_within(sheet, &mut scratch, words)
 }
 
-fn read_1024(sheet: &[u8], words: &mut [usize]) -> Text
+fn read_1024(sheet: &[u8], words: &mut [usize]) -> Result<Text, Refusal>
     requires { length sheet.now ≤ 1024 }
     ensures value { result ≡ sheet_answer sheet.now (room words) }
     ensures fills { Fills (sheet_words sheet.now (room words)) words }
@@ -67,7 +68,7 @@ fn read_1024(sheet: &[u8], words: &mut [usize]) -> Text
     read_within(sheet, &mut scratch, words)
 }
 
-fn read_4096(sheet: &[u8], words: &mut [usize]) -> Text
+fn read_4096(sheet: &[u8], words: &mut [usize]) -> Result<Text, Refusal>
     requires { length sheet.now ≤ 4096 }
     ensures value { result ≡ sheet_answer sheet.now (room words) }
     ensures fills { Fills (sheet_words sheet.now (room words)) words }
@@ -76,7 +77,7 @@ fn read_4096(sheet: &[u8], words: &mut [usize]) -> Text
     read_within(sheet, &mut scratch, words)
 }
 
-fn read_any(sheet: &[u8], words: &mut [usize]) -> Text
+fn read_any(sheet: &[u8], words: &mut [usize]) -> Result<Text, Refusal>
     ensures value { result ≡ sheet_answer sheet.now (room words) }
     ensures fills { Fills (sheet_words sheet.now (room words)) words }
 {
@@ -85,23 +86,13 @@ fn read_any(sheet: &[u8], words: &mut [usize]) -> Text
 }
 
 // The same with scratch that takes the words of any sheet of so many bytes.
-fn read_within(sheet: &[u8], scratch: &mut [usize], words: &mut [usize]) -> Text
+fn read_within(sheet: &[u8], scratch: &mut [usize], words: &mut [usize]) -> Result<Text, Refusal>
     requires { Roomy sheet.now (length scratch.old) }
     ensures value { result ≡ sheet_answer sheet.now (room words) }
     ensures fills { Fills (sheet_words sheet.now (room words)) words }
 {
-    let text = scan(sheet, scratch);
-    let verdict = text.verdict;
-    let Ok(()) = verdict else {
-        return text;
-    };
-    let ends = text.ends;
-    let shape = judge_laid(scratch, ends);
-    if let Err(refusal) = shape {
-        return refused(refusal);
-    }
-    let Ok(_) = copy_words(scratch, ends[Text::FORCE], words) else {
-        return refused(Refusal::NoRoom);
-    };
-    text
+    let text = scan(sheet, scratch)?;
+    sheet_shape(Records::laid(scratch, text.ends))?;
+    copy_words(scratch, text.ends[Text::FORCE], words)?;
+    Ok(text)
 }
