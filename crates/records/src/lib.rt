@@ -5,8 +5,8 @@
 // an item the answer is none; which refusal that is, the caller says.
 #![tactic(auto)]
 
-ghost use Rattle.std.specs.Prelude.{min, ◌≡◌, length, drop};
-ghost use Rattle.answers.specs.Lent.{counted, held, room, Fills};
+ghost use Rattle.std.specs.Prelude.{◌≡◌, length, drop};
+ghost use Rattle.answers.specs.Lent.{counted, room, Fills};
 ghost use Rattle.records.specs.Copied.{copied};
 ghost use Rattle.records.specs.Reading.{read_lifetimes, end_of};
 
