@@ -19,16 +19,12 @@ use Rattle.lifetimes.specs.declared.walk.Stepped.{Stepped}
 use Rattle.lifetimes.specs.Sets.{empty, member, insert, insert_all, set_of}
 use Rattle.lifetimes.specs.Walk.{neighbours, LastFirst, walk, traversal}
 use Rattle.lifetimes.specs.Index.{Graph, last_of, chain, chains, pending, skip, Indexed, Ready, Steps, Within}
-use Rattle.lifetimes.specs.Index.{Chained, Complete, Standing, Walkable}
+use Rattle.lifetimes.specs.Index.{Chained, Complete, Walkable}
 use Rattle.lifetimes.proofs.SetLaws.{member_empty, insert_all_append}
 use Rattle.lifetimes.proofs.NeighbourLaws.{neighbours_only, push_in}
 use Rattle.lifetimes.proofs.WalkLaws.{walks, walk_nil, walk_seen, walk_new, unseen, unseen_empty, unseen_insert}
 use Rattle.lifetimes.proofs.WalkLaws.{walks_few}
 use Rattle.lifetimes.proofs.ChainLaws.{last_le, last_pushed, chains_kept}
-
--- a lifetime's last bound is one of the bounds, so its number fits two bytes
-pub last_small : {g : Graph} {ix : Index} → Indexed g ix → (x : ℕ) → x < 64 → get_or ix.last x 0 ≤ 256
-last_small {g} k x h = omega (arith, k.last x h, last_le g (length g.bounds) x, k.chained.few)
 
 -- `skip` leaves a part of what is pending, whose first entry was not seen, and the walk goes on from it
 skip_in : (s : ℕ) (p : List ℕ) (y : ℕ) → Memᴰ y (skip s p) → Memᴰ y p
@@ -208,9 +204,6 @@ module _ {g : Graph} {ix : Index} (linked : Indexed g ix) {limit start : ℕ}
 -- A turn of `walk`: what it keeps, and what its step yields, are of every graph that the index is of; there is one
 module _ {ix : Index} {limit start : ℕ} (walkable : Walkable ix limit start) {items stack : List ℕ} {n seen depth at : ℕ}
     (inv : (g : Graph) → Indexed g ix → Within g limit → Walking g limit start items stack n seen depth at) where
-  pub turn_ready : Standing ix stack at depth
-  turn_ready = let (g, k, w) = walkable.0 in (g, k.chained, (inv g k w).ready)
-
   -- as many are listed as there are
   pub turn_end : n ≡ limit → (g : Graph) → Indexed g ix → Within g limit
       → Complete g start items (record { count = limit; seen = seen })

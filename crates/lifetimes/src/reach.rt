@@ -157,10 +157,7 @@ fn limit_of(declared: usize, count: usize, start: usize) -> usize
     requires { (start < count) × (declared ≤ count) }
     ensures { (start < result) × (result ≤ count) × (declared ≤ result) }
 {
-    if start < declared {
-        return declared;
-    }
-    count
+    if start < declared { declared } else { count }
 }
 
 // Copy the first n items to a place of a slice.

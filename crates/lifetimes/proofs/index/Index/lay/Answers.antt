@@ -2,24 +2,10 @@
 use Prim.Native.Nat.{◌+◌, ◌≤◌}
 use mathlib.Core.Path.{◌≡◌, sym, ap, ◌∙◌}
 use native.Mathlib.Omega.{arith}
-use borrow.Author.Rules.{rules}
 use lib.ListN.{length, take, length-set}
 use lib.Seq.{length-take-le, length-sets}
-use Rattle.lifetimes.proofs.ReachLoops.{laying_start, laying_room, laying_more, laying_end}
+use Rattle.lifetimes.proofs.ReachLoops.{laying_room, laying_more, laying_end}
 use Rattle.lifetimes.proofs.index.Index.lay.Goals as goal
-
-pub loop-x-init : goal.loop-x-init
-loop-x-init c = search (laying_start, rules)
-
-pub walk-walked-requires : goal.walk-walked-requires
-walk-walked-requires c = let m = c.limit_of-limit.ensures in record {
-  walkable = (
-    (c.requires.layable.0.0, c.requires.layable.0.1, λ b i. omega (arith, c.requires.layable.0.2 b i, m)),
-    omega (arith, c.requires.layable.2, m),
-    m.0,
-  );
-  len = c.loop-x.invariant.0;
-}
 
 pub copy_to-requires : goal.copy_to-requires
 copy_to-requires c =
@@ -39,25 +25,6 @@ copy_to-requires c =
       laying_room (c.loop-x.invariant.4 g k h) c.loop-x-test.true (omega (arith, c.loop-x.invariant.1)),
     ) in
     (c.walk-walked.ensures.count_le_most_lifetimes.0, c.walk-walked.ensures.count_le_most_lifetimes.1, room)
-
-pub overflow_add-at : goal.overflow_add-at
-overflow_add-at c =
-    let room : c.loop-x.at + c.walk-walked.result.count
-    ≤ length c.loop-x.words = let (g, k, h, fits) = c.requires.layable.0 in
-    let done = c.walk-walked.ensures.complete g k (λ b i. omega (arith, h b i, c.limit_of-limit.ensures)) in
-    let n : c.walk-walked.result.count ≡ length (take c.walk-walked.result.count c.walk-walked.new.items) =
-    sym (length-take-le c.walk-walked.result.count _ (omega (
-      arith,
-      c.walk-walked.ensures.count_le_most_lifetimes,
-    ))) in
-    omega (
-      arith,
-      c.loop-x.invariant.1,
-      n,
-      ap length done.items,
-      laying_room (c.loop-x.invariant.4 g k h) c.loop-x-test.true (omega (arith, c.loop-x.invariant.1)),
-    ) in
-    omega (arith, room)
 
 pub loop-x-preserved : goal.loop-x-preserved
 loop-x-preserved c = let m = c.limit_of-limit.ensures in (

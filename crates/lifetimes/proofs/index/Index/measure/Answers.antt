@@ -1,24 +1,10 @@
 -- `measure` meets its contract: each turn walks from one lifetime more.
 use mathlib.Core.Path.{sym, ap, ◌∙◌}
 use native.Mathlib.Omega.{arith}
-use borrow.Author.Rules.{rules}
 use lib.ListN.{length, length-set}
 use lib.Seq.{length-take-le}
-use Rattle.lifetimes.proofs.ReachLoops.{measuring_start, measuring_more, measuring_end}
+use Rattle.lifetimes.proofs.ReachLoops.{measuring_more, measuring_end}
 use Rattle.lifetimes.proofs.index.Index.measure.Goals as goal
-
-pub loop-x-init : goal.loop-x-init
-loop-x-init c = search (measuring_start, rules)
-
-pub walk-walked-requires : goal.walk-walked-requires
-walk-walked-requires c = let m = c.limit_of-limit.ensures in record {
-  walkable = (
-    (c.requires.measurable.0.0, c.requires.measurable.0.1, λ b i. omega (arith, c.requires.measurable.0.2 b i, m)),
-    omega (arith, c.requires.measurable.2, m),
-    m.0,
-  );
-  len = c.loop-x.invariant.0;
-}
 
 pub loop-x-preserved : goal.loop-x-preserved
 loop-x-preserved c = let m = c.limit_of-limit.ensures in (
