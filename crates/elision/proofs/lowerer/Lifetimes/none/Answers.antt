@@ -1,7 +1,7 @@
--- `one_lifetime` meets its contract.
+-- `none` meets its contract.
 use mathlib.Core.Path.{refl}
 use Rattle.elision.specs.Machine.{laid}
-use Rattle.elision.proofs.lowerer.one_lifetime.Goals as goal
+use Rattle.elision.proofs.lowerer.Lifetimes.none.Goals as goal
 
 pub returns : goal.returns
 unfolding laid
