@@ -1,6 +1,6 @@
 -- Records one after another: each stands between two ends, and the whole is the sheet.
 use Rattle.std.specs.Prelude.{Ok, Err}
-use Prim.Native.Nat.{ℕ, zero, suc, ◌+◌, ◌*◌, ◌-◌, ◌≤◌, ◌<◌}
+use Prim.Native.Nat.{ℕ, zero, suc, ◌+◌, ◌-◌, ◌≤◌, ◌<◌}
 use mathlib.Core.Bool.{Bool, true, false, ◌&&◌, true≢false, false≢true}
 use mathlib.Core.Path.{◌≡◌, refl, sym, ap, ◌∙◌}
 use mathlib.Core.List.{List, [], ◌∷◌, ◌++◌, flatten}
@@ -153,13 +153,7 @@ module _ {bytes ends : List ℕ} (c : Counted bytes ends) where
     unfolding counted_laid
     counted_shape e = e ∙ ap records_verdict (laid_records counted_laid)
 
--- scratch that takes the words of any sheet of so many bytes: half as many words, and 10,240 in any case
-pub half_room : (bytes : List ℕ) {room : ℕ} → length bytes ≤ 2 * room → Roomy bytes room
-half_room bytes h n few half = omega (arith, h, half)
-
-pub any_room : (bytes : List ℕ) → Roomy bytes 10240
-any_room bytes n few half = few
-
+-- in such scratch the words of an accepted text fit
 pub roomy_fits : (bytes : List ℕ) {room : ℕ} → Roomy bytes room → NoneDue (text_checks bytes) → length (words_of (sheet_of bytes)) ≤ room
 unfolding read_text
 roomy_fits bytes roomy n =
