@@ -153,7 +153,13 @@ module _ {bytes ends : List ℕ} (c : Counted bytes ends) where
     unfolding counted_laid
     counted_shape e = e ∙ ap records_verdict (laid_records counted_laid)
 
--- in such scratch the words of an accepted text fit
+-- scratch that takes the words of any sheet of so many bytes: half as many words, and 10,240 in any case
+pub half_room : (bytes : List ℕ) {room : ℕ} → length bytes ≤ 2 * room → Roomy bytes room
+half_room bytes h n few half = omega (arith, h, half)
+
+pub any_room : (bytes : List ℕ) → Roomy bytes 10240
+any_room bytes n few half = few
+
 pub roomy_fits : (bytes : List ℕ) {room : ℕ} → Roomy bytes room → NoneDue (text_checks bytes) → length (words_of (sheet_of bytes)) ≤ room
 unfolding read_text
 roomy_fits bytes roomy n =
