@@ -13,7 +13,7 @@ use lib.Seq.{sets, slice, take-append_seam, length-take-le}
 use Rattle.answers.specs.declared.Refusal.{Refusal}
 use Rattle.answers.specs.declared.Refusal.TheVariants.{Malformed, NoRoom}
 use Rattle.answers.specs.Lent as lent
-use Rattle.answers.specs.Lent.{written}
+use Rattle.answers.specs.Lent.{written, verdict_of}
 use Rattle.answers.proofs.LentLaws.{no_room}
 use Rattle.std.specs.Result.{is_ok}
 use Rattle.answers.proofs.Copying.{sets_front}
@@ -248,10 +248,9 @@ module _ (r : Records) {t u x : Bool}
       go true false k = refl
       go false b k = refl
 
-  pub sheet_judged : x ≡ true → {s : Shape} → s ≡ method_shape r.structs r.params r.output r.force
-      → s.verdict ≡ records_verdict r
-  sheet_judged h k =
-      ap (λ (y : Shape). y.verdict) k ∙ shape_verdict_lem r.structs r.params r.output r.force
+  pub sheet_judged : x ≡ true → verdict_of (method_shape r.structs r.params r.output r.force) ≡ records_verdict r
+  sheet_judged h =
+      shape_verdict_lem r.structs r.params r.output r.force
       ∙ ap (λ (b : Bool). checks_verdict b r.force) (sym (of_parts ∙ go t u (sym g ∙ h)))
     where
       go : (a b : Bool) → (a && b) ≡ true → (a && (b && method)) ≡ method

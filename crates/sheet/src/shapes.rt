@@ -23,13 +23,13 @@ pub fn sheet_shape(records: Records) -> Result<(), Refusal>
     if !(environment & elision) {
         return Err(Refusal::Malformed);
     }
-    let shape = method_shape(
+    method_shape(
         records.structs,
         records.params,
         records.output,
         records.force,
-    );
-    shape.verdict
+    )?;
+    Ok(())
 }
 
 // Each record is judged, whatever the others are.

@@ -2,16 +2,28 @@
 //
 // A refused call writes nothing, so the words are read into scratch, judged there, and copied once nothing can be
 // refused any more. Scratch has four sizes, so that a small sheet does not pay for a large one.
-ghost use Rattle.std.specs.Prelude.{◌≤◌, ◌≡◌, length};
+ghost use Rattle.std.specs.Prelude.{◌≡◌, ◌*◌, ◌≤◌, length};
 ghost use Rattle.answers.specs.Lent.{held, room, Fills};
 ghost use Rattle.sheet.specs.Shape.{sheet_answer, sheet_words};
+ghost use Rattle.records.specs.Reading.{most_words};
+ghost use Rattle.sheet.specs.Text.{record_count};
 ghost use Rattle.sheet.specs.Inner.{Roomy};
 
 use super::reading::{Text, scan};
 use super::record::Records;
 use super::shapes::sheet_shape;
 use answers::Refusal;
-use records::{MAX_WORDS, copy_words};
+use records::copy_words;
+
+// The four sizes: for sheets of 256, 1,024 and 4,096 bytes half as many words, since a word takes two bytes at least,
+// and for any sheet the most words that there are.
+const SMALL_WORDS: usize = Text::SMALL / 2;
+
+const MIDDLE_WORDS: usize = Text::MIDDLE / 2;
+
+const LARGE_WORDS: usize = Text::LARGE / 2;
+
+const MOST_WORDS: usize = Text::MAX_WORDS;
 
 // Read a sheet whose records are all in shape. The words of its ten records are written to a slice, one record after
 // another; the answer says where each ends. Refused by 10 where the bytes are not the text of a sheet, then by 1 where
@@ -33,55 +45,30 @@ fn read_sized(sheet: &[u8], words: &mut [usize], bytes: usize) -> Result<Text, R
 {
     if bytes <= Text::SMALL {
         if sheet.len() <= Text::SMALL {
-            return read_256(sheet, words);
+            return read_in::<SMALL_WORDS>(sheet, words);
         }
         return read_sized(sheet, words, Text::MIDDLE);
     }
     if bytes <= Text::MIDDLE {
         if sheet.len() <= Text::MIDDLE {
-            return read_1024(sheet, words);
+            return read_in::<MIDDLE_WORDS>(sheet, words);
         }
         return read_sized(sheet, words, Text::LARGE);
     }
     if sheet.len() <= Text::LARGE {
-        return read_4096(sheet, words);
+        return read_in::<LARGE_WORDS>(sheet, words);
     }
-    read_any(sheet, words)
+    read_in::<MOST_WORDS>(sheet, words)
 }
 
-// The same in scratch of one size: a word takes two bytes at least.
-fn read_256(sheet: &[u8], words: &mut [usize]) -> Result<Text, Refusal>
-    requires { length sheet.now ≤ 256 }
+// The same in scratch of one size.
+fn read_in<const N: usize>(sheet: &[u8], words: &mut [usize]) -> Result<Text, Refusal>
+    requires enough { Roomy sheet.now N }
+    requires most { N ≤ record_count * most_words }
     ensures value { result ≡ sheet_answer sheet.now (room words) }
     ensures fills { Fills (sheet_words sheet.now (room words)) words }
 {
-    let mut scratch = [0usize; Text::SMALL / 2];
-    read_within(sheet, &mut scratch, words)
-}
-
-fn read_1024(sheet: &[u8], words: &mut [usize]) -> Result<Text, Refusal>
-    requires { length sheet.now ≤ 1024 }
-    ensures value { result ≡ sheet_answer sheet.now (room words) }
-    ensures fills { Fills (sheet_words sheet.now (room words)) words }
-{
-    let mut scratch = [0usize; Text::MIDDLE / 2];
-    read_within(sheet, &mut scratch, words)
-}
-
-fn read_4096(sheet: &[u8], words: &mut [usize]) -> Result<Text, Refusal>
-    requires { length sheet.now ≤ 4096 }
-    ensures value { result ≡ sheet_answer sheet.now (room words) }
-    ensures fills { Fills (sheet_words sheet.now (room words)) words }
-{
-    let mut scratch = [0usize; Text::LARGE / 2];
-    read_within(sheet, &mut scratch, words)
-}
-
-fn read_any(sheet: &[u8], words: &mut [usize]) -> Result<Text, Refusal>
-    ensures value { result ≡ sheet_answer sheet.now (room words) }
-    ensures fills { Fills (sheet_words sheet.now (room words)) words }
-{
-    let mut scratch = [0usize; Text::MAX_WORDS];
+    let mut scratch = [0usize; N];
     read_within(sheet, &mut scratch, words)
 }
 
