@@ -118,7 +118,7 @@ module _ {env : LifetimeEnv} {used : ℕ} {structs params own given taken : List
   lists_many = rw length-map (length_range 0 env.count)
 
   pub lists_short : (lists : List ℕ) {edges : ℕ} {out : List ℕ} → length lists < env.count * env.count
-      → ListsWithin listing ((lists_room ≤ length lists) × (edges_room ≤ edges)) out None out
+      → ListsWithin listing ((lists_room ≤ length lists) × (edges_room ≤ edges)) out (Ok None) out
   lists_short lists h = (λ a. omega (arith, h, mul-le-mul few few, a.0), refl)
 
   module _ {lists ends : List ℕ} {l : reach.Lists} {lists₁ ends₁ : List ℕ} (all : AllListed env lists ends l lists₁ ends₁) where
@@ -224,7 +224,7 @@ module _ {env : LifetimeEnv} {used : ℕ} {structs params own given taken : List
             go (here d e) = omega (arith, ltb-true (length edges) (length (flat_map edge_words (listed_edges visitor types))) d, words_are)
             go (later _ x6) = elim x6 [ ]
 
-        pub map_refused : {k : Refusal} (w : Option (Outcome ℕ)) (out : List ℕ) → m.verdict ≡ Err k → w ≡ edges_overflow (length edges₁)
+        pub map_refused : {k : Refusal} (w : Outcome (Option ℕ)) (out : List ℕ) → m.verdict ≡ Err k → w ≡ edges_overflow (length edges₁)
             → ListsWithin listing ((lists_room ≤ length lists) × (edges_room ≤ length edges)) out w out
         unfolding listed_method borrow_map
         map_refused {k} w out v e = rw (e, same) (go (ltb (length edges) edges_room) refl)
@@ -240,7 +240,7 @@ module _ {env : LifetimeEnv} {used : ℕ} {structs params own given taken : List
 
             go : (t : Bool) → ltb (length edges) edges_room ≡ t
                 → ListsWithin listing ((lists_room ≤ length lists) × (edges_room ≤ length edges)) out
-                (cond t None (Some (Err NoRoom))) out
+                (cond t (Ok None) (Err NoRoom)) out
             go true s = (λ a. omega (arith, ltb-true (length edges) edges_room s, a.1), refl)
             go false s =
                 let many : most_edges < length borrows.edges = omega (arith, ltb-false (length edges) edges_room s, edges_many v) in (
@@ -316,7 +316,7 @@ module _ {env : LifetimeEnv} {used : ℕ} {structs params own given taken : List
 
             pub method_listed : {n : ℕ} {out out₁ : List ℕ}
                 → Prints (sections (counts many) own given taken lists₁ ends₁ answers₂ edges₁) 0 out n out₁
-                → ListsWithin listing ((lists_room ≤ length lists) × (edges_room ≤ length edges)) out (Some (Ok n)) out₁
+                → ListsWithin listing ((lists_room ≤ length lists) × (edges_room ≤ length edges)) out (Ok (Some n)) out₁
             unfolding listed_method
             method_listed p = (
               method_listing env used structs params own given taken,

@@ -86,11 +86,11 @@ module _ (r : Records) (first : NoneDue (records_checks r)) (given taken : ℕ) 
   eighth {room} {n} h k a = omega (arith, h, k, a, div-add-mod' room per_word, mod-lt room {m = per_word} (omega arith))
 
   pub steps_short : {lists edges : ℕ} {out : List ℕ} → given / per_word < length r.steps
-      → ListsWithin (listed_records r) (Ample given taken lists edges) out None out
+      → ListsWithin (listed_records r) (Ample given taken lists edges) out (Ok None) out
   steps_short h = (λ a. eighth h steps_long a.0, refl)
 
   pub returns_short : {lists edges : ℕ} {out : List ℕ} → taken / per_word < length r.returns
-      → ListsWithin (listed_records r) (Ample given taken lists edges) out None out
+      → ListsWithin (listed_records r) (Ample given taken lists edges) out (Ok None) out
   returns_short h = (λ a. eighth h returns_long a.1, refl)
 
   module _ (steps_room : length r.steps ≤ given / per_word) (returns_room : length r.returns ≤ taken / per_word)
@@ -257,7 +257,7 @@ module _ {r : Records} {own given taken : List ℕ} {a : ast-made.Made} {l : Low
                 (subst (λ (b : Borrows). length b.edges ≤ most_edges) (sym borrows_are) few));
           }
 
-      pub records_listed : (lists edges : ℕ) (w : Option (Outcome ℕ)) (out out₁ : List ℕ)
+      pub records_listed : (lists edges : ℕ) (w : Outcome (Option ℕ)) (out out₁ : List ℕ)
           → ListsWithin (listed_method l.env used r.structs r.params selves inputs outputs)
           ((lists_room ≤ lists) × (edges_room ≤ edges)) out w out₁
           → ListsWithin (listed_records r) (Ample (length given) (length taken) lists edges) out w out₁
@@ -271,9 +271,10 @@ module _ {r : Records} {own given taken : List ℕ} {a : ast-made.Made} {l : Low
               ∙ ap (λ (t : List ℕ). unless (edges_check r ∷ []) t) (sym text_is)
               ∙ sym (unless_after (listing_of r) (edges_check r ∷ []) none)
 
-          go : (w : Option (Outcome ℕ))
+          go : (w : Outcome (Option ℕ))
               → ListsWithin (listed_method l.env used r.structs r.params selves inputs outputs)
               ((lists_room ≤ lists) × (edges_room ≤ edges)) out w out₁
               → ListsWithin (listed_records r) (Ample (length given) (length taken) lists edges) out w out₁
-          go (Some x) h = subst (λ (o : Outcome (List ℕ)). ListsTo o out x out₁) same h
-          go None h = (λ a. h.0 (a.2, a.3), h.1)
+          go (Ok (Some n)) h = subst (λ (o : Outcome (List ℕ)). ListsTo o out (Ok n) out₁) same h
+          go (Ok None) h = (λ a. h.0 (a.2, a.3), h.1)
+          go (Err k) h = subst (λ (o : Outcome (List ℕ)). ListsTo o out (Err k) out₁) same h
