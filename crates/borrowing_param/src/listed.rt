@@ -1,11 +1,11 @@
 // Edges in listing order: by used lifetime, parameter, lifetime of the definition; and the answers by parameter.
-ghost use Rattle.std.specs.Prelude.{◌≡◌, ◌+◌, ◌*◌, ◌≤◌, ◌<◌, length, Err};
+ghost use Rattle.std.specs.Prelude.{◌≡◌, ◌+◌, ◌*◌, ◌≤◌, ◌<◌, length};
 ghost use Rattle.answers.specs.Lent.{held, room, left};
 ghost use Rattle.lifetimes.specs.Limits.{most_lifetimes};
 ghost use Rattle.methods.specs.Method.{most_params};
 ghost use Rattle.borrowing_param.specs.Edges.{width, most_defs};
 ghost use Rattle.borrowing_param.specs.Visit.{draws_in};
-ghost use Rattle.borrowing_param.specs.BorrowMap.{listed_edges, borrow_map, map_answer, MapsTo};
+ghost use Rattle.borrowing_param.specs.BorrowMap.{listed_edges, borrow_map, MapsTo};
 ghost use Rattle.borrowing_param.specs.Inner.{Stores, StoresWords};
 ghost use Rattle.borrowing_param.specs.InnerMap.{param_types, Params, visitor_in, bring_from, CountsParams, map_of};
 
@@ -17,10 +17,9 @@ use lifetimes::{Lifetime, LifetimeEnv, set};
 use methods::{MAX_PARAMS, check_structs_and_params};
 use records::copy_words;
 
-// How many parameters and edges there are, or why the call is refused; beside a refusal none.
+// How many parameters and edges there are.
 #[derive(Clone, Copy)]
 pub struct BorrowMap {
-    pub verdict: Result<(), Refusal>,
     pub params: usize,
     pub edges: usize,
 }
@@ -44,26 +43,12 @@ impl BorrowingParamVisitor {
         params: &[usize],
         answers: &mut [usize],
         edges: &mut [usize],
-    ) -> BorrowMap
+    ) -> Result<BorrowMap, Refusal>
         ensures answer { MapsTo (borrow_map self structs.now params.now (room answers) (room edges))
             result answers edges }
     {
-        let verdict = check_structs_and_params(structs, params);
-        match verdict {
-            Err(refusal) => unmapped(refusal),
-            Ok(()) => map_params(self, params, answers, edges),
-        }
-    }
-}
-
-// A refusal alone.
-fn unmapped(refusal: Refusal) -> BorrowMap
-    ensures { result ≡ map_answer (Err refusal) }
-{
-    BorrowMap {
-        verdict: Err(refusal),
-        params: 0,
-        edges: 0,
+        check_structs_and_params(structs, params)?;
+        map_params(self, params, answers, edges)
     }
 }
 
@@ -73,7 +58,7 @@ fn map_params(
     params: &[usize],
     answers: &mut [usize],
     edges: &mut [usize],
-) -> BorrowMap
+) -> Result<BorrowMap, Refusal>
     requires { Params params.now }
     ensures { MapsTo (map_of visitor (param_types params.now) (room answers) (room edges)) result answers edges }
 {
@@ -84,18 +69,17 @@ fn map_params(
     let count = counted.params;
     let total = counted.edges;
     if answers.len() < count {
-        return unmapped(Refusal::NoRoom);
+        return Err(Refusal::NoRoom);
     }
     if edges.len() / BorrowingParamVisitor::EDGE_WORDS < total {
-        return unmapped(Refusal::NoRoom);
+        return Err(Refusal::NoRoom);
     }
     let _ = copy_words(&numbers, count, answers);
     let stored = store_listed(used, &draws, params, edges);
-    BorrowMap {
-        verdict: Ok(()),
+    Ok(BorrowMap {
         params: count,
         edges: stored,
-    }
+    })
 }
 
 // How many parameters there are, and how many edges they bring to all used lifetimes; and the numbers of their answers.
