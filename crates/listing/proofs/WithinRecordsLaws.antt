@@ -18,7 +18,7 @@ use Rattle.lifetimes.specs.declared.env.LifetimeEnv.{LifetimeEnv}
 use Rattle.answers.specs.Refusals.{Check, check, Outcome, unless, FirstDue, NoneDue, next, end}
 use Rattle.answers.specs.Lent.{written}
 use Rattle.lifetimes.specs.LoweredWords.{word_of}
-use Rattle.answers.proofs.RefusalLaws.{due_given, due_refused, first_more, none_first}
+use Rattle.answers.proofs.RefusalLaws.{due_given, given_due, due_refused, first_more, none_first}
 use Rattle.answers.proofs.VerdictLaws.{unless_after}
 use Rattle.ast_lifetimes.specs.declared.env.LifetimeEnv as ast-env
 use Rattle.ast_lifetimes.specs.declared.env.Made as ast-made
@@ -29,13 +29,14 @@ use Rattle.elision.specs.Rfc as rfc
 use Rattle.elision.specs.Lowering.{words, lowered_records, measure_checks, lowering_room_checks, measure_records, lower_records, answered}
 use Rattle.elision.specs.Lowering.{own_words, step_words, return_words}
 use Rattle.elision.proofs.SizeLaws.{lowered_self_lem, lowered_steps_lem, lowered_returns_lem}
-use Rattle.methods.specs.Used.{used_set, used_answer}
+use Rattle.methods.specs.Used.{used_set, used_answer, output_numbers}
+use Rattle.methods.specs.Method.{method_checks}
+use Rattle.lifetimes.specs.Sets.{set_of}
 use Rattle.text.specs.Decimal.{line}
 use Rattle.records.specs.Reading.{most_words}
 use Rattle.sheet.specs.Text.{Records}
 use Rattle.sheet.specs.Shape.{sheet_in_shape, records_checks}
 use Rattle.sheet.proofs.Theorems.{shapes_are_short}
-use Rattle.borrowing_param.specs.New.{created}
 use Rattle.borrowing_param.specs.SheetMethod.{lowered_of, ast_env_of, env_of_sheet, lowering_checks}
 use Rattle.borrowing_param.specs.Borrows.{Borrows, sheet_borrows}
 use Rattle.borrowing_param.proofs.NewLaws.{used_refused, gives, accepted, used_below, env_none}
@@ -218,12 +219,15 @@ module _ {r : Records} {own given taken : List ℕ} {a : ast-made.Made} {l : Low
       the_env : l.env ≡ env_of_sheet r
       the_env = env_is r h.first h.names h.fine measured h.elides
 
+      gave : used_set l.env r.structs r.params r.output r.force ≡ Ok used
+      gave = gives l.env r.structs r.params r.output r.force uses e
+
+      used_is : set_of (output_numbers r.structs r.output) ≡ used
+      unfolding used_set
+      used_is = (given_due _ used (method_checks l.env r.structs r.params r.output r.force) gave).1
+
       borrows_are : sheet_borrows r ≡ method_borrows l.env used r.structs r.params
-      unfolding created
-      borrows_are =
-          let g : used_set (env_of_sheet r) r.structs r.params r.output r.force ≡ Ok used =
-          rw (← the_env) (gives l.env r.structs r.params r.output r.force uses e) in
-          rw (g, the_env)
+      borrows_are = rw (used_is, the_env)
 
       -- the lowered words, as the parts of the scratch that are handed on
       abbrev selves : List ℕ
@@ -247,11 +251,10 @@ module _ {r : Records} {own given taken : List ℕ} {a : ast-made.Made} {l : Low
       pub listable : Listable l.env used r.structs r.params selves inputs outputs
       listable =
           let n = accepted l.env r.structs r.params r.output r.force uses e in
-          let g = gives l.env r.structs r.params r.output r.force uses e in
           record {
             valid = env_none l.env r.structs r.params r.output r.force n;
             of = params_none l.env r.structs r.params r.output r.force n;
-            below = used_below l.env r.structs r.params r.output r.force n used g;
+            below = used_below l.env r.structs r.params r.output r.force n used gave;
             short = λ few. subst (λ (t : List ℕ). length t ≤ room_bytes) text_is
                 (listing_short r h.first none
                 (subst (λ (b : Borrows). length b.edges ≤ most_edges) (sym borrows_are) few));

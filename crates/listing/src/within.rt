@@ -169,12 +169,10 @@ fn list_method(
     let longer = env.all_lists(true, lists, &mut ends);
     let visitor = BorrowingParamVisitor::from_sets(used, &longer.sets);
     let mut answers = [0usize; MAX_PARAMS];
-    let map = visitor.borrow_map(structs, params, &mut answers, edges);
-    let Ok(()) = map.verdict else {
+    let Ok(map) = visitor.borrow_map(structs, params, &mut answers, edges) else {
         return too_many(edges.len());
     };
-    let params = map.params;
-    let counts = [count, set::count(used), params, map.edges];
+    let counts = [count, set::count(used), map.params, map.edges];
     let length = put_listing(
         out,
         &counts,
@@ -183,7 +181,7 @@ fn list_method(
         taken,
         lists,
         &ends,
-        &answers[0..params],
+        &answers[0..map.params],
         edges,
     );
     Ok(Some(length))

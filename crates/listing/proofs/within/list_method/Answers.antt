@@ -7,10 +7,10 @@ use Rattle.listing.proofs.RoomLaws.{lifetimes_few}
 use Rattle.listing.proofs.WithinMethodLaws.{AllListed, Mapped, lists_short, map_refused, params_inside}
 use Rattle.listing.proofs.WithinMethodLaws.{lists_ascend, edges_inside, method_listed}
 use Rattle.listing.proofs.within.list_method.Goals as goal
-use Rattle.listing.proofs.within.list_method.Goals.{After-borrow_map-map}
+use Rattle.listing.proofs.within.list_method.Goals.{After-borrow_map}
 
 -- what `all_lists` and `borrow_map` have left
-all_listed : (c : After-borrow_map-map) → AllListed c.args.env c.args.lists.now (replicate 64 0) c.all_lists-longer.result
+all_listed : (c : After-borrow_map) → AllListed c.args.env c.args.lists.now (replicate 64 0) c.all_lists-longer.result
     c.all_lists-longer.new.words c.all_lists-longer.new.ends
 all_listed c = record {
   places = refl;
@@ -20,14 +20,14 @@ all_listed c = record {
   ended = c.all_lists-longer.ensures.ends_filled;
 }
 
-mapped : (c : After-borrow_map-map) → Mapped c.from_sets-visitor.result c.args.structs.now c.args.params.now (replicate 16 0)
-    c.args.edges.now c.borrow_map-map.result c.borrow_map-map.new.answers c.borrow_map-map.new.edges
+mapped : (c : After-borrow_map) → Mapped c.from_sets-visitor.result c.args.structs.now c.args.params.now (replicate 16 0)
+    c.args.edges.now c.borrow_map.result c.borrow_map.new.answers c.borrow_map.new.edges
 mapped c = record {
   sixteen = refl;
   most = c.requires.1;
-  maps = c.borrow_map-map.ensures.answer.counts;
-  noted = c.borrow_map-map.ensures.answer.answers_filled;
-  stored = c.borrow_map-map.ensures.answer.edges_filled;
+  maps = c.borrow_map.ensures.answer.counts;
+  noted = c.borrow_map.ensures.answer.answers_filled;
+  stored = c.borrow_map.ensures.answer.edges_filled;
 }
 
 pub overflow_mul-count : goal.overflow_mul-count
@@ -39,26 +39,26 @@ returns-then-lists-count c = lists_short c.requires.0 c.args.lists.now c.if-list
 
 pub returns-in_default : goal.returns-in_default
 returns-in_default c =
-    let at = (goal.at.returns-in_default c).After-borrow_map-map in
+    let at = (goal.at.returns-in_default c).After-borrow_map in
     map_refused c.requires.0 (all_listed at) c.from_sets-visitor.ensures.answer (mapped at)
-    _ c.args.out.now ? c.too_many.ensures
+    _ c.args.out.now c.in_default.is c.too_many.ensures
 
 pub slice_bounds-put_listing-end : goal.slice_bounds-put_listing-end
 slice_bounds-put_listing-end c =
-    let at = (goal.at.slice_bounds-put_listing-end c).After-borrow_map-map in
-    params_inside c.requires.0 (all_listed at) c.from_sets-visitor.ensures.answer (mapped at) ?
+    let at = (goal.at.slice_bounds-put_listing-end c).After-borrow_map in
+    params_inside c.requires.0 (all_listed at) c.from_sets-visitor.ensures.answer (mapped at) c.in-Ok.is
 
 pub put_listing-length-requires : goal.put_listing-length-requires
 put_listing-length-requires c =
-    let at = (goal.at.put_listing-length-requires c).After-borrow_map-map in
+    let at = (goal.at.put_listing-length-requires c).After-borrow_map in
     record {
       counts_len = refl;
       ascend = lists_ascend c.requires.0 (all_listed at);
-      counts_in_bounds = edges_inside c.requires.0 (all_listed at) c.from_sets-visitor.ensures.answer (mapped at) ?;
+      counts_in_bounds = edges_inside c.requires.0 (all_listed at) c.from_sets-visitor.ensures.answer (mapped at) c.in-Ok.is;
     }
 
 pub returns : goal.returns
 returns c =
-    let at = (goal.at.returns c).After-borrow_map-map in
-    method_listed c.requires.0 (all_listed at) c.from_sets-visitor.ensures.answer (mapped at) ? c.count.ensures.answer
+    let at = (goal.at.returns c).After-borrow_map in
+    method_listed c.requires.0 (all_listed at) c.from_sets-visitor.ensures.answer (mapped at) c.in-Ok.is c.count.ensures.answer
     c.put_listing-length.ensures

@@ -17,17 +17,17 @@ elided : (c : In_ok-lowered) → Elided
     (replicate 1 0) c.args.scratch.given.now c.args.scratch.taken.now c.from_method_item-ast.result
     c.lower-lowered.result c.lower-lowered.new.own c.lower-lowered.new.given c.lower-lowered.new.taken
 elided c = record {
-      first = c.requires.0;
-      steps_room = c.if-given-steps.false;
-      returns_room = c.if-taken-returns.false;
-      names = c.from_method_item-ast.ensures.answer;
-      fine = c.in_ok-ast.was;
-      lowers = c.lower-lowered.ensures.answer.answer;
-      own_written = c.lower-lowered.ensures.answer.own_filled;
-      steps_written = c.lower-lowered.ensures.answer.given_filled;
-      returns_written = c.lower-lowered.ensures.answer.taken_filled;
-      elides = c.in_ok-lowered.was;
-    }
+  first = c.requires.0;
+  steps_room = c.if-given-steps.false;
+  returns_room = c.if-taken-returns.false;
+  names = c.from_method_item-ast.ensures.answer;
+  fine = c.in_ok-ast.was;
+  lowers = c.lower-lowered.ensures.answer.answer;
+  own_written = c.lower-lowered.ensures.answer.own_filled;
+  steps_written = c.lower-lowered.ensures.answer.given_filled;
+  returns_written = c.lower-lowered.ensures.answer.taken_filled;
+  elides = c.in_ok-lowered.was;
+}
 
 pub returns-then-given-steps : goal.returns-then-given-steps
 returns-then-given-steps c = search (steps_short, rules)
@@ -61,9 +61,9 @@ slice_bounds-list_method-end-3 c = (returns_stand (elided (goal.at.slice_bounds-
 
 pub list_method-requires : goal.list_method-requires
 list_method-requires c = (
-      listable (elided (goal.at.list_method-requires c).In_ok-lowered) c.used_method_lifetimes.ensures.answer c.in_ok-used.was,
-      c.requires.1,
-    )
+  listable (elided (goal.at.list_method-requires c).In_ok-lowered) c.used_method_lifetimes.ensures.answer c.in_ok-used.was,
+  c.requires.1,
+)
 
 pub returns-in_err-used : goal.returns-in_err-used
 returns-in_err-used c =
