@@ -28,7 +28,7 @@ use Rattle.ast_lifetimes.specs.Shapes.{is_name, names_in_shape, impl_names, meth
 use Rattle.ast_lifetimes.specs.Shapes.{bounds_in_shape, impl_pairs, method_pairs}
 use Rattle.ast_lifetimes.specs.Types.{TypeName, types_in_shape, type_names_of}
 use Rattle.ast_lifetimes.specs.Env.{is_declared, name_checks, all_pair_checks, bounds_for, all_implied, named_env, all_names_of}
-use Rattle.ast_lifetimes.specs.Env.{explicit_bounds, implied_pairs, item_place_checks, method_bounds, from_method_item, made}
+use Rattle.ast_lifetimes.specs.Env.{explicit_bounds, implied_pairs, item_place_checks, method_bounds, from_method_item}
 use Rattle.answers.specs.Lent.{judged}
 use Rattle.ast_lifetimes.specs.Inner.{sides_of, Declares, Pushes, encode_all, SidesBelow, Extends, Built}
 use Rattle.answers.proofs.VerdictLaws.{refused_accepted, judged_after, judged_stays}
@@ -388,14 +388,13 @@ module _ (names bounds types : List ℕ) where
   in_shape = names_in_shape names && (bounds_in_shape bounds && types_in_shape types)
 
   pub shape_refused : {v : Verdict} {r : Refusal} → v ≡ shape_verdict in_shape → v ≡ Err r
-      → record { verdict = v; env = named_env [] [] } ≡ made (named_env [] []) (from_method_item names bounds types)
+      → Err r ≡ from_method_item names bounds types
   unfolding from_method_item unless
   shape_refused {v} {r} is e = go in_shape refl
     where
-      go : (b : Bool) → in_shape ≡ b
-          → record { verdict = v; env = named_env [] [] } ≡ made (named_env [] []) (from_method_item names bounds types)
+      go : (b : Bool) → in_shape ≡ b → Err r ≡ from_method_item names bounds types
       go true h = let f : v ≡ (Ok (tt {0})) = rw h at is in refused_accepted (sym e ∙ f)
-      go false h = rw (is, h)
+      go false h = let m : v ≡ Err Malformed = rw h at is in let n : r ≡ Malformed = cc in rw (h, n)
 
   shape_holds : {v : Verdict} → v ≡ shape_verdict in_shape → v ≡ Ok (tt {0}) → in_shape ≡ true
   shape_holds {v} is e = go in_shape refl
@@ -414,18 +413,16 @@ module _ (names bounds types : List ℕ) where
   module _ {shape : Verdict} (is : shape ≡ shape_verdict in_shape) (ok : shape ≡ Ok (tt {0}))
       {declared longs shorts : List ℕ} {counts : Counts}
       (b : Built names bounds types declared longs shorts counts) where
-    pub place_refused : {r : Refusal} → counts.verdict ≡ Err r
-        → record { verdict = counts.verdict; env = named_env [] [] }
-        ≡ made (named_env [] []) (from_method_item names bounds types)
+    pub place_refused : {r : Refusal} → counts.verdict ≡ Err r → Err r ≡ from_method_item names bounds types
     unfolding from_method_item unless
     place_refused {r} e =
         let due : FirstDue r (item_place_checks names bounds types) =
         refused_first (tt {0}) r (item_place_checks names bounds types) (sym b.verdict ∙ e) in
-        rw (shape_holds is ok, due_refused (named_env (all_names_of names) (method_bounds names bounds types)) due, e)
+        rw (shape_holds is ok, due_refused (named_env (all_names_of names) (method_bounds names bounds types)) due)
 
     pub method_given : counts.verdict ≡ Ok (tt {0}) → {env : LifetimeEnv}
         → env ≡ named_env (take counts.named declared) (sides_of counts.pushed longs shorts)
-        → record { verdict = Ok (tt {0}); env = env } ≡ made (named_env [] []) (from_method_item names bounds types)
+        → Ok env ≡ from_method_item names bounds types
     unfolding from_method_item unless
     method_given e {env} q =
         let none : NoneDue (item_place_checks names bounds types) =

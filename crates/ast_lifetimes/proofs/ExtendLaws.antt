@@ -3,7 +3,7 @@
 use Rattle.std.specs.Prelude.{Ok, Err}
 use Prim.Native.Nat.{ℕ, ◌+◌, ◌≤◌, ◌<◌}
 use mathlib.Core.Bool.{Bool, true, false, not}
-use mathlib.Core.Path.{◌≡◌, refl, sym, ap, ◌∙◌}
+use mathlib.Core.Path.{◌≡◌, refl, sym, ◌∙◌}
 use mathlib.Core.List.{List, ◌∷◌, ◌++◌}
 use native.Mathlib.Omega.{arith}
 use native.Mathlib.Numerals.{add-one}
@@ -15,7 +15,7 @@ use Rattle.answers.specs.declared.Refusal.TheVariants.{Malformed}
 use Rattle.lifetimes.specs.declared.bounds.Bounds.{Bounds}
 use Rattle.answers.specs.Lists as lists
 use Rattle.answers.specs.Refusals as refusals
-use Rattle.answers.specs.Refusals.{unless, FirstDue, here, later, NoneDue, next, Verdict}
+use Rattle.answers.specs.Refusals.{unless, FirstDue, here, later, NoneDue, next, Outcome, Verdict}
 use Rattle.lifetimes.specs.Bounds.{above, all_below}
 use Rattle.answers.proofs.RefusalLaws.{due_given, due_refused, refused_first, accepted_none, none_first, none_rest}
 use Rattle.answers.proofs.RefusalLaws.{first_more}
@@ -24,7 +24,7 @@ use Rattle.ast_lifetimes.specs.declared.implied.Implied.{Implied}
 use Rattle.records.specs.Reading.{shape_verdict}
 use Rattle.ast_lifetimes.specs.Types.{types_in_shape, type_names_of}
 use Rattle.ast_lifetimes.specs.Env.{all_pair_checks, all_implied, bounds_for, names_of, bounds_of, named_env, env_checks}
-use Rattle.ast_lifetimes.specs.Env.{implied_on, extended_with, extend_checks, extend_implied, made}
+use Rattle.ast_lifetimes.specs.Env.{implied_on, extended_with, extend_checks, extend_implied}
 use Rattle.answers.specs.Lent.{judged}
 use Rattle.ast_lifetimes.specs.Inner.{sides_of, SidesBelow, Splits, Extends}
 use Rattle.answers.proofs.VerdictLaws.{refused_accepted, unless_after}
@@ -97,12 +97,11 @@ module _ (e : LifetimeEnv) (types : List ℕ) {longs shorts longs₁ shorts₁ r
   ext = rw splits.sides at given
 
   pub extended_refused : {x : Refusal} → r.verdict ≡ Err x
-      → record { verdict = r.verdict; env = e }
-      ≡ made e (unless (all_pair_checks (names_of e) e.bounds.pushed (implied_on e types)) (extended_with e types))
+      → Err x ≡ unless (all_pair_checks (names_of e) e.bounds.pushed (implied_on e types)) (extended_with e types)
   extended_refused {x} q =
       let due : FirstDue x (all_pair_checks (names_of e) e.bounds.pushed (implied_on e types)) =
       refused_first (tt {0}) x _ (sym ext.pushes.verdict ∙ q) in
-      rw (due_refused (extended_with e types) due, q)
+      sym (due_refused (extended_with e types) due)
 
   pub extended_few : r.verdict ≡ Ok (tt {0}) → (r.pushed ≤ 256) × (length longs₁ ≡ 256) × (length shorts₁ ≡ 256)
   extended_few a = (rw (ext.pushed a) (ext.pushes.few a), ext.pushes.size_longs, ext.pushes.size_shorts)
@@ -123,21 +122,20 @@ module _ (e : LifetimeEnv) (types : List ℕ) {longs shorts longs₁ shorts₁ r
       (below_larger _ 255 names _ (pairs_below (names_of e) e.bounds.pushed (implied_on e types) (extended_free a))))
 
   pub extended_given : r.verdict ≡ Ok (tt {0}) → {env : LifetimeEnv} → env ≡ named_env (names_of e) (sides_of r.pushed longs₁ shorts₁)
-      → record { verdict = Ok (tt {0}); env = env }
-      ≡ made e (unless (all_pair_checks (names_of e) e.bounds.pushed (implied_on e types)) (extended_with e types))
+      → Ok env ≡ unless (all_pair_checks (names_of e) e.bounds.pushed (implied_on e types)) (extended_with e types)
   extended_given a {env} is =
       rw (due_given (extended_with e types) (extended_free a), is, extended_sides a)
 
 -- the answers of `extend_implicit_lifetime_bounds`
 module _ (e : LifetimeEnv) (types : List ℕ) {v : Verdict} (shape : v ≡ shape_verdict (types_in_shape types)) where
-  pub extend_malformed : {x : Refusal} → v ≡ Err x → record { verdict = v; env = e } ≡ made e (extend_implied e types)
+  pub extend_malformed : {x : Refusal} → v ≡ Err x → Err x ≡ extend_implied e types
   unfolding extend_implied unless
   extend_malformed {x} q = go (types_in_shape types) refl
     where
       go : (t : Bool) → types_in_shape types ≡ t
-          → record { verdict = v; env = e } ≡ made e (unless (extend_checks e types) (extended_with e types))
+          → ◌≡◌ {A = Outcome LifetimeEnv} (Err x) (unless (extend_checks e types) (extended_with e types))
       go true h = refused_accepted (sym q ∙ shape ∙ rw h)
-      go false h = rw (shape, h)
+      go false h = let m : v ≡ Err Malformed = shape ∙ rw h in let n : x ≡ Malformed = cc in rw (h, n)
 
   module _ (good : v ≡ Ok (tt {0})) where
     pub extend_shaped : types_in_shape types ≡ true
@@ -148,20 +146,19 @@ module _ (e : LifetimeEnv) (types : List ℕ) {v : Verdict} (shape : v ≡ shape
         go false h = refused_accepted {r = Malformed} (sym (rw h at shape) ∙ good)
 
     pub extend_invalid : {w : Verdict} {x : Refusal} → w ≡ judged (env_checks e) → w ≡ Err x
-        → record { verdict = w; env = e } ≡ made e (extend_implied e types)
+        → Err x ≡ extend_implied e types
     unfolding extend_implied
     extend_invalid {w} {x} p q =
         let due : FirstDue x (extend_checks e types) =
         later {c = refusals.check (not (types_in_shape types)) Malformed} (rw extend_shaped)
         (first_more _ (refused_first (tt {0}) x (env_checks e) (sym p ∙ q))) in
-        rw (due_refused (extended_with e types) due, q)
+        sym (due_refused (extended_with e types) due)
 
     pub extend_given : NoneDue (env_checks e)
-        → made e (unless (all_pair_checks (names_of e) e.bounds.pushed (implied_on e types)) (extended_with e types))
-        ≡ made e (extend_implied e types)
+        → unless (all_pair_checks (names_of e) e.bounds.pushed (implied_on e types)) (extended_with e types)
+        ≡ extend_implied e types
     unfolding extend_implied
     extend_given free =
-        ap (made e)
-        (sym
+        sym
         (unless_after (extended_with e types) {checks = refusals.check _ Malformed ∷ env_checks e}
-        (all_pair_checks (names_of e) e.bounds.pushed (implied_on e types)) (next (rw extend_shaped) free)))
+        (all_pair_checks (names_of e) e.bounds.pushed (implied_on e types)) (next (rw extend_shaped) free))

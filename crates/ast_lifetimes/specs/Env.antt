@@ -6,12 +6,11 @@ use Rattle.answers.specs.declared.Refusal.TheVariants.{Malformed, Duplicate, Und
 use Rattle.lifetimes.specs.declared.bounds.Bound.{Bound}
 use Rattle.answers.specs.Lists.{any, filter}
 use Rattle.answers.specs.Refusals.{Check, check, Outcome, unless}
-use Rattle.answers.specs.Lent.{verdict_of, result_or, room_check}
+use Rattle.answers.specs.Lent.{room_check}
 use Rattle.lifetimes.specs.Limits.{most_bounds}
 use Rattle.lifetimes.specs.Bounds.{above, list_of, bounds_from, bounds_checks}
 use Rattle.lifetimes.specs.Walk.{FirstFirst, traversal}
 use Rattle.ast_lifetimes.specs.declared.env.LifetimeEnv.{LifetimeEnv}
-use Rattle.ast_lifetimes.specs.declared.env.Made.{Made}
 use Rattle.ast_lifetimes.specs.Shapes.{is_name, names_in_shape, impl_names, method_names, Pair, pair, bounds_in_shape}
 use Rattle.ast_lifetimes.specs.Shapes.{impl_pairs, method_pairs}
 use Rattle.ast_lifetimes.specs.Types.{TypeName, Other, Named, Reference, Option, Result}
@@ -181,7 +180,3 @@ unfoldable pub list_than : Bool → LifetimeEnv → ℕ → ℕ → Outcome (Lis
 list_than longer e word room =
     unless (env_checks e ++ (room_check room (reach_of longer (names_of e) (bounds_of e) word) ∷ []))
     (reach_of longer (names_of e) (bounds_of e) word)
-
--- What the calls answer that make an environment
-abbrev pub made : LifetimeEnv → Outcome LifetimeEnv → Made
-made other o = record { verdict = verdict_of o; env = result_or other o }

@@ -9,7 +9,7 @@ ghost use Rattle.ast_lifetimes.specs.Shapes.{names_in_shape, bounds_in_shape};
 ghost use Rattle.ast_lifetimes.specs.Types.{types_in_shape};
 ghost use Rattle.ast_lifetimes.specs.Env.{all_pair_checks, named_env, env_checks, names_of, from_method_item};
 ghost use Rattle.ast_lifetimes.specs.Env.{implied_on};
-ghost use Rattle.ast_lifetimes.specs.Env.{most_names, extended_with, extend_implied, list_than, made};
+ghost use Rattle.ast_lifetimes.specs.Env.{most_names, extended_with, extend_implied, list_than};
 ghost use Rattle.ast_lifetimes.specs.Inner.{sides_of, Splits, Built};
 ghost use Rattle.lifetimes.specs.Limits.{most_bounds};
 
@@ -29,13 +29,6 @@ pub struct LifetimeEnv {
     pub bounds: Bounds,
 }
 
-// An environment; beside a refusal, the one that the call says.
-#[derive(Clone, Copy)]
-pub struct Made {
-    pub verdict: Result<(), Refusal>,
-    pub env: LifetimeEnv,
-}
-
 // How far building came: the verdict, and how many names and bounds there are.
 #[derive(Clone, Copy)]
 struct Counts {
@@ -51,7 +44,7 @@ impl LifetimeEnv {
     // How deep a type may be nested, the outermost counting 1.
     pub const MAX_NESTING: usize = 8;
 
-    // The environment without names, which stands beside a refusal.
+    // The environment without names.
     pub fn none() -> LifetimeEnv
         ensures answer { result ≡ named_env [] [] }
     {
@@ -63,50 +56,32 @@ impl LifetimeEnv {
     }
 
     // The environment of a method, from its records: impl names, impl bounds, method names, method bounds, then what
-    // the types imply. Refused by 1 over all three records, then by 2, 3, 4 at the first bad place, with an environment
-    // without names beside the refusal.
-    pub fn from_method_item(names: &[usize], bounds: &[usize], types: &[usize]) -> Made
-        ensures answer { result ≡ made (named_env [] []) (from_method_item names.now bounds.now types.now) }
+    // the types imply. Refused by 1 over all three records, then by 2, 3, 4 at the first bad place.
+    pub fn from_method_item(
+        names: &[usize],
+        bounds: &[usize],
+        types: &[usize],
+    ) -> Result<LifetimeEnv, Refusal>
+        ensures answer { result ≡ from_method_item names.now bounds.now types.now }
     {
-        let shape = shape_of(names, bounds, types);
-        let Ok(()) = shape else {
-            return refused(shape);
-        };
+        shape_of(names, bounds, types)?;
         let mut declared = [0usize; LifetimeEnv::MAX_NAMES];
         let mut longs = [0u8; Bounds::MAX];
         let mut shorts = [0u8; Bounds::MAX];
         let built = build(names, bounds, types, &mut declared, &mut longs, &mut shorts);
-        let verdict = built.verdict;
-        let Ok(()) = verdict else {
-            return refused(verdict);
-        };
+        built.verdict?;
         let named = built.named;
         let pushed = built.pushed;
-        Made {
-            verdict: Ok(()),
-            env: assembled(&declared, named, &longs, &shorts, pushed),
-        }
+        Ok(assembled(&declared, named, &longs, &shorts, pushed))
     }
 
     // The environment with what some types imply pushed behind its bounds. Refused by 1 (the types' shape), by 4 and 8
-    // as the environment is, then by 3 and 4 at the first bad place, with the environment as it was beside the refusal.
-    pub fn extend_implicit_lifetime_bounds(self, types: &[usize]) -> Made
-        ensures answer { result ≡ made self (extend_implied self types.now) }
+    // as the environment is, then by 3 and 4 at the first bad place.
+    pub fn extend_implicit_lifetime_bounds(self, types: &[usize]) -> Result<LifetimeEnv, Refusal>
+        ensures answer { result ≡ extend_implied self types.now }
     {
-        let shape = types_shape(types);
-        let Ok(()) = shape else {
-            return Made {
-                verdict: shape,
-                env: self,
-            };
-        };
-        let valid = self.check();
-        let Ok(()) = valid else {
-            return Made {
-                verdict: valid,
-                env: self,
-            };
-        };
+        types_shape(types)?;
+        self.check()?;
         extended(self, types)
     }
 
@@ -145,7 +120,12 @@ impl LifetimeEnv {
 }
 
 // The list of one name in one direction.
-fn list_than(env: LifetimeEnv, name: usize, longer: bool, out: &mut [usize]) -> Result<usize, Refusal>
+fn list_than(
+    env: LifetimeEnv,
+    name: usize,
+    longer: bool,
+    out: &mut [usize],
+) -> Result<usize, Refusal>
     ensures value { result ≡ counted (list_than longer env name (room out)) }
     ensures fills { Fills (list_than longer env name (room out)) out }
 {
@@ -164,12 +144,11 @@ fn list_than(env: LifetimeEnv, name: usize, longer: bool, out: &mut [usize]) -> 
 }
 
 // The environment with what types in shape imply. Refused by 3 and 4 at the first bad place.
-fn extended(env: LifetimeEnv, types: &[usize]) -> Made
+fn extended(env: LifetimeEnv, types: &[usize]) -> Result<LifetimeEnv, Refusal>
     requires { NoneDue (env_checks env) × (types_in_shape types.now ≡ true) }
     ensures { result
-        ≡ made env
-        (unless (all_pair_checks (names_of env) env.bounds.pushed (implied_on env types.now))
-        (extended_with env types.now)) }
+        ≡ unless (all_pair_checks (names_of env) env.bounds.pushed (implied_on env types.now))
+        (extended_with env types.now) }
 {
     let names = env.names;
     let named = env.named;
@@ -189,15 +168,9 @@ fn extended(env: LifetimeEnv, types: &[usize]) -> Made
         pushed,
         &mut reach,
     );
-    let verdict = implied.verdict;
-    let Ok(()) = verdict else {
-        return Made { verdict, env };
-    };
+    implied.verdict?;
     let all = implied.pushed;
-    Made {
-        verdict: Ok(()),
-        env: assembled(&names, named, &longs, &shorts, all),
-    }
+    Ok(assembled(&names, named, &longs, &shorts, all))
 }
 
 // The sides of bounds, in two arrays.
@@ -221,14 +194,8 @@ fn shape_of(names: &[usize], bounds: &[usize], types: &[usize]) -> Result<(), Re
     ensures { result
         ≡ shape_verdict (names_in_shape names.now && (bounds_in_shape bounds.now && types_in_shape types.now)) }
 {
-    let first = names_shape(names);
-    let Ok(()) = first else {
-        return first;
-    };
-    let second = bounds_shape(bounds);
-    let Ok(()) = second else {
-        return second;
-    };
+    names_shape(names)?;
+    bounds_shape(bounds)?;
     types_shape(types)
 }
 
@@ -301,16 +268,6 @@ fn build(
         verdict,
         named: all,
         pushed,
-    }
-}
-
-// A refusal, beside an environment without names.
-fn refused(verdict: Result<(), Refusal>) -> Made
-    ensures { result ≡ record { verdict = verdict; env = named_env [] [] } }
-{
-    Made {
-        verdict,
-        env: LifetimeEnv::none(),
     }
 }
 

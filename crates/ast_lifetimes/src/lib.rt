@@ -17,6 +17,6 @@ mod names;
 mod types;
 
 pub use bounds::bounds_shape;
-pub use env::{LifetimeEnv, Made};
+pub use env::LifetimeEnv;
 pub use names::names_shape;
 pub use types::types_shape;

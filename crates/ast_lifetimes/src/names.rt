@@ -63,7 +63,11 @@ pub(crate) fn position(names: &[usize; LifetimeEnv::MAX_NAMES], named: usize, na
 }
 
 // Declare one name behind the first `named`. Refused by 4 for a 33rd, by 2 for one that is declared.
-fn declare(names: &mut [usize; LifetimeEnv::MAX_NAMES], named: usize, name: usize) -> Result<(), Refusal>
+fn declare(
+    names: &mut [usize; LifetimeEnv::MAX_NAMES],
+    named: usize,
+    name: usize,
+) -> Result<(), Refusal>
     requires { (named ≤ most_names) × (length names.old ≡ most_names) }
     ensures { Declares (name ∷ []) (held names) (left names) named result }
 {

@@ -1,3 +1,5 @@
+-- Outcomes that are made into something else.
+pub mod OutcomeLaws
 -- Laws of lists, names and steps in a record.
 pub mod LaidLaws
 pub mod NameLaws

@@ -1,5 +1,5 @@
 -- What `lower_step_at` answers of the step that stands at a place; what is read fits.
-use Rattle.std.specs.Prelude.{Err}
+use Rattle.std.specs.Prelude.{Some, None, Err}
 use Prim.Native.Nat.{ℕ, ◌-◌, ◌≤◌}
 use mathlib.Core.Bool.{Bool, true, ◌&&◌, and-eq-true_iff}
 use mathlib.Core.Path.{◌≡◌, refl, subst}
@@ -10,6 +10,7 @@ use lib.ListN.{length, take, drop}
 use lib.Seq.{length-take-le}
 use borrow.Author.Tests.{leb-true}
 use Rattle.answers.specs.declared.Refusal.TheVariants.{Malformed}
+use Rattle.answers.specs.Refusals.{Outcome}
 use Rattle.records.specs.Reading.{Reading, read_word, read_lifetimes}
 use Rattle.records.proofs.ReadingLaws.{Holds, read, fails, holds_cond, holds_onward, holds_read}
 use Rattle.elision.specs.declared.steps.StepAt.{StepAt}
@@ -17,53 +18,48 @@ use Rattle.elision.specs.declared.steps.StepAt.TheVariants as standing
 use Rattle.elision.specs.declared.lowerer.Lowerer.{Lowerer}
 use Rattle.elision.specs.declared.lowerer.Stepped.{Stepped}
 use Rattle.elision.specs.Steps.{Step, Lifetime, Generics, SelfType, read_generics, read_step}
-use Rattle.elision.specs.Machine.{laid, fits, one_step, stepped}
+use Rattle.elision.specs.Machine.{fits, one_step, stepped}
 use Rattle.elision.specs.Inner.{StandsAt, takes}
 use Rattle.elision.specs.Inner as inner
 
-module _ (names : List ℕ) (out : Bool) (s : Lowerer) {d : Stepped} where
+module _ (names : List ℕ) (out : Bool) (s : Lowerer) where
   lifetime_takes : {words : List ℕ} {at : ℕ} {reading : Reading Step} {word to : ℕ}
-      → StandsAt words at reading (standing.Lifetime word to)
-      → d ≡ stepped s (one_step names out (Lifetime word) s) → d ≡ takes names out s reading
+      → StandsAt words at reading (Some (standing.Lifetime word to)) → {d : Outcome Stepped}
+      → d ≡ stepped (one_step names out (Lifetime word) s) → d ≡ takes names out s reading
   lifetime_takes (inner.lifetime w x b e) h = h
 
   generics_takes : {words : List ℕ} {at : ℕ} {reading : Reading Step} {g from to : ℕ}
-      → StandsAt words at reading (standing.Generics g from to)
-      → d ≡ stepped s (one_step names out (Generics g (take (to - from) (drop from words))) s) → d ≡ takes names out s reading
+      → StandsAt words at reading (Some (standing.Generics g from to)) → {d : Outcome Stepped}
+      → d ≡ stepped (one_step names out (Generics g (take (to - from) (drop from words))) s) → d ≡ takes names out s reading
   generics_takes (inner.generics l x b m e) h = rw l at h
 
   self_takes : {words : List ℕ} {at : ℕ} {reading : Reading Step} {from to : ℕ}
-      → StandsAt words at reading (standing.SelfType from to)
-      → d ≡ stepped s (one_step names out (SelfType (take (to - from) (drop from words))) s) → d ≡ takes names out s reading
+      → StandsAt words at reading (Some (standing.SelfType from to)) → {d : Outcome Stepped}
+      → d ≡ stepped (one_step names out (SelfType (take (to - from) (drop from words))) s) → d ≡ takes names out s reading
   self_takes (inner.self_type l x b m e) h = rw l at h
 
-  missing_takes : {words : List ℕ} {at : ℕ} {reading : Reading Step} → StandsAt words at reading standing.Missing
-      → d ≡ record { verdict = Err Malformed; lowerer = s; lifetimes = laid [] } → d ≡ takes names out s reading
-  missing_takes inner.missing h = h
+  pub missing_takes : {words : List ℕ} {at : ℕ} {reading : Reading Step} → StandsAt words at reading None
+      → Err Malformed ≡ takes names out s reading
+  missing_takes inner.missing = refl
 
-module _ {words : List ℕ} {at : ℕ} {reading : Reading Step} {r : StepAt} (s : StandsAt words at reading r) where
-  pub told : {q : StepAt} → r ≡ q → StandsAt words at reading q
-  told e = subst (StandsAt words at reading) e s
+module _ {words : List ℕ} {at : ℕ} {reading : Reading Step} {r : StepAt} (s : StandsAt words at reading (Some r)) where
+  pub told : {q : StepAt} → r ≡ q → StandsAt words at reading (Some q)
+  told e = subst (λ (x : StepAt). StandsAt words at reading (Some x)) e s
 
-  module _ (names : List ℕ) (out : Bool) (l : Lowerer) {d : Stepped} where
+  module _ (names : List ℕ) (out : Bool) (l : Lowerer) {d : Outcome Stepped} where
     pub takes_lifetime : {word to : ℕ} → r ≡ standing.Lifetime word to
-        → d ≡ stepped l (one_step names out (Lifetime word) l) → d ≡ takes names out l reading
+        → d ≡ stepped (one_step names out (Lifetime word) l) → d ≡ takes names out l reading
     takes_lifetime e h = lifetime_takes names out l (told e) h
 
     pub takes_generics : {g from to : ℕ} → r ≡ standing.Generics g from to
-        → d ≡ stepped l (one_step names out (Generics g (take (to - from) (drop from words))) l)
+        → d ≡ stepped (one_step names out (Generics g (take (to - from) (drop from words))) l)
         → d ≡ takes names out l reading
     takes_generics e h = generics_takes names out l (told e) h
 
     pub takes_self : {from to : ℕ} → r ≡ standing.SelfType from to
-        → d ≡ stepped l (one_step names out (SelfType (take (to - from) (drop from words))) l)
+        → d ≡ stepped (one_step names out (SelfType (take (to - from) (drop from words))) l)
         → d ≡ takes names out l reading
     takes_self e h = self_takes names out l (told e) h
-
-    pub takes_missing : r ≡ standing.Missing
-        → d ≡ record { verdict = Err Malformed; lowerer = l; lifetimes = laid [] }
-        → d ≡ takes names out l reading
-    takes_missing e h = missing_takes names out l (told e) h
 
 -- ---- what is read fits
 
@@ -102,20 +98,20 @@ pub record Part (words : List ℕ) (from to : ℕ) : Type 0 where
   pub few : length (take (to - from) (drop from words)) ≤ 16
 
 lifetime_part : {words : List ℕ} {at : ℕ} {reading : Reading Step} {word to : ℕ}
-    → StandsAt words at reading (standing.Lifetime word to) → (1 ≤ to) × Part words (to - 1) to
+    → StandsAt words at reading (Some (standing.Lifetime word to)) → (1 ≤ to) × Part words (to - 1) to
 lifetime_part {to = to} (inner.lifetime w d b l) =
     let one : to - (to - 1) ≡ 1 = omega arith in
     (omega arith, record { starts = omega arith; ends = l; few = rw (one, w) (omega arith) })
 
 generics_part : {words : List ℕ} {at : ℕ} {reading : Reading Step} {g from to : ℕ}
-    → StandsAt words at reading (standing.Generics g from to) → Holds (λ step rest. fits step ≡ true) reading
+    → StandsAt words at reading (Some (standing.Generics g from to)) → Holds (λ step rest. fits step ≡ true) reading
     → (g ≤ 16) × Part words from to
 generics_part {g = g} (inner.generics {ls = ls} {rest = rest} l d b m x) h =
     let p = (and-eq-true_iff (leb g 16) (leb (length ls) 16)).0 (holds_read (λ step rest. fits step ≡ true) (Generics g ls) rest h) in
     (leb-true g 16 p.0, record { starts = m; ends = x; few = rw l (leb-true (length ls) 16 p.1) })
 
 self_part : {words : List ℕ} {at : ℕ} {reading : Reading Step} {from to : ℕ}
-    → StandsAt words at reading (standing.SelfType from to) → Holds (λ step rest. fits step ≡ true) reading
+    → StandsAt words at reading (Some (standing.SelfType from to)) → Holds (λ step rest. fits step ≡ true) reading
     → Part words from to
 self_part (inner.self_type {ls = ls} {rest = rest} l d b m x) h = record {
   starts = m;
@@ -123,7 +119,7 @@ self_part (inner.self_type {ls = ls} {rest = rest} l d b m x) h = record {
   few = rw l (leb-true (length ls) 16 (holds_read (λ step rest. fits step ≡ true) (SelfType ls) rest h));
 }
 
-module _ {words : List ℕ} {at : ℕ} {r : StepAt} (stands : StandsAt words at (read_step (drop at words)) r) where
+module _ {words : List ℕ} {at : ℕ} {r : StepAt} (stands : StandsAt words at (read_step (drop at words)) (Some r)) where
   pub part_lifetime : {word to : ℕ} → r ≡ standing.Lifetime word to → (1 ≤ to) × Part words (to - 1) to
   part_lifetime e = lifetime_part (told stands e)
 

@@ -25,7 +25,6 @@ pub(crate) enum StepAt {
         from: usize,
         to: usize,
     },
-    Missing,
 }
 
 // Whether the record `self` is in shape: empty, or one lifetime. Refused by 1.
@@ -48,8 +47,7 @@ pub fn steps_shape(steps: &[usize]) -> Result<(), Refusal>
     }
     let mut at = 0;
     while at < steps.len() {
-        let end = step_end(steps, at);
-        let Some(next) = end else {
+        let Some(next) = step_end(steps, at) else {
             return Err(Refusal::Malformed);
         };
         at = next;
@@ -61,63 +59,50 @@ pub fn steps_shape(steps: &[usize]) -> Result<(), Refusal>
 pub(crate) fn step_end(words: &[usize], at: usize) -> Option<usize>
     ensures { EndsAt words.now at (read_step (drop at words.now)) result }
 {
-    let step = read_step(words, at);
-    match step {
-        StepAt::Lifetime { word: _, to } => Some(to),
-        StepAt::Generics {
-            generics: _,
-            from: _,
-            to,
-        } => Some(to),
-        StepAt::SelfType { from: _, to } => Some(to),
-        StepAt::Missing => None,
+    match read_step(words, at)? {
+        StepAt::Lifetime { to, .. } | StepAt::Generics { to, .. } | StepAt::SelfType { to, .. } =>
+            Some(to),
     }
 }
 
 // The step that stands at a place.
-pub(crate) fn read_step(words: &[usize], at: usize) -> StepAt
+pub(crate) fn read_step(words: &[usize], at: usize) -> Option<StepAt>
     ensures { StandsAt words.now at (read_step (drop at words.now)) result }
 {
     let n = words.len();
     if n <= at {
-        return StepAt::Missing;
+        return None;
     }
     let kind = words[at];
     let next = at + 1;
     if kind == 0 {
         if n <= next {
-            return StepAt::Missing;
+            return None;
         }
-        return StepAt::Lifetime {
+        return Some(StepAt::Lifetime {
             word: words[next],
             to: next + 1,
-        };
+        });
     }
     if kind == 1 {
         if n <= next {
-            return StepAt::Missing;
+            return None;
         }
         let generics = words[next];
         if MAX_LIST < generics {
-            return StepAt::Missing;
+            return None;
         }
         let count = next + 1;
-        let end = lifetimes_end(words, count);
-        let Some(to) = end else {
-            return StepAt::Missing;
-        };
-        return StepAt::Generics {
+        let to = lifetimes_end(words, count)?;
+        return Some(StepAt::Generics {
             generics,
             from: count + 1,
             to,
-        };
+        });
     }
     if kind == 2 {
-        let end = lifetimes_end(words, next);
-        let Some(to) = end else {
-            return StepAt::Missing;
-        };
-        return StepAt::SelfType { from: next + 1, to };
+        let to = lifetimes_end(words, next)?;
+        return Some(StepAt::SelfType { from: next + 1, to });
     }
-    StepAt::Missing
+    None
 }

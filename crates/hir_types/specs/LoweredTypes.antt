@@ -1,7 +1,7 @@
 -- Lowered types (in a struct's fields, in `params`, in `output`): what stands in front of some words, where its parts
 -- are, and its lifetimes.
-use Rattle.std.specs.Prelude.{ℕ, zero, suc, ◌+◌, ◌-◌, ◌^◌, Bool, true, false, cond, List, [], ◌∷◌, ◌++◌, map, Ok, Err, Some, None, Option}
-use Rattle.std.specs.Prelude.{eqb, ltb, length}
+use Rattle.std.specs.Prelude.{ℕ, ◌+◌, ◌-◌, ◌^◌, Bool, true, false, cond, List, [], ◌∷◌, ◌++◌, map, eqb, ltb, length}
+use Rattle.std.specs.Prelude.{Ok, Err, Some, None, Option}
 use Rattle.answers.specs.declared.Refusal.TheVariants.{Malformed}
 use Rattle.lifetimes.specs.declared.maybe_static.MaybeStatic.{MaybeStatic}
 use Rattle.lifetimes.specs.declared.maybe_static.MaybeStatic.TheVariants.{NonStatic}
@@ -13,8 +13,6 @@ use Rattle.hir_types.specs.declared.types.Kind.{Kind}
 use Rattle.hir_types.specs.declared.types.Kind.TheVariants.{Plain, Opaque, Struct, Slice}
 use Rattle.hir_types.specs.declared.types.Own.{Own}
 use Rattle.hir_types.specs.declared.types.Own.TheVariants.{Absent, Word, Strs}
-use Rattle.hir_types.specs.declared.types.LifetimeAt.{LifetimeAt}
-use Rattle.hir_types.specs.declared.types.LifetimeAt.TheVariants as entry
 use Rattle.hir_types.specs.declared.types.Parts.{Parts}
 
 -- A type: whether it is under an option (01's code 4), its kind (codes 0 to 3), its path words, and the lifetime behind
@@ -119,12 +117,6 @@ own_lifetimes own = one_or_none (own_lifetime own)
 abbrev pub lifetimes_of : LoweredType → List MaybeStatic
 lifetimes_of t = map from_word t.path ++ own_lifetimes t.own
 
--- the entry at an index, if there is one
-unfoldable pub entry_at : List MaybeStatic → ℕ → LifetimeAt
-entry_at [] index = entry.Absent
-entry_at (m ∷ ms) zero = entry.Lifetime m
-entry_at (m ∷ ms) (suc index) = entry_at ms index
-
 -- the lifetimes of the one type that some words are; 1 where they are none, or more
 abbrev pub only_type : Reading LoweredType → Outcome (List MaybeStatic)
 only_type (Read t []) = Ok (lifetimes_of t)
@@ -133,7 +125,3 @@ only_type Fails = Err Malformed
 
 unfoldable pub type_lifetimes : List ℕ → Outcome (List MaybeStatic)
 type_lifetimes words = only_type (read_lowered words)
-
-abbrev pub lifetime_answer : Outcome (List MaybeStatic) → ℕ → LifetimeAt
-lifetime_answer (Ok l) index = entry_at l index
-lifetime_answer (Err r) index = entry.Refused r

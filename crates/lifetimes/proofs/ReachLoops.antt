@@ -2,7 +2,7 @@
 use Prim.Native.Nat.{ℕ, zero, suc, ◌+◌, ◌*◌, ◌-◌, ◌≤◌, ◌<◌}
 use mathlib.Core.Path.{◌≡◌, refl, sym, ap, ◌∙◌}
 use mathlib.Core.List.{List, [], ◌∷◌, ◌++◌, flatten}
-use native.Mathlib.Nat.{sub-zero, zero-add, mul-suc}
+use native.Mathlib.Nat.{mul-suc}
 use native.Mathlib.Omega.{arith}
 use native.Mathlib.Numerals.{add-one}
 use lib.ListN.{length, set, length-append}
@@ -47,9 +47,6 @@ pub record Measuring (g : Graph) (count : ℕ) (reach₀ reach : List ℕ) (x to
   pub total_left : total + length (flatten (lists_left g count x)) ≡ length (flatten (lists_from g 0 count))
   pub reach_left : sets reach x (sets_left g count x) ≡ sets reach₀ 0 (sets_from g 0 count)
 
-pub measuring_start : (g : Graph) (count : ℕ) (reach : List ℕ) → Measuring g count reach reach 0 0
-measuring_start g count reach = record { here = omega arith; total_left = rw (zero-add, sub-zero); reach_left = rw sub-zero }
-
 module _ {g : Graph} {count : ℕ} {reach₀ reach : List ℕ} {x total : ℕ} (inv : Measuring g count reach₀ reach x total) where
   pub measuring_more : x < count → (n s : ℕ) → n ≡ length (list_over g x) → s ≡ set_over g x
       → Measuring g count reach₀ (set reach x s) (x + 1) (total + n)
@@ -70,10 +67,6 @@ pub record Laying (g : Graph) (count : ℕ) (words₀ ends₀ reach₀ words end
   pub measuring : Measuring g count reach₀ reach x at
   pub words_left : sets words at (flatten (lists_left g count x)) ≡ sets words₀ 0 (flatten (lists_from g 0 count))
   pub ends_left : sets ends x (ends_from at (lists_left g count x)) ≡ sets ends₀ 0 (ends_from 0 (lists_from g 0 count))
-
-pub laying_start : (g : Graph) (count : ℕ) (words ends reach : List ℕ) → Laying g count words ends reach words ends reach 0 0
-laying_start g count words ends reach =
-    record { measuring = measuring_start g count reach; words_left = rw sub-zero; ends_left = rw sub-zero }
 
 module _ {g : Graph} {count : ℕ} {words₀ ends₀ reach₀ words ends reach : List ℕ} {x at : ℕ}
     (inv : Laying g count words₀ ends₀ reach₀ words ends reach x at) where

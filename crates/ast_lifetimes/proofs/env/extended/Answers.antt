@@ -2,6 +2,7 @@
 use mathlib.Core.Path.{◌≡◌}
 use lib.ListN.{length}
 use borrow.Author.Rules.{rules}
+use Rattle.std.proofs.lemmas.Result.{err_from_is_err_and}
 use Rattle.ast_lifetimes.specs.Types.{type_names_of}
 use Rattle.ast_lifetimes.proofs.ReadingLaws.{types_encoded}
 use Rattle.ast_lifetimes.proofs.ExtendLaws.{valid_named, valid_pushed, split_below, extended_few, extended_small}
@@ -31,9 +32,11 @@ push_types-implied-requires c =
       reach_len = c.close.ensures;
     }
 
-pub returns-in_default : goal.returns-in_default
-returns-in_default c = extended_refused c.args.env c.args.types.now c.split.ensures
-    (c.push_types-implied.ensures _ (types_encoded _ c.requires.1)) c.in_default.is
+pub returns-in_err-implied : goal.returns-in_err-implied
+returns-in_err-implied c = let p = err_from_is_err_and c.from_residual.result c.from_residual.ensures.1 in
+    rw (p.1, p.2)
+    (extended_refused c.args.env c.args.types.now c.split.ensures
+    (c.push_types-implied.ensures _ (types_encoded _ c.requires.1)) c.in_err-implied.was)
 
 pub assembled-requires : goal.assembled-requires
 assembled-requires c =
@@ -41,11 +44,11 @@ assembled-requires c =
     let all =
     extended_few c.args.env c.args.types.now c.split.ensures
     (c.push_types-implied.ensures _ (types_encoded _ c.requires.1))
-    c.in-Ok.is in
+    c.in_ok-implied.was in
     let small =
     extended_small c.args.env c.args.types.now c.split.ensures
     (c.push_types-implied.ensures _ (types_encoded _ c.requires.1))
-    c.in-Ok.is c.requires.0 in
+    c.in_ok-implied.was c.requires.0 in
     record {
       named_le_most_names = (valid_named c.args.env c.requires.0, all.0);
       declared_len = (
@@ -58,5 +61,5 @@ assembled-requires c =
 
 pub returns : goal.returns
 returns c = extended_given c.args.env c.args.types.now c.split.ensures
-    (c.push_types-implied.ensures _ (types_encoded _ c.requires.1)) c.in-Ok.is
+    (c.push_types-implied.ensures _ (types_encoded _ c.requires.1)) c.in_ok-implied.was
     c.assembled.ensures

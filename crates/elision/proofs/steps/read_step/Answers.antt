@@ -20,14 +20,14 @@ returns-then-n-next-2 c = search (generics_short, rules)
 pub returns-then-generics-gt-MAX_LIST : goal.returns-then-generics-gt-MAX_LIST
 returns-then-generics-gt-MAX_LIST c = search (generics_many, rules)
 
-pub returns-in_default : goal.returns-in_default
-returns-in_default c = search (ends_told, lifetimes_end, generics_none, rules)
+pub returns-in_err-to : goal.returns-in_err-to
+returns-in_err-to c = rw c.from_residual.ensures search (ends_told, lifetimes_end, generics_none, rules)
 
 pub returns-then-kind-eq1 : goal.returns-then-kind-eq1
 returns-then-kind-eq1 c = search (ends_told, lifetimes_end, generics_whole, rules)
 
-pub returns-in_default-end : goal.returns-in_default-end
-returns-in_default-end c = search (ends_told, lifetimes_end, self_none, rules)
+pub returns-in_err-to-2 : goal.returns-in_err-to-2
+returns-in_err-to-2 c = rw c.from_residual-in_err-to-2.ensures search (ends_told, lifetimes_end, self_none, rules)
 
 pub returns-then-kind-eq2 : goal.returns-then-kind-eq2
 returns-then-kind-eq2 c = search (ends_told, lifetimes_end, self_whole, rules)

@@ -1,16 +1,16 @@
 -- `step_end` meets its contract: a step ends where `read_step` says.
-use Rattle.elision.proofs.StepLaws.{ends_lifetime, ends_generics, ends_self, ends_missing}
+use Rattle.elision.proofs.StepLaws.{ends_lifetime, ends_generics, ends_self, missing_end}
 use borrow.Author.Rules.{rules}
 use Rattle.elision.proofs.steps.step_end.Goals as goal
 
+pub returns-in_err-to : goal.returns-in_err-to
+returns-in_err-to c = rw c.from_residual.ensures (search (missing_end, rules))
+
 pub returns-in-Lifetime : goal.returns-in-Lifetime
-returns-in-Lifetime c = search (ends_lifetime, rules)
+returns-in-Lifetime c = search (ends_lifetime, ends_generics, ends_self, rules)
 
-pub returns-in-Generics : goal.returns-in-Generics
-returns-in-Generics c = search (ends_generics, rules)
+pub returns-in-Lifetime-2 : goal.returns-in-Lifetime-2
+returns-in-Lifetime-2 c = search (ends_lifetime, ends_generics, ends_self, rules)
 
-pub returns-in-SelfType : goal.returns-in-SelfType
-returns-in-SelfType c = search (ends_self, rules)
-
-pub returns-in-Missing : goal.returns-in-Missing
-returns-in-Missing c = search (ends_missing, rules)
+pub returns-in-Lifetime-3 : goal.returns-in-Lifetime-3
+returns-in-Lifetime-3 c = search (ends_lifetime, ends_generics, ends_self, rules)

@@ -17,14 +17,14 @@ pub returns-in_default : goal.returns-in_default
 returns-in_default c = search (ends_told, shaping_missing, rules)
 
 pub loop-at-smaller : goal.loop-at-smaller
-loop-at-smaller c = omega (arith, ends_past (ends_told c.step_end-end.ensures c.in-Some.is))
+loop-at-smaller c = omega (arith, ends_past (ends_told c.step_end.ensures c.in-Some.is))
 
 pub loop-at-preserved : goal.loop-at-preserved
 loop-at-preserved c = (
   _,
   shaping_more c.loop-at.invariant.1
       c.loop-at-test.true
-      (ends_told c.step_end-end.ensures c.in-Some.is),
+      (ends_told c.step_end.ensures c.in-Some.is),
 )
 
 pub returns : goal.returns
