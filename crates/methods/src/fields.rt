@@ -20,7 +20,7 @@ pub struct FieldPair {
 }
 
 // How many pairs there are, and the pairs in the first places, ascending by the field's lifetime; the other places hold
-// pairs of 0.
+// pairs of 0. An array of fixed length beside a count, since there is no heap here.
 #[derive(Clone, Copy)]
 pub struct FieldLifetimes {
     pub count: usize,

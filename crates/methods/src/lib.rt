@@ -3,7 +3,7 @@
 //
 // Of `hir/defs.rs` and `hir/methods.rs` of diplomat_core 0.17.0, and of `hir/methods/borrowing_param.rs` a piece that
 // needs no visitor, `compute_for_struct_field` (there of `StructBorrowInfo`). `hir/types.rs` is the crate
-// `types`. The scope paper ("01") and the change requests ("02") decide what is right; a refused call answers one of
+// `hir_types`. The scope paper ("01") and the change requests ("02") decide what is right; a refused call answers one of
 // their numbers.
 //
 // What is here: limits, and struct types that fit their rows (`fits`); the lifetimes of the output (`output`); the

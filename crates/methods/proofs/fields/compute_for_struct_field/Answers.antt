@@ -3,7 +3,7 @@ use native.Mathlib.Omega.{arith}
 use Rattle.answers.specs.declared.Refusal.TheVariants.{Malformed}
 use Rattle.hir_types.proofs.QuestionLaws.{handed_on, was_some, was_none}
 use Rattle.methods.proofs.FieldsLaws.{field_told, in_order, compute_torn, compute_other, compute_refused}
-use Rattle.methods.proofs.FieldsLaws.{few_rows, path_few, compute_given}
+use Rattle.methods.proofs.FieldsLaws.{few_rows, compute_given}
 use Rattle.methods.proofs.fields.compute_for_struct_field.Goals as goal
 
 pub returns-in_err-rows : goal.returns-in_err-rows
@@ -44,12 +44,6 @@ pub bounds-lifetimes-row : goal.bounds-lifetimes-row
 bounds-lifetimes-row c =
     let asked = field_told c.field_at.ensures (was_some c.field_at.result Malformed c.in_ok-parts.ensures.value) in
     few_rows c.args.structs.now c.args.row c.args.field c.in_ok-rows.ensures.answer asked c.in_ok-index_rows.ensures
-
-pub pairs_of-requires : goal.pairs_of-requires
-pairs_of-requires c =
-    let asked = field_told c.field_at.ensures (was_some c.field_at.result Malformed c.in_ok-parts.ensures.value) in
-    path_few c.args.structs.now c.args.row c.args.field c.in_ok-rows.ensures.answer asked c.in_ok-index_rows.ensures
-    c.path_words-path.ensures.answer
 
 pub returns : goal.returns
 returns c =

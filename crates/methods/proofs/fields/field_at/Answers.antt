@@ -3,15 +3,12 @@ use mathlib.Core.Path.{ap}
 use native.Mathlib.Omega.{arith}
 use Rattle.hir_types.proofs.FoundLaws.{type_found, type_lost}
 use Rattle.methods.specs.Fields.{is_struct}
-use Rattle.methods.proofs.FieldsLaws.{field_no_row, field_unplaced, field_past, field_unskipped, field_stands}
+use Rattle.methods.proofs.FieldsLaws.{field_no_row, field_past, field_unskipped, field_stands}
 use Rattle.methods.proofs.FieldsLaws.{field_lost, no_struct, field_other, field_struct}
 use Rattle.methods.proofs.fields.field_at.Goals as goal
 
 pub returns-then-rows-row : goal.returns-then-rows-row
 returns-then-rows-row c = field_no_row (omega (arith, c.requires.1))
-
-pub returns-in_err-place : goal.returns-in_err-place
-returns-in_err-place c = rw c.from_residual.ensures (field_unplaced c.in_err-place.ensures)
 
 pub returns-then-structs-place : goal.returns-then-structs-place
 returns-then-structs-place c = field_past c.in_ok-place.ensures c.if-structs-place.true

@@ -1,15 +1,8 @@
 -- `judge_places` meets its contract: the rows, the parameters, the output, each by proofs/MethodLaws.antt.
-use mathlib.Core.Path.{refl, sym}
 use Rattle.answers.specs.declared.Refusal.TheVariants.{Mismatch}
 use Rattle.hir_types.proofs.QuestionLaws.{handed_on, was_some, was_none}
 use Rattle.methods.proofs.MethodLaws.{places_rows, places_params, places_output, places_all}
 use Rattle.methods.proofs.fits.judge_places.Goals as goal
-
-pub index_rows-requires : goal.index_rows-requires
-index_rows-requires c = record {
-  structs_value = (c.requires.structs_shape, sym c.requires.row_count);
-  lifetimes_len = refl;
-}
 
 pub returns-in_err-index_rows : goal.returns-in_err-index_rows
 returns-in_err-index_rows c = rw (handed_on c.from_residual.ensures.1)

@@ -1,5 +1,4 @@
 -- `check_structs_and_params` meets its contract: each way out is one law of proofs/MethodLaws.antt.
-use mathlib.Core.Path.{refl}
 use Rattle.hir_types.proofs.QuestionLaws.{handed_on}
 use Rattle.methods.proofs.MethodLaws.{structs_are, alone_structs, alone_params, alone_rows, alone_fits}
 use Rattle.methods.proofs.method.check_structs_and_params.Goals as goal
@@ -15,11 +14,9 @@ returns-in_err-inputs c = record {
       (alone_params _ _ c.in_ok-rows.ensures.answer c.in_err-inputs.ensures.answer);
 }
 
-pub index_rows-requires : goal.index_rows-requires
-index_rows-requires c = record {
-  structs_value = structs_are c.args.structs.now c.args.params.now c.in_ok-rows.ensures.answer;
-  lifetimes_len = refl;
-}
+pub index_rows-requires-clause-structs_value : goal.index_rows-requires-clause-structs_value
+index_rows-requires-clause-structs_value c =
+    structs_are c.args.structs.now c.args.params.now c.in_ok-rows.ensures.answer
 
 pub returns-in_err-index_rows : goal.returns-in_err-index_rows
 returns-in_err-index_rows c = record {

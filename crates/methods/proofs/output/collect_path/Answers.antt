@@ -1,10 +1,7 @@
 -- `collect_path` meets its contract. The loop's invariant is `Pathing` of proofs/OutputLaws.antt.
 use borrow.Author.Rules.{rules}
-use Rattle.methods.proofs.OutputLaws.{pathing_start, pathing_stops, pathing_more, pathing_end}
+use Rattle.methods.proofs.OutputLaws.{pathing_stops, pathing_more, pathing_end}
 use Rattle.methods.proofs.output.collect_path.Goals as goal
-
-pub loop-word-init : goal.loop-word-init
-loop-word-init c = search (pathing_start, rules)
 
 pub returns-in_err-used : goal.returns-in_err-used
 returns-in_err-used c = rw c.from_residual.ensures
