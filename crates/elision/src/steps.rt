@@ -1,9 +1,8 @@
 // The records `self`, `steps` and `returns`: their shape.
 ghost use Rattle.std.specs.Prelude.{◌≡◌, drop};
 ghost use Rattle.records.specs.Reading.{shape_verdict};
-ghost use Rattle.records.specs.Ends.{EndsAt};
 ghost use Rattle.elision.specs.Steps.{read_step, self_in_shape, steps_in_shape};
-ghost use Rattle.elision.specs.Inner.{StandsAt};
+ghost use Rattle.elision.specs.Inner.{StandsAt, end_of};
 
 use answers::Refusal;
 use records::{MAX_LIST, MAX_WORDS, lifetimes_end};
@@ -27,6 +26,19 @@ pub(crate) enum StepAt {
     },
 }
 
+impl StepAt {
+    // The place behind the step.
+    pub(crate) fn end(self) -> usize
+        ensures { result ≡ end_of self }
+    {
+        match self {
+            StepAt::Lifetime { to, .. }
+            | StepAt::Generics { to, .. }
+            | StepAt::SelfType { to, .. } => to,
+        }
+    }
+}
+
 // Whether the record `self` is in shape: empty, or one lifetime. Refused by 1.
 pub fn self_shape(receiver: &[usize]) -> Result<(), Refusal>
     ensures answer { result ≡ shape_verdict (self_in_shape receiver.now) }
@@ -47,22 +59,12 @@ pub fn steps_shape(steps: &[usize]) -> Result<(), Refusal>
     }
     let mut at = 0;
     while at < steps.len() {
-        let Some(next) = step_end(steps, at) else {
+        let Some(step) = read_step(steps, at) else {
             return Err(Refusal::Malformed);
         };
-        at = next;
+        at = step.end();
     }
     Ok(())
-}
-
-// Where the step ends that stands at a place.
-pub(crate) fn step_end(words: &[usize], at: usize) -> Option<usize>
-    ensures { EndsAt words.now at (read_step (drop at words.now)) result }
-{
-    match read_step(words, at)? {
-        StepAt::Lifetime { to, .. } | StepAt::Generics { to, .. } | StepAt::SelfType { to, .. } =>
-            Some(to),
-    }
 }
 
 // The step that stands at a place.
