@@ -1,7 +1,7 @@
 -- A step that stands in a record: what is read fits, and where its words are.
 use Rattle.std.specs.Prelude.{Some}
 use Prim.Native.Nat.{ℕ, ◌-◌, ◌≤◌}
-use mathlib.Core.Bool.{Bool, true, ◌&&◌, and-eq-true_iff}
+use mathlib.Core.Bool.{true, ◌&&◌, and-eq-true_iff}
 use mathlib.Core.Path.{◌≡◌, refl, subst}
 use mathlib.Core.List.{List, [], ◌∷◌}
 use native.Mathlib.Omega.{arith}
@@ -13,7 +13,7 @@ use Rattle.records.specs.Reading.{Reading, read_word, read_lifetimes}
 use Rattle.records.proofs.ReadingLaws.{Holds, read, fails, holds_cond, holds_onward, holds_read}
 use Rattle.elision.specs.declared.steps.StepAt.{StepAt}
 use Rattle.elision.specs.declared.steps.StepAt.TheVariants as standing
-use Rattle.elision.specs.Steps.{Step, Lifetime, Generics, SelfType, read_generics, read_step}
+use Rattle.elision.specs.Steps.{Step, Generics, SelfType, read_generics, read_step}
 use Rattle.elision.specs.Machine.{fits}
 use Rattle.elision.specs.Inner.{StandsAt}
 use Rattle.elision.specs.Inner as inner

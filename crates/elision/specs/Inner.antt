@@ -4,12 +4,10 @@ use Rattle.std.specs.Prelude.{ℕ, ◌+◌, ◌-◌, ◌≤◌, ◌<◌, ◌≡�
 use Rattle.std.proofs.lemmas.List.Edits.{sets}
 use Rattle.lifetimes.specs.declared.maybe_static.MaybeStatic.{MaybeStatic}
 use Rattle.answers.specs.declared.Refusal.{Refusal}
-use Rattle.answers.specs.declared.Refusal.TheVariants.{Malformed}
 use Rattle.lifetimes.specs.LoweredWords.{word_answer}
 use Rattle.answers.specs.Refusals.{Outcome, over}
 use Rattle.ast_lifetimes.specs.Env.{place, is_declared}
 use Rattle.records.specs.Reading.{Reading, Read, Fails, most_list}
-use Rattle.records.specs.Ends.{EndsAt}
 use Rattle.elision.specs.declared.steps.StepAt.{StepAt}
 use Rattle.elision.specs.declared.steps.StepAt.TheVariants as standing
 use Rattle.elision.specs.declared.source.ElisionSource.TheVariants.{NoBorrows}
@@ -18,12 +16,11 @@ use Rattle.elision.specs.declared.lowerer.Worded.{Worded}
 use Rattle.elision.specs.declared.lowerer.Run.{Run}
 use Rattle.elision.specs.Steps.{Step, Lifetime, Generics, SelfType, read_step}
 use Rattle.elision.specs.declared.lowerer.Lowerer.{Lowerer}
-use Rattle.elision.specs.declared.lowerer.Stepped.{Stepped}
 use Rattle.elision.specs.declared.put.SmallLowerer.{SmallLowerer}
 use Rattle.elision.specs.declared.put.Put.{Put}
 use Rattle.elision.specs.declared.method.Totals.{Totals}
 use Rattle.elision.specs.Rfc.{Method}
-use Rattle.elision.specs.Machine.{Advanced, first_or, values_in, laid, lower_step, one_step, stepped}
+use Rattle.elision.specs.Machine.{Advanced, first_or, values_in, laid, lower_step}
 
 -- where a step stands that is read at a place of some words
 pub data StandsAt (words : List ℕ) (at : ℕ) : Reading Step → Option StepAt → Type 0 where

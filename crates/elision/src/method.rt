@@ -76,7 +76,10 @@ pub fn lower(
         result own given taken }
 {
     let measured = measure(env, receiver, steps, returns)?;
-    if own.len() < measured.selves || given.len() < measured.steps || taken.len() < measured.returns {
+    if own.len() < measured.selves
+        || given.len() < measured.steps
+        || taken.len() < measured.returns
+    {
         return Err(Refusal::NoRoom);
     }
     let names = env.names;

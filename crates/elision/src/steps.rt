@@ -71,40 +71,30 @@ pub fn steps_shape(steps: &[usize]) -> Result<(), Refusal>
 pub(crate) fn read_step(words: &[usize], at: usize) -> Option<StepAt>
     ensures { StandsAt words.now at (read_step (drop at words.now)) result }
 {
-    let n = words.len();
-    if n <= at {
-        return None;
-    }
-    let kind = words[at];
+    let kind = *words.get(at)?;
     let next = at + 1;
-    if kind == 0 {
-        if n <= next {
-            return None;
-        }
-        return Some(StepAt::Lifetime {
-            word: words[next],
+    match kind {
+        0 => Some(StepAt::Lifetime {
+            word: *words.get(next)?,
             to: next + 1,
-        });
-    }
-    if kind == 1 {
-        if n <= next {
-            return None;
+        }),
+        1 => {
+            let generics = *words.get(next)?;
+            if MAX_LIST < generics {
+                return None;
+            }
+            let count = next + 1;
+            let to = lifetimes_end(words, count)?;
+            Some(StepAt::Generics {
+                generics,
+                from: count + 1,
+                to,
+            })
         }
-        let generics = words[next];
-        if MAX_LIST < generics {
-            return None;
+        2 => {
+            let to = lifetimes_end(words, next)?;
+            Some(StepAt::SelfType { from: next + 1, to })
         }
-        let count = next + 1;
-        let to = lifetimes_end(words, count)?;
-        return Some(StepAt::Generics {
-            generics,
-            from: count + 1,
-            to,
-        });
+        _ => None,
     }
-    if kind == 2 {
-        let to = lifetimes_end(words, next)?;
-        return Some(StepAt::SelfType { from: next + 1, to });
-    }
-    None
 }

@@ -8,7 +8,7 @@ use Rattle.elision.proofs.lowerer.Lowerer.lower_generics.Goals as goal
 pub returns-then-generics-gt-MAX_LIST : goal.returns-then-generics-gt-MAX_LIST
 returns-then-generics-gt-MAX_LIST c =
     elim c.then-generics-gt-MAX_LIST.either [
-      inl h ↦ record { answer = generics_large _ _ _ _ _ h }
+      | inl h ↦ record { answer = generics_large _ _ _ _ _ h }
       | inr h ↦ record { answer = generics_long _ _ _ _ _ h.0 h.1 }
     ]
 

@@ -1,5 +1,5 @@
 -- `put_step` meets its contract: each arm is one law of proofs/PutLaws.antt.
-use Rattle.elision.proofs.PartLaws.{part_lifetime, part_generics, part_self}
+use Rattle.elision.proofs.PartLaws.{part_generics, part_self}
 use Rattle.elision.proofs.PutLaws.{puts_lifetime, puts_generics, puts_self}
 use Rattle.elision.proofs.put.SmallLowerer.put_step.Goals as goal
 
