@@ -12,7 +12,7 @@ use lib.ListN.{length, drop, length-append, length-map, length-drop, drop_of_len
 use lib.Seq.{sets}
 use Rattle.answers.specs.declared.Refusal.{Refusal}
 use Rattle.answers.specs.declared.Refusal.TheVariants.{Malformed}
-use Rattle.lifetimes.specs.declared.maybe_static.MaybeStatic.{MaybeStatic}
+use Rattle.elision.specs.Rfc.{MethodLifetime}
 use Rattle.answers.specs.Refusals.{Outcome, bind}
 use Rattle.answers.proofs.Copying.{sets_append}
 use Rattle.records.specs.Reading.{Reading, Read, Fails, onward, is_read, read_or, read_all, in_shape, items_of, few_words}
@@ -79,7 +79,7 @@ read_none number (suc fuel) rest tail e = cc
 
 -- ---- the loop
 
-abbrev behind_done : List MaybeStatic → Advanced Lowerer → Outcome (Advanced Lowerer)
+abbrev behind_done : List MethodLifetime → Advanced Lowerer → Outcome (Advanced Lowerer)
 behind_done done a = Ok (advanced (done ++ a.given) a.left)
 
 -- from the lowerer that the record starts with: what is left of the record, the lowerer that it is left to, shown by
@@ -91,7 +91,7 @@ pub record Reached (names : List ℕ) (out : Bool) (words : List ℕ) (start : L
   pub rest : List Step
   pub tail : List ℕ
   pub reads : read_all item number fuel (drop at words) ≡ Read rest tail
-  pub done : List MaybeStatic
+  pub done : List MethodLifetime
   pub count : length done ≡ n
   pub here : Lowerer
   pub shows : Shows here k

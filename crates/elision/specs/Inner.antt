@@ -1,12 +1,11 @@
 -- For private functions only: where a step stands in a record, and what the inner functions answer. No public contract
 -- cites this file.
-use Rattle.std.specs.Prelude.{ℕ, ◌+◌, ◌-◌, ◌≤◌, ◌<◌, ◌≡◌, Bool, true, false, cond, unwrap_or, List, ◌∷◌, map, length, take, drop, replicate, Ok, Err, Some, None, Option}
+use Rattle.std.specs.Prelude.{ℕ, ◌+◌, ◌-◌, ◌≤◌, ◌<◌, ◌≡◌, Bool, true, false, unwrap_or, List, ◌∷◌, map, length, take, drop, replicate, Ok, Err, Some, None, Option}
 use Rattle.std.proofs.lemmas.List.Edits.{sets}
-use Rattle.lifetimes.specs.declared.maybe_static.MaybeStatic.{MaybeStatic}
+use Rattle.elision.specs.Rfc.{MethodLifetime}
 use Rattle.answers.specs.declared.Refusal.{Refusal}
 use Rattle.lifetimes.specs.LoweredWords.{word_answer}
 use Rattle.answers.specs.Refusals.{Outcome, over}
-use Rattle.ast_lifetimes.specs.Env.{place, is_declared}
 use Rattle.records.specs.Reading.{Reading, Read, Fails, most_list}
 use Rattle.elision.specs.declared.steps.StepAt.{StepAt}
 use Rattle.elision.specs.declared.steps.StepAt.TheVariants as standing
@@ -51,14 +50,10 @@ worded o = over (λ a. record { lifetime = first_or a.given; seen = a.left }) o
 abbrev pub ran : Outcome (Advanced Seen) → Outcome Run
 ran o = over (λ a. record { lifetimes = laid a.given; seen = a.left }) o
 
--- the number of a name, where it is declared
-abbrev pub place_of : List ℕ → ℕ → Option ℕ
-place_of names word = cond (is_declared names word) (Some (place names word)) None
-
 -- The whole records
 
 -- the word of a lifetime, where it has one
-abbrev pub shown : MaybeStatic → ℕ
+abbrev pub shown : MethodLifetime → ℕ
 shown l = unwrap_or (word_answer l) 0
 
 abbrev pub put_of : ℕ → Outcome (Advanced Seen) → Outcome Put

@@ -2,7 +2,7 @@
 -- method's environment (`finish`).
 use Rattle.std.specs.Prelude.{ℕ, Bool, ◌&&◌, not, ◌≡◌, List, [], ◌∷◌, ◌++◌, map, length}
 use Rattle.answers.specs.declared.Refusal.TheVariants.{Malformed}
-use Rattle.lifetimes.specs.declared.maybe_static.MaybeStatic.{MaybeStatic}
+use Rattle.elision.specs.Rfc.{MethodLifetime}
 use Rattle.lifetimes.specs.declared.env.LifetimeEnv as hir
 use Rattle.answers.specs.Refusals.{Check, check, Outcome, unless, over}
 use Rattle.answers.specs.Lent.{Slice, Fills, room_check}
@@ -16,7 +16,7 @@ use Rattle.elision.specs.Steps.{self_in_shape, steps_in_shape, steps_of, receive
 use Rattle.elision.specs.Rfc.{Method, method_of, elision_checks}
 
 -- 01's lowered words: 0 static, k the lifetime numbered k − 1
-abbrev pub words : List MaybeStatic → List ℕ
+abbrev pub words : List MethodLifetime → List ℕ
 words ls = map word_of ls
 
 -- what RFC 141 says of the three records

@@ -16,7 +16,7 @@ use super::lowerer::{Seen, Standing, lower_word, standing_in, word_or_anonymous}
 use super::source::ElisionSource;
 use super::steps::{StepAt, read_step};
 use answers::Refusal;
-use lifetimes::MaybeStatic;
+use lifetimes::{Lifetime, MaybeStatic};
 use records::MAX_LIST;
 
 // A lowerer as it goes through the records: what is seen, whether the `Self` type was there, and how many lifetimes it
@@ -261,7 +261,7 @@ fn store(out: &mut [usize], at: usize, word: usize)
 }
 
 // The word of a lifetime.
-fn word_of(lifetime: MaybeStatic) -> usize
+fn word_of(lifetime: MaybeStatic<Lifetime>) -> usize
     ensures { result ≡ shown lifetime }
 {
     lifetime.word().unwrap_or(0)
