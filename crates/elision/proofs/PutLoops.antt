@@ -22,7 +22,7 @@ use Rattle.elision.specs.declared.lowerer.Lowerer.{Lowerer}
 use Rattle.elision.specs.declared.put.SmallLowerer.{SmallLowerer}
 use Rattle.elision.specs.Steps.{Step, read_step, steps_in_shape, steps_of}
 use Rattle.elision.specs.Machine.{Advanced, advanced, in_turn, fits, lower_step, one_step, run_steps}
-use Rattle.elision.specs.Inner.{StandsAt, end_of, shown, Shows, Given, Lowers, PutsStep}
+use Rattle.elision.specs.Inner.{StandsAt, step_end, shown, Shows, Given, Lowers, PutsStep}
 use Rattle.elision.specs.declared.steps.StepAt.{StepAt}
 use Rattle.elision.proofs.StepLaws.{ends_there}
 use Rattle.elision.proofs.PutLaws.{puts_missing}
@@ -229,7 +229,7 @@ module _ {names : List ℕ} {out : Bool} {words : List ℕ} {start : Lowerer} {s
               }
 
 pub recording_less : {words : List ℕ} {at : ℕ} {q : StepAt} → StandsAt words at (read_step (drop at words)) (Some q)
-    → {to : ℕ} → to ≡ end_of q → (at < to) × (to ≤ length words)
+    → {to : ℕ} → to ≡ step_end q → (at < to) × (to ≤ length words)
 recording_less stands e = ends_order (ends_there stands e)
 
 module _ {names : List ℕ} {out : Bool} {words : List ℕ} {before : SmallLowerer} {slice₀ slice : List ℕ}
@@ -256,7 +256,7 @@ module _ {names : List ℕ} {out : Bool} {words : List ℕ} {before : SmallLower
     }
 
     pub recording_more : {q : StepAt} → StandsAt words at (read_step (drop at words)) (Some q) → {m : ℕ}
-        → PutsStep names words out at n k k₁ slice slice₁ (Ok m) → {to : ℕ} → to ≡ end_of q
+        → PutsStep names words out at n k k₁ slice slice₁ (Ok m) → {to : ℕ} → to ≡ step_end q
         → length slice₁ ≡ length slice → Recording names out words before slice₀ slice₁ k₁ m to
     recording_more {q} stands {m} put {to} e size =
         let order = recording_less stands e in

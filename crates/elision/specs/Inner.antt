@@ -1,6 +1,7 @@
 -- For private functions only: where a step stands in a record, and what the inner functions answer. No public contract
 -- cites this file.
-use Rattle.std.specs.Prelude.{ℕ, ◌+◌, ◌-◌, ◌≤◌, ◌<◌, ◌≡◌, Bool, true, false, unwrap_or, List, ◌∷◌, map, length, take, drop, replicate, Ok, Err, Some, None, Option}
+use Rattle.std.specs.Prelude.{ℕ, ◌+◌, ◌-◌, ◌≤◌, ◌<◌, ◌≡◌, Bool, true, false, unwrap_or, List, ◌∷◌, map, length}
+use Rattle.std.specs.Prelude.{take, drop, replicate, Ok, Err, Some, None, Option}
 use Rattle.std.proofs.lemmas.List.Edits.{sets}
 use Rattle.elision.specs.Rfc.{MethodLifetime}
 use Rattle.answers.specs.declared.Refusal.{Refusal}
@@ -35,14 +36,14 @@ pub data StandsAt (words : List ℕ) (at : ℕ) : Reading Step → Option StepAt
   missing : StandsAt words at Fails None
 
 -- it stands somewhere
-abbrev pub Stands : List ℕ → StepAt → Type 0
-Stands words step = (at : ℕ) × StandsAt words at (read_step (drop at words)) (Some step)
+abbrev pub IsSomewhere : List ℕ → StepAt → Type 0
+IsSomewhere words step = (at : ℕ) × StandsAt words at (read_step (drop at words)) (Some step)
 
 -- the place behind it
-abbrev pub end_of : StepAt → ℕ
-end_of (standing.Lifetime word to) = to
-end_of (standing.Generics g from to) = to
-end_of (standing.SelfType from to) = to
+abbrev pub step_end : StepAt → ℕ
+step_end (standing.Lifetime word to) = to
+step_end (standing.Generics g from to) = to
+step_end (standing.SelfType from to) = to
 
 abbrev pub worded : Outcome (Advanced Seen) → Outcome Worded
 worded o = over (λ a. record { lifetime = first_or a.given; seen = a.left }) o
@@ -86,7 +87,8 @@ pub record Shows (s : Lowerer) (k : SmallLowerer) : Type 0 where
 
 -- what is given: the small lowerer shows the next one, and the words are in the slice from a place on, as far as it
 -- takes them; the place behind them is m
-pub record Given (o : Outcome (Advanced Lowerer)) (n : ℕ) (before behind : List ℕ) (k : SmallLowerer) (m : ℕ) : Type 0 where
+pub record Given (o : Outcome (Advanced Lowerer)) (n : ℕ) (before behind : List ℕ) (k : SmallLowerer)
+    (m : ℕ) : Type 0 where
   pub it : Advanced Lowerer
   pub is : o ≡ Ok it
   pub shows : Shows it.left k
@@ -125,7 +127,8 @@ totals o =
       count = m.count;
     }) o
 
-pub record RunsAll (o : Outcome Method) (own given taken own₁ given₁ taken₁ : List ℕ) (r : Outcome Totals) : Type 0 where
+pub record RunsAll (o : Outcome Method) (own given taken own₁ given₁ taken₁ : List ℕ)
+    (r : Outcome Totals) : Type 0 where
   pub answers : r ≡ totals o
   pub self : (m : Method) → o ≡ Ok m → own₁ ≡ sets own 0 (map shown m.self)
   pub steps : (m : Method) → o ≡ Ok m → given₁ ≡ sets given 0 (map shown m.steps)

@@ -79,7 +79,8 @@ abbrev pub return_words : Outcome Method → Outcome (List ℕ)
 return_words o = over (λ m. words m.returns) o
 
 -- both, of what `lower` gives
-pub record LowersTo (e : ast.LifetimeEnv) (o : Outcome Method) (r : Outcome Lowering) (own given taken : Slice) : Type 0 where
+pub record LowersTo (e : ast.LifetimeEnv) (o : Outcome Method) (r : Outcome Lowering)
+    (own given taken : Slice) : Type 0 where
   pub answer : r ≡ answered e o
   pub own_filled : Fills (own_words o) own
   pub given_filled : Fills (step_words o) given

@@ -40,8 +40,8 @@ pub record Says (names : List ℕ) (self : Receiver) (steps returns : List Step)
   -- an elided output has the source's lifetime, and there is one
   pub returned : (before : List Occurrence) (l : MethodLifetime) → source_at names self before ≡ Ok l
       → value_at names self before (occurs Output 1) ≡ l
-  pub source : (before : List Occurrence) → NoneDue (checks_at names self before (occurs Output 1)) → (l : MethodLifetime)
-      × (source_at names self before ≡ Ok l)
+  pub source : (before : List Occurrence) → NoneDue (checks_at names self before (occurs Output 1))
+      → (l : MethodLifetime) × (source_at names self before ≡ Ok l)
   -- each later kind 2 has the first one's list, and nothing of it is looked up
   pub again : (before : List Item) (i : Item) → has_self_type before ≡ true → is_self_type i.step ≡ true
       → (lowered_at names self before i ≡ own_from names self [] before) × (occurrences_at before i ≡ [])

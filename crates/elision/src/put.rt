@@ -7,7 +7,8 @@ ghost use Rattle.std.proofs.lemmas.List.Edits.{sets};
 ghost use Rattle.elision.specs.Steps.{receiver_of, read_step, steps_in_shape, steps_of};
 ghost use Rattle.elision.specs.Rfc.{appended, standing_in};
 ghost use Rattle.elision.specs.Machine.{lower_words, lower_self, words_step, self_step, run_steps};
-ghost use Rattle.elision.specs.Inner.{StandsAt, Stands, shown, small_unused, Shows, Lowers, Puts, PutsOne, PutsStep};
+ghost use Rattle.elision.specs.Inner.{StandsAt, IsSomewhere, shown, small_unused};
+ghost use Rattle.elision.specs.Inner.{Shows, Lowers, Puts, PutsOne, PutsStep};
 ghost use Rattle.elision.specs.declared.lowerer.Lowerer.{Lowerer};
 ghost use Rattle.answers.specs.Lent.{held, left};
 ghost use Rattle.records.specs.Reading.{most_list};
@@ -131,7 +132,7 @@ impl SmallLowerer {
         n: usize,
         out: &mut [usize],
     ) -> Result<usize, Refusal>
-        requires { Stands words.now step × (self.old.own ≤ most_list) × (n ≤ 65536) }
+        requires { IsSomewhere words.now step × (self.old.own ≤ most_list) × (n ≤ 65536) }
         ensures { (at : ℕ) → StandsAt words.now at (read_step (drop at words.now)) (Some step)
             → PutsStep names.now words.now output at n (held self) (left self) (held out) (left out) result }
     {
@@ -208,8 +209,8 @@ impl SmallLowerer {
         Ok(self.put_own(n, out))
     }
 
-    // Store the words of the lifetimes of the `Self` type from a place on, as far as the slice takes them; the answer is
-    // the place behind them.
+    // Store the words of the lifetimes of the `Self` type from a place on, as far as the slice takes them; the answer
+    // is the place behind them.
     fn put_own(&self, n: usize, out: &mut [usize]) -> usize
         requires { (self.now.own ≤ most_list) × (n ≤ 65536) }
         ensures answer { result ≡ n + self.now.own }
