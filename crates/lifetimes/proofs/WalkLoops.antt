@@ -219,3 +219,26 @@ module _ {ix : Index} {limit start : ℕ} (walkable : Walkable ix limit start) {
     pub turn_small : {l : Lifetime} → r.next ≡ Some l → l.0 < 64
     turn_small h = let (g, k, w) = walkable.0 in
         omega (arith, walkable.1, walking_small k w walkable.1 (inv g k w) (turn_steps g k w) h)
+
+    -- what the next turn has: the new lifetime stands among the items, and the rest of its bound's chain is stacked, or
+    -- has ended
+    module _ {l : Lifetime} (found : r.next ≡ Some l) (m : n < limit) (full : length items ≡ 64) {y seen' : ℕ}
+        (marked : seen' ≡ insert seen y) (is : y ≡ l.0) where
+      after : {stack' : List ℕ} {depth' : ℕ} → depth' ≤ r.depth + 1
+          → ((g : Graph) → Indexed g ix → Within g limit → Stacked g stack' depth' (pending g stack r.at r.depth))
+          → (g : Graph) → Indexed g ix → Within g limit
+          → Walking g limit start (set items n y) stack' (n + 1) seen' depth' (get_or ix.last y 0)
+      after d st g k w =
+          rw (marked, is) (walking_more k w walkable.1 (inv g k w) (turn_steps g k w) found m full d (st g k w))
+
+      held : (g : Graph) → Indexed g ix → Within g limit → (j : ℕ) → j < r.depth → get_or stack j 0 ≤ length g.bounds
+      held g k w = walking_held k w walkable.1 (inv g k w) (turn_steps g k w) found
+
+      pub turn_pushed : length stack ≡ 64 → (g : Graph) → Indexed g ix → Within g limit
+          → Walking g limit start (set items n y) (set stack r.depth r.at) (n + 1) seen' (r.depth + 1) (get_or ix.last y 0)
+      turn_pushed size = after (omega arith) (λ g k w.
+          stacked_push stack r.depth r.at (turn_steps g k w).here (held g k w) (omega (arith, size, turn_deep m)))
+
+      pub turn_ended : r.at ≡ 0 → (g : Graph) → Indexed g ix → Within g limit
+          → Walking g limit start (set items n y) stack (n + 1) seen' r.depth (get_or ix.last y 0)
+      turn_ended z = after (omega arith) (λ g k w. stacked_same stack r.depth r.at (turn_steps g k w).here (held g k w) z)
