@@ -1,7 +1,8 @@
 -- The AST's environment, as `from_method_item` builds it: names in order of declaration, and bounds between them by
 -- number.
 use Rattle.std.specs.Prelude.{ℕ, suc, ◌+◌, ◌-◌, Bool, true, cond, ◌&&◌, not, List, [], ◌∷◌, ◌++◌, map, eqb}
-use Rattle.std.specs.Prelude.{leb, ltb, length, take, replicate}
+use Rattle.std.specs.Prelude as prelude
+use Rattle.std.specs.Prelude.{leb, ltb, length, take, replicate, position}
 use Rattle.answers.specs.declared.Refusal.TheVariants.{Malformed, Duplicate, Undeclared, Full}
 use Rattle.lifetimes.specs.declared.bounds.Bound.{Bound}
 use Rattle.answers.specs.Lists.{any, filter}
@@ -30,6 +31,10 @@ place (name ∷ names) word = cond (eqb name word) 0 (suc (place names word))
 
 abbrev pub is_declared : List ℕ → ℕ → Bool
 is_declared names word = ltb (place names word) (length names)
+
+-- the number of a name; none for one that is not declared
+abbrev pub number_of : List ℕ → ℕ → prelude.Option ℕ
+number_of names word = position (λ name. eqb name word) names
 
 -- at a name: a 33rd (4), declared again (2)
 unfoldable pub name_checks : List ℕ → List ℕ → List Check
