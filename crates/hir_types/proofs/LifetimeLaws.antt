@@ -7,6 +7,7 @@ use native.Mathlib.Omega.{arith}
 use lib.ListN.{length, get_or, drop_of_length-le}
 use lib.Seq.{drop-cons}
 use Rattle.answers.specs.declared.Refusal.TheVariants.{Malformed}
+use Rattle.lifetimes.specs.declared.lifetime.Lifetime.{Lifetime}
 use Rattle.lifetimes.specs.declared.maybe_static.MaybeStatic.{MaybeStatic}
 use Rattle.lifetimes.specs.LoweredWords.{from_word}
 use Rattle.records.specs.Reading.{Fails}
@@ -21,13 +22,13 @@ use Rattle.hir_types.proofs.FoundLaws.{Found, path_word}
 
 -- ---- the entry at an index
 
-entry_path : (l : List ℕ) (m : List MaybeStatic) (i : ℕ) → i < length l
+entry_path : (l : List ℕ) (m : List (MaybeStatic Lifetime)) (i : ℕ) → i < length l
     → slice_get (map from_word l ++ m) i ≡ Some (from_word (get_or l i 0))
 entry_path [] m i h = absurd (omega arith)
 entry_path (w ∷ l) m zero h = refl
 entry_path (w ∷ l) m (suc i) h = entry_path l m i (omega arith)
 
-entry_past : (l : List ℕ) (m : List MaybeStatic) (i : ℕ) → length l ≤ i
+entry_past : (l : List ℕ) (m : List (MaybeStatic Lifetime)) (i : ℕ) → length l ≤ i
     → slice_get (map from_word l ++ m) i ≡ slice_get m (i - length l)
 entry_past [] m i h = let e : i - 0 ≡ i = omega arith in rw e
 entry_past (w ∷ l) m zero h = absurd (omega arith)
@@ -63,8 +64,8 @@ in_order t =
 
 -- ---- a type's own lifetime: what the answer of `Own::lifetime` says
 
-module _ {r : Option MaybeStatic} (o : Own) (is : r ≡ own_lifetime o) where
-  pub own_one : {m : MaybeStatic} → r ≡ Some m → own_lifetimes o ≡ m ∷ []
+module _ {r : Option (MaybeStatic Lifetime)} (o : Own) (is : r ≡ own_lifetime o) where
+  pub own_one : {m : MaybeStatic Lifetime} → r ≡ Some m → own_lifetimes o ≡ m ∷ []
   own_one e = ap one_or_none (sym is ∙ e)
 
   pub own_none : r ≡ None → own_lifetimes o ≡ []
@@ -89,7 +90,7 @@ module _ (words : List ℕ) (index : ℕ) where
       unfolding type_lifetimes
       all_read = rw (f.reads, ← f.stands.left, e, drop_of_length-le words {i = length words} (omega arith))
 
-      pub lifetimes_path : {m : MaybeStatic} → index < p.count → m ≡ from_word (get_or words (p.from + index) 0)
+      pub lifetimes_path : {m : MaybeStatic Lifetime} → index < p.count → m ≡ from_word (get_or words (p.from + index) 0)
           → Ok (Some m) ≡ over (λ l. slice_get l index) (type_lifetimes words)
       lifetimes_path h k =
           let s = f.stands in
@@ -100,7 +101,7 @@ module _ (words : List ℕ) (index : ℕ) where
             entry_path f.type.path (own_lifetimes f.type.own) index (omega (arith, s.count)),
           )
 
-      pub lifetimes_own : {r : Option MaybeStatic} → index ≡ p.count → r ≡ own_lifetime p.own
+      pub lifetimes_own : {r : Option (MaybeStatic Lifetime)} → index ≡ p.count → r ≡ own_lifetime p.own
           → Ok r ≡ over (λ l. slice_get l index) (type_lifetimes words)
       lifetimes_own h k =
           let s = f.stands in

@@ -3,6 +3,7 @@
 use Rattle.std.specs.Prelude.{ℕ, ◌+◌, ◌-◌, ◌^◌, Bool, true, false, cond, List, [], ◌∷◌, ◌++◌, map, eqb, ltb, length}
 use Rattle.std.specs.Prelude.{Ok, Err, Some, None, Option}
 use Rattle.answers.specs.declared.Refusal.TheVariants.{Malformed}
+use Rattle.lifetimes.specs.declared.lifetime.Lifetime.{Lifetime}
 use Rattle.lifetimes.specs.declared.maybe_static.MaybeStatic.{MaybeStatic}
 use Rattle.lifetimes.specs.declared.maybe_static.MaybeStatic.TheVariants.{NonStatic}
 use Rattle.lifetimes.specs.Numbers.{lifetime}
@@ -102,26 +103,26 @@ located at n Fails = None
 -- Its lifetimes (`Type::lifetimes`): the path words, then the borrow. That of `Strs` is numbered 2^64 - 1, outside
 -- every environment
 
-abbrev pub own_lifetime : Own → Option MaybeStatic
+abbrev pub own_lifetime : Own → Option (MaybeStatic Lifetime)
 own_lifetime Absent = None
 own_lifetime (Word word) = Some (from_word word)
 own_lifetime Strs = Some (NonStatic (lifetime (2 ^ 64 - 1)))
 
-abbrev pub one_or_none : Option MaybeStatic → List MaybeStatic
+abbrev pub one_or_none : Option (MaybeStatic Lifetime) → List (MaybeStatic Lifetime)
 one_or_none (Some m) = m ∷ []
 one_or_none None = []
 
-abbrev pub own_lifetimes : Own → List MaybeStatic
+abbrev pub own_lifetimes : Own → List (MaybeStatic Lifetime)
 own_lifetimes own = one_or_none (own_lifetime own)
 
-abbrev pub lifetimes_of : LoweredType → List MaybeStatic
+abbrev pub lifetimes_of : LoweredType → List (MaybeStatic Lifetime)
 lifetimes_of t = map from_word t.path ++ own_lifetimes t.own
 
 -- the lifetimes of the one type that some words are; 1 where they are none, or more
-abbrev pub only_type : Reading LoweredType → Outcome (List MaybeStatic)
+abbrev pub only_type : Reading LoweredType → Outcome (List (MaybeStatic Lifetime))
 only_type (Read t []) = Ok (lifetimes_of t)
 only_type (Read t (word ∷ words)) = Err Malformed
 only_type Fails = Err Malformed
 
-unfoldable pub type_lifetimes : List ℕ → Outcome (List MaybeStatic)
+unfoldable pub type_lifetimes : List ℕ → Outcome (List (MaybeStatic Lifetime))
 type_lifetimes words = only_type (read_lowered words)

@@ -18,6 +18,7 @@ pub enum Kind {
     Slice,
 }
 
+// The codes stay numbers: they are the words of the record, and at any other word no type begins.
 impl Kind {
     // The code with which a type without lifetimes begins.
     pub const PLAIN: usize = 0;
@@ -54,7 +55,7 @@ pub enum Own {
 
 impl Own {
     // The lifetime, if there is one.
-    pub fn lifetime(self) -> Option<MaybeStatic>
+    pub fn lifetime(self) -> Option<MaybeStatic<Lifetime>>
         ensures answer { result ≡ own_lifetime self }
     {
         match self {
@@ -85,7 +86,10 @@ impl Parts {
 // The lifetime at an index among those of the type that some words are (the Rust's `Type::lifetimes`), if there is one:
 // the path words in order, then the borrow; an option has its inner type's. Refused by 1 where the words are no lowered
 // type, or more than one. The row of a struct is not looked up.
-pub fn type_lifetimes(words: &[usize], index: usize) -> Result<Option<MaybeStatic>, Refusal>
+pub fn type_lifetimes(
+    words: &[usize],
+    index: usize,
+) -> Result<Option<MaybeStatic<Lifetime>>, Refusal>
     ensures answer { result ≡ over (λ l. slice_get l index) (type_lifetimes words.now) }
 {
     let parts = type_at(words, 0).ok_or(Refusal::Malformed)?;

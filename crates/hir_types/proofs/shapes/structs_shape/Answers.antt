@@ -1,7 +1,6 @@
 -- `structs_shape` meets its contract. The loop's invariant is `Counting`; the measure is how many words are to be read.
 use borrow.Author.Rules.{rules}
-use native.Mathlib.Omega.{arith}
-use Rattle.records.proofs.EndLaws.{ends_told, ends_past}
+use Rattle.records.proofs.EndLaws.{ends_told}
 use Rattle.answers.specs.declared.Refusal.TheVariants.{Malformed}
 use Rattle.hir_types.proofs.QuestionLaws.{handed_on, was_some, was_none}
 use Rattle.hir_types.proofs.ShapeLoops.{counting_start, counting_long, counting_end}
@@ -19,9 +18,6 @@ returns-in_err-at c = let none = was_none c.row_end.result Malformed c.in_err-at
   answer = rw (handed_on c.from_residual.ensures.1, none.1)
       (counting_missing c.loop-at.invariant c.loop-at-test.true (ends_told c.row_end.ensures none.0));
 }
-
-pub loop-at-smaller : goal.loop-at-smaller
-loop-at-smaller c = omega (arith, ends_past (ends_told c.row_end.ensures (was_some c.row_end.result Malformed c.in_ok-at.ensures.value)))
 
 pub loop-at-preserved : goal.loop-at-preserved
 loop-at-preserved c = counting_more c.loop-at.invariant c.loop-at-test.true

@@ -1,10 +1,7 @@
 -- `types_end` meets its contract. The loop's invariant is `Ending` of proofs/EndLaws.antt.
 use borrow.Author.Rules.{rules}
-use Rattle.hir_types.proofs.EndLaws.{ending_start, ending_missing, ending_more, ending_end}
+use Rattle.hir_types.proofs.EndLaws.{ending_missing, ending_more, ending_end}
 use Rattle.hir_types.proofs.shapes.types_end.Goals as goal
-
-pub loop-i-init : goal.loop-i-init
-loop-i-init c = search (ending_start, rules)
 
 pub returns-in_err-at : goal.returns-in_err-at
 returns-in_err-at c = rw c.from_residual.ensures (ending_missing c.loop-i.invariant c.loop-i-test.true c.in_err-at.ensures)
