@@ -2,6 +2,7 @@
 use Rattle.std.specs.Prelude.{Ok, Err}
 use Prim.Native.Nat.{ℕ, ◌-◌, ◌≤◌, ◌<◌}
 use mathlib.Core.Bool.{Bool, true, false, not, and-eq-true_iff}
+use mathlib.Core.Logic.{◌⊎◌, inl, inr}
 use mathlib.Core.Path.{◌≡◌, refl, sym, ap, subst, ◌∙◌}
 use mathlib.Core.List.{List, ◌++◌, map}
 use native.Mathlib.Nat.{sub-zero}
@@ -235,23 +236,20 @@ module _ {e : ast.LifetimeEnv} {self steps returns : List ℕ} {m : Lowering} (h
         → LowersTo e (whole e self steps returns own given taken) x own given taken
     no_room n f = refused_answers e self steps returns own given taken n (first_after h.none f)
 
-    pub lower_own : room own < m.selves → x ≡ Err NoRoom → Stays own → Stays given → Stays taken
-        → LowersTo e (whole e self steps returns own given taken) x own given taken
-    lower_own l n = no_room n (here (lacks (words method.self) selves l) refl)
-
-    pub lower_given : m.selves ≤ room own → room given < m.steps → x ≡ Err NoRoom → Stays own → Stays given → Stays taken
-        → LowersTo e (whole e self steps returns own given taken) x own given taken
-    lower_given room₁ l n =
-        no_room n
-        (later (fits (words method.self) selves room₁) (here (lacks (words method.steps) stepped l) refl))
-
-    pub lower_taken : m.selves ≤ room own → m.steps ≤ room given → room taken < m.returns → x ≡ Err NoRoom
+    -- one of the slices is too short
+    pub lower_short : (room own < m.selves)
+        ⊎ (((m.selves ≤ room own) × (room given < m.steps))
+        ⊎ ((m.selves ≤ room own) × (m.steps ≤ room given) × (room taken < m.returns))) → x ≡ Err NoRoom
         → Stays own → Stays given → Stays taken
         → LowersTo e (whole e self steps returns own given taken) x own given taken
-    lower_taken room₁ room₂ l n =
+    lower_short (inl l) n = no_room n (here (lacks (words method.self) selves l) refl)
+    lower_short (inr (inl h)) n =
         no_room n
-        (later (fits (words method.self) selves room₁)
-        (later (fits (words method.steps) stepped room₂) (here (lacks (words method.returns) returned l) refl)))
+        (later (fits (words method.self) selves h.0) (here (lacks (words method.steps) stepped h.1) refl))
+    lower_short (inr (inr h)) n =
+        no_room n
+        (later (fits (words method.self) selves h.0)
+        (later (fits (words method.steps) stepped h.1) (here (lacks (words method.returns) returned h.2) refl)))
 
   module _ (own given taken : Slice) {t : Outcome Totals} (room₁ : m.selves ≤ room own) (room₂ : m.steps ≤ room given)
       (room₃ : m.returns ≤ room taken) (full : length e.names ≡ 32)

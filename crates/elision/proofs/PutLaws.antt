@@ -10,11 +10,9 @@ use native.Mathlib.Omega.{arith}
 use lib.ListN.{length, get_or, take, drop, set, length-map, length-set}
 use lib.Seq.{sets, length-sets, take_at}
 use Rattle.answers.specs.declared.Refusal.{Refusal}
-use Rattle.answers.specs.declared.Refusal.TheVariants.{Malformed}
-use Rattle.answers.specs.Refusals.{Outcome, over}
+use Rattle.answers.specs.Refusals.{Outcome}
 use Rattle.answers.proofs.Copying.{sets_front, Copying, copying_start, copying_more, copying_end}
 use Rattle.records.specs.Reading.{Reading, Read, Fails}
-use Rattle.records.specs.Ends.{EndsAt}
 use Rattle.elision.proofs.OutcomeLaws.{both, same_given, same_refused}
 use Rattle.elision.specs.declared.steps.StepAt.{StepAt}
 use Rattle.elision.specs.declared.steps.StepAt.TheVariants as standing
@@ -24,15 +22,13 @@ use Rattle.elision.specs.declared.lowerer.Seen.{Seen}
 use Rattle.elision.specs.declared.lowerer.Lowerer.{Lowerer}
 use Rattle.elision.specs.declared.put.SmallLowerer.{SmallLowerer}
 use Rattle.elision.specs.declared.put.Put.{Put}
-use Rattle.elision.specs.declared.put.Took.{Took}
 use Rattle.elision.specs.Steps.{Step, read_step}
 use Rattle.elision.specs.Rfc.{appended, standing_in}
 use Rattle.elision.specs.Machine.{Advanced, advanced, values_in, laid, lower_words, words_step, self_step, lower_step}
 use Rattle.elision.specs.Inner.{StandsAt, shown, Puts, Shows, Given, Lowers, PutsOne, PutsStep}
 use Rattle.elision.specs.Inner as inner
 use Rattle.elision.proofs.RfcLaws.{laid_values}
-use Rattle.elision.proofs.StepLaws.{ends_lifetime, ends_generics, ends_self}
-use Rattle.elision.proofs.TookLaws.{told}
+use Rattle.elision.proofs.PartLaws.{told}
 use Rattle.records.proofs.ReadingLaws.{fails_read}
 
 -- ---- what `put_words` answers
@@ -232,68 +228,47 @@ same_self names out (inner.self_type l d b m x) step rest e s = rw (← same_ste
 missing_fails : {words : List ℕ} {at : ℕ} {reading : Reading Step} → StandsAt words at reading None → reading ≡ Fails
 missing_fails inner.missing = refl
 
-pub puts_missing : {words : List ℕ} {at : ℕ} → StandsAt words at (read_step (drop at words)) None
-    → (names : List ℕ) (out : Bool) (n : ℕ) (k : SmallLowerer) {before : List ℕ} → k.own ≤ 16
-    → PutsStep names words out at n k k before before (Err Malformed)
-puts_missing stands names out n k few = record {
-  few = few;
-  near = λ t q. both q;
-  ends = λ t q. both q;
-  lowers = λ s sh step rest q. fails_read (sym (missing_fails stands) ∙ q);
+-- where no step stands, none is read
+pub puts_missing : {words : List ℕ} {at : ℕ} → StandsAt words at (read_step (drop at words)) None → {step : Step}
+    {rest : List ℕ} {A : Type 0} → read_step (drop at words) ≡ Read step rest → A
+puts_missing stands q = fails_read (sym (missing_fails stands) ∙ q)
+
+-- one step, where it is the one that stands there
+puts : {words : List ℕ} {at : ℕ} {names : List ℕ} {out : Bool} {n : ℕ} {k k₁ : SmallLowerer} {before behind : List ℕ}
+    {r : Outcome ℕ} (step : Lowerer → Outcome (Advanced Lowerer))
+    → ((step₁ : Step) (rest : List ℕ) → read_step (drop at words) ≡ Read step₁ rest → (s : Lowerer)
+    → step s ≡ lower_step names out step₁ s)
+    → PutsOne step n k k₁ before behind r → PutsStep names words out at n k k₁ before behind r
+puts {n = n} {k₁ = k₁} {before = before} {behind = behind} {r = r} step same p = record {
+  few = p.few;
+  near = p.near;
+  lowers = λ s sh step₁ rest e. subst (λ (o : Outcome (Advanced Lowerer)). Lowers o n before behind k₁ r)
+      (same step₁ rest e s) (p.lowers s sh);
 }
 
--- what a step took that ends there
-abbrev taken : ℕ → Outcome ℕ → Outcome Took
-taken to o = over (λ m. record { n = m; to = to }) o
+module _ {words : List ℕ} {q : StepAt} (names : List ℕ) (out : Bool) (n : ℕ) {k k₁ : SmallLowerer}
+    {before behind : List ℕ} {r : Outcome ℕ} where
+  pub puts_lifetime : {word to : ℕ} → q ≡ standing.Lifetime word to
+      → PutsOne (words_step names (standing_in out) (appended 0 (take (to - (to - 1)) (drop (to - 1) words)))) n k k₁
+      before behind r
+      → (at : ℕ) → StandsAt words at (read_step (drop at words)) (Some q)
+      → PutsStep names words out at n k k₁ before behind r
+  puts_lifetime {word} {to} e p at stands =
+      puts (words_step names (standing_in out) (appended 0 (take (to - (to - 1)) (drop (to - 1) words))))
+      (same_lifetime names out (told stands e)) p
 
-module _ {words : List ℕ} {at : ℕ} {r : StepAt} (stands : StandsAt words at (read_step (drop at words)) (Some r)) where
-  module _ (names : List ℕ) (out : Bool) (n : ℕ) {k k₁ : SmallLowerer} {before behind : List ℕ} {o : Outcome ℕ}
-      {t : Outcome Took} where
-    -- one step, where it is the one that stands there
-    puts : {to : ℕ} (step : Lowerer → Outcome (Advanced Lowerer)) → EndsAt words at (read_step (drop at words)) (Some to)
-        → ((step₁ : Step) (rest : List ℕ) → read_step (drop at words) ≡ Read step₁ rest → (s : Lowerer)
-        → step s ≡ lower_step names out step₁ s)
-        → PutsOne step n k k₁ before behind o → t ≡ taken to o
-        → PutsStep names words out at n k k₁ before behind t
-    puts {to} step ended same p e =
-        subst (λ (x : Outcome Took). PutsStep names words out at n k k₁ before behind x) (sym e) (go o p)
-      where
-        go : (o : Outcome ℕ) → PutsOne step n k k₁ before behind o
-            → PutsStep names words out at n k k₁ before behind (taken to o)
-        go (Ok m) p = record {
-          few = p.few;
-          near = λ x q. let same : record { n = m; to = to } ≡ x = same_given q in
-              omega (arith, p.near m refl, ap (λ (y : Took). y.n) same);
-          ends = λ x q. let same : record { n = m; to = to } ≡ x = same_given q in
-              subst (λ (y : ℕ). EndsAt words at (read_step (drop at words)) (Some y)) (ap (λ (y : Took). y.to) same) ended;
-          lowers = λ s sh step₁ rest f. subst (λ (x : Outcome (Advanced Lowerer)). Lowers x n before behind k₁ (Ok m))
-              (same step₁ rest f s) (p.lowers s sh);
-        }
-        go (Err j) p = record {
-          few = p.few;
-          near = λ x q. both q;
-          ends = λ x q. both q;
-          lowers = λ s sh step₁ rest f. subst (λ (x : Outcome (Advanced Lowerer)). Lowers x n before behind k₁ (Err j))
-              (same step₁ rest f s) (p.lowers s sh);
-        }
+  pub puts_generics : {g from to : ℕ} → q ≡ standing.Generics g from to
+      → PutsOne (words_step names (standing_in out) (appended g (take (to - from) (drop from words)))) n k k₁ before
+      behind r
+      → (at : ℕ) → StandsAt words at (read_step (drop at words)) (Some q)
+      → PutsStep names words out at n k k₁ before behind r
+  puts_generics {g} {from} {to} e p at stands =
+      puts (words_step names (standing_in out) (appended g (take (to - from) (drop from words))))
+      (same_generics names out (told stands e)) p
 
-    pub puts_lifetime : {word to : ℕ} → r ≡ standing.Lifetime word to
-        → PutsOne (words_step names (standing_in out) (appended 0 (take (to - (to - 1)) (drop (to - 1) words)))) n k k₁
-        before behind o → t ≡ taken to o → PutsStep names words out at n k k₁ before behind t
-    puts_lifetime {word} {to} e p q =
-        puts (words_step names (standing_in out) (appended 0 (take (to - (to - 1)) (drop (to - 1) words))))
-        (ends_lifetime stands e) (same_lifetime names out (told stands e)) p q
-
-    pub puts_generics : {g from to : ℕ} → r ≡ standing.Generics g from to
-        → PutsOne (words_step names (standing_in out) (appended g (take (to - from) (drop from words)))) n k k₁ before
-        behind o → t ≡ taken to o → PutsStep names words out at n k k₁ before behind t
-    puts_generics {g} {from} {to} e p q =
-        puts (words_step names (standing_in out) (appended g (take (to - from) (drop from words)))) (ends_generics stands e)
-        (same_generics names out (told stands e)) p q
-
-    pub puts_self : {from to : ℕ} → r ≡ standing.SelfType from to
-        → PutsOne (self_step names (take (to - from) (drop from words))) n k k₁ before behind o → t ≡ taken to o
-        → PutsStep names words out at n k k₁ before behind t
-    puts_self {from} {to} e p q =
-        puts (self_step names (take (to - from) (drop from words))) (ends_self stands e)
-        (same_self names out (told stands e)) p q
+  pub puts_self : {from to : ℕ} → q ≡ standing.SelfType from to
+      → PutsOne (self_step names (take (to - from) (drop from words))) n k k₁ before behind r
+      → (at : ℕ) → StandsAt words at (read_step (drop at words)) (Some q)
+      → PutsStep names words out at n k k₁ before behind r
+  puts_self {from} {to} e p at stands =
+      puts (self_step names (take (to - from) (drop from words))) (same_self names out (told stands e)) p

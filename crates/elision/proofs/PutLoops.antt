@@ -1,6 +1,6 @@
 -- A record lowered step by step: the loop of `put_steps`. What is left to be read, lowered from here behind what is
 -- done, is what the whole record gives.
-use Rattle.std.specs.Prelude.{Ok, Err, Some}
+use Rattle.std.specs.Prelude.{Ok, Err, Some, None}
 use Prim.Native.Nat.{ℕ, zero, suc, ◌+◌, ◌*◌, ◌≤◌, ◌<◌}
 use mathlib.Core.Bool.{Bool, true, and-eq-true_iff}
 use mathlib.Core.Path.{◌≡◌, refl, sym, ap, ◌∙◌}
@@ -11,6 +11,7 @@ use borrow.Author.Tests.{leb-true}
 use lib.ListN.{length, drop, length-append, length-map, length-drop, drop_of_length-le}
 use lib.Seq.{sets}
 use Rattle.answers.specs.declared.Refusal.{Refusal}
+use Rattle.answers.specs.declared.Refusal.TheVariants.{Malformed}
 use Rattle.lifetimes.specs.declared.maybe_static.MaybeStatic.{MaybeStatic}
 use Rattle.answers.specs.Refusals.{Outcome, bind}
 use Rattle.answers.proofs.Copying.{sets_append}
@@ -19,10 +20,12 @@ use Rattle.records.specs.Ends.{EndsAt, ends}
 use Rattle.records.proofs.ReadingLaws.{passed, fails_read}
 use Rattle.elision.specs.declared.lowerer.Lowerer.{Lowerer}
 use Rattle.elision.specs.declared.put.SmallLowerer.{SmallLowerer}
-use Rattle.elision.specs.declared.put.Took.{Took}
 use Rattle.elision.specs.Steps.{Step, read_step, steps_in_shape, steps_of}
 use Rattle.elision.specs.Machine.{Advanced, advanced, in_turn, fits, lower_step, one_step, run_steps}
-use Rattle.elision.specs.Inner.{shown, Shows, Given, Lowers, PutsStep}
+use Rattle.elision.specs.Inner.{StandsAt, end_of, shown, Shows, Given, Lowers, PutsStep}
+use Rattle.elision.specs.declared.steps.StepAt.{StepAt}
+use Rattle.elision.proofs.StepLaws.{ends_there}
+use Rattle.elision.proofs.PutLaws.{puts_missing}
 use Rattle.elision.proofs.OutcomeLaws.{both, same_given, carried}
 
 abbrev item : ℕ → List ℕ → Reading Step
@@ -188,9 +191,10 @@ module _ {names : List ℕ} {out : Bool} {words : List ℕ} {start : Lowerer} {s
           → run_steps names out (steps_of words) start ≡ Err j
       reached_refused {j} put = rw (next, (put.lowers inv.here inv.shows turn.step turn.behind turn.is).refused j refl)
 
-      reached_more : {t : Took} → PutsStep names words out at n k k₁ slice slice₁ (Ok t)
-          → Reached names out words start slice₀ slice₁ k₁ t.n t.to
-      reached_more {t} put = go ((put.lowers inv.here inv.shows turn.step turn.behind turn.is).accepted t.n refl)
+      reached_more : {m to : ℕ} → EndsAt words at (read_step (drop at words)) (Some to)
+          → PutsStep names words out at n k k₁ slice slice₁ (Ok m)
+          → Reached names out words start slice₀ slice₁ k₁ m to
+      reached_more {m} {to} ended put = go ((put.lowers inv.here inv.shows turn.step turn.behind turn.is).accepted m refl)
         where
           join : (a : Advanced Lowerer) (o : Outcome (Advanced Lowerer))
               → bind (bind o (λ rest. Ok (advanced (a.given ++ rest.given) rest.left))) (behind_done inv.done)
@@ -198,8 +202,8 @@ module _ {names : List ℕ} {out : Bool} {words : List ℕ} {start : Lowerer} {s
           join a (Ok b) = rw append_assoc
           join a (Err k) = refl
 
-          go : Given (lower_step names out turn.step inv.here) n slice slice₁ k₁ t.n
-              → Reached names out words start slice₀ slice₁ k₁ t.n t.to
+          go : Given (lower_step names out turn.step inv.here) n slice slice₁ k₁ m
+              → Reached names out words start slice₀ slice₁ k₁ m to
           go g =
               let a = g.it in
               let size : length (map shown inv.done) ≡ n = length-map inv.done shown ∙ inv.count in
@@ -209,7 +213,7 @@ module _ {names : List ℕ} {out : Bool} {words : List ℕ} {start : Lowerer} {s
                 fuel = turn.fuel;
                 rest = turn.items;
                 tail = inv.tail;
-                reads = rw (ends_behind turn.step turn.behind (put.ends t refl) turn.is) turn.more;
+                reads = rw (ends_behind turn.step turn.behind ended turn.is) turn.more;
                 done = inv.done ++ a.given;
                 count = length-append inv.done a.given ∙ rw (inv.count, g.count);
                 here = a.left;
@@ -224,9 +228,9 @@ module _ {names : List ℕ} {out : Bool} {words : List ℕ} {start : Lowerer} {s
                 );
               }
 
-pub recording_less : {names words : List ℕ} {out : Bool} {at n : ℕ} {k k₁ : SmallLowerer} {slice slice₁ : List ℕ}
-    {t : Took} → PutsStep names words out at n k k₁ slice slice₁ (Ok t) → (at < t.to) × (t.to ≤ length words)
-recording_less {t = t} put = ends_order (put.ends t refl)
+pub recording_less : {words : List ℕ} {at : ℕ} {q : StepAt} → StandsAt words at (read_step (drop at words)) (Some q)
+    → {to : ℕ} → to ≡ end_of q → (at < to) × (to ≤ length words)
+recording_less stands e = ends_order (ends_there stands e)
 
 module _ {names : List ℕ} {out : Bool} {words : List ℕ} {before : SmallLowerer} {slice₀ slice : List ℕ}
     {k : SmallLowerer} {n at : ℕ} (inv : Recording names out words before slice₀ slice k n at) where
@@ -237,6 +241,11 @@ module _ {names : List ℕ} {out : Bool} {words : List ℕ} {before : SmallLower
       → Lowers (run_steps names out (steps_of words) s) 0 slice₀ slice k (Ok n)
   recording_end h s sh = reached_end (inv.reached s sh) h
 
+  -- where no step stands
+  pub recording_torn : StandsAt words at (read_step (drop at words)) None → at < length words → (s : Lowerer)
+      → Shows s before → Lowers (run_steps names out (steps_of words) s) 0 slice₀ slice k (Err Malformed)
+  recording_torn stands h s sh = puts_missing stands (turn (inv.reached s sh) h).is
+
   module _ {k₁ : SmallLowerer} {slice₁ : List ℕ} where
     pub recording_refused : {j : Refusal} → PutsStep names words out at n k k₁ slice slice₁ (Err j)
         → at < length words → {r : Outcome ℕ} → r ≡ Err j → (s : Lowerer) → Shows s before
@@ -246,16 +255,17 @@ module _ {names : List ℕ} {out : Bool} {words : List ℕ} {before : SmallLower
       refused = λ i q. reached_refused (inv.reached s sh) h put ∙ carried (sym e ∙ q);
     }
 
-    pub recording_more : {t : Took} → PutsStep names words out at n k k₁ slice slice₁ (Ok t)
-        → length slice₁ ≡ length slice → Recording names out words before slice₀ slice₁ k₁ t.n t.to
-    recording_more {t} put size =
-        let order = recording_less put in
+    pub recording_more : {q : StepAt} → StandsAt words at (read_step (drop at words)) (Some q) → {m : ℕ}
+        → PutsStep names words out at n k k₁ slice slice₁ (Ok m) → {to : ℕ} → to ≡ end_of q
+        → length slice₁ ≡ length slice → Recording names out words before slice₀ slice₁ k₁ m to
+    recording_more {q} stands {m} put {to} e size =
+        let order = recording_less stands e in
         let h : at < length words = omega (arith, order.0, order.1) in
         record {
           few = inv.few;
           within = order.1;
-          small = omega (arith, inv.small, put.near t refl, order.0);
+          small = omega (arith, inv.small, put.near m refl, order.0);
           held = put.few;
           size = size ∙ inv.size;
-          reached = λ s sh. reached_more (inv.reached s sh) h put;
+          reached = λ s sh. reached_more (inv.reached s sh) h (ends_there stands e) put;
         }

@@ -14,7 +14,7 @@ use Rattle.records.proofs.ReadingLaws.{Holds, LifetimesIn, holds_read, lifetimes
 use Rattle.elision.specs.declared.steps.StepAt.{StepAt}
 use Rattle.elision.specs.declared.steps.StepAt.TheVariants as standing
 use Rattle.elision.specs.Steps.{Step, Generics, SelfType, read_step}
-use Rattle.elision.specs.Inner.{StandsAt}
+use Rattle.elision.specs.Inner.{StandsAt, end_of}
 use Rattle.elision.specs.Inner as inner
 
 -- a run of words between two places
@@ -156,31 +156,16 @@ module _ (words : List ℕ) (at : ℕ) where
 
 -- ---- where it ends
 
-lifetime_end : {words : List ℕ} {at : ℕ} {reading : Reading Step} {word to : ℕ}
-    → StandsAt words at reading (Some (standing.Lifetime word to)) → EndsAt words at reading (Some to)
-lifetime_end (inner.lifetime w d b e) = ends d b e
+stands_end : {words : List ℕ} {at : ℕ} {reading : Reading Step} {r : StepAt} → StandsAt words at reading (Some r)
+    → EndsAt words at reading (Some (end_of r))
+stands_end (inner.lifetime w d b e) = ends d b e
+stands_end (inner.generics l d b m e) = ends d b e
+stands_end (inner.self_type l d b m e) = ends d b e
 
-generics_end : {words : List ℕ} {at : ℕ} {reading : Reading Step} {g from to : ℕ}
-    → StandsAt words at reading (Some (standing.Generics g from to)) → EndsAt words at reading (Some to)
-generics_end (inner.generics l d b m e) = ends d b e
-
-self_end : {words : List ℕ} {at : ℕ} {reading : Reading Step} {from to : ℕ}
-    → StandsAt words at reading (Some (standing.SelfType from to)) → EndsAt words at reading (Some to)
-self_end (inner.self_type l d b m e) = ends d b e
+pub ends_there : {words : List ℕ} {at : ℕ} {reading : Reading Step} {r : StepAt} → StandsAt words at reading (Some r)
+    → {to : ℕ} → to ≡ end_of r → EndsAt words at reading (Some to)
+ends_there {words} {at} {reading} stands e = subst (λ (x : ℕ). EndsAt words at reading (Some x)) (sym e) (stands_end stands)
 
 pub missing_end : {words : List ℕ} {at : ℕ} {reading : Reading Step} → StandsAt words at reading None
     → EndsAt words at reading None
 missing_end inner.missing = missing
-
-module _ {words : List ℕ} {at : ℕ} {reading : Reading Step} {r : StepAt} (s : StandsAt words at reading (Some r)) where
-  told : {q : StepAt} → r ≡ q → StandsAt words at reading (Some q)
-  told e = subst (λ (x : StepAt). StandsAt words at reading (Some x)) e s
-
-  pub ends_lifetime : {word to : ℕ} → r ≡ standing.Lifetime word to → EndsAt words at reading (Some to)
-  ends_lifetime e = lifetime_end (told e)
-
-  pub ends_generics : {g from to : ℕ} → r ≡ standing.Generics g from to → EndsAt words at reading (Some to)
-  ends_generics e = generics_end (told e)
-
-  pub ends_self : {from to : ℕ} → r ≡ standing.SelfType from to → EndsAt words at reading (Some to)
-  ends_self e = self_end (told e)

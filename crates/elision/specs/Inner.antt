@@ -4,12 +4,10 @@ use Rattle.std.specs.Prelude.{ℕ, ◌+◌, ◌-◌, ◌≤◌, ◌<◌, ◌≡�
 use Rattle.std.proofs.lemmas.List.Edits.{sets}
 use Rattle.lifetimes.specs.declared.maybe_static.MaybeStatic.{MaybeStatic}
 use Rattle.answers.specs.declared.Refusal.{Refusal}
-use Rattle.answers.specs.declared.Refusal.TheVariants.{Malformed}
 use Rattle.lifetimes.specs.LoweredWords.{word_answer}
 use Rattle.answers.specs.Refusals.{Outcome, over}
 use Rattle.ast_lifetimes.specs.Env.{place, is_declared}
 use Rattle.records.specs.Reading.{Reading, Read, Fails, most_list}
-use Rattle.records.specs.Ends.{EndsAt}
 use Rattle.elision.specs.declared.steps.StepAt.{StepAt}
 use Rattle.elision.specs.declared.steps.StepAt.TheVariants as standing
 use Rattle.elision.specs.declared.source.ElisionSource.TheVariants.{NoBorrows}
@@ -18,13 +16,11 @@ use Rattle.elision.specs.declared.lowerer.Worded.{Worded}
 use Rattle.elision.specs.declared.lowerer.Run.{Run}
 use Rattle.elision.specs.Steps.{Step, Lifetime, Generics, SelfType, read_step}
 use Rattle.elision.specs.declared.lowerer.Lowerer.{Lowerer}
-use Rattle.elision.specs.declared.lowerer.Stepped.{Stepped}
 use Rattle.elision.specs.declared.put.SmallLowerer.{SmallLowerer}
 use Rattle.elision.specs.declared.put.Put.{Put}
-use Rattle.elision.specs.declared.put.Took.{Took}
 use Rattle.elision.specs.declared.method.Totals.{Totals}
 use Rattle.elision.specs.Rfc.{Method}
-use Rattle.elision.specs.Machine.{Advanced, first_or, values_in, laid, lower_step, one_step, stepped}
+use Rattle.elision.specs.Machine.{Advanced, first_or, values_in, laid, lower_step}
 
 -- where a step stands that is read at a place of some words
 pub data StandsAt (words : List ℕ) (at : ℕ) : Reading Step → Option StepAt → Type 0 where
@@ -38,6 +34,16 @@ pub data StandsAt (words : List ℕ) (at : ℕ) : Reading Step → Option StepAt
       → from ≤ to → to ≤ length words
       → StandsAt words at (Read (SelfType ls) rest) (Some (standing.SelfType from to))
   missing : StandsAt words at Fails None
+
+-- it stands somewhere
+abbrev pub Stands : List ℕ → StepAt → Type 0
+Stands words step = (at : ℕ) × StandsAt words at (read_step (drop at words)) (Some step)
+
+-- the place behind it
+abbrev pub end_of : StepAt → ℕ
+end_of (standing.Lifetime word to) = to
+end_of (standing.Generics g from to) = to
+end_of (standing.SelfType from to) = to
 
 abbrev pub worded : Outcome (Advanced Seen) → Outcome Worded
 worded o = over (λ a. record { lifetime = first_or a.given; seen = a.left }) o
@@ -54,11 +60,6 @@ place_of names word = cond (is_declared names word) (Some (place names word)) No
 -- the word of a lifetime, where it has one
 abbrev pub shown : MaybeStatic → ℕ
 shown l = unwrap_or (word_answer l) 0
-
--- the step that is read somewhere
-abbrev pub takes : List ℕ → Bool → Lowerer → Reading Step → Outcome Stepped
-takes names out s (Read step rest) = stepped (one_step names out step s)
-takes names out s Fails = Err Malformed
 
 abbrev pub put_of : ℕ → Outcome (Advanced Seen) → Outcome Put
 put_of at o = over (λ a. record { seen = a.left; at = at + length a.given }) o
@@ -111,19 +112,13 @@ pub record PutsOne (step : Lowerer → Outcome (Advanced Lowerer)) (n : ℕ) (k 
   pub near : (m : ℕ) → r ≡ Ok m → m ≤ n + most_list
   pub lowers : (s : Lowerer) → Shows s k → Lowers (step s) n before behind k₁ r
 
--- how many words there are then in the slice
-abbrev pub words_so_far : Outcome Took → Outcome ℕ
-words_so_far o = over (λ t. t.n) o
-
 -- the step that stands at a place of a record
 pub record PutsStep (names words : List ℕ) (out : Bool) (at n : ℕ) (k k₁ : SmallLowerer) (before behind : List ℕ)
-    (r : Outcome Took) : Type 0 where
+    (r : Outcome ℕ) : Type 0 where
   pub few : k₁.own ≤ most_list
-  pub near : (t : Took) → r ≡ Ok t → t.n ≤ n + most_list
-  pub ends : (t : Took) → r ≡ Ok t → EndsAt words at (read_step (drop at words)) (Some t.to)
+  pub near : (m : ℕ) → r ≡ Ok m → m ≤ n + most_list
   pub lowers : (s : Lowerer) → Shows s k → (step : Step) (rest : List ℕ)
-      → read_step (drop at words) ≡ Read step rest
-      → Lowers (lower_step names out step s) n before behind k₁ (words_so_far r)
+      → read_step (drop at words) ≡ Read step rest → Lowers (lower_step names out step s) n before behind k₁ r
 
 abbrev pub totals : Outcome Method → Outcome Totals
 totals o =

@@ -158,10 +158,7 @@ impl Lowerer {
     ) -> Result<Stepped, Refusal>
         ensures answer { result ≡ stepped (one_step names.now output (steps.Generics generics words.now) self) }
     {
-        if MAX_LIST < generics {
-            return Err(Refusal::Malformed);
-        }
-        if MAX_LIST < words.len() {
+        if MAX_LIST < generics || MAX_LIST < words.len() {
             return Err(Refusal::Malformed);
         }
         let done = lower_words(names, standing_in(output), words, generics, self.seen)?;
@@ -268,13 +265,13 @@ pub(crate) fn lower_word(
         return lower_anonymous(standing, seen);
     }
     if word == 0 {
-        return Ok(lowers(standing, MaybeStatic::Static, seen.source, seen.count));
+        return Ok(lowers(standing, MaybeStatic::Static, seen));
     }
     let Some(at) = position(names, word) else {
         return Err(Refusal::Undeclared);
     };
     let lifetime = MaybeStatic::NonStatic(Lifetime::new(at));
-    Ok(lowers(standing, lifetime, seen.source, seen.count))
+    Ok(lowers(standing, lifetime, seen))
 }
 
 // An anonymous lifetime: a new one, or in the output that of the source.
@@ -295,7 +292,11 @@ fn new_lifetime(standing: Standing, seen: Seen) -> Result<Worded, Refusal>
         return Err(Refusal::Full);
     }
     let lifetime = MaybeStatic::NonStatic(Lifetime::new(seen.count));
-    Ok(lowers(standing, lifetime, seen.source, seen.count + 1))
+    let more = Seen {
+        count: seen.count + 1,
+        ..seen
+    };
+    Ok(lowers(standing, lifetime, more))
 }
 
 // An elided lifetime of the output: that of the source. Refused by 5 and 6 where there is none.
@@ -312,17 +313,17 @@ fn elided(seen: Seen) -> Result<Worded, Refusal>
     }
 }
 
-// One lifetime more, and what is seen then: only an input position changes the source.
-fn lowers(standing: Standing, lifetime: MaybeStatic, source: ElisionSource, count: usize) -> Worded
-    ensures { result ≡ record { lifetime = lifetime; seen = visited standing lifetime source count } }
+// One lifetime lowered, and what is seen then: only an input position changes the source.
+fn lowers(standing: Standing, lifetime: MaybeStatic, seen: Seen) -> Worded
+    ensures { result ≡ record { lifetime = lifetime; seen = visited standing lifetime seen.source seen.count } }
 {
     let source = match standing {
-        Standing::Input => source.visit_lifetime(lifetime),
-        Standing::Aside | Standing::Output => source,
+        Standing::Input => seen.source.visit_lifetime(lifetime),
+        Standing::Aside | Standing::Output => seen.source,
     };
     Worded {
         lifetime,
-        seen: Seen { source, count },
+        seen: Seen { source, ..seen },
     }
 }
 

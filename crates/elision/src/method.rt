@@ -76,13 +76,10 @@ pub fn lower(
         result own given taken }
 {
     let measured = measure(env, receiver, steps, returns)?;
-    if own.len() < measured.selves {
-        return Err(Refusal::NoRoom);
-    }
-    if given.len() < measured.steps {
-        return Err(Refusal::NoRoom);
-    }
-    if taken.len() < measured.returns {
+    if own.len() < measured.selves
+        || given.len() < measured.steps
+        || taken.len() < measured.returns
+    {
         return Err(Refusal::NoRoom);
     }
     let names = env.names;

@@ -2,12 +2,12 @@
 //
 // They do not go by the `Lowerer` of single steps, which holds the lifetimes of the `Self` type and gives those of each
 // step: of the `Self` type only the words are kept here.
-ghost use Rattle.std.specs.Prelude.{◌≡◌, true, ◌+◌, ◌≤◌, length, take, set};
+ghost use Rattle.std.specs.Prelude.{◌≡◌, true, ℕ, ◌+◌, ◌≤◌, length, take, drop, set};
 ghost use Rattle.std.proofs.lemmas.List.Edits.{sets};
-ghost use Rattle.elision.specs.Steps.{receiver_of, steps_in_shape, steps_of};
+ghost use Rattle.elision.specs.Steps.{receiver_of, read_step, steps_in_shape, steps_of};
 ghost use Rattle.elision.specs.Rfc.{appended, standing_in};
 ghost use Rattle.elision.specs.Machine.{lower_words, lower_self, words_step, self_step, run_steps};
-ghost use Rattle.elision.specs.Inner.{shown, small_unused, Shows, Lowers, Puts, PutsOne, PutsStep};
+ghost use Rattle.elision.specs.Inner.{StandsAt, Stands, shown, small_unused, Shows, Lowers, Puts, PutsOne, PutsStep};
 ghost use Rattle.elision.specs.declared.lowerer.Lowerer.{Lowerer};
 ghost use Rattle.answers.specs.Lent.{held, left};
 ghost use Rattle.records.specs.Reading.{most_list};
@@ -27,13 +27,6 @@ pub(crate) struct SmallLowerer {
     pub(crate) kept: bool,
     pub(crate) own: usize,
     pub(crate) list: [usize; MAX_LIST],
-}
-
-// A step lowered and stored: the place behind its words in the slice, and the place behind it in its record.
-#[derive(Clone, Copy)]
-struct Took {
-    n: usize,
-    to: usize,
 }
 
 // Some words lowered and stored: what is seen then, and the place behind them.
@@ -71,7 +64,7 @@ impl SmallLowerer {
         ensures lowers { Lowers (lower_self names.now (receiver_of receiver.now)) 0 (held out) (left out) (left self)
             result }
     {
-        if receiver.len() == 0 {
+        if receiver.is_empty() {
             return Ok(0);
         }
         let done = lower_word(names, Standing::Aside, receiver[0], self.seen)?;
@@ -96,7 +89,7 @@ impl SmallLowerer {
         ensures lowers { (s : Lowerer) → Shows s (held self)
             → Lowers (run_steps names.now output (steps_of words.now) s) 0 (held out) (left out) (left self) result }
     {
-        if words.len() == 0 {
+        if words.is_empty() {
             return Ok(0);
         }
         self.put_steps(names, words, output, out)
@@ -119,42 +112,42 @@ impl SmallLowerer {
         let mut n = 0;
         let mut at = 0;
         while at < words.len() {
-            let took = self.put_step(names, words, at, output, n, out)?;
-            n = took.n;
-            at = took.to;
+            let Some(step) = read_step(words, at) else {
+                return Err(Refusal::Malformed);
+            };
+            n = self.put_step(names, words, step, output, n, out)?;
+            at = step.end();
         }
         Ok(n)
     }
 
-    // Lower the step that stands at a place, and store its words.
+    // Lower a step that stands somewhere in a record, and store its words; the answer is the place behind them.
     fn put_step(
         &mut self,
         names: &[usize],
         words: &[usize],
-        at: usize,
+        step: StepAt,
         output: bool,
         n: usize,
         out: &mut [usize],
-    ) -> Result<Took, Refusal>
-        requires { (self.old.own ≤ most_list) × (n ≤ 65536) }
-        ensures { PutsStep names.now words.now output at n (held self) (left self) (held out) (left out) result }
+    ) -> Result<usize, Refusal>
+        requires { Stands words.now step × (self.old.own ≤ most_list) × (n ≤ 65536) }
+        ensures { (at : ℕ) → StandsAt words.now at (read_step (drop at words.now)) (Some step)
+            → PutsStep names.now words.now output at n (held self) (left self) (held out) (left out) result }
     {
-        let Some(step) = read_step(words, at) else {
-            return Err(Refusal::Malformed);
-        };
         match step {
-            StepAt::Lifetime { to, .. } => {
-                let n = self.put_given(names, &words[to - 1..to], 0, output, n, out)?;
-                Ok(Took { n, to })
-            }
+            StepAt::Lifetime { to, .. } => self.put_given(
+                names,
+                &words[to - 1..to],
+                0,
+                output,
+                n,
+                out,
+            ),
             StepAt::Generics { generics, from, to } => {
-                let n = self.put_given(names, &words[from..to], generics, output, n, out)?;
-                Ok(Took { n, to })
+                self.put_given(names, &words[from..to], generics, output, n, out)
             }
-            StepAt::SelfType { from, to } => {
-                let n = self.put_self(names, &words[from..to], n, out)?;
-                Ok(Took { n, to })
-            }
+            StepAt::SelfType { from, to } => self.put_self(names, &words[from..to], n, out),
         }
     }
 

@@ -2,14 +2,12 @@
 //
 // "each later step finds the lowerer as the step before left it" (01): a caller keeps one lowerer and lends it to one
 // step after another.
-ghost use Rattle.std.specs.Prelude.{◌≡◌, drop};
-ghost use Rattle.elision.specs.Steps.{read_step};
-ghost use Rattle.elision.specs.Inner.{takes};
+ghost use Rattle.std.specs.Prelude.{◌≡◌};
 ghost use Rattle.elision.specs.Machine.{stepped, given_by, left_by, worded_step, input_then_output};
 ghost use Rattle.answers.specs.Lent.{held, left};
 
 use super::lowerer::{Lifetimes, Lowerer, Stepped};
-use super::steps::{StepAt, read_step, step_end};
+use super::steps::{StepAt, read_step};
 use answers::Refusal;
 
 impl Lowerer {
@@ -23,13 +21,22 @@ impl Lowerer {
     ) -> Result<Stepped, Refusal>
         ensures answer { result ≡ stepped (worded_step names.now output words.now self) }
     {
-        let Some(to) = step_end(words, 0) else {
+        let Some(step) = read_step(words, 0) else {
             return Err(Refusal::Malformed);
         };
-        if to != words.len() {
+        if step.end() != words.len() {
             return Err(Refusal::Malformed);
         }
-        lower_step_at(self, names, words, 0, output)
+        match step {
+            StepAt::Lifetime { word, .. } => self.lower_lifetime(names, word, output),
+            StepAt::Generics { generics, from, to } => self.lower_generics(
+                names,
+                generics,
+                &words[from..to],
+                output,
+            ),
+            StepAt::SelfType { from, to } => self.is_self(names, &words[from..to], output),
+        }
     }
 
     // The same on a lowerer that is lent, which is left as the step leaves it. Refused, it stays as it was, also where
@@ -63,29 +70,4 @@ pub fn input_then_output(
     let mut own = lowerer;
     let _ = own.step(names, input, false);
     own.step(names, output, true)
-}
-
-// Lower the step that stands at a place.
-fn lower_step_at(
-    lowerer: Lowerer,
-    names: &[usize],
-    words: &[usize],
-    at: usize,
-    output: bool,
-) -> Result<Stepped, Refusal>
-    ensures { result ≡ takes names.now output lowerer (read_step (drop at words.now)) }
-{
-    let Some(step) = read_step(words, at) else {
-        return Err(Refusal::Malformed);
-    };
-    match step {
-        StepAt::Lifetime { word, .. } => lowerer.lower_lifetime(names, word, output),
-        StepAt::Generics { generics, from, to } => lowerer.lower_generics(
-            names,
-            generics,
-            &words[from..to],
-            output,
-        ),
-        StepAt::SelfType { from, to } => lowerer.is_self(names, &words[from..to], output),
-    }
 }

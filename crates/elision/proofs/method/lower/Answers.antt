@@ -3,8 +3,8 @@ use native.Mathlib.Omega.{arith}
 use mathlib.Core.Path.{◌≡◌, refl}
 use lib.ListN.{length}
 use Rattle.elision.proofs.OutcomeLaws.{refused_is}
-use Rattle.elision.proofs.EntryLaws.{measures, lower_refused, lower_shaped, lower_named, lower_own, lower_given}
-use Rattle.elision.proofs.EntryLaws.{lower_taken, lower_again, lower_all}
+use Rattle.elision.proofs.EntryLaws.{measures, lower_refused, lower_shaped, lower_named, lower_short}
+use Rattle.elision.proofs.EntryLaws.{lower_again, lower_all}
 use borrow.Author.Rules.{rules}
 use Rattle.elision.proofs.method.lower.Goals as goal
 
@@ -17,20 +17,7 @@ returns-in_err-measured c = record {
 pub returns-then-own-measured : goal.returns-then-own-measured
 returns-then-own-measured c =
     let measured = measures _ _ _ _ c.in_ok-measured.ensures.answer in
-    record { answer = lower_own measured c.if-own-measured.true refl refl refl refl }
-
-pub returns-then-given-measured : goal.returns-then-given-measured
-returns-then-given-measured c =
-    let measured = measures _ _ _ _ c.in_ok-measured.ensures.answer in
-    record { answer = lower_given measured c.if-own-measured.false c.if-given-measured.true refl refl refl refl }
-
-pub returns-then-taken-measured : goal.returns-then-taken-measured
-returns-then-taken-measured c =
-    let measured = measures _ _ _ _ c.in_ok-measured.ensures.answer in
-    record {
-      answer = lower_taken measured c.if-own-measured.false c.if-given-measured.false c.if-taken-measured.true refl refl
-          refl refl;
-    }
+    record { answer = lower_short measured c.then-own-measured.either refl refl refl refl }
 
 pub slice_bounds-run-end : goal.slice_bounds-run-end
 slice_bounds-run-end c =

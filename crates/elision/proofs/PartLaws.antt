@@ -1,7 +1,7 @@
--- What `lower_step_at` answers of the step that stands at a place; what is read fits.
-use Rattle.std.specs.Prelude.{Some, None, Err}
+-- A step that stands in a record: what is read fits, and where its words are.
+use Rattle.std.specs.Prelude.{Some}
 use Prim.Native.Nat.{ℕ, ◌-◌, ◌≤◌}
-use mathlib.Core.Bool.{Bool, true, ◌&&◌, and-eq-true_iff}
+use mathlib.Core.Bool.{true, ◌&&◌, and-eq-true_iff}
 use mathlib.Core.Path.{◌≡◌, refl, subst}
 use mathlib.Core.List.{List, [], ◌∷◌}
 use native.Mathlib.Omega.{arith}
@@ -9,57 +9,18 @@ use lib.Dec.{eqb, leb}
 use lib.ListN.{length, take, drop}
 use lib.Seq.{length-take-le}
 use borrow.Author.Tests.{leb-true}
-use Rattle.answers.specs.declared.Refusal.TheVariants.{Malformed}
-use Rattle.answers.specs.Refusals.{Outcome}
 use Rattle.records.specs.Reading.{Reading, read_word, read_lifetimes}
 use Rattle.records.proofs.ReadingLaws.{Holds, read, fails, holds_cond, holds_onward, holds_read}
 use Rattle.elision.specs.declared.steps.StepAt.{StepAt}
 use Rattle.elision.specs.declared.steps.StepAt.TheVariants as standing
-use Rattle.elision.specs.declared.lowerer.Lowerer.{Lowerer}
-use Rattle.elision.specs.declared.lowerer.Stepped.{Stepped}
-use Rattle.elision.specs.Steps.{Step, Lifetime, Generics, SelfType, read_generics, read_step}
-use Rattle.elision.specs.Machine.{fits, one_step, stepped}
-use Rattle.elision.specs.Inner.{StandsAt, takes}
+use Rattle.elision.specs.Steps.{Step, Generics, SelfType, read_generics, read_step}
+use Rattle.elision.specs.Machine.{fits}
+use Rattle.elision.specs.Inner.{StandsAt}
 use Rattle.elision.specs.Inner as inner
-
-module _ (names : List ℕ) (out : Bool) (s : Lowerer) where
-  lifetime_takes : {words : List ℕ} {at : ℕ} {reading : Reading Step} {word to : ℕ}
-      → StandsAt words at reading (Some (standing.Lifetime word to)) → {d : Outcome Stepped}
-      → d ≡ stepped (one_step names out (Lifetime word) s) → d ≡ takes names out s reading
-  lifetime_takes (inner.lifetime w x b e) h = h
-
-  generics_takes : {words : List ℕ} {at : ℕ} {reading : Reading Step} {g from to : ℕ}
-      → StandsAt words at reading (Some (standing.Generics g from to)) → {d : Outcome Stepped}
-      → d ≡ stepped (one_step names out (Generics g (take (to - from) (drop from words))) s) → d ≡ takes names out s reading
-  generics_takes (inner.generics l x b m e) h = rw l at h
-
-  self_takes : {words : List ℕ} {at : ℕ} {reading : Reading Step} {from to : ℕ}
-      → StandsAt words at reading (Some (standing.SelfType from to)) → {d : Outcome Stepped}
-      → d ≡ stepped (one_step names out (SelfType (take (to - from) (drop from words))) s) → d ≡ takes names out s reading
-  self_takes (inner.self_type l x b m e) h = rw l at h
-
-  pub missing_takes : {words : List ℕ} {at : ℕ} {reading : Reading Step} → StandsAt words at reading None
-      → Err Malformed ≡ takes names out s reading
-  missing_takes inner.missing = refl
 
 module _ {words : List ℕ} {at : ℕ} {reading : Reading Step} {r : StepAt} (s : StandsAt words at reading (Some r)) where
   pub told : {q : StepAt} → r ≡ q → StandsAt words at reading (Some q)
   told e = subst (λ (x : StepAt). StandsAt words at reading (Some x)) e s
-
-  module _ (names : List ℕ) (out : Bool) (l : Lowerer) {d : Outcome Stepped} where
-    pub takes_lifetime : {word to : ℕ} → r ≡ standing.Lifetime word to
-        → d ≡ stepped (one_step names out (Lifetime word) l) → d ≡ takes names out l reading
-    takes_lifetime e h = lifetime_takes names out l (told e) h
-
-    pub takes_generics : {g from to : ℕ} → r ≡ standing.Generics g from to
-        → d ≡ stepped (one_step names out (Generics g (take (to - from) (drop from words))) l)
-        → d ≡ takes names out l reading
-    takes_generics e h = generics_takes names out l (told e) h
-
-    pub takes_self : {from to : ℕ} → r ≡ standing.SelfType from to
-        → d ≡ stepped (one_step names out (SelfType (take (to - from) (drop from words))) l)
-        → d ≡ takes names out l reading
-    takes_self e h = self_takes names out l (told e) h
 
 -- ---- what is read fits
 
