@@ -73,13 +73,11 @@ fn put_numbered(out: &mut [u8], at: usize, words: &[usize], ends: &[usize], coun
 {
     let mut next = at;
     let mut from = 0;
-    let mut i = 0;
-    while i < count {
+    for i in 0..count {
         let to = ends[i];
         let start = put_number(out, next, i);
         next = put_following(out, start, &words[from..to]);
         from = to;
-        i += 1;
     }
     next
 }
@@ -96,13 +94,9 @@ pub(crate) fn put_answers(out: &mut [u8], at: usize, answers: &[usize]) -> usize
 fn put_each_answer(out: &mut [u8], at: usize, answers: &[usize]) -> usize
     ensures { Prints (answer_lines_from 0 answers.now) at (held out) result (left out) }
 {
-    let count = answers.len();
     let mut next = at;
-    let mut i = 0;
-    while i < count {
-        let start = put_number(out, next, i);
-        next = put_following(out, start, &answers[i..i + 1]);
-        i += 1;
+    for (param, answer) in answers.iter().enumerate() {
+        next = put_line(out, next, &[param, *answer]);
     }
     next
 }
@@ -122,15 +116,10 @@ fn put_each_edge(out: &mut [u8], at: usize, edges: &[usize], count: usize) -> us
     ensures { Prints (flat_map edge_line (edges_in count edges.now)) at (held out) result (left out) }
 {
     let mut next = at;
-    let mut i = 0;
-    while i < count {
-        let from = i * BorrowingParamVisitor::EDGE_WORDS;
-        next = put_line(
-            out,
-            next,
-            &edges[from..from + BorrowingParamVisitor::EDGE_WORDS],
-        );
-        i += 1;
+    for edge in edges[..count * BorrowingParamVisitor::EDGE_WORDS].chunks_exact(
+        BorrowingParamVisitor::EDGE_WORDS,
+    ) {
+        next = put_line(out, next, edge);
     }
     next
 }
