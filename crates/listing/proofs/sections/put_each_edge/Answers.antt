@@ -9,10 +9,14 @@ use Rattle.listing.proofs.sections.put_each_edge.Goals as goal
 
 pub loop-edge-init : goal.loop-edge-init
 loop-edge-init c =
-    rw (c.into_iter-edge-iterator.ensures.into_iter_gives, c.chunks_exact-edge-items.ensures.rest,
-    c.chunks_exact-edge-items.ensures.size)
-    (edging_start c.args.edges.now c.args.count c.args.at c.args.out.now c.requires (search rules) (omega (arith, c.ranges.at)),
-    search rules)
+    rw (
+      c.into_iter-edge-iterator.ensures.into_iter_gives,
+      c.chunks_exact-edge-items.ensures.rest,
+      c.chunks_exact-edge-items.ensures.size,
+    ) (
+      edging_start c.args.edges.now c.args.count c.args.at c.args.out.now c.requires (search rules) (omega (arith, c.ranges.at)),
+      search rules,
+    )
 
 pub loop-edge-preserved : goal.loop-edge-preserved
 loop-edge-preserved c =
