@@ -26,10 +26,10 @@ pub(crate) struct Index {
 impl Index {
     // The index of an environment, whose bounds are linked in push order, or, for the AST's order, from the last to the
     // first.
-    pub(crate) fn link(env: LifetimeEnv, ast: bool, longer: bool) -> Index
-        requires { NoneDue (env_checks env) }
-        ensures indexed { Indexed (graph_in (order_of ast) longer (bounds_of env)) result }
-        ensures count { result.count ≡ env.count }
+    pub(crate) fn link(env: &LifetimeEnv, ast: bool, longer: bool) -> Index
+        requires { NoneDue (env_checks env.now) }
+        ensures indexed { Indexed (graph_in (order_of ast) longer (bounds_of env.now)) result }
+        ensures count { result.count ≡ env.now.count }
     {
         let mut index = Index {
             declared: env.declared,

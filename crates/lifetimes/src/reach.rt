@@ -71,7 +71,7 @@ impl LifetimeEnv {
         ensures answer { result ≡ reach_sets longer self }
     {
         self.check()?;
-        let index = Index::link(self, false, longer);
+        let index = Index::link(&self, false, longer);
         let mut sets = [0u64; LifetimeEnv::MAX_LIFETIMES];
         index.measure(&mut sets);
         Ok(sets)
@@ -94,7 +94,7 @@ impl LifetimeEnv {
         if ends.len() < self.count {
             return Err(Refusal::NoRoom);
         }
-        let index = Index::link(self, false, longer);
+        let index = Index::link(&self, false, longer);
         if !index.all_fit(words.len()) {
             return Err(Refusal::NoRoom);
         }
@@ -121,7 +121,7 @@ fn traverse(
         return Err(Refusal::OutOfRange);
     }
     let mut items = [0usize; LifetimeEnv::MAX_LIFETIMES];
-    let n = list(env, ast, longer, start, &mut items);
+    let n = list(&env, ast, longer, start, &mut items);
     if out.len() < n {
         return Err(Refusal::NoRoom);
     }
@@ -131,16 +131,16 @@ fn traverse(
 
 // The list of one lifetime of an environment, to the first places of `items`. Answers how many it lists.
 fn list(
-    env: LifetimeEnv,
+    env: &LifetimeEnv,
     ast: bool,
     longer: bool,
     start: usize,
     items: &mut [usize; LifetimeEnv::MAX_LIFETIMES],
 ) -> usize
-    requires none_due { NoneDue (env_checks env) × (start < env.count) }
+    requires none_due { NoneDue (env_checks env.now) × (start < env.now.count) }
     requires len { length items.old ≡ most_lifetimes }
     ensures { (result ≤ most_lifetimes) × (length (left items) ≡ most_lifetimes)
-        × (take result (left items) ≡ list_by ast longer env start) }
+        × (take result (left items) ≡ list_by ast longer env.now start) }
 {
     Index::link(env, ast, longer).walk(start, items).count
 }

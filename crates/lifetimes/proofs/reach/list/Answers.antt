@@ -11,7 +11,7 @@ use Rattle.lifetimes.proofs.reach.list.Goals as goal
 pub walk-requires : goal.walk-requires
 walk-requires c = record {
   walkable = (
-    (graph_in (order_of c.args.ast) c.args.longer (bounds_of c.args.env), c.link.ensures.indexed),
+    (graph_in (order_of c.args.ast) c.args.longer (bounds_of c.args.env.now), c.link.ensures.indexed),
     omega (arith, c.link.ensures.count, c.requires.none_due.1),
   );
   len = c.requires.len;
@@ -21,6 +21,6 @@ pub returns : goal.returns
 returns c = (
   c.walk.ensures.count_le_most_lifetimes.0,
   c.walk.ensures.count_le_most_lifetimes.1,
-  (c.walk.ensures.complete (graph_in (order_of c.args.ast) c.args.longer (bounds_of c.args.env)) c.link.ensures.indexed).items
-      ∙ list_by_lem c.args.ast c.args.longer c.args.env c.args.start,
+  (c.walk.ensures.complete (graph_in (order_of c.args.ast) c.args.longer (bounds_of c.args.env.now)) c.link.ensures.indexed).items
+      ∙ list_by_lem c.args.ast c.args.longer c.args.env.now c.args.start,
 )
