@@ -1,5 +1,5 @@
 -- Reading with the shapes, by its cases: no sheet; records in shape, `force` 1 or not; records that are not.
-use Rattle.std.specs.Prelude.{Ok, Err, None}
+use Rattle.std.specs.Prelude.{Ok, Err}
 use Prim.Native.Nat.{ℕ}
 use mathlib.Core.Bool.{Bool, true, false, not, ◌&&◌, true≢false, false≢true, and-eq-true_iff}
 use mathlib.Core.Logic.{inl, inr}
