@@ -2,9 +2,8 @@
 use Rattle.std.specs.Prelude.{Some, None}
 use Prim.Native.Nat.{ℕ, ◌+◌, ◌≤◌, ◌<◌}
 use mathlib.Core.Bool.{true, false}
-use mathlib.Core.Path.{◌≡◌, refl, sym, ◌∙◌}
+use mathlib.Core.Path.{◌≡◌, sym, ◌∙◌}
 use mathlib.Core.List.{List, ◌∷◌}
-use native.Mathlib.Nat.{le_refl}
 use native.Mathlib.Omega.{arith}
 use native.Mathlib.Numerals.{add-one}
 use lib.ListN.{length, get_or}
@@ -20,18 +19,8 @@ pub record Skipping (g : Graph) (stack : List ℕ) (seen at₀ depth₀ at depth
   pub here : at ≤ length g.bounds
   pub deep : depth ≤ depth₀
 
-pub skipping_start : {g : Graph} {stack : List ℕ} {at depth : ℕ} (seen : ℕ) → Ready g stack at depth
-    → Skipping g stack seen at depth at depth
-skipping_start seen r = record { skips = refl; here = r.here; deep = le_refl _ }
-
 module _ {g : Graph} {ix : Index} {stack : List ℕ} (ch : Chained g ix) {seen at₀ depth₀ : ℕ}
     (ready : Ready g stack at₀ depth₀) {at depth : ℕ} (inv : Skipping g stack seen at₀ depth₀ at depth) where
-  pub skipping_at : at ≤ 256
-  skipping_at = omega (arith, inv.here, ch.few)
-
-  pub skipping_depth : depth ≤ 64
-  skipping_depth = omega (arith, inv.deep, ready.deep)
-
   -- the stack's last chain is taken
   module _ (z : at ≡ 0) (k : ℕ) (e : depth ≡ k + 1) where
     pub skipping_top : get_or stack k 0 ≤ length g.bounds

@@ -64,9 +64,6 @@ pub record Below (limit : ℕ) (words : List ℕ) (i : ℕ) : Type 0 where
   pub even : length words % 2 ≡ 0
   pub left : all_below limit (bounds_of_pairs words) ≡ all_below limit (bounds_of_pairs (drop (2 * i) words))
 
-pub below_start : (limit : ℕ) (words : List ℕ) → length words % 2 ≡ 0 → Below limit words 0
-below_start limit words e = record { even = e; left = refl }
-
 module _ {limit : ℕ} {words : List ℕ} {i : ℕ} (inv : Below limit words i) where
   pub below_end : length words / 2 ≤ i → true ≡ all_below limit (bounds_of_pairs words)
   unfolding all
@@ -90,10 +87,6 @@ pub record Filling (words : List ℕ) (bounds : List Bound) (i : ℕ) : Type 0 w
   pub even : length words % 2 ≡ 0
   pub stored : sets bounds i (bounds_of_pairs (drop (2 * i) words)) ≡ sets (replicate 256 (above 0 0)) 0 (bounds_of_pairs words)
   pub small : all_below 256 (bounds_of_pairs (drop (2 * i) words)) ≡ true
-
-pub filling_start : (words : List ℕ) → length words % 2 ≡ 0 → all_below 256 (bounds_of_pairs words) ≡ true → {b : Bound}
-    → b ≡ above 0 0 → Filling words (replicate 256 b) 0
-filling_start words e small {b} q = record { even = e; stored = rw q; small = small }
 
 module _ {words : List ℕ} {bounds : List Bound} {i : ℕ} (inv : Filling words bounds i) where
   module _ (h : i < length words / 2) where

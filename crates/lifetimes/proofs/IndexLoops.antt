@@ -17,7 +17,7 @@ use Rattle.lifetimes.specs.Walk.{near, far, order_of}
 use Rattle.lifetimes.specs.Index.{Fine, Linkable, Graph, graph_in, linked_in, near_at, far_at, last_of, Indexed}
 use Rattle.lifetimes.proofs.IndexLaws.{zeros}
 use Rattle.lifetimes.proofs.ChainLaws.{at_mem}
-use Rattle.lifetimes.proofs.ReverseLaws.{linked_length, linked_fine, linked_at, place_below}
+use Rattle.lifetimes.proofs.ReverseLaws.{linked_length, linked_fine, linked_at}
 
 -- what each place below i holds, each below i + 1 holds after a store at i
 more : (f : ℕ → ℕ) (l : List ℕ) (i v : ℕ) → i < length l → v ≡ f i → ((j : ℕ) → j < i → get_or l j 0 ≡ f j) → (j : ℕ)
@@ -131,9 +131,6 @@ module _ (ast d : Bool) {b : Bounds} (bounds : Linkable b) {i : ℕ} {ix : Index
   module _ (h : i < b.pushed) {at : ℕ} (place : at ≡ cond ast (b.pushed - 1 - i) i) where
     reads : get_or (linked_in (order_of ast) (list_of b)) i (above 0 0) ≡ get_or b.list at (above 0 0)
     reads = linked_at ast b i at bounds.all h place
-
-    pub link_at : at < 256
-    link_at = omega (arith, bounds.fine.few, bounds.all, place_below ast b.pushed i at h place)
 
     pub link_near : {x : ℕ} → x ≡ near d (get_or b.list at (above 0 0)) → x < 64
     link_near e = rw e (linking_near inv linked.0 linked.1 h reads)

@@ -3,10 +3,10 @@ use Rattle.std.specs.Prelude.{Ok, Err}
 use Prim.Native.Nat.{ℕ, ◌≤◌, ◌<◌}
 use mathlib.Core.Bool.{Bool, true, false}
 use mathlib.Core.Path.{◌≡◌, refl, sym, ap, ◌∙◌}
-use mathlib.Core.List.{List, map, flatten}
+use mathlib.Core.List.{List, ◌++◌, map, flatten}
 use native.Mathlib.Omega.{arith}
 use borrow.Author.Tests.{le-leb, lt-leb, le-ltb}
-use lib.ListN.{length, take, length-map}
+use lib.ListN.{length, drop, take, length-map}
 use lib.Seq.{sets, length-take-le}
 use Rattle.answers.specs.declared.Refusal.{Refusal}
 use Rattle.answers.specs.declared.Refusal.TheVariants.{OutOfRange, NoRoom}
@@ -61,13 +61,13 @@ module _ (e : LifetimeEnv) (x : ℕ) (list slice : List ℕ) where
           (first_after none (later (lt-leb e.count x inside) (no_room (length slice) list (omega (arith, long)))))
 
       pub list_given : n ≤ length slice → (Ok n ≡ counted (list_from e x list (length slice)))
-          × (sets slice 0 (take n items) ≡ written (list_from e x list (length slice)) slice)
+          × (take n items ++ drop n slice ≡ written (list_from e x list (length slice)) slice)
       unfolding list_from
       list_given h =
           let room : length list ≤ length slice = omega (arith, long) in
           let a = answers_list list slice
           (none_more none (next (lt-leb e.count x inside) (has_room (length slice) list room end))) in
-          (rw long a.0, rw is (sets_front slice list room ∙ a.1))
+          (rw long a.0, rw (is, long) a.1)
 
 -- the sets of all lifetimes, in an array of zeros
 sets_all : (d : Bool) (e : LifetimeEnv) → e.count ≤ 64 → (reach : List ℕ)

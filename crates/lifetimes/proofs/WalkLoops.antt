@@ -19,16 +19,12 @@ use Rattle.lifetimes.specs.declared.walk.Stepped.{Stepped}
 use Rattle.lifetimes.specs.Sets.{empty, member, insert, insert_all, set_of}
 use Rattle.lifetimes.specs.Walk.{neighbours, LastFirst, walk, traversal}
 use Rattle.lifetimes.specs.Index.{Graph, last_of, chain, chains, pending, skip, Indexed, Ready, Steps, Within}
-use Rattle.lifetimes.specs.Index.{Chained, Complete, Standing, Walkable}
+use Rattle.lifetimes.specs.Index.{Chained, Complete, Walkable}
 use Rattle.lifetimes.proofs.SetLaws.{member_empty, insert_all_append}
 use Rattle.lifetimes.proofs.NeighbourLaws.{neighbours_only, push_in}
 use Rattle.lifetimes.proofs.WalkLaws.{walks, walk_nil, walk_seen, walk_new, unseen, unseen_empty, unseen_insert}
 use Rattle.lifetimes.proofs.WalkLaws.{walks_few}
 use Rattle.lifetimes.proofs.ChainLaws.{last_le, last_pushed, chains_kept}
-
--- a lifetime's last bound is one of the bounds, so its number fits two bytes
-pub last_small : {g : Graph} {ix : Index} → Indexed g ix → (x : ℕ) → x < 64 → get_or ix.last x 0 ≤ 256
-last_small {g} k x h = omega (arith, k.last x h, last_le g (length g.bounds) x, k.chained.few)
 
 -- `skip` leaves a part of what is pending, whose first entry was not seen, and the walk goes on from it
 skip_in : (s : ℕ) (p : List ℕ) (y : ℕ) → Memᴰ y (skip s p) → Memᴰ y p
@@ -208,9 +204,6 @@ module _ {g : Graph} {ix : Index} (linked : Indexed g ix) {limit start : ℕ}
 -- A turn of `walk`: what it keeps, and what its step yields, are of every graph that the index is of; there is one
 module _ {ix : Index} {limit start : ℕ} (walkable : Walkable ix limit start) {items stack : List ℕ} {n seen depth at : ℕ}
     (inv : (g : Graph) → Indexed g ix → Within g limit → Walking g limit start items stack n seen depth at) where
-  pub turn_ready : Standing ix stack at depth
-  turn_ready = let (g, k, w) = walkable.0 in (g, k.chained, (inv g k w).ready)
-
   -- as many are listed as there are
   pub turn_end : n ≡ limit → (g : Graph) → Indexed g ix → Within g limit
       → Complete g start items (record { count = limit; seen = seen })
@@ -226,3 +219,26 @@ module _ {ix : Index} {limit start : ℕ} (walkable : Walkable ix limit start) {
     pub turn_small : {l : Lifetime} → r.next ≡ Some l → l.0 < 64
     turn_small h = let (g, k, w) = walkable.0 in
         omega (arith, walkable.1, walking_small k w walkable.1 (inv g k w) (turn_steps g k w) h)
+
+    -- what the next turn has: the new lifetime stands among the items, and the rest of its bound's chain is stacked, or
+    -- has ended
+    module _ {l : Lifetime} (found : r.next ≡ Some l) (m : n < limit) (full : length items ≡ 64) {y seen' : ℕ}
+        (marked : seen' ≡ insert seen y) (is : y ≡ l.0) where
+      after : {stack' : List ℕ} {depth' : ℕ} → depth' ≤ r.depth + 1
+          → ((g : Graph) → Indexed g ix → Within g limit → Stacked g stack' depth' (pending g stack r.at r.depth))
+          → (g : Graph) → Indexed g ix → Within g limit
+          → Walking g limit start (set items n y) stack' (n + 1) seen' depth' (get_or ix.last y 0)
+      after d st g k w =
+          rw (marked, is) (walking_more k w walkable.1 (inv g k w) (turn_steps g k w) found m full d (st g k w))
+
+      held : (g : Graph) → Indexed g ix → Within g limit → (j : ℕ) → j < r.depth → get_or stack j 0 ≤ length g.bounds
+      held g k w = walking_held k w walkable.1 (inv g k w) (turn_steps g k w) found
+
+      pub turn_pushed : length stack ≡ 64 → (g : Graph) → Indexed g ix → Within g limit
+          → Walking g limit start (set items n y) (set stack r.depth r.at) (n + 1) seen' (r.depth + 1) (get_or ix.last y 0)
+      turn_pushed size = after (omega arith) (λ g k w.
+          stacked_push stack r.depth r.at (turn_steps g k w).here (held g k w) (omega (arith, size, turn_deep m)))
+
+      pub turn_ended : r.at ≡ 0 → (g : Graph) → Indexed g ix → Within g limit
+          → Walking g limit start (set items n y) stack (n + 1) seen' r.depth (get_or ix.last y 0)
+      turn_ended z = after (omega arith) (λ g k w. stacked_same stack r.depth r.at (turn_steps g k w).here (held g k w) z)

@@ -36,9 +36,10 @@ impl Bound {
         ensures { result ≡ near longer self }
     {
         if longer {
-            return self.shorter as usize;
+            self.shorter as usize
+        } else {
+            self.longer as usize
         }
-        self.longer as usize
     }
 
     // The side that it goes to.
@@ -46,9 +47,10 @@ impl Bound {
         ensures { result ≡ far longer self }
     {
         if longer {
-            return self.longer as usize;
+            self.longer as usize
+        } else {
+            self.shorter as usize
         }
-        self.shorter as usize
     }
 }
 

@@ -1,9 +1,9 @@
 // The environment of a method: its lifetimes and the bounds between them.
-ghost use Rattle.std.specs.Prelude.{◌≡◌, true, [], ◌∷◌, ◌%◌, ◌*◌, ◌≤◌, length};
-ghost use Rattle.answers.specs.Lent.{judged, held};
+ghost use Rattle.std.specs.Prelude.{◌≡◌, true, [], ◌%◌, ◌*◌, ◌≤◌, length};
+ghost use Rattle.answers.specs.Lent.{judged};
 ghost use Rattle.lifetimes.specs.Limits.{most_bounds};
 ghost use Rattle.lifetimes.specs.Bounds.{above, all_below, bounds_from};
-ghost use Rattle.lifetimes.specs.Env.{env_with, too_few, env_checks, is_declared, bounds_of_pairs, env_of};
+ghost use Rattle.lifetimes.specs.Env.{env_with, env_checks, is_declared, bounds_of_pairs, env_of};
 ghost use Rattle.lifetimes.specs.Env.{new_env, push_bound};
 
 use super::bounds::{Bounds, bound_of, numbers_below};

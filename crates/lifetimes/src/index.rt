@@ -49,8 +49,5 @@ fn place(ast: bool, n: usize, i: usize) -> usize
     requires { i < n }
     ensures { result ≡ cond ast (n - 1 - i) i }
 {
-    if ast {
-        return n - 1 - i;
-    }
-    i
+    if ast { n - 1 - i } else { i }
 }

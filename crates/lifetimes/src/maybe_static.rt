@@ -67,10 +67,10 @@ impl<T: Numbered> MaybeStatic<T> {
     pub fn from_word(word: usize) -> Self
         ensures answer { result ≡ stands_for T.numbered word }
     {
-        if word == 0 {
-            return MaybeStatic::Static;
+        match word {
+            0 => MaybeStatic::Static,
+            _ => MaybeStatic::NonStatic(T::new(word - 1)),
         }
-        MaybeStatic::NonStatic(T::new(word - 1))
     }
 
     // Its lowered word, where there is one.

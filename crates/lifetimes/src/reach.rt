@@ -129,7 +129,7 @@ fn traverse(
     if out.len() < n {
         return Err(Refusal::NoRoom);
     }
-    copy_to(&items, n, out, 0);
+    out[..n].copy_from_slice(&items[..n]);
     Ok(n)
 }
 
@@ -157,20 +157,7 @@ fn limit_of(declared: usize, count: usize, start: usize) -> usize
     requires { (start < count) × (declared ≤ count) }
     ensures { (start < result) × (result ≤ count) × (declared ≤ result) }
 {
-    if start < declared {
-        return declared;
-    }
-    count
-}
-
-// Copy the first n items to a place of a slice.
-fn copy_to(items: &[usize; LifetimeEnv::MAX_LIFETIMES], n: usize, out: &mut [usize], at: usize)
-    requires { (n ≤ most_lifetimes) × (length items.now ≡ most_lifetimes) × (at + n ≤ length out.old) }
-    ensures { left out ≡ sets (held out) at (take n items.now) }
-{
-    for i in 0..n {
-        out[at + i] = items[i];
-    }
+    if start < declared { declared } else { count }
 }
 
 impl Index {
@@ -230,7 +217,7 @@ impl Index {
             let limit = limit_of(declared, count, x);
             let walked = self.walk(limit, x, &mut items);
             let n = walked.count;
-            copy_to(&items, n, words, at);
+            words[at..at + n].copy_from_slice(&items[..n]);
             at += n;
             ends[x] = at;
             reach[x] = walked.seen;

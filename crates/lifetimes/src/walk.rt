@@ -2,7 +2,7 @@
 ghost use Rattle.std.specs.Prelude.{◌≡◌, ◌≤◌, length};
 ghost use Rattle.lifetimes.specs.Index.{Graph, Chained, Indexed, Ready, Standing, Steps, Within, Walkable};
 ghost use Rattle.lifetimes.specs.Index.{Complete};
-ghost use Rattle.answers.specs.Lent.{held, left};
+ghost use Rattle.answers.specs.Lent.{left};
 ghost use Rattle.lifetimes.specs.Limits.{most_lifetimes};
 
 use super::env::LifetimeEnv;

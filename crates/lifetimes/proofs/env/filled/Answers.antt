@@ -1,10 +1,7 @@
 -- `filled` meets its contract. The loop's invariant is `Filling` of proofs/EnvLoops.antt.
 use borrow.Author.Rules.{rules}
-use Rattle.lifetimes.proofs.EnvLoops.{filling_start, filling_small, filling_more, filling_end}
+use Rattle.lifetimes.proofs.EnvLoops.{filling_small, filling_more, filling_end}
 use Rattle.lifetimes.proofs.env.filled.Goals as goal
-
-pub loop-i-init : goal.loop-i-init
-loop-i-init c = search (filling_start, rules)
 
 pub bound_of-requires : goal.bound_of-requires
 bound_of-requires c = filling_small c.loop-i.invariant (search rules)

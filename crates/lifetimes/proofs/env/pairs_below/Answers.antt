@@ -1,11 +1,8 @@
 -- `pairs_below` meets its contract. The loop's invariant is `Below` of proofs/EnvLoops.antt.
 use borrow.Author.Rules.{rules}
 use mathlib.Core.Path.{sym, ◌∙◌}
-use Rattle.lifetimes.proofs.EnvLoops.{below_start, below_refused, below_more, below_end}
+use Rattle.lifetimes.proofs.EnvLoops.{below_refused, below_more, below_end}
 use Rattle.lifetimes.proofs.env.pairs_below.Goals as goal
-
-pub loop-i-init : goal.loop-i-init
-loop-i-init c = search (below_start, rules)
 
 pub returns-then-not-numbers_below : goal.returns-then-not-numbers_below
 returns-then-not-numbers_below c = below_refused c.loop-i.invariant

@@ -1,17 +1,9 @@
 -- `set::contains` meets its contract: a lifetime of 64 or more is in no set of 64 bits.
-use mathlib.Core.Path.{sym, ap, ◌∙◌}
-use Prim.Native.Nat.{ℕ}
+use mathlib.Core.Path.{sym}
 use native.Mathlib.Omega.{arith}
 use borrow.Author.Tests.{le-ltb}
-use Rattle.lifetimes.specs.Sets.{member}
 use Rattle.lifetimes.proofs.SetLaws.{member_past}
 use Rattle.lifetimes.proofs.set.contains.Goals as goal
-
-pub returns-then-number-lt-CAPACITY : goal.returns-then-number-lt-CAPACITY
-returns-then-number-lt-CAPACITY c = record {
-  answer = c.holds.ensures ∙ ap (λ (n : ℕ). member c.args.set n)
-      c.index-number.ensures.answer;
-}
 
 pub returns-else-number-lt-CAPACITY : goal.returns-else-number-lt-CAPACITY
 returns-else-number-lt-CAPACITY c = record {

@@ -1,76 +1,16 @@
 -- `advance` meets its contract: each turn passes over an entry that was seen, or takes the stack's last chain.
-use Prim.Native.Nat.{◌-◌, ◌≤◌}
+use Prim.Native.Nat.{◌-◌}
 use mathlib.Core.Path.{sym, ap, ◌∙◌}
 use native.Mathlib.Omega.{arith}
-use borrow.Author.Rules.{rules}
 use Rattle.lifetimes.specs.declared.lifetime.Lifetime.{Lifetime}
-use Rattle.lifetimes.proofs.AdvanceLoops.{Skipping, skipping_start, skipping_at, skipping_depth, skipping_top}
+use Rattle.lifetimes.proofs.AdvanceLoops.{Skipping}
 use Rattle.lifetimes.proofs.AdvanceLoops.{skipping_pop, skipping_end, skipping_far, skipping_before, skipping_seen}
 use Rattle.lifetimes.proofs.AdvanceLoops.{skipping_found}
 use Rattle.lifetimes.proofs.index.Index.advance.Goals as goal
 
-pub pending-init : goal.pending-init
-pending-init c = search (skipping_start, rules)
-
-pub offset_bounds-stack-depth : goal.offset_bounds-stack-depth
-offset_bounds-stack-depth c =
-    let inv_of : Skipping c.requires.0 c.args.stack.now c.args.seen c.args.from
-    c.args.deep c.pending.at c.pending.depth = c.pending.invariant c.requires.0 c.requires.1 c.requires.2 in
-    let few_deep : c.pending.depth ≤ 64 = skipping_depth c.requires.1 c.requires.2 inv_of in
-    omega (arith, few_deep)
-
-pub bounds-stack-depth : goal.bounds-stack-depth
-bounds-stack-depth c =
-    let inv_of : Skipping c.requires.0 c.args.stack.now c.args.seen c.args.from
-    c.args.deep c.pending.at c.pending.depth = c.pending.invariant c.requires.0 c.requires.1 c.requires.2 in
-    let few_deep : c.pending.depth ≤ 64 = skipping_depth c.requires.1 c.requires.2 inv_of in
-    omega (arith, few_deep)
-
-pub pending-smaller-then-at-eq0 : goal.pending-smaller-then-at-eq0
-pending-smaller-then-at-eq0 c =
-    let inv_of : Skipping c.requires.0 c.args.stack.now c.args.seen c.args.from
-    c.args.deep c.pending.at c.pending.depth = c.pending.invariant c.requires.0 c.requires.1 c.requires.2 in
-    omega (
-      arith,
-      c.requires.1.few,
-      skipping_top c.requires.1 c.requires.2 inv_of c.if-at-eq0.true
-          (c.pending.depth - 1) (omega arith),
-    )
-
 pub pending-preserved-then-at-eq0 : goal.pending-preserved-then-at-eq0
 pending-preserved-then-at-eq0 c = λ g ch r.
     skipping_pop ch r (c.pending.invariant g ch r) c.if-at-eq0.true (c.pending.depth - 1) (omega arith)
-
-pub bounds-self-i : goal.bounds-self-i
-bounds-self-i c =
-    let inv_of : Skipping c.requires.0 c.args.stack.now c.args.seen c.args.from
-    c.args.deep c.pending.at c.pending.depth = c.pending.invariant c.requires.0 c.requires.1 c.requires.2 in
-    let few_at : c.pending.at ≤ 256 = skipping_at c.requires.1 c.requires.2 inv_of in
-    omega (arith, few_at)
-
-pub overflow_cast-y : goal.overflow_cast-y
-overflow_cast-y c =
-    let inv_of : Skipping c.requires.0 c.args.stack.now c.args.seen c.args.from
-    c.args.deep c.pending.at c.pending.depth = c.pending.invariant c.requires.0 c.requires.1 c.requires.2 in
-    omega (arith, skipping_far c.requires.1 c.requires.2 inv_of (c.pending.at - 1) (omega arith))
-
-pub bounds-self-i-else-at-eq0 : goal.bounds-self-i-else-at-eq0
-bounds-self-i-else-at-eq0 c =
-    let inv_of : Skipping c.requires.0 c.args.stack.now c.args.seen c.args.from
-    c.args.deep c.pending.at c.pending.depth = c.pending.invariant c.requires.0 c.requires.1 c.requires.2 in
-    let few_at : c.pending.at ≤ 256 = skipping_at c.requires.1 c.requires.2 inv_of in
-    omega (arith, few_at)
-
-pub overflow_cast-at : goal.overflow_cast-at
-overflow_cast-at c =
-    let inv_of : Skipping c.requires.0 c.args.stack.now c.args.seen c.args.from
-    c.args.deep c.pending.at c.pending.depth = c.pending.invariant c.requires.0 c.requires.1 c.requires.2 in
-    let few_at : c.pending.at ≤ 256 = skipping_at c.requires.1 c.requires.2 inv_of in
-    omega (
-      arith,
-      few_at,
-      skipping_before c.requires.1 c.requires.2 inv_of (c.pending.at - 1) (omega arith),
-    )
 
 pub holds-requires : goal.holds-requires
 holds-requires c =

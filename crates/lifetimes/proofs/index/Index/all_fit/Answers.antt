@@ -1,8 +1,6 @@
 -- `all_fit` meets its contract: as many words for each list as there are lifetimes are enough, and else the total is
 -- what `measure` gives.
 use mathlib.Core.Path.{sym}
-use Prim.Native.Nat.{◌≤◌}
-use native.Mathlib.Nat.{mul-le-mul}
 use native.Mathlib.Omega.{arith}
 use borrow.Author.Tests.{le-leb}
 use mathlib.Core.List.{flatten}
@@ -10,12 +8,6 @@ use lib.ListN.{length}
 use Rattle.lifetimes.specs.Index.{lists_from}
 use Rattle.lifetimes.proofs.ReachLoops.{lists_few}
 use Rattle.lifetimes.proofs.index.Index.all_fit.Goals as goal
-
-pub overflow_mul-count : goal.overflow_mul-count
-overflow_mul-count c = omega (arith, mul-le-mul few few)
-  where
-    few : c.args.count ≤ 64
-    few = omega (arith, c.requires)
 
 pub returns-then-count-room : goal.returns-then-count-room
 returns-then-count-room c = λ g k w.
@@ -28,6 +20,3 @@ returns-then-count-room c = λ g k w.
             lists_few g c.args.count (λ b i. omega (arith, w b i, c.requires)) 0 c.args.count (omega arith),
           )));
     }
-
-pub returns : goal.returns
-returns c = λ g k w. record { fits = rw (c.measure.ensures g k w).total }

@@ -1,80 +1,23 @@
 -- `lay` meets its contract: each turn walks from one lifetime more and lays its list behind the others.
-use Prim.Native.Nat.{◌+◌, ◌≤◌}
-use mathlib.Core.Path.{◌≡◌, sym, ap, ◌∙◌}
 use native.Mathlib.Omega.{arith}
 use borrow.Author.Rules.{rules}
-use lib.ListN.{length, take, length-set}
-use lib.Seq.{length-take-le, length-sets}
-use Rattle.lifetimes.proofs.ReachLoops.{laying_start, laying_room, laying_more, laying_end}
+use Rattle.lifetimes.proofs.ReachLoops.{laying_end, turn_room, turn_lays}
 use Rattle.lifetimes.proofs.index.Index.lay.Goals as goal
 
-pub loop-x-init : goal.loop-x-init
-loop-x-init c = search (laying_start, rules)
-
-pub walk-walked-requires : goal.walk-walked-requires
-walk-walked-requires c = let m = c.limit_of-limit.ensures in record {
-  walkable = (
-    (c.requires.layable.0.0, c.requires.layable.0.1, λ b i. omega (arith, c.requires.layable.0.2 b i, m)),
-    omega (arith, c.requires.layable.2, m),
-    m.0,
-  );
-  len = c.loop-x.invariant.0;
-}
-
-pub copy_to-requires : goal.copy_to-requires
-copy_to-requires c =
-    let room : c.loop-x.at + c.walk-walked.result.count
-    ≤ length c.loop-x.words = let (g, k, h, fits) = c.requires.layable.0 in
-    let done = c.walk-walked.ensures.complete g k (λ b i. omega (arith, h b i, c.limit_of-limit.ensures)) in
-    let n : c.walk-walked.result.count ≡ length (take c.walk-walked.result.count c.walk-walked.new.items) =
-    sym (length-take-le c.walk-walked.result.count _ (omega (
-      arith,
-      c.walk-walked.ensures.count_le_most_lifetimes,
-    ))) in
-    omega (
-      arith,
-      c.loop-x.invariant.1,
-      n,
-      ap length done.items,
-      laying_room (c.loop-x.invariant.4 g k h) c.loop-x-test.true (omega (arith, c.loop-x.invariant.1)),
-    ) in
-    (c.walk-walked.ensures.count_le_most_lifetimes.0, c.walk-walked.ensures.count_le_most_lifetimes.1, room)
-
-pub overflow_add-at : goal.overflow_add-at
-overflow_add-at c =
-    let room : c.loop-x.at + c.walk-walked.result.count
-    ≤ length c.loop-x.words = let (g, k, h, fits) = c.requires.layable.0 in
-    let done = c.walk-walked.ensures.complete g k (λ b i. omega (arith, h b i, c.limit_of-limit.ensures)) in
-    let n : c.walk-walked.result.count ≡ length (take c.walk-walked.result.count c.walk-walked.new.items) =
-    sym (length-take-le c.walk-walked.result.count _ (omega (
-      arith,
-      c.walk-walked.ensures.count_le_most_lifetimes,
-    ))) in
-    omega (
-      arith,
-      c.loop-x.invariant.1,
-      n,
-      ap length done.items,
-      laying_room (c.loop-x.invariant.4 g k h) c.loop-x-test.true (omega (arith, c.loop-x.invariant.1)),
-    ) in
-    omega (arith, room)
+pub slice_bounds-copy_from_slice-end : goal.slice_bounds-copy_from_slice-end
+slice_bounds-copy_from_slice-end c =
+    turn_room c.requires.layable c.loop-x.invariant.1 (search rules) c.loop-x-test.true {items = c.walk-walked.new.items}
+    (omega (arith, c.walk-walked.ensures.count_le_most_lifetimes))
+    (λ g k w. c.walk-walked.ensures.complete g k (λ b i. omega (arith, w b i, c.limit_of-limit.ensures)))
 
 pub loop-x-preserved : goal.loop-x-preserved
-loop-x-preserved c = let m = c.limit_of-limit.ensures in (
-  c.walk-walked.ensures.count_le_most_lifetimes.1,
-  ap length c.copy_to.ensures ∙ simp length-sets c.loop-x.invariant.1,
-  length-set c.loop-x.ends c.loop-x.x _ ∙ c.loop-x.invariant.2,
-  length-set c.loop-x.reach c.loop-x.x c.walk-walked.result.seen ∙ c.loop-x.invariant.3,
-  λ g k h.
-      let done = c.walk-walked.ensures.complete g k (λ b i. omega (arith, h b i, m)) in
-      rw c.copy_to.ensures
-      (laying_more (c.loop-x.invariant.4 g k h) c.loop-x-test.true _ _ _ done.items
-      (sym (length-take-le c.walk-walked.result.count _ (omega (
-        arith,
-        c.walk-walked.ensures.count_le_most_lifetimes,
-      ))))
-      done.seen),
+loop-x-preserved c = let few = c.walk-walked.ensures.count_le_most_lifetimes in (
+  few.1,
+  turn_lays c.requires.layable c.loop-x.invariant.1 (search rules) c.loop-x-test.true {items = c.walk-walked.new.items}
+      (omega (arith, few))
+      (λ g k w. c.walk-walked.ensures.complete g k (λ b i. omega (arith, w b i, c.limit_of-limit.ensures)))
+      c.copy_from_slice.ensures.after,
 )
 
 pub returns : goal.returns
-returns c = λ g k w. laying_end (c.loop-x.invariant.4 g k w) c.loop-x-test.false
+returns c = λ g k w. laying_end (c.loop-x.invariant.1 g k w) c.loop-x-test.false

@@ -6,5 +6,6 @@ use Rattle.lifetimes.proofs.ReachLoops.{Laying}
 use Rattle.lifetimes.proofs.index.Index.lay.Given as goal
 
 abbrev pub invariant-loop-x : goal.invariant-loop-x
-invariant-loop-x l = (length l.items ≡ 64) × (length l.words ≡ length l.initial.words) × (length l.ends ≡ length l.initial.ends) × (length l.reach ≡ 64)
-    × ((g : Graph) → Indexed g l.self → Within g l.declared → Laying g l.count l.initial.words l.initial.ends l.initial.reach l.words l.ends l.reach l.x l.at)
+invariant-loop-x l = (length l.items ≡ 64)
+    × ((g : Graph) → Indexed g l.self → Within g l.declared
+    → Laying g l.count l.initial.words l.initial.ends l.initial.reach l.words l.ends l.reach l.x l.at)

@@ -1,17 +1,11 @@
 -- `link` meets its contract: its loop makes the index of one bound more with each turn.
 use native.Mathlib.Omega.{arith}
 use borrow.Author.Rules.{rules}
-use Rattle.lifetimes.proofs.IndexLoops.{linking_start, link_at, link_near, link_far, link_more, link_end}
+use Rattle.lifetimes.proofs.IndexLoops.{linking_start, link_near, link_far, link_more, link_end}
 use Rattle.lifetimes.proofs.index.Index.link.Goals as goal
 
 pub loop-i-init : goal.loop-i-init
 loop-i-init c = search (linking_start, rules)
-
-pub bounds-bounds-at : goal.bounds-bounds-at
-bounds-bounds-at c = link_at c.args.ast c.args.longer c.requires c.loop-i.invariant (search rules) c.place-at.ensures
-
-pub offset_bounds-bounds-at : goal.offset_bounds-bounds-at
-offset_bounds-bounds-at c = omega (arith, link_at c.args.ast c.args.longer c.requires c.loop-i.invariant (search rules) c.place-at.ensures)
 
 pub bounds-index-x : goal.bounds-index-x
 bounds-index-x c = link_near c.args.ast c.args.longer c.requires c.loop-i.invariant (search rules) c.place-at.ensures c.near-x.ensures

@@ -1,39 +1,16 @@
 -- `measure` meets its contract: each turn walks from one lifetime more.
-use mathlib.Core.Path.{sym, ap, ◌∙◌}
 use native.Mathlib.Omega.{arith}
-use borrow.Author.Rules.{rules}
-use lib.ListN.{length, length-set}
-use lib.Seq.{length-take-le}
-use Rattle.lifetimes.proofs.ReachLoops.{measuring_start, measuring_more, measuring_end}
+use Rattle.lifetimes.proofs.ReachLoops.{measuring_more, measuring_end}
 use Rattle.lifetimes.proofs.index.Index.measure.Goals as goal
 
-pub loop-x-init : goal.loop-x-init
-loop-x-init c = search (measuring_start, rules)
-
-pub walk-walked-requires : goal.walk-walked-requires
-walk-walked-requires c = let m = c.limit_of-limit.ensures in record {
-  walkable = (
-    (c.requires.measurable.0.0, c.requires.measurable.0.1, λ b i. omega (arith, c.requires.measurable.0.2 b i, m)),
-    omega (arith, c.requires.measurable.2, m),
-    m.0,
-  );
-  len = c.loop-x.invariant.0;
-}
-
 pub loop-x-preserved : goal.loop-x-preserved
-loop-x-preserved c = let m = c.limit_of-limit.ensures in (
-  c.walk-walked.ensures.count_le_most_lifetimes.1,
-  length-set c.loop-x.reach c.loop-x.x c.walk-walked.result.seen ∙ c.loop-x.invariant.1,
-  omega (arith, c.loop-x.invariant.2, c.walk-walked.ensures.count_le_most_lifetimes),
-  λ g k h.
-      let done = c.walk-walked.ensures.complete g k (λ b i. omega (arith, h b i, m)) in
-      measuring_more (c.loop-x.invariant.3 g k h) c.loop-x-test.true _ _
-      (sym (length-take-le c.walk-walked.result.count _ (omega (
-        arith,
-        c.walk-walked.ensures.count_le_most_lifetimes,
-      ))) ∙ ap length done.items)
-      done.seen,
+loop-x-preserved c = let few = c.walk-walked.ensures.count_le_most_lifetimes in (
+  few.1,
+  omega (arith, few),
+  λ g k w. measuring_more (c.loop-x.invariant.2 g k w) c.loop-x-test.true {items = c.walk-walked.new.items}
+      (omega (arith, few))
+      (c.walk-walked.ensures.complete g k (λ b i. omega (arith, w b i, c.limit_of-limit.ensures))),
 )
 
 pub returns : goal.returns
-returns c = λ g k w. measuring_end (c.loop-x.invariant.3 g k w) c.loop-x-test.false
+returns c = λ g k w. measuring_end (c.loop-x.invariant.2 g k w) c.loop-x-test.false

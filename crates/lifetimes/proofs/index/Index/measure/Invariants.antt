@@ -7,5 +7,5 @@ use Rattle.lifetimes.proofs.ReachLoops.{Measuring}
 use Rattle.lifetimes.proofs.index.Index.measure.Given as goal
 
 abbrev pub invariant-loop-x : goal.invariant-loop-x
-invariant-loop-x l = (length l.items ≡ 64) × (length l.reach ≡ 64) × (l.total ≤ 64 * l.x)
+invariant-loop-x l = (length l.items ≡ 64) × (l.total ≤ 64 * l.x)
     × ((g : Graph) → Indexed g l.self → Within g l.declared → Measuring g l.count l.initial.reach l.reach l.x l.total)

@@ -2,8 +2,7 @@
 use mathlib.Core.Path.{refl, ◌∙◌}
 use native.Mathlib.Omega.{arith}
 use lib.ListN.{length-set}
-use Rattle.lifetimes.proofs.WalkLoops.{walking_start, walking_end, walking_more, walking_held, stacked_push}
-use Rattle.lifetimes.proofs.WalkLoops.{stacked_same, turn_end, turn_steps, turn_deep, turn_small}
+use Rattle.lifetimes.proofs.WalkLoops.{walking_start, walking_end, turn_end, turn_steps, turn_small, turn_pushed, turn_ended}
 use Rattle.lifetimes.proofs.index.Index.walk.Goals as goal
 use Rattle.lifetimes.proofs.index.Index.walk.Goals.{then-rest-ne0, else-rest-ne0}
 
@@ -42,36 +41,23 @@ offset_bounds-self-y c = omega (
 
 pub loop-count-preserved : goal.loop-count-preserved
 loop-count-preserved c =
-    let deep = turn_deep c.requires.walkable c.loop-count.invariant.2 c.advance-stepped.ensures c.loop-count-test.true in
-    let steps = turn_steps c.requires.walkable c.loop-count.invariant.2 c.advance-stepped.ensures in
-    let r = c.advance-stepped.result in
     let items = length-set c.loop-count.items c.loop-count.count c.index-y.result ∙ c.loop-count.invariant.0 in
+    let stack = c.loop-count.invariant.1 in
+    let r = c.advance-stepped.result in
     elim c.if-rest-ne0.branch [
-      | then-rest-ne0 v ↦ (
+      | then-rest-ne0 v ↦ rw (v.stack-is, v.depth-is) (
         items,
-        rw v.stack-is (length-set c.loop-count.stack r.depth r.at ∙ c.loop-count.invariant.1),
-        λ g k w.
-            let inv = c.loop-count.invariant.2 g k w in
-            rw (c.with-seen-in-loop-count.ensures, c.index-y.ensures.answer)
-            (walking_more k w c.requires.walkable.1 inv (steps g k w) c.in-Some.is c.loop-count-test.true
-            c.loop-count.invariant.0 (omega (arith, v.depth-is))
-            (rw (v.stack-is, v.depth-is)
-            (stacked_push c.loop-count.stack r.depth r.at (steps g k w).here
-            (walking_held k w c.requires.walkable.1 inv (steps g k w) c.in-Some.is)
-            (omega (arith, c.loop-count.invariant.1, deep))))),
+        length-set c.loop-count.stack r.depth r.at ∙ stack,
+        turn_pushed c.requires.walkable c.loop-count.invariant.2 c.advance-stepped.ensures c.in-Some.is
+            c.loop-count-test.true c.loop-count.invariant.0 c.with-seen-in-loop-count.ensures c.index-y.ensures.answer
+            stack,
       )
-      | else-rest-ne0 v ↦ (
+      | else-rest-ne0 v ↦ rw (v.stack-is, v.depth-is) (
         items,
-        rw v.stack-is c.loop-count.invariant.1,
-        λ g k w.
-            let inv = c.loop-count.invariant.2 g k w in
-            rw (c.with-seen-in-loop-count.ensures, c.index-y.ensures.answer)
-            (walking_more k w c.requires.walkable.1 inv (steps g k w) c.in-Some.is c.loop-count-test.true
-            c.loop-count.invariant.0 (omega (arith, v.depth-is))
-            (rw (v.stack-is, v.depth-is)
-            (stacked_same c.loop-count.stack r.depth r.at (steps g k w).here
-            (walking_held k w c.requires.walkable.1 inv (steps g k w) c.in-Some.is)
-            v.if-rest-ne0.false))),
+        stack,
+        turn_ended c.requires.walkable c.loop-count.invariant.2 c.advance-stepped.ensures c.in-Some.is
+            c.loop-count-test.true c.loop-count.invariant.0 c.with-seen-in-loop-count.ensures c.index-y.ensures.answer
+            v.if-rest-ne0.false,
       )
     ]
 
