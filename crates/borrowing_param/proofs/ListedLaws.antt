@@ -34,7 +34,6 @@ use Rattle.hir_types.proofs.LocatedLaws.{type_located}
 use Rattle.hir_types.proofs.FoundLaws.{found_told, missing_told, path_inside}
 use Rattle.methods.specs.Method.{types_in, row_checks, param_checks, structs_and_params_checks, structs_and_params_verdict}
 use Rattle.borrowing_param.specs.declared.listed.BorrowMap.{BorrowMap}
-use Rattle.borrowing_param.specs.declared.listed.Counted.{Counted}
 use Rattle.borrowing_param.specs.declared.visitor.LifetimeEdge.{LifetimeEdge}
 use Rattle.borrowing_param.specs.declared.visitor.BorrowingParamVisitor.{BorrowingParamVisitor}
 use Rattle.borrowing_param.specs.Edges.{width, most_defs, edge_words}
@@ -42,7 +41,7 @@ use Rattle.borrowing_param.specs.Brings.{bring, answer_number}
 use Rattle.borrowing_param.specs.Visit.{used_of, draws_in, draws_of, bring_to, bring_all, holding}
 use Rattle.borrowing_param.specs.BorrowMap.{listed_to, listed_edges, answers_from, Mapping, mapping_of, borrow_map}
 use Rattle.borrowing_param.specs.BorrowMap.{map_answer, map_answers, map_edges, MapsTo}
-use Rattle.borrowing_param.specs.Inner.{Inside, type_in, number_by, SetBelow, CountsAll, StoresWords, Stores}
+use Rattle.borrowing_param.specs.Inner.{type_in, number_by, SetBelow, CountsAll, StoresWords, Stores}
 use Rattle.borrowing_param.specs.InnerMap.{ReadsTypes, done, more, param_types, Params, visitor_in, bring_from}
 use Rattle.borrowing_param.specs.InnerMap.{CountsParams, map_room_checks, map_of}
 use Rattle.borrowing_param.proofs.JoinLaws.{join_cons, words_many}
@@ -141,7 +140,6 @@ pub record Passed (words : List ℕ) (types left : List LoweredType) (at number 
   pub rest : List LoweredType
   pub split : left ≡ type_in words p ∷ rest
   pub passing : Passing words types rest p.next (number + 1)
-  pub inside : Inside words p.from p.count
   pub few : p.count ≤ 16
   pub short : length (type_in words p).path ≤ 16
   pub past : at < p.next
@@ -171,7 +169,6 @@ module _ {words : List ℕ} {types left : List LoweredType} {at number : ℕ} (i
           rest = n.types;
           split = n.split ∙ ap (λ (x : LoweredType). x ∷ n.types) (sym is);
           passing = record { reads = rw s.left n.lists; many = omega (arith, inv.many) };
-          inside = path_inside s;
           few = s.few;
           short = omega (arith, s.few, s.count, ap length s.path);
           past = s.past;
@@ -408,7 +405,7 @@ maps_refused : {o : Outcome Mapping} {r : Refusal} {b : Outcome BorrowMap} {answ
     → o ≡ Err r → b ≡ Err r → Stays answers → Stays edges → MapsTo o b answers edges
 maps_refused e q a w = record { counts = rw e q; answers_filled = rw e a; edges_filled = rw e w }
 
-module _ (v : BorrowingParamVisitor) (types : List LoweredType) {numbers₀ : List ℕ} {n : Counted} {numbers : List ℕ}
+module _ (v : BorrowingParamVisitor) (types : List LoweredType) {numbers₀ : List ℕ} {n : BorrowMap} {numbers : List ℕ}
     (c : CountsParams v.used v.draws types numbers₀ n numbers) where
   answers_size : length (answers_from v 0 types) ≡ n.params
   answers_size = answers_many v 0 types ∙ sym c.params
@@ -448,7 +445,7 @@ module _ (v : BorrowingParamVisitor) (types : List LoweredType) {numbers₀ : Li
       → {stored : ℕ} → Fills (copied numbers n.params (room answers)) answers
       → length types ≤ 16 → StoresWords (listed_edges (visitor_in v.used v.draws) types) 0 (held edges) stored (left edges)
       → MapsTo (map_of v types (room answers) (room edges))
-      (Ok (record { params = n.params; edges = stored })) answers edges
+      (Ok n) answers edges
   mapped {answers} {edges} k fits size {stored} a few s =
       let past : length (flat_map edge_words (listed_edges v types)) ≤ room edges =
       omega (arith, edges_size, div-add-mod' (room edges) 5) in
@@ -469,8 +466,8 @@ module _ (v : BorrowingParamVisitor) (types : List LoweredType) {numbers₀ : Li
       ++ drop (length (flat_map edge_words (listed_edges v types))) (held edges) =
       s.stored ∙ ap (λ (l : List LifetimeEdge). sets (held edges) 0 (flat_map edge_words l)) edges_are
       ∙ sets_front (held edges) (flat_map edge_words (listed_edges v types)) past in
-      let count : stored ≡ length (listed_edges v types) = s.count ∙ zero-add _ ∙ ap length edges_are in
-      record { counts = rw (given, ← answers_size, ← count); answers_filled = rw given stands; edges_filled = rw given stored_words }
+      let count : n.edges ≡ length (listed_edges v types) = c.edges ∙ ap length edges_are in
+      record { counts = rw (given, answers_size, ← count); answers_filled = rw given stands; edges_filled = rw given stored_words }
 
 -- ---- the answers of `borrow_map`
 

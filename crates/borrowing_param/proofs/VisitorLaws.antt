@@ -37,7 +37,7 @@ use Rattle.borrowing_param.specs.Edges.{width}
 use Rattle.borrowing_param.specs.Brings.{answer_number, notes, empty_pairs, answer_of}
 use Rattle.borrowing_param.specs.Visit.{bring_all, holding, State, state, VisitOutcome, outcome, visit_with, visit}
 use Rattle.borrowing_param.specs.VisitParam.{type_at, visit_checks, visit_param}
-use Rattle.borrowing_param.specs.Inner.{Inside, type_in, nth_type, FoundAt, number_by, all_in, CountsAll, Stores}
+use Rattle.borrowing_param.specs.Inner.{type_in, nth_type, FoundAt, number_by, all_in, CountsAll, Stores}
 use Rattle.borrowing_param.proofs.VisitsLaws.{visit_stores}
 
 -- ---- the type with a number
@@ -204,10 +204,10 @@ parts_type s = rw (s.option, s.kind, s.path, s.own)
 
 -- the parameter that was found: its path words are there and not many, and so is its code
 pub parts_there : {n : ℕ} {words : List ℕ} {r : Option Parts} {p : Parts} → FoundAt words n r → r ≡ Some p
-    → Inside words p.from p.count × (p.count ≤ 16) × Coded words p
+    → (p.count ≤ 16) × Coded words p
 parts_there f e =
     let s = (found_told f.found e).stands in
-    (path_inside s, s.few, code_told f.coded e)
+    (s.few, code_told f.coded e)
 
 -- ---- the answer's number
 

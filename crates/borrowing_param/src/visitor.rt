@@ -4,13 +4,13 @@ ghost use Rattle.borrowing_param.specs.Edges.{most_defs};
 ghost use Rattle.borrowing_param.specs.Visit.{state, outcome, visit};
 ghost use Rattle.borrowing_param.specs.VisitParam.{visit_param};
 ghost use Rattle.borrowing_param.specs.New.{created, visitor_from};
-ghost use Rattle.borrowing_param.specs.Inner.{Inside, type_in, FoundAt, number_by};
+ghost use Rattle.borrowing_param.specs.Inner.{type_in, FoundAt, number_by};
 ghost use Rattle.hir_types.specs.Places.{Coded};
 ghost use Rattle.answers.specs.Lent.{held, left};
 
-use super::edges::{count_all, past_last, store_all};
+use super::edges::{Param, past_last};
 use answers::Refusal;
-use hir_types::{Kind, Parts, type_at};
+use hir_types::{Kind, Parts, path_words, type_at};
 use lifetimes::{Lifetime, LifetimeEnv, set};
 use methods::{check_structs_and_params, used_method_lifetimes};
 use records::MAX_LIST;
@@ -84,14 +84,10 @@ impl BorrowingParamVisitor {
     {
         let limit = past_last(used);
         let mut draws = [set::EMPTY; LifetimeEnv::MAX_LIFETIMES];
-        let mut i = 0;
-        'lifetimes: while i < limit {
-            let l = i;
-            i += 1;
-            if !set::contains(used, Lifetime::new(l)) {
-                continue 'lifetimes;
+        for l in 0..limit {
+            if set::contains(used, Lifetime::new(l)) {
+                draws[l] = sets[l];
             }
-            draws[l] = sets[l];
         }
         BorrowingParamVisitor {
             used,
@@ -146,12 +142,17 @@ impl BorrowingParamVisitor {
         param: usize,
         edges: &mut [usize],
     ) -> Result<ParamBorrowInfo, Refusal>
-        requires { Inside params.now parts.from parts.count × (parts.count ≤ most_defs)
-            × Coded params.now parts }
+        requires { (parts.count ≤ most_defs) × Coded params.now parts }
         ensures { outcome result (state self.new (left edges))
             ≡ visit (state self.old (held edges)) (type_in params.now parts) param }
     {
-        let brought = count_all(self.used, &self.draws, params, parts);
+        let path = path_words(params, parts.from, parts.count);
+        let visited = Param {
+            number: param,
+            parts,
+            path,
+        };
+        let brought = self.count(visited);
         let number = number_of(params, parts, brought);
         let mut pairs = [set::EMPTY; ParamBorrowInfo::MAX_DEFS];
         if brought == 0 {
@@ -164,16 +165,7 @@ impl BorrowingParamVisitor {
         if room - brought < self.stored {
             return Err(Refusal::NoRoom);
         }
-        self.stored = store_all(
-            self.used,
-            &self.draws,
-            params,
-            parts,
-            param,
-            edges,
-            self.stored,
-            &mut pairs,
-        );
+        self.stored = self.store(visited, edges, self.stored, &mut pairs);
         Ok(ParamBorrowInfo { number, pairs })
     }
 }
@@ -183,14 +175,8 @@ fn param_at(params: &[usize], param: usize) -> Option<Parts>
     ensures { FoundAt params.now param result }
 {
     let mut at = 0;
-    let mut i = 0;
-    while i < param {
-        let found = type_at(params, at);
-        let Some(parts) = found else {
-            return None;
-        };
-        at = parts.next;
-        i += 1;
+    for _passed in 0..param {
+        at = type_at(params, at)?.next;
     }
     type_at(params, at)
 }
