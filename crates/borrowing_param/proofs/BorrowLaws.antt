@@ -24,8 +24,8 @@ use Rattle.sheet.specs.Text.{Records, lists}
 use Rattle.sheet.specs.Reading.{sheet_of}
 use Rattle.answers.specs.Lists.{ends_from}
 use Rattle.sheet.specs.Shape.{sheet_checks}
-use Rattle.sheet.specs.Answer.{record_words}
-use Rattle.sheet.proofs.LaidLaws.{Laid, laid_record}
+use Rattle.sheet.specs.Answer.{records_at}
+use Rattle.sheet.proofs.LaidLaws.{Laid, laid_records}
 use Rattle.borrowing_param.specs.declared.borrows.Borrows as answer
 use Rattle.borrowing_param.specs.declared.listed.BorrowMap.{BorrowMap}
 use Rattle.borrowing_param.specs.declared.method.SheetMethod.{SheetMethod}
@@ -225,14 +225,13 @@ module _ (bytes : List ℕ) (used answers edges : Slice) where
       laid = let p = judges.leaves (ap is_ok fine) in
           record { sheet = sheet; rest = p.0; stored = p.1; placed = ap (λ (x : SheetMethod). x.ends) judged.1 }
 
-      found : (i : ℕ) → i < 10 → record_words scratch method.ends i ≡ get_or (lists sheet) i []
+      found : records_at scratch method.ends ≡ sheet
       unfolding laid
-      found i h = laid_record laid i h
+      found = laid_records laid
 
-      module _ {a b c d : List ℕ} (pa : a ≡ record_words scratch method.ends 6) (pb : b ≡ record_words scratch method.ends 7)
-          (pc : c ≡ record_words scratch method.ends 8) (pd : d ≡ record_words scratch method.ends 9) where
+      module _ {r : Records} (stands : r ≡ records_at scratch method.ends) where
         abbrev below : Outcome Borrows
-        below = borrow_method method.env a b c d (room used) (room answers) (room edges)
+        below = borrow_method method.env r.structs r.params r.output r.force (room used) (room answers) (room edges)
 
         is_below : borrowed ≡ below
         unfolding borrow_method borrow_sheet
@@ -242,11 +241,11 @@ module _ (bytes : List ℕ) (used answers edges : Slice) where
             let rooms = borrows_room_checks whole (room used) (room answers) (room edges) in
             let same : below ≡ borrow_method (env_of_sheet sheet) sheet.structs sheet.params sheet.output
             sheet.force (room used) (room answers) (room edges) =
-            rw (e, pa ∙ found 6 (omega arith), pb ∙ found 7 (omega arith), pc ∙ found 8 (omega arith), pd ∙ found 9 (omega arith)) in
+            rw (e, stands ∙ found) in
             unless_after whole rooms sheet_none ∙ sym (same ∙ unless_after whole rooms (sheet_method bytes sheet_none))
 
-        pub sheet_borrowed : {r : Outcome answer.Borrows} → r ≡ borrows_answer below → Fills (used_words below) used
-            → Fills (answer_words below) answers → Fills (edges_words below) edges → BorrowsTo borrowed r used answers edges
+        pub sheet_borrowed : {b : Outcome answer.Borrows} → b ≡ borrows_answer below → Fills (used_words below) used
+            → Fills (answer_words below) answers → Fills (edges_words below) edges → BorrowsTo borrowed b used answers edges
         sheet_borrowed = same_outcome is_below
 
   -- what a crate above may rely on, of an accepted sheet

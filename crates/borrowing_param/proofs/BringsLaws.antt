@@ -13,6 +13,7 @@ use native.Mathlib.Omega.{arith}
 use lib.ListN.{length, get_or, length-set, length-map, get_or-replicate, get_or-eq_default}
 use lib.Seq.{get_or-set_same, get_or-set_other}
 use borrow.Author.Tests.{eq-eqb, ne_eqb}
+use Rattle.lifetimes.specs.declared.lifetime.Lifetime.{Lifetime}
 use Rattle.lifetimes.specs.declared.maybe_static.MaybeStatic.{MaybeStatic}
 use Rattle.lifetimes.specs.declared.maybe_static.MaybeStatic.TheVariants.{Static, NonStatic}
 use Rattle.lifetimes.specs.Numbers.{lifetime}
@@ -32,14 +33,14 @@ use Rattle.answers.specs.Lists.{any, numbered}
 -- ---- by a test that decides a property
 
 module _ (draws : ℕ → Bool) (D : ℕ → Type 0) (test : (b : ℕ) → (draws b ≡ true) ↔ D b) where
-  drawn_by : (m : MaybeStatic) → drawn draws m ≡ true → (b : ℕ) × (m ≡ NonStatic (lifetime b)) × D b
+  drawn_by : (m : MaybeStatic Lifetime) → drawn draws m ≡ true → (b : ℕ) × (m ≡ NonStatic (lifetime b)) × D b
   drawn_by Static h = absurd (true≢false (sym h))
   drawn_by (NonStatic l) h = (l.0, refl, (test l.0).0 h)
 
-  draws_it : (m : MaybeStatic) (b : ℕ) → m ≡ NonStatic (lifetime b) → D b → drawn draws m ≡ true
+  draws_it : (m : MaybeStatic Lifetime) (b : ℕ) → m ≡ NonStatic (lifetime b) → D b → drawn draws m ≡ true
   draws_it m b e d = ap (drawn draws) e ∙ (test b).1 d
 
-  any_some : (ms : List MaybeStatic) → (any_drawn draws ms ≡ true) ↔ Some D ms
+  any_some : (ms : List (MaybeStatic Lifetime)) → (any_drawn draws ms ≡ true) ↔ Some D ms
   unfolding any
   any_some [] = (λ h. absurd (true≢false (sym h)), λ s. absurd (Memᴰ.not-nil s.1))
   any_some (m ∷ ms) = go (drawn draws m) refl (any_some ms)
@@ -58,10 +59,10 @@ module _ (draws : ℕ → Bool) (D : ℕ → Type 0) (test : (b : ℕ) → (draw
   one_by false P x e h = (λ m. absurd (Memᴰ.not-nil m), λ k. absurd (true≢false (sym (h.1 k.0))))
 
   -- the edges of a struct from the definition lifetime `from` on
-  abbrev From : ℕ → ℕ → ℕ → ℕ → List MaybeStatic → LifetimeEdge → Type 0
+  abbrev From : ℕ → ℕ → ℕ → ℕ → List (MaybeStatic Lifetime) → LifetimeEdge → Type 0
   From used param option from ms e = (def : ℕ) × FilledBy D ms def × (e ≡ edge used param 3 (from + def) option)
 
-  struct_by : (used param option from : ℕ) (ms : List MaybeStatic) (e : LifetimeEdge)
+  struct_by : (used param option from : ℕ) (ms : List (MaybeStatic Lifetime)) (e : LifetimeEdge)
       → Memᴰ e (struct_edges draws used param option from ms) ↔ From used param option from ms e
   unfolding numbered
   struct_by used param option from [] e = (λ m. absurd (Memᴰ.not-nil m), λ k. absurd (omega (arith, k.1.1)))
@@ -161,13 +162,13 @@ bring_formed draws used param t e m = go t.kind ((brought_by_lem draws (Itself d
 
 -- ---- by def: each once, ascending
 
-from_def : (draws : ℕ → Bool) (used param option from : ℕ) (ms : List MaybeStatic) (e : LifetimeEdge)
+from_def : (draws : ℕ → Bool) (used param option from : ℕ) (ms : List (MaybeStatic Lifetime)) (e : LifetimeEdge)
     → Memᴰ e (struct_edges draws used param option from ms) → from ≤ e.def
 from_def draws used param option from ms e m =
     let k = (struct_by draws (Itself draws) (itself draws) used param option from ms e).0 m in
     omega (arith, ap (λ (x : LifetimeEdge). x.def) k.2)
 
-struct_ascends : (draws : ℕ → Bool) (used param option from : ℕ) (ms : List MaybeStatic)
+struct_ascends : (draws : ℕ → Bool) (used param option from : ℕ) (ms : List (MaybeStatic Lifetime))
     → Pairwise ByDef (struct_edges draws used param option from ms)
 unfolding numbered
 struct_ascends draws used param option from [] = Pairwise.nil

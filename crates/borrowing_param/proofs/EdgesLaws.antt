@@ -9,6 +9,7 @@ use mir.Val.{bool_byte}
 use lib.ListN.{length, take, drop, length-map, length-take}
 use Rattle.std.specs.Prelude.{Some, None, Option}
 use Rattle.std.specs.List.{fold, list_any, count_by}
+use Rattle.lifetimes.specs.declared.lifetime.Lifetime.{Lifetime}
 use Rattle.lifetimes.specs.declared.maybe_static.MaybeStatic.{MaybeStatic}
 use Rattle.lifetimes.specs.LoweredWords.{from_word}
 use Rattle.hir_types.specs.declared.types.Kind.{Kind}
@@ -27,7 +28,7 @@ use Rattle.answers.specs.Lists.{any, count, numbered}
 abbrev pub drawn_word : (ℕ → Bool) → ℕ → Bool
 drawn_word draws w = drawn draws (from_word w)
 
-abbrev pub count_drawn : (ℕ → Bool) → List MaybeStatic → ℕ
+abbrev pub count_drawn : (ℕ → Bool) → List (MaybeStatic Lifetime) → ℕ
 count_drawn draws ms = count (drawn draws) ms
 
 module _ (draws : ℕ → Bool) where
@@ -51,7 +52,7 @@ module _ (draws : ℕ → Bool) where
   count_words words = counted_from 0 words ∙ zero-add _
 
   -- among some, then among others
-  any_both : (l m : List MaybeStatic) → any_drawn draws (l ++ m) ≡ any_drawn draws l || any_drawn draws m
+  any_both : (l m : List (MaybeStatic Lifetime)) → any_drawn draws (l ++ m) ≡ any_drawn draws l || any_drawn draws m
   unfolding any
   any_both [] m = refl
   any_both (x ∷ l) m = go (drawn draws x) (any_both l m)
@@ -72,8 +73,8 @@ module _ (draws : ℕ → Bool) where
       own_left : any_drawn draws (lifetimes_of t) ≡ any_drawn draws (own_lifetimes t.own)
       own_left = rw (any_both (map from_word t.path) (own_lifetimes t.own), ← any_words t.path, ← among, none)
 
-      module _ {last : Option MaybeStatic} (own : last ≡ own_lifetime t.own) where
-        pub drawn_own : {m : MaybeStatic} → last ≡ Some m → {b : Bool} → b ≡ drawn draws m
+      module _ {last : Option (MaybeStatic Lifetime)} (own : last ≡ own_lifetime t.own) where
+        pub drawn_own : {m : MaybeStatic Lifetime} → last ≡ Some m → {b : Bool} → b ≡ drawn draws m
             → b ≡ any_drawn draws (lifetimes_of t)
         unfolding any
         drawn_own {m} e q = q ∙ either (drawn draws m) ∙ sym (own_left ∙ ap (any_drawn draws) (own_one t.own own e))
@@ -93,7 +94,7 @@ path_few words from {path} {count} e h = omega (arith, ap length e, length-take 
 
 -- ---- edges counted
 
-struct_many : (draws : ℕ → Bool) (used param option def : ℕ) (ms : List MaybeStatic)
+struct_many : (draws : ℕ → Bool) (used param option def : ℕ) (ms : List (MaybeStatic Lifetime))
     → length (struct_edges draws used param option def ms) ≡ count_drawn draws ms
 unfolding numbered count
 struct_many draws used param option def [] = refl
@@ -130,7 +131,7 @@ module _ (draws : ℕ → Bool) (t : LoweredType) where
             (sym (struct_many draws used param (option_of t.option) 0 (map from_word t.path)));
       }
 
-drawn_few : (draws : ℕ → Bool) (ms : List MaybeStatic) → count_drawn draws ms ≤ length ms
+drawn_few : (draws : ℕ → Bool) (ms : List (MaybeStatic Lifetime)) → count_drawn draws ms ≤ length ms
 drawn_few draws ms = count_few (drawn draws) ms
 
 one_few : (t : Bool) (e : LifetimeEdge) → length (cond t (e ∷ []) []) ≤ 16

@@ -13,6 +13,7 @@ use lib.Count.{count_leading_zeros, leading_length}
 use lib.Dec.{eqb, ltb}
 use lib.ListN.{length, get_or, drop, set, length-append, length-set, drop_of_length-le}
 use lib.Seq.{sets, length-sets, drop-cons}
+use Rattle.lifetimes.specs.declared.lifetime.Lifetime.{Lifetime}
 use Rattle.lifetimes.specs.declared.maybe_static.MaybeStatic.{MaybeStatic}
 use Rattle.lifetimes.specs.LoweredWords.{from_word}
 use Rattle.answers.specs.Lists.{range, filter, numbered}
@@ -117,7 +118,7 @@ put_words words at e =
     rw (b, b₁, b₂, b₃, b₄)
 
 -- an opaque or a slice
-module _ (draws : ℕ → Bool) (used param kind : ℕ) (ms : List MaybeStatic) (at : ℕ) (words : List ℕ) where
+module _ (draws : ℕ → Bool) (used param kind : ℕ) (ms : List (MaybeStatic Lifetime)) (at : ℕ) (words : List ℕ) where
   pub one_stored : any_drawn draws ms ≡ true → {words₁ : List ℕ}
       → words₁ ≡ sets words (width * at) (edge_words (edge used param kind 0 0))
       → StoresWords (one_edge draws used param kind ms) at words (at + 1) words₁

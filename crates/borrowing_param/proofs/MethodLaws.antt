@@ -11,12 +11,10 @@ use lib.ListN.{length, take, drop}
 use Rattle.answers.specs.declared.Refusal.{Refusal}
 use Rattle.answers.specs.declared.Refusal.TheVariants.{OutOfRange}
 use Rattle.answers.specs.Refusals.{Check, check, Outcome, FirstDue, here, later, NoneDue, next, end, Verdict}
-use Rattle.answers.specs.Lent.{verdict_of, result_or}
 use Rattle.lifetimes.specs.Env.{env_checks}
-use Rattle.answers.proofs.RefusalLaws.{due_given, due_refused, none_first, none_rest, none_split, none_more}
+use Rattle.answers.proofs.RefusalLaws.{due_given, due_refused, given_due, refused_due, none_first, none_rest, none_split, none_more}
 use Rattle.answers.proofs.RefusalLaws.{first_more, first_after, first_behind, refused_first, accepted_none}
 use Rattle.ast_lifetimes.specs.declared.env.LifetimeEnv as ast-env
-use Rattle.ast_lifetimes.specs.declared.env.Made as ast-made
 use Rattle.ast_lifetimes.specs.Shapes.{names_in_shape, bounds_in_shape}
 use Rattle.ast_lifetimes.specs.Types.{types_in_shape}
 use Rattle.ast_lifetimes.specs.Env as ast
@@ -33,6 +31,7 @@ use Rattle.sheet.specs.Shape.{sheet_in_shape, records_checks}
 use Rattle.sheet.proofs.ShapeCases.{sheet_parts}
 use Rattle.borrowing_param.specs.SheetMethod.{lowered_of, ast_env_of, env_of_sheet, lowering_checks}
 use Rattle.borrowing_param.specs.InnerSheet.{lowered_env}
+use Rattle.borrowing_param.proofs.OutcomeLaws.{ok_same, over_refused, over_given}
 
 -- checks in the middle of which none is due
 first_without : {r : Refusal} (checks : List Check) {middle : List Check} (more : List Check) → NoneDue middle
@@ -102,28 +101,27 @@ module _ (r : Records) where
     refuses f = sym (due_refused (env_of_sheet r) f)
 
     -- names, bounds and types
-    module _ {a : ast-made.Made} (is : a ≡ ast.made (ast.named_env [] []) (ast.from_method_item r.names r.bounds r.types)) where
-      pub names_first : {k : Refusal} → a.verdict ≡ Err k → FirstDue k (lowering_checks r)
+    module _ {a : Outcome ast-env.LifetimeEnv} (is : a ≡ ast.from_method_item r.names r.bounds r.types) where
+      pub names_first : {k : Refusal} → a ≡ Err k → FirstDue k (lowering_checks r)
       unfolding lowering_checks ast.from_method_item
       names_first {k} v =
-          let d = refused_first (ast_env_of r) k (ast.item_checks r.names r.bounds r.types)
-          (sym (ap (λ (x : ast-made.Made). x.verdict) is) ∙ v) in
+          let d = refused_due (ast_env_of r) k (ast.item_checks r.names r.bounds r.types) (sym is ∙ v) in
           let s : not (names_in_shape r.names && (bounds_in_shape r.bounds && types_in_shape r.types)) ≡ false = rw shapes.0 in
           first_more _ (first_behind (next s end) d)
 
-      pub names_refused : {k : Refusal} → a.verdict ≡ Err k → Err k ≡ lowered_env r
+      pub names_refused : {k : Refusal} → a ≡ Err k → Err k ≡ lowered_env r
       names_refused v = refuses (names_first v)
 
-      module _ (fine : a.verdict ≡ Ok (tt {0})) where
-        ast_none : NoneDue (ast.item_checks r.names r.bounds r.types)
+      module _ {e : ast-env.LifetimeEnv} (fine : a ≡ Ok e) where
+        ast_given : NoneDue (ast.item_checks r.names r.bounds r.types) × (ast_env_of r ≡ e)
         unfolding ast.from_method_item
-        ast_none =
-            accepted_none (ast_env_of r) (ast.item_checks r.names r.bounds r.types)
-            (sym (ap (λ (x : ast-made.Made). x.verdict) is) ∙ fine)
+        ast_given = given_due (ast_env_of r) e (ast.item_checks r.names r.bounds r.types) (sym is ∙ fine)
 
-        pub ast_is : a.env ≡ ast_env_of r
-        unfolding ast.from_method_item
-        ast_is = ap (λ (x : ast-made.Made). x.env) is ∙ ap (result_or (ast.named_env [] [])) (due_given (ast_env_of r) ast_none)
+        ast_none : NoneDue (ast.item_checks r.names r.bounds r.types)
+        ast_none = ast_given.0
+
+        pub ast_is : e ≡ ast_env_of r
+        ast_is = sym ast_given.1
 
         pub placed : NoneDue ast_places
         placed = none_rest ast_none
@@ -132,57 +130,50 @@ module _ (r : Records) where
         names_are = accepted_names_of r.names r.bounds r.types placed
 
         -- self, steps and returns
-        module _ {l : Lowering} (lowers : l ≡ answered a.env (measure_records a.env r.self r.steps r.returns)) where
+        module _ {l : Outcome Lowering} (lowers : l ≡ answered e (measure_records e r.self r.steps r.returns)) where
           measured : l ≡ answered (ast_env_of r) (measure_records (ast_env_of r) r.self r.steps r.returns)
-          measured = lowers ∙ ap (λ (e : ast-env.LifetimeEnv). answered e (measure_records e r.self r.steps r.returns)) ast_is
-
-          verdict_is : l.verdict ≡ verdict_of (measure_records (ast_env_of r) r.self r.steps r.returns)
-          verdict_is = ap (λ (x : Lowering). x.verdict) measured ∙ go (measure_records (ast_env_of r) r.self r.steps r.returns)
-            where
-              go : (o : Outcome rfc.Method) → (answered (ast_env_of r) o).verdict ≡ verdict_of o
-              go (Ok m) = refl
-              go (Err k) = refl
+          measured = lowers ∙ ap (λ (x : ast-env.LifetimeEnv). answered x (measure_records x r.self r.steps r.returns)) ast_is
 
           in_shape_not : not (in_shape_all r.self r.steps r.returns) ≡ false
           in_shape_not = rw shapes.1
 
-          pub steps_first : {k : Refusal} → l.verdict ≡ Err k → FirstDue k (lowering_checks r)
+          pub steps_first : {k : Refusal} → l ≡ Err k → FirstDue k (lowering_checks r)
           unfolding lowering_checks measure_records
           steps_first {k} v =
-              let e = ast_env_of r in
-              let d = refused_first (lowered_records e r.self r.steps r.returns) k
-              (measure_checks e r.self r.steps r.returns) (sym verdict_is ∙ v) in
+              let x = ast_env_of r in
+              let d = over_refused _ (lowered_records x r.self r.steps r.returns)
+              (measure_checks x r.self r.steps r.returns) (sym v ∙ measured) in
               let f = first_behind (accepted_valid r.names r.bounds r.types placed)
               (first_behind (next in_shape_not end) d) in
               let g : FirstDue k elision_checks = rw names_are at f in
               first_after placed (first_more _ g)
 
-          pub steps_refused : {k : Refusal} → l.verdict ≡ Err k → Err k ≡ lowered_env r
+          pub steps_refused : {k : Refusal} → l ≡ Err k → Err k ≡ lowered_env r
           steps_refused v = refuses (steps_first v)
 
-          module _ (given : l.verdict ≡ Ok (tt {0})) where
-            pub measure_none : NoneDue (measure_checks (ast_env_of r) r.self r.steps r.returns)
+          module _ {low : Lowering} (given : l ≡ Ok low) where
+            measure_given : NoneDue (measure_checks (ast_env_of r) r.self r.steps r.returns)
+                × (answered (ast_env_of r) (Ok (lowered_records (ast_env_of r) r.self r.steps r.returns)) ≡ Ok low)
             unfolding measure_records
-            measure_none =
-                accepted_none (lowered_records (ast_env_of r) r.self r.steps r.returns)
-                (measure_checks (ast_env_of r) r.self r.steps r.returns) (sym verdict_is ∙ given)
+            measure_given =
+                let g = over_given _ (lowered_records (ast_env_of r) r.self r.steps r.returns)
+                (measure_checks (ast_env_of r) r.self r.steps r.returns) (sym given ∙ measured) in
+                (g.0, ap (λ (x : Lowering). Ok x) (sym g.1))
+
+            pub measure_none : NoneDue (measure_checks (ast_env_of r) r.self r.steps r.returns)
+            measure_none = measure_given.0
 
             pub elided : NoneDue elision_checks
             elided =
                 let p = none_split (ast.env_checks (ast_env_of r)) _ (none_rest measure_none) in
                 rw names_are at p.1
 
-            pub env_is : l.env ≡ env_of_sheet r
-            unfolding measure_records
-            env_is =
-                ap (λ (x : Lowering). x.env) measured
-                ∙ ap (λ (o : Outcome rfc.Method). (answered (ast_env_of r) o).env)
-                (due_given (lowered_records (ast_env_of r) r.self r.steps r.returns) measure_none)
-                ∙ rw names_are
+            pub env_is : low.env ≡ env_of_sheet r
+            env_is = ap (λ (x : Lowering). x.env) (sym (ok_same measure_given.1)) ∙ rw names_are
 
             -- structs, params, output and force
             pub method_first : {k : Refusal}
-                → FirstDue k (method_checks l.env r.structs r.params r.output r.force)
+                → FirstDue k (method_checks low.env r.structs r.params r.output r.force)
                 → FirstDue k (lowering_checks r)
             unfolding lowering_checks
             method_first {k} due =
@@ -191,7 +182,7 @@ module _ (r : Records) where
                 let g = first_without hir_places (past ∷ []) (limits placed elided).1 f in
                 first_after placed (first_after elided g)
 
-            pub method_none : NoneDue (method_checks l.env r.structs r.params r.output r.force)
+            pub method_none : NoneDue (method_checks low.env r.structs r.params r.output r.force)
                 → NoneDue (lowering_checks r)
             unfolding lowering_checks
             method_none none =
@@ -201,20 +192,20 @@ module _ (r : Records) where
                 let s = none_split (drop 2 (env_checks (env_of_sheet r))) (past ∷ []) q.1 in
                 none_more placed (none_more elided (none_more q.0 s.1))
 
-            module _ {v : Verdict} (judges : v ≡ method_verdict l.env r.structs r.params r.output r.force) where
+            module _ {v : Verdict} (judges : v ≡ method_verdict low.env r.structs r.params r.output r.force) where
               pub method_refused : {k : Refusal} → v ≡ Err k → Err k ≡ lowered_env r
               method_refused {k} w =
                   refuses
                   (method_first
-                  (refused_first (tt {0}) k (method_checks l.env r.structs r.params r.output r.force)
+                  (refused_first (tt {0}) k (method_checks low.env r.structs r.params r.output r.force)
                   (sym judges ∙ w)))
 
-              pub method_given : v ≡ Ok (tt {0}) → Ok l.env ≡ lowered_env r
+              pub method_given : v ≡ Ok (tt {0}) → Ok low.env ≡ lowered_env r
               unfolding lowered_env
               method_given w =
                   let due =
                   method_none
-                  (accepted_none (tt {0}) (method_checks l.env r.structs r.params r.output r.force)
+                  (accepted_none (tt {0}) (method_checks low.env r.structs r.params r.output r.force)
                   (sym judges ∙ w)) in
                   rw (due_given (env_of_sheet r) due, env_is)
 

@@ -15,10 +15,10 @@ use lib.ListN.{get_or-append}
 use lib.Seq.{ext_get_or, get_or-set_same, get_or-set_other}
 use Rattle.answers.specs.declared.Refusal.{Refusal}
 use Rattle.answers.specs.declared.Refusal.TheVariants.{OutOfRange}
+use Rattle.lifetimes.specs.declared.lifetime.Lifetime.{Lifetime}
 use Rattle.lifetimes.specs.declared.maybe_static.MaybeStatic.{MaybeStatic}
 use Rattle.lifetimes.specs.declared.maybe_static.MaybeStatic.TheVariants.{NonStatic}
 use Rattle.lifetimes.specs.declared.env.LifetimeEnv.{LifetimeEnv}
-use Rattle.lifetimes.specs.declared.reach.ReachSets.{ReachSets}
 use Rattle.lifetimes.specs.Numbers.{lifetime}
 use Rattle.answers.specs.Lists.{range, any}
 use Rattle.answers.specs.Refusals.{Check, check, Outcome, FirstDue, NoneDue}
@@ -30,12 +30,13 @@ use Rattle.answers.proofs.RefusalLaws.{none_more}
 use Rattle.answers.proofs.ListLaws.{length_range}
 use Rattle.lifetimes.proofs.IndexLaws.{zeros}
 use Rattle.methods.specs.Method.{output_lifetimes, is_past, any_past, place_checks, method_checks}
-use Rattle.methods.specs.Used.{used_set, used_answer, output_numbers}
+use Rattle.methods.specs.Used.{used_set, output_numbers}
 use Rattle.methods.proofs.Theorems.{used_lifetimes_are}
 use Rattle.borrowing_param.specs.declared.visitor.BorrowingParamVisitor.{BorrowingParamVisitor}
 use Rattle.borrowing_param.specs.New.{draws_to, visitor_from, method_visitor, created}
 use Rattle.borrowing_param.specs.Inner.{SetBelow}
 use Rattle.borrowing_param.proofs.EdgesLoops.{past_limit}
+use Rattle.borrowing_param.proofs.OutcomeLaws.{ok_same, no_both}
 
 -- ---- a list made place by place
 
@@ -102,7 +103,7 @@ module _ {used : ℕ} {sets draws : List ℕ} {i : ℕ} (inv : Keeping used sets
 
 -- ---- what an accepted method says
 
-not_past : (count : ℕ) (ms : List MaybeStatic) → any_past count ms ≡ false → (k : ℕ)
+not_past : (count : ℕ) (ms : List (MaybeStatic Lifetime)) → any_past count ms ≡ false → (k : ℕ)
     → Memᴰ (NonStatic (lifetime k)) ms → k < count
 unfolding any
 not_past count [] e k m = absurd (Memᴰ.not-nil m)
@@ -155,24 +156,11 @@ set_there env i below =
     ∙ at_place (reach_set true env) 0 env.count i below
     ∙ ap (reach_set true env) (zero-add i)
 
-set_same : {u v : ℕ} → ◌≡◌ {A = Outcome ℕ} (Ok u) (Ok v) → u ≡ v
-set_same e = cc
-
-set_refused : {r : Refusal} {v : ℕ} {A : Type 0} → ◌≡◌ {A = Outcome ℕ} (Err r) (Ok v) → A
-set_refused e = let z : ◌≡◌ {A = ℕ} 0 1 = cc in absurd (omega arith)
-
 module _ (env : LifetimeEnv) (structs params output force : List ℕ) {a : Outcome ℕ}
-    (is : a ≡ used_answer (used_set env structs params output force)) where
-  refuses : {r : Refusal} → a ≡ Err r → used_set env structs params output force ≡ Err r
-  refuses {r} e = go (used_set env structs params output force) (sym is ∙ e)
-    where
-      go : (o : Outcome ℕ) → used_answer o ≡ Err r → o ≡ Err r
-      go (Ok u) q = let z : ◌≡◌ {A = ℕ} 0 1 = cc in absurd (omega arith)
-      go (Err x) q = cc
-
+    (is : a ≡ used_set env structs params output force) where
   pub used_refused : {r : Refusal} → a ≡ Err r → FirstDue r (method_checks env structs params output force)
   unfolding used_set
-  used_refused {r} e = refused_due _ r (method_checks env structs params output force) (refuses e)
+  used_refused {r} e = refused_due _ r (method_checks env structs params output force) (sym is ∙ e)
 
   pub new_refused : {r : Refusal} → a ≡ Err r → Err r ≡ created env structs params output force
   unfolding created
@@ -180,11 +168,7 @@ module _ (env : LifetimeEnv) (structs params output force : List ℕ) {a : Outco
 
   module _ {used : ℕ} (e : a ≡ Ok used) where
     pub gives : used_set env structs params output force ≡ Ok used
-    gives = go (used_set env structs params output force) refl
-      where
-        go : (o : Outcome ℕ) → used_set env structs params output force ≡ o → used_set env structs params output force ≡ Ok used
-        go (Ok u) q = let same : u ≡ used = set_same (sym (ap used_answer q) ∙ sym is ∙ e) in q ∙ ap Ok same
-        go (Err x) q = set_refused (sym (ap used_answer q) ∙ sym is ∙ e)
+    gives = sym is ∙ e
 
     pub accepted : NoneDue (method_checks env structs params output force)
     unfolding used_set
@@ -194,11 +178,18 @@ module _ (env : LifetimeEnv) (structs params output force : List ℕ) {a : Outco
     unfolding used_set
     used_is = (given_due _ used (method_checks env structs params output force) gives).1
 
-    pub new_given : {r : ReachSets} → r ≡ reach_sets true env → {v : BorrowingParamVisitor} → v ≡ visitor_from used r.sets
-        → Ok v ≡ created env structs params output force
-    unfolding created reach_sets
-    new_given {r} q {v} is =
-        let all : r.sets ≡ all_sets true env =
-        ap (λ (x : ReachSets). x.sets) q
-        ∙ rw (due_given (all_sets true env) (env_none env structs params output force accepted)) in
-        sym (due_given (method_visitor env structs output) accepted ∙ rw (used_is, is, all))
+    -- the environment of an accepted method has its sets
+    module _ {s : Outcome (List ℕ)} (q : s ≡ reach_sets true env) where
+      given_sets : s ≡ Ok (all_sets true env)
+      unfolding reach_sets
+      given_sets = q ∙ due_given (all_sets true env) (env_none env structs params output force accepted)
+
+      pub new_sets : {r : Refusal} {A : Type 0} → s ≡ Err r → A
+      new_sets h = no_both (sym h ∙ given_sets)
+
+      pub new_given : {sets : List ℕ} → s ≡ Ok sets → {v : BorrowingParamVisitor} → v ≡ visitor_from used sets
+          → Ok v ≡ created env structs params output force
+      unfolding created
+      new_given {sets} h {v} made =
+          let all : sets ≡ all_sets true env = ok_same (sym h ∙ given_sets) in
+          sym (due_given (method_visitor env structs output) accepted ∙ rw (used_is, made, all))

@@ -13,18 +13,18 @@ use Rattle.answers.specs.declared.Refusal.{Refusal}
 use Rattle.answers.specs.declared.Refusal.TheVariants.{NoRoom}
 use Rattle.answers.specs.Refusals.{Check, Outcome, unless, FirstDue, here, later, NoneDue}
 use Rattle.answers.specs.Refusals.{next, end}
-use Rattle.answers.specs.Lent.{counted, verdict_of, result_or, room_check, written}
+use Rattle.answers.specs.Lent.{counted, room_check, written}
 use Rattle.lifetimes.specs.declared.env.LifetimeEnv.{LifetimeEnv}
 use Rattle.answers.proofs.Copying.{sets_front}
 use Rattle.answers.proofs.RefusalLaws.{due_given, due_refused, given_due, refused_due, none_split, none_more, first_more}
-use Rattle.answers.proofs.RefusalLaws.{first_after, refused_first, accepted_none}
+use Rattle.answers.proofs.RefusalLaws.{first_after}
 use Rattle.records.specs.Copied.{copied}
 use Rattle.records.proofs.CopyLaws.{copied_stores, copied_all, copied_none}
 use Rattle.sheet.specs.declared.reading.Text.{Text}
 use Rattle.sheet.specs.Text.{Records, lists, words_of}
 use Rattle.sheet.specs.Reading.{sheet_of, text_checks}
 use Rattle.answers.specs.Lists.{ends_from}
-use Rattle.sheet.specs.Answer.{records_at}
+use Rattle.sheet.specs.Answer.{records_at, text_with}
 use Rattle.sheet.specs.Shape as shape
 use Rattle.sheet.specs.Shape.{sheet_answer, sheet_ends, call_checks}
 use Rattle.sheet.specs.Inner.{Roomy}
@@ -66,22 +66,15 @@ module _ (bytes : List ℕ) where
   unfolding shape.sheet_checks
   read_parts n = none_split (text_checks bytes) (shape.records_checks sheet) n
 
-  module _ (scratch : List ℕ) (roomy : Roomy bytes (length scratch)) {t : Text}
-      (read : t ≡ sheet_answer bytes (length scratch)) {scratch₁ : List ℕ}
+  module _ (scratch : List ℕ) (roomy : Roomy bytes (length scratch)) {o : Outcome Text}
+      (read : o ≡ sheet_answer bytes (length scratch)) {scratch₁ : List ℕ}
       (wrote : scratch₁ ≡ written (shape.sheet_words bytes (length scratch)) scratch) where
-    abbrev Ends : Outcome (List ℕ)
-    Ends = sheet_ends bytes (length scratch)
-
-    verdict_is : t.verdict ≡ verdict_of Ends
-    unfolding sheet_answer
-    verdict_is = ap (λ (x : Text). x.verdict) read
-
-    pub text_first : {k : Refusal} → t.verdict ≡ Err k → FirstDue k (sheet_refusals bytes)
-    unfolding sheet_ends sheet_refusals
+    pub text_first : {k : Refusal} → o ≡ Err k → FirstDue k (sheet_refusals bytes)
+    unfolding sheet_answer sheet_ends sheet_refusals
     text_first {k} v =
         go
         (first_either (shape.sheet_checks bytes) (room_check (length scratch) (words_of sheet) ∷ [])
-        (refused_first _ k (call_checks bytes (length scratch)) (sym verdict_is ∙ v)))
+        (over_refused text_with (ends_from 0 (lists sheet)) (call_checks bytes (length scratch)) (sym v ∙ read)))
       where
         none_of : FirstDue k (room_check (length scratch) (words_of sheet) ∷ [])
             → (room_check (length scratch) (words_of sheet)).due ≡ false → ⊥
@@ -104,20 +97,23 @@ module _ (bytes : List ℕ) where
       leaves = λ e. absurd (true≢false (sym e ∙ ap is_ok h));
     }
 
-    pub judge_text : {k : Refusal} {m : Outcome SheetMethod} → t.verdict ≡ Err k → m ≡ Err k → JudgesSheet bytes m scratch₁
+    pub judge_text : {k : Refusal} {m : Outcome SheetMethod} → o ≡ Err k → m ≡ Err k → JudgesSheet bytes m scratch₁
     judge_text v h = judge_due (text_first v) h
 
-    module _ (fine : t.verdict ≡ Ok (tt {0})) where
+    module _ {t : Text} (fine : o ≡ Ok t) where
+      call_given : NoneDue (call_checks bytes (length scratch)) × (t ≡ text_with (ends_from 0 (lists sheet)))
+      unfolding sheet_answer sheet_ends
+      call_given =
+          over_given text_with (ends_from 0 (lists sheet)) (call_checks bytes (length scratch)) (sym fine ∙ read)
+
       call_none : NoneDue (call_checks bytes (length scratch))
-      unfolding sheet_ends
-      call_none = accepted_none _ (call_checks bytes (length scratch)) (sym verdict_is ∙ fine)
+      call_none = call_given.0
 
       pub read_none : NoneDue (shape.sheet_checks bytes)
       read_none = (none_split (shape.sheet_checks bytes) _ call_none).0
 
       ends_are : t.ends ≡ ends_from 0 (lists sheet)
-      unfolding sheet_answer sheet_ends
-      ends_are = ap (λ (x : Text). x.ends) read ∙ ap (result_or _) (due_given (ends_from 0 (lists sheet)) call_none)
+      ends_are = ap (λ (x : Text). x.ends) call_given.1
 
       read_laid : Laid scratch₁ t.ends
       unfolding shape.sheet_words
@@ -135,9 +131,13 @@ module _ (bytes : List ℕ) where
       pub judge_shape : NoneDue (shape.records_checks (records_at scratch₁ t.ends))
       judge_shape = subst (λ (r : Records). NoneDue (shape.records_checks r)) (sym found) (read_parts read_none).1
 
-      module _ {a : Outcome LifetimeEnv} (judged : a ≡ lowered_env (records_at scratch₁ t.ends)) where
+      -- the same of ten lent records that stand there
+      pub judge_lent : {r : Records} → r ≡ records_at scratch₁ t.ends → NoneDue (shape.records_checks r)
+      judge_lent laid = subst (λ (r : Records). NoneDue (shape.records_checks r)) (sym laid) judge_shape
+
+      module _ {r : Records} (laid : r ≡ records_at scratch₁ t.ends) {a : Outcome LifetimeEnv} (judged : a ≡ lowered_env r) where
         at_sheet : a ≡ lowered_env sheet
-        at_sheet = judged ∙ ap lowered_env found
+        at_sheet = judged ∙ ap lowered_env (laid ∙ found)
 
         pub judge_refused : {k : Refusal} {m : Outcome SheetMethod} → a ≡ Err k → m ≡ Err k → JudgesSheet bytes m scratch₁
         unfolding lowered_env sheet_refusals

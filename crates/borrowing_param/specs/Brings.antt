@@ -1,5 +1,6 @@
 -- What a parameter brings, over any test of which lifetimes draw an edge to a used lifetime.
 use Rattle.std.specs.Prelude.{ℕ, Bool, true, false, cond, List, [], ◌∷◌, map, eqb, get_or, set, replicate}
+use Rattle.lifetimes.specs.declared.lifetime.Lifetime.{Lifetime}
 use Rattle.lifetimes.specs.declared.maybe_static.MaybeStatic.{MaybeStatic}
 use Rattle.lifetimes.specs.declared.maybe_static.MaybeStatic.TheVariants.{Static, NonStatic}
 use Rattle.lifetimes.specs.LoweredWords.{from_word}
@@ -13,19 +14,19 @@ use Rattle.borrowing_param.specs.Edges.{edge, most_defs}
 use Rattle.answers.specs.Lists.{any, numbered}
 
 -- whether a lifetime draws, by a test of numbers: 'static never does
-abbrev pub drawn : (ℕ → Bool) → MaybeStatic → Bool
+abbrev pub drawn : (ℕ → Bool) → MaybeStatic Lifetime → Bool
 drawn draws Static = false
 drawn draws (NonStatic l) = draws l.0
 
-abbrev pub any_drawn : (ℕ → Bool) → List MaybeStatic → Bool
+abbrev pub any_drawn : (ℕ → Bool) → List (MaybeStatic Lifetime) → Bool
 any_drawn draws ms = any (drawn draws) ms
 
 -- an opaque or a slice brings one edge, if one of its lifetimes draws
-abbrev pub one_edge : (ℕ → Bool) → ℕ → ℕ → ℕ → List MaybeStatic → List LifetimeEdge
+abbrev pub one_edge : (ℕ → Bool) → ℕ → ℕ → ℕ → List (MaybeStatic Lifetime) → List LifetimeEdge
 one_edge draws used param kind ms = cond (any_drawn draws ms) (edge used param kind 0 0 ∷ []) []
 
 -- a struct brings an edge for each lifetime of its definition, from `def` on, that is filled by one that draws
-abbrev pub struct_edges : (ℕ → Bool) → ℕ → ℕ → ℕ → ℕ → List MaybeStatic → List LifetimeEdge
+abbrev pub struct_edges : (ℕ → Bool) → ℕ → ℕ → ℕ → ℕ → List (MaybeStatic Lifetime) → List LifetimeEdge
 struct_edges draws used param option def ms =
     numbered (λ d m. cond (drawn draws m) (edge used param 3 d option ∷ []) []) def ms
 

@@ -11,10 +11,6 @@ use Rattle.borrowing_param.specs.declared.visitor.BorrowingParamVisitor.{Borrowi
 use Rattle.borrowing_param.specs.Borrows.{Borrows, borrows_by, borrows_room_checks}
 use Rattle.borrowing_param.specs.SheetMethod.{env_of_sheet, lowering_checks, sheet_refusals, method_answer}
 
--- a sheet of so few bytes is judged in small scratch
-abbrev pub small_bytes : ℕ
-small_bytes = 1024
-
 -- the environment of ten records that were read
 unfoldable pub lowered_env : Records → Outcome LifetimeEnv
 lowered_env r = unless (lowering_checks r) (env_of_sheet r)

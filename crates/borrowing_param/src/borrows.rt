@@ -1,20 +1,22 @@
 // A whole method, and a whole sheet: the used lifetimes, the answers by parameter, and the edges in listing order, each
 // to a lent slice.
-ghost use Rattle.std.specs.Prelude.{◌≤◌, ◌≡◌, length, take, IfOk};
+ghost use Rattle.std.specs.Prelude.{◌*◌, ◌≤◌, length, take, IfOk};
 ghost use Rattle.answers.specs.Lent.{held, room, left};
+ghost use Rattle.records.specs.Reading.{most_words};
+ghost use Rattle.sheet.specs.Text.{record_count};
 ghost use Rattle.sheet.specs.Inner.{Roomy};
 ghost use Rattle.borrowing_param.specs.Edges.{edges_in};
 ghost use Rattle.methods.specs.Used.{most_used};
 ghost use Rattle.borrowing_param.specs.Borrows.{borrow_method, borrow_sheet, BorrowsTo};
 ghost use Rattle.borrowing_param.specs.Borrows.{most_listed};
 ghost use Rattle.borrowing_param.specs.Consistent.{Consistent};
-ghost use Rattle.borrowing_param.specs.InnerSheet.{OfMethod, small_bytes, borrow_by};
+ghost use Rattle.borrowing_param.specs.InnerSheet.{OfMethod, borrow_by};
 
-use super::method::judge_sheet;
+use super::method::{FEW_WORDS, MOST_WORDS, judge_sheet};
 use super::visitor::BorrowingParamVisitor;
 use answers::Refusal;
 use lifetimes::{LifetimeEnv, set};
-use sheet::{Text, record_words};
+use sheet::{Records, Text};
 
 // How many used lifetimes, parameters and edges there are.
 #[derive(Clone, Copy)]
@@ -41,36 +43,24 @@ pub fn borrow_sheet(
     ensures few { IfOk result (λ b. (b.used ≤ most_used) × (b.edges ≤ most_listed)) }
 {
     if sheet.len() <= Text::MIDDLE {
-        return borrow_small(sheet, used, answers, edges);
+        return borrow_in::<FEW_WORDS>(sheet, used, answers, edges);
     }
-    borrow_large(sheet, used, answers, edges)
+    borrow_in::<MOST_WORDS>(sheet, used, answers, edges)
 }
 
 // The same with scratch of one size.
-fn borrow_small(
+fn borrow_in<const N: usize>(
     sheet: &[u8],
     used: &mut [usize],
     answers: &mut [usize],
     edges: &mut [usize],
 ) -> Result<Borrows, Refusal>
-    requires { length sheet.now ≤ small_bytes }
+    requires enough { Roomy sheet.now N }
+    requires most { N ≤ record_count * most_words }
     ensures { BorrowsTo (borrow_sheet sheet.now (room used) (room answers) (room edges))
         result used answers edges }
 {
-    let mut scratch = [0usize; Text::MIDDLE / 2];
-    borrow_within(sheet, &mut scratch, used, answers, edges)
-}
-
-fn borrow_large(
-    sheet: &[u8],
-    used: &mut [usize],
-    answers: &mut [usize],
-    edges: &mut [usize],
-) -> Result<Borrows, Refusal>
-    ensures { BorrowsTo (borrow_sheet sheet.now (room used) (room answers) (room edges))
-        result used answers edges }
-{
-    let mut scratch = [0usize; Text::MAX_WORDS];
+    let mut scratch = [0usize; N];
     borrow_within(sheet, &mut scratch, used, answers, edges)
 }
 
@@ -87,14 +77,13 @@ fn borrow_within(
         result used answers edges }
 {
     let method = judge_sheet(sheet, scratch)?;
-    let ends = method.ends;
-    let env = method.env;
+    let records = Records::laid(scratch, method.ends);
     borrow_method(
-        env,
-        record_words(scratch, ends, Text::STRUCTS),
-        record_words(scratch, ends, Text::PARAMS),
-        record_words(scratch, ends, Text::OUTPUT),
-        record_words(scratch, ends, Text::FORCE),
+        method.env,
+        records.structs,
+        records.params,
+        records.output,
+        records.force,
         used,
         answers,
         edges,

@@ -55,7 +55,7 @@ pub fn edge_at(edges: &[usize], place: usize) -> Option<LifetimeEdge>
 }
 
 // Whether a lifetime draws: 'static never does.
-fn draws(set: u64, lifetime: MaybeStatic) -> bool
+fn draws(set: u64, lifetime: MaybeStatic<Lifetime>) -> bool
     ensures { result ≡ drawn (draws_in set) lifetime }
 {
     match lifetime {

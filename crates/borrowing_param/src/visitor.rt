@@ -73,8 +73,8 @@ impl BorrowingParamVisitor {
         ensures answer { result ≡ created env structs.now params.now output.now force.now }
     {
         let used = used_method_lifetimes(env, structs, params, output, force)?;
-        let reach = env.reach_sets(true);
-        Ok(BorrowingParamVisitor::from_sets(used, &reach.sets))
+        let sets = env.reach_sets(true)?;
+        Ok(BorrowingParamVisitor::from_sets(used, &sets))
     }
 
     // A visitor without edges, from the used lifetimes and, for each lifetime, the set of those that outlive it

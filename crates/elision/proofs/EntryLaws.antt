@@ -12,7 +12,7 @@ use lib.ListN.{length, take, drop, length-map}
 use lib.Seq.{sets, length-take-le}
 use Rattle.answers.specs.declared.Refusal.{Refusal}
 use Rattle.answers.specs.declared.Refusal.TheVariants.{Malformed, NoRoom}
-use Rattle.lifetimes.specs.declared.maybe_static.MaybeStatic.{MaybeStatic}
+use Rattle.elision.specs.Rfc.{MethodLifetime}
 use Rattle.answers.specs.Refusals.{Check, check, Outcome, unless, FirstDue, NoneDue, here, later}
 use Rattle.answers.specs.Refusals.{next, end}
 use Rattle.answers.specs.Lent.{room_check, judged, Slice, held, left, room, Stays}
@@ -277,7 +277,7 @@ module _ {e : ast.LifetimeEnv} {self steps returns : List ℕ} {m : Lowering} (h
     small : AllSmall method.self × (AllSmall method.steps × AllSmall method.returns)
     small = subst (SmallMethod (names_of e) few) is (method_small (names_of e) few (receiver_of self) (steps_of steps) (steps_of returns))
 
-    laid : (slice slice₁ : List ℕ) (ls : List MaybeStatic) → AllSmall ls → slice₁ ≡ sets slice 0 (map shown ls)
+    laid : (slice slice₁ : List ℕ) (ls : List MethodLifetime) → AllSmall ls → slice₁ ≡ sets slice 0 (map shown ls)
         → length (words ls) ≤ length slice → slice₁ ≡ words ls ++ drop (length (words ls)) slice
     laid slice slice₁ ls p q r = q ∙ rw (small_words ls p) (sets_front slice (words ls) r)
 

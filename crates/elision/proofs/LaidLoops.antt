@@ -7,7 +7,7 @@ use native.Mathlib.Omega.{arith}
 use Rattle.std.proofs.lemmas.List.{take_min}
 use lib.ListN.{length, get_or, take, set, replicate, length-append, length-map}
 use lib.Seq.{set_at, take-suc, length-take-le}
-use Rattle.lifetimes.specs.declared.maybe_static.MaybeStatic.{MaybeStatic}
+use Rattle.elision.specs.Rfc.{MethodLifetime}
 use Rattle.lifetimes.specs.declared.maybe_static.MaybeStatic.TheVariants.{Static}
 use Rattle.elision.specs.declared.lowerer.Lowered.{Lowered}
 use Rattle.elision.specs.declared.lowerer.Lifetimes.{Lifetimes}
@@ -15,20 +15,20 @@ use Rattle.elision.specs.Machine.{lowered, values_in, laid}
 use Rattle.elision.proofs.RfcLaws.{length_lowered}
 
 -- the first places hold these lifetimes, the others a static one
-pub record Filled (done : List MaybeStatic) (list : List Lowered) (i : ℕ) : Type 0 where
+pub record Filled (done : List MethodLifetime) (list : List Lowered) (i : ℕ) : Type 0 where
   pub size : length done ≡ i
   pub stands : list ≡ map lowered done ++ replicate (16 - i) (lowered Static)
 
 pub filled_none : Filled [] (replicate 16 (lowered Static)) 0
 filled_none = record { size = refl; stands = refl }
 
-lowered_last : (ls : List MaybeStatic) (l : MaybeStatic) (rest : List Lowered)
+lowered_last : (ls : List MethodLifetime) (l : MethodLifetime) (rest : List Lowered)
     → map lowered (ls ++ (l ∷ [])) ++ rest ≡ map lowered ls ++ lowered l ∷ rest
 lowered_last [] l rest = refl
 lowered_last (m ∷ ls) l rest = ap (λ (x : List Lowered). lowered m ∷ x) (lowered_last ls l rest)
 
-module _ {done : List MaybeStatic} {list : List Lowered} {i : ℕ} (inv : Filled done list i) where
-  pub filled_more : i < 16 → (l : MaybeStatic) → Filled (done ++ (l ∷ [])) (set list i (lowered l)) (i + 1)
+module _ {done : List MethodLifetime} {list : List Lowered} {i : ℕ} (inv : Filled done list i) where
+  pub filled_more : i < 16 → (l : MethodLifetime) → Filled (done ++ (l ∷ [])) (set list i (lowered l)) (i + 1)
   filled_more h l =
       let a : 16 - i ≡ suc (15 - i) = omega arith in
       let b : 16 - (i + 1) ≡ 15 - i = omega arith in
@@ -44,7 +44,7 @@ module _ {done : List MaybeStatic} {list : List Lowered} {i : ℕ} (inv : Filled
   filled_laid = rw (inv.size, inv.stands)
 
 -- one lifetime more, behind those of a list
-pub pushed : {n : ℕ} {list : List Lowered} (ls : List MaybeStatic) (l : MaybeStatic) → n < 16
+pub pushed : {n : ℕ} {list : List Lowered} (ls : List MethodLifetime) (l : MethodLifetime) → n < 16
     → record { n = n; list = list } ≡ laid ls
     → record { n = n + 1; list = set list n (lowered l) } ≡ laid (ls ++ (l ∷ []))
 unfolding laid
@@ -55,18 +55,18 @@ pushed {n} {list} ls l h e =
     filled_laid (filled_more inv h l)
 
 -- how many there are
-pub laid_many : {own : Lifetimes} (ls : List MaybeStatic) → own ≡ laid ls → own.n ≡ length ls
+pub laid_many : {own : Lifetimes} (ls : List MethodLifetime) → own ≡ laid ls → own.n ≡ length ls
 unfolding laid
 laid_many ls e = ap (λ (x : Lifetimes). x.n) e
 
 -- ---- the loop of `first_of`
 
-abbrev lifetimes_in : List Lowered → List MaybeStatic
+abbrev lifetimes_in : List Lowered → List MethodLifetime
 lifetimes_in l = map (λ (x : Lowered). x.lifetime) l
 
 lifetimes_last : (l : List Lowered) (x : Lowered) → lifetimes_in (l ++ (x ∷ [])) ≡ lifetimes_in l ++ (x.lifetime ∷ [])
 lifetimes_last [] x = refl
-lifetimes_last (y ∷ l) x = ap (λ (m : List MaybeStatic). y.lifetime ∷ m) (lifetimes_last l x)
+lifetimes_last (y ∷ l) x = ap (λ (m : List MethodLifetime). y.lifetime ∷ m) (lifetimes_last l x)
 
 -- the lifetimes of the first places
 pub record Firsts (own first : Lifetimes) (i : ℕ) : Type 0 where
@@ -83,7 +83,7 @@ module _ {own first : Lifetimes} {i : ℕ} (full : length own.list ≡ 16) (inv 
       omega (arith, laid_many (lifetimes_in (take i own.list)) inv.laid_so, many)
 
   pub firsts_more : {n : ℕ} → n ≡ min own.n 16 → i < n → {next : Lifetimes}
-      → ((ls : List MaybeStatic) → first ≡ laid ls
+      → ((ls : List MethodLifetime) → first ≡ laid ls
       → next ≡ laid (ls ++ ((get_or own.list i (lowered Static)).lifetime ∷ []))) → Firsts own next (i + 1)
   firsts_more m h push =
       let one : lifetimes_in (take (i + 1) own.list)

@@ -2,7 +2,6 @@
 pub mod OutcomeLaws
 -- Laws of lists, names and steps in a record.
 pub mod EmptyLaws
-pub mod NameLaws
 pub mod StepLaws
 pub mod ShapeLaws
 -- The lowerer's steps give what RFC 141 says, what that says, and the steps of a record by their words.

@@ -10,7 +10,7 @@ use borrow.Author.Tests.{le-leb, lt-leb}
 use lib.ListN.{length}
 use Rattle.answers.specs.declared.Refusal.{Refusal}
 use Rattle.answers.specs.declared.Refusal.TheVariants.{Malformed}
-use Rattle.lifetimes.specs.declared.maybe_static.MaybeStatic.{MaybeStatic}
+use Rattle.elision.specs.Rfc.{MethodLifetime}
 use Rattle.answers.specs.Refusals.{Outcome, bind}
 use Rattle.elision.specs.declared.source.ElisionSource.TheVariants.{SelfParam}
 use Rattle.elision.specs.declared.lowerer.Standing.{Standing}
@@ -40,7 +40,7 @@ module _ (names : List ℕ) (word : ℕ) {fresh : Lowerer} (e : fresh ≡ unused
 
   pub self_given : {w : Worded} → Ok w ≡ worded (lower_word names Aside word fresh.seen)
       → {none one : Lifetimes} → none ≡ laid []
-      → ((ls : List MaybeStatic) → none ≡ laid ls → one ≡ laid (ls ++ (w.lifetime ∷ [])))
+      → ((ls : List MethodLifetime) → none ≡ laid ls → one ≡ laid (ls ++ (w.lifetime ∷ [])))
       → Ok (record {
         lowerer =
             record {

@@ -13,7 +13,7 @@ use lib.ListN.{length-map, length-set}
 use lib.Seq.{drop-cons, sets}
 use Rattle.answers.specs.declared.Refusal.{Refusal}
 use Rattle.answers.specs.declared.Refusal.TheVariants.{Undeclared, Full}
-use Rattle.lifetimes.specs.declared.maybe_static.MaybeStatic.{MaybeStatic}
+use Rattle.elision.specs.Rfc.{MethodLifetime}
 use Rattle.lifetimes.specs.declared.maybe_static.MaybeStatic.TheVariants.{Static, NonStatic}
 use Rattle.lifetimes.specs.Numbers.{lifetime}
 use Rattle.answers.specs.Refusals.{Outcome, bind}
@@ -72,7 +72,7 @@ single_word names st word s =
 pub accepted_word : {r : Worded} (o : Outcome (Advanced Seen)) → Ok r ≡ worded o → Single o
     → o ≡ Ok (advanced (r.lifetime ∷ []) r.seen)
 accepted_word {r} (Ok a) e one =
-    rw (same_given e) (ap (λ (l : List MaybeStatic). Ok (advanced l a.left)) one)
+    rw (same_given e) (ap (λ (l : List MethodLifetime). Ok (advanced l a.left)) one)
 accepted_word (Err k) e one = both (sym e)
 
 pub refused_word : {k : Refusal} (o : Outcome (Advanced Seen)) → Err k ≡ worded o → o ≡ Err k
@@ -91,12 +91,12 @@ appended_at (w ∷ words) k (suc i) h = appended_at words k i (omega arith)
 
 -- ---- the loop
 
-abbrev behind : List MaybeStatic → Advanced Seen → Outcome (Advanced Seen)
+abbrev behind : List MethodLifetime → Advanced Seen → Outcome (Advanced Seen)
 behind done a = Ok (advanced (done ++ a.given) a.left)
 
 -- what is left to lower, and what is done
 pub record Going (names : List ℕ) (st : Standing) (g : ℕ) (words : List ℕ) (seen here : Seen) (i : ℕ) : Type 0 where
-  pub done : List MaybeStatic
+  pub done : List MethodLifetime
   pub many : length done ≡ i
   pub left : lower_words names st (appended g words) seen ≡ bind (lower_words names st (drop i (appended g words)) here) (behind done)
 
@@ -178,7 +178,7 @@ module _ {names : List ℕ} {st : Standing} {g : ℕ} {words : List ℕ} {seen :
     running_refused v = rw (going_refused inv.going e h w v)
 
     pub running_more : {r : Worded} → Ok r ≡ worded (lower_word names st word here) → {next : Lifetimes}
-        → ((ls : List MaybeStatic) → lifetimes ≡ laid ls → next ≡ laid (ls ++ (r.lifetime ∷ [])))
+        → ((ls : List MethodLifetime) → lifetimes ≡ laid ls → next ≡ laid (ls ++ (r.lifetime ∷ [])))
         → Running names st g words seen next r.seen (i + 1)
     unfolding going_more
     running_more v push =

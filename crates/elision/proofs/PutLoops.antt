@@ -12,7 +12,7 @@ use lib.ListN.{length, drop, length-append, length-map, length-drop, drop_of_len
 use lib.Seq.{sets}
 use Rattle.answers.specs.declared.Refusal.{Refusal}
 use Rattle.answers.specs.declared.Refusal.TheVariants.{Malformed}
-use Rattle.lifetimes.specs.declared.maybe_static.MaybeStatic.{MaybeStatic}
+use Rattle.elision.specs.Rfc.{MethodLifetime}
 use Rattle.answers.specs.Refusals.{Outcome, bind}
 use Rattle.answers.proofs.Copying.{sets_append}
 use Rattle.records.specs.Reading.{Reading, Read, Fails, onward, is_read, read_or, read_all, in_shape, items_of, few_words}
@@ -22,7 +22,7 @@ use Rattle.elision.specs.declared.lowerer.Lowerer.{Lowerer}
 use Rattle.elision.specs.declared.put.SmallLowerer.{SmallLowerer}
 use Rattle.elision.specs.Steps.{Step, read_step, steps_in_shape, steps_of}
 use Rattle.elision.specs.Machine.{Advanced, advanced, in_turn, fits, lower_step, one_step, run_steps}
-use Rattle.elision.specs.Inner.{StandsAt, end_of, shown, Shows, Given, Lowers, PutsStep}
+use Rattle.elision.specs.Inner.{StandsAt, step_end, shown, Shows, Given, Lowers, PutsStep}
 use Rattle.elision.specs.declared.steps.StepAt.{StepAt}
 use Rattle.elision.proofs.StepLaws.{ends_there}
 use Rattle.elision.proofs.PutLaws.{puts_missing}
@@ -79,7 +79,7 @@ read_none number (suc fuel) rest tail e = cc
 
 -- ---- the loop
 
-abbrev behind_done : List MaybeStatic → Advanced Lowerer → Outcome (Advanced Lowerer)
+abbrev behind_done : List MethodLifetime → Advanced Lowerer → Outcome (Advanced Lowerer)
 behind_done done a = Ok (advanced (done ++ a.given) a.left)
 
 -- from the lowerer that the record starts with: what is left of the record, the lowerer that it is left to, shown by
@@ -91,7 +91,7 @@ pub record Reached (names : List ℕ) (out : Bool) (words : List ℕ) (start : L
   pub rest : List Step
   pub tail : List ℕ
   pub reads : read_all item number fuel (drop at words) ≡ Read rest tail
-  pub done : List MaybeStatic
+  pub done : List MethodLifetime
   pub count : length done ≡ n
   pub here : Lowerer
   pub shows : Shows here k
@@ -229,7 +229,7 @@ module _ {names : List ℕ} {out : Bool} {words : List ℕ} {start : Lowerer} {s
               }
 
 pub recording_less : {words : List ℕ} {at : ℕ} {q : StepAt} → StandsAt words at (read_step (drop at words)) (Some q)
-    → {to : ℕ} → to ≡ end_of q → (at < to) × (to ≤ length words)
+    → {to : ℕ} → to ≡ step_end q → (at < to) × (to ≤ length words)
 recording_less stands e = ends_order (ends_there stands e)
 
 module _ {names : List ℕ} {out : Bool} {words : List ℕ} {before : SmallLowerer} {slice₀ slice : List ℕ}
@@ -256,7 +256,7 @@ module _ {names : List ℕ} {out : Bool} {words : List ℕ} {before : SmallLower
     }
 
     pub recording_more : {q : StepAt} → StandsAt words at (read_step (drop at words)) (Some q) → {m : ℕ}
-        → PutsStep names words out at n k k₁ slice slice₁ (Ok m) → {to : ℕ} → to ≡ end_of q
+        → PutsStep names words out at n k k₁ slice slice₁ (Ok m) → {to : ℕ} → to ≡ step_end q
         → length slice₁ ≡ length slice → Recording names out words before slice₀ slice₁ k₁ m to
     recording_more {q} stands {m} put {to} e size =
         let order = recording_less stands e in

@@ -8,7 +8,7 @@ use native.Mathlib.Omega.{arith}
 use borrow.Author.Tests.{ne_eqb, leb-false}
 use lib.Dec.{eqb, leb}
 use lib.ListN.{length}
-use Rattle.lifetimes.specs.declared.maybe_static.MaybeStatic.{MaybeStatic}
+use Rattle.elision.specs.Rfc.{MethodLifetime}
 use Rattle.lifetimes.specs.declared.maybe_static.MaybeStatic.TheVariants.{Static, NonStatic}
 use Rattle.lifetimes.specs.Numbers.{lifetime}
 use Rattle.answers.specs.Refusals.{Outcome, NoneDue, bind}
@@ -46,10 +46,10 @@ module _ (names : List ℕ) (self : Receiver) where
   named_is st before word h = rw (ne_eqb word 1 (λ e. omega arith), ne_eqb word 0 (λ e. omega arith))
 
   pub source_is : (before : List Occurrence) → NoneDue (checks_at names self before (occurs Output 1))
-      → (l : MaybeStatic) × (source_at names self before ≡ Ok l)
+      → (l : MethodLifetime) × (source_at names self before ≡ Ok l)
   source_is before n = go (source_at names self before) (none_first (none_rest n))
     where
-      go : (o : Outcome MaybeStatic) → (source_check true o).due ≡ false → (l : MaybeStatic) × (o ≡ Ok l)
+      go : (o : Outcome MethodLifetime) → (source_check true o).due ≡ false → (l : MethodLifetime) × (o ≡ Ok l)
       go (Ok l) e = (l, refl)
       go (Err r) e = passed (sym e)
 

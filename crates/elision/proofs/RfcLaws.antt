@@ -11,7 +11,7 @@ use borrow.Author.Tests.{ne_eqb, le-leb}
 use lib.ListN.{length}
 use lib.Seq.{take_at}
 use Rattle.answers.specs.declared.Refusal.TheVariants.{Undeclared}
-use Rattle.lifetimes.specs.declared.maybe_static.MaybeStatic.{MaybeStatic}
+use Rattle.elision.specs.Rfc.{MethodLifetime}
 use Rattle.lifetimes.specs.declared.maybe_static.MaybeStatic.TheVariants.{NonStatic}
 use Rattle.lifetimes.specs.Numbers.{lifetime}
 use Rattle.answers.specs.Refusals.{Check, check, Outcome, unless, bind}
@@ -75,7 +75,7 @@ after_unless (c ∷ cs) ds a b f h = go c.due (after_unless cs ds a b f h)
 
 -- steps one after another, where each gives what is said of it in view of those before it
 module _ {X Y S : Type 0} (step : X → S → Outcome (Advanced S)) (item : X → Y) (state : List Y → S) (check-at : List Y → Y
-    → List Check) (value-at : List Y → Y → List MaybeStatic)
+    → List Check) (value-at : List Y → Y → List MethodLifetime)
     (one : (before : List Y) (x : X)
     → step x (state before) ≡ unless (check-at before (item x))
     (advanced (value-at before (item x)) (state (before ++ (item x ∷ []))))) where
@@ -105,7 +105,7 @@ unfolding count
 anonymous_last l o = count_append is_new l (o ∷ [])
 
 -- the machine's source, by the lifetimes of the input positions
-unfoldable pub from_positions : List MaybeStatic → ElisionSource
+unfoldable pub from_positions : List MethodLifetime → ElisionSource
 from_positions [] = NoBorrows
 from_positions (l ∷ []) = OneParam l
 from_positions (l ∷ m ∷ ls) = MultipleBorrows
@@ -118,14 +118,14 @@ source_from names (SelfRef word) before = SelfParam (made_at names [] word)
 abbrev pub seen_of : List ℕ → Receiver → List Occurrence → Seen
 seen_of names self before = record { source = source_from names self before; count = count_of names before }
 
-position_more : (ps : List MaybeStatic) (l : MaybeStatic) → from_positions (ps ++ (l ∷ [])) ≡ visit_lifetime (from_positions ps) l
+position_more : (ps : List MethodLifetime) (l : MethodLifetime) → from_positions (ps ++ (l ∷ [])) ≡ visit_lifetime (from_positions ps) l
 unfolding from_positions
 position_more [] l = refl
 position_more (p ∷ []) l = refl
 position_more (p ∷ q ∷ ps) l = refl
 
 -- in the output, the machine's source is that of RFC 141
-elided_source : (ps : List MaybeStatic) (s : Seen)
+elided_source : (ps : List MethodLifetime) (s : Seen)
     → from_source (from_positions ps) s ≡ unless (check false Undeclared ∷ source_check true (only ps) ∷ [])
     (advanced (source_or (only ps) ∷ []) s)
 unfolding from_positions unless
@@ -176,7 +176,7 @@ module _ (names : List ℕ) where
   not_elided self before Aside = refl
   not_elided self before Output = go (source_at names self before)
     where
-      go : (o : Outcome MaybeStatic) → (source_check false o).due ≡ false
+      go : (o : Outcome MethodLifetime) → (source_check false o).due ≡ false
       go (Ok l) = refl
       go (Err r) = refl
 
@@ -236,15 +236,15 @@ module _ (names : List ℕ) where
 
 -- ---- lists in 16 places
 
-pub lowered_back : (ls : List MaybeStatic) → map (λ (x : Lowered). x.lifetime) (map lowered ls) ≡ ls
+pub lowered_back : (ls : List MethodLifetime) → map (λ (x : Lowered). x.lifetime) (map lowered ls) ≡ ls
 lowered_back [] = refl
-lowered_back (l ∷ ls) = ap (λ (m : List MaybeStatic). l ∷ m) (lowered_back ls)
+lowered_back (l ∷ ls) = ap (λ (m : List MethodLifetime). l ∷ m) (lowered_back ls)
 
-pub length_lowered : (ls : List MaybeStatic) → length (map lowered ls) ≡ length ls
+pub length_lowered : (ls : List MethodLifetime) → length (map lowered ls) ≡ length ls
 length_lowered [] = refl
 length_lowered (l ∷ ls) = ap suc (length_lowered ls)
 
-pub laid_values : (ls : List MaybeStatic) → values_in (laid ls) ≡ ls
+pub laid_values : (ls : List MethodLifetime) → values_in (laid ls) ≡ ls
 unfolding laid
 laid_values ls = rw (take_at (map lowered ls) _ (length ls) (length_lowered ls)) (lowered_back ls)
 
@@ -279,7 +279,7 @@ module _ (names : List ℕ) (self : Receiver) where
   own_again before [] m h = let z : ◌≡◌ {A = ℕ} 0 1 = cc in absurd (omega arith)
   own_again before (j ∷ l) m h = go (is_self_type j.step) (own_again (before ++ (j ∷ [])) l m) h
     where
-      v : List MaybeStatic
+      v : List MethodLifetime
       v = values names self (occurrences self before) (step_occurrences false j.output j.step)
 
       go : (t : Bool)
@@ -296,7 +296,7 @@ module _ (names : List ℕ) (self : Receiver) where
   own_first before [] m h = rw append-nil
   own_first before (j ∷ l) m h = go (is_self_type j.step) (own_first (before ++ (j ∷ [])) l m) h
     where
-      v : List MaybeStatic
+      v : List MethodLifetime
       v = values names self (occurrences self before) (step_occurrences false j.output j.step)
 
       go : (t : Bool)

@@ -9,7 +9,7 @@ use borrow.Author.Tests.{lt-ltb, leb-false, ltb-true}
 use lib.Dec.{eqb, leb}
 use lib.ListN.{length}
 use Rattle.answers.specs.declared.Refusal.TheVariants.{Undeclared, Full}
-use Rattle.lifetimes.specs.declared.maybe_static.MaybeStatic.{MaybeStatic}
+use Rattle.elision.specs.Rfc.{MethodLifetime}
 use Rattle.lifetimes.specs.declared.maybe_static.MaybeStatic.TheVariants.{Static, NonStatic}
 use Rattle.lifetimes.specs.Numbers.{lifetime}
 use Rattle.answers.specs.Refusals.{Outcome, bind}
@@ -31,18 +31,18 @@ use Rattle.elision.specs.Lowering.{words}
 use Rattle.elision.specs.Inner.{shown}
 use Rattle.elision.proofs.RfcLaws.{laid_values}
 
-abbrev Small : MaybeStatic → Type 0
+abbrev Small : MethodLifetime → Type 0
 Small l = word_of l ≤ 64
 
-abbrev pub AllSmall : List MaybeStatic → Type 0
+abbrev pub AllSmall : List MethodLifetime → Type 0
 AllSmall [] = Unit {0}
 AllSmall (l ∷ ls) = Small l × AllSmall ls
 
-small_append : (a b : List MaybeStatic) → AllSmall a → AllSmall b → AllSmall (a ++ b)
+small_append : (a b : List MethodLifetime) → AllSmall a → AllSmall b → AllSmall (a ++ b)
 small_append [] b p q = q
 small_append (l ∷ a) b p q = (p.0, small_append a b p.1 q)
 
-pub small_words : (ls : List MaybeStatic) → AllSmall ls → map shown ls ≡ words ls
+pub small_words : (ls : List MethodLifetime) → AllSmall ls → map shown ls ≡ words ls
 small_words [] p = refl
 small_words (l ∷ ls) p =
     rw (lt-ltb (word_of l) (2 ^ 64) (omega (arith, p.0))) (ap (λ (m : List ℕ). word_of l ∷ m) (small_words ls p.1))
@@ -85,13 +85,13 @@ out_cond : (t : Bool) (a b : Outcome (Advanced Seen)) → (t ≡ true → Out Fi
 out_cond true a b p q = p refl
 out_cond false a b p q = q refl
 
-visit_small : (e : ElisionSource) (l : MaybeStatic) → SmallSource e → Small l → SmallSource (visit_lifetime e l)
+visit_small : (e : ElisionSource) (l : MethodLifetime) → SmallSource e → Small l → SmallSource (visit_lifetime e l)
 visit_small NoBorrows l p q = q
 visit_small (SelfParam k) l p q = p
 visit_small (OneParam k) l p q = tt
 visit_small MultipleBorrows l p q = tt
 
-lowers_fine : (st : Standing) (l : MaybeStatic) (e : ElisionSource) (count : ℕ) → SmallSource e → Small l
+lowers_fine : (st : Standing) (l : MethodLifetime) (e : ElisionSource) (count : ℕ) → SmallSource e → Small l
     → Out Fine (lowers st l e count)
 lowers_fine Input l e count p q = ((q, tt), visit_small e l p q)
 lowers_fine Aside l e count p q = ((q, tt), p)
@@ -182,7 +182,7 @@ module _ (names : List ℕ) (few : length names ≤ 32) where
       }))))
   ref_fine (Ok a) q = (q.0, (one a.given q.0, own_fine))
     where
-      one : (ls : List MaybeStatic) → AllSmall ls → Small (first_or ls)
+      one : (ls : List MethodLifetime) → AllSmall ls → Small (first_or ls)
       one [] p = omega arith
       one (l ∷ ls) p = p.0
   ref_fine (Err r) q = tt

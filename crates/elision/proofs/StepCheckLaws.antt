@@ -12,7 +12,7 @@ use borrow.Author.Tests.{ne_eqb, le-leb}
 use lib.Dec.{eqb}
 use Rattle.answers.specs.declared.Refusal.{Refusal}
 use Rattle.answers.specs.declared.Refusal.TheVariants.{Malformed, Undeclared}
-use Rattle.lifetimes.specs.declared.maybe_static.MaybeStatic.{MaybeStatic}
+use Rattle.elision.specs.Rfc.{MethodLifetime}
 use Rattle.lifetimes.specs.declared.maybe_static.MaybeStatic.TheVariants.{Static, NonStatic}
 use Rattle.lifetimes.specs.Numbers.{lifetime}
 use Rattle.answers.specs.Refusals.{Check, check, Outcome, unless, bind, FirstDue}
@@ -58,13 +58,13 @@ module _ {A : Type 0} where
 -- ---- one word, on any lowerer
 
 -- the lifetime of an anonymous word; in the output without a source there is none, and it is never looked at
-abbrev of_source : ElisionSource → MaybeStatic
+abbrev of_source : ElisionSource → MethodLifetime
 of_source NoBorrows = Static
 of_source (SelfParam l) = l
 of_source (OneParam l) = l
 of_source MultipleBorrows = Static
 
-abbrev elided : Standing → Seen → MaybeStatic
+abbrev elided : Standing → Seen → MethodLifetime
 elided Input s = NonStatic (lifetime s.count)
 elided Aside s = NonStatic (lifetime s.count)
 elided Output s = of_source s.source
@@ -91,7 +91,7 @@ from_source_lem MultipleBorrows s = refl
 
 module _ (names : List ℕ) (st : Standing) where
   -- a word's lifetime, and what is seen behind it
-  abbrev lowers_to : Seen → ℕ → MaybeStatic
+  abbrev lowers_to : Seen → ℕ → MethodLifetime
   lowers_to s word = lifetime_of names (elided st s) word
 
   abbrev passed : ℕ → Seen → Seen
@@ -137,7 +137,7 @@ unfoldable seen_behind : List ℕ → Standing → Seen → List ℕ → Seen
 seen_behind names st s [] = s
 seen_behind names st s (word ∷ words) = seen_behind names st (passed names st word s) words
 
-visited_count : (st : Standing) (l : MaybeStatic) (e : ElisionSource) (n : ℕ) → (visited st l e n).count ≡ n
+visited_count : (st : Standing) (l : MethodLifetime) (e : ElisionSource) (n : ℕ) → (visited st l e n).count ≡ n
 visited_count Input l e n = refl
 visited_count Aside l e n = refl
 visited_count Output l e n = refl
@@ -186,7 +186,7 @@ words_judged : (names : List ℕ) (st : Standing) (words : List ℕ) (s : Seen)
     → Judged (lower_words names st words s) (throughout (word_checks names st s) [] words)
 unfolding seen_behind
 words_judged names st words s =
-    let value : List ℕ → ℕ → List MaybeStatic = λ before word. lowers_to names st (seen_behind names st s before) word ∷ [] in
+    let value : List ℕ → ℕ → List MethodLifetime = λ before word. lowers_to names st (seen_behind names st s before) word ∷ [] in
     record {
       result = _;
       is =

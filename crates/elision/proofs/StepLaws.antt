@@ -14,7 +14,7 @@ use Rattle.records.proofs.ReadingLaws.{Holds, LifetimesIn, holds_read, lifetimes
 use Rattle.elision.specs.declared.steps.StepAt.{StepAt}
 use Rattle.elision.specs.declared.steps.StepAt.TheVariants as standing
 use Rattle.elision.specs.Steps.{Step, Generics, SelfType, read_step}
-use Rattle.elision.specs.Inner.{StandsAt, end_of}
+use Rattle.elision.specs.Inner.{StandsAt, step_end}
 use Rattle.elision.specs.Inner as inner
 
 -- a run of words between two places
@@ -157,13 +157,13 @@ module _ (words : List ℕ) (at : ℕ) where
 -- ---- where it ends
 
 stands_end : {words : List ℕ} {at : ℕ} {reading : Reading Step} {r : StepAt} → StandsAt words at reading (Some r)
-    → EndsAt words at reading (Some (end_of r))
+    → EndsAt words at reading (Some (step_end r))
 stands_end (inner.lifetime w d b e) = ends d b e
 stands_end (inner.generics l d b m e) = ends d b e
 stands_end (inner.self_type l d b m e) = ends d b e
 
 pub ends_there : {words : List ℕ} {at : ℕ} {reading : Reading Step} {r : StepAt} → StandsAt words at reading (Some r)
-    → {to : ℕ} → to ≡ end_of r → EndsAt words at reading (Some to)
+    → {to : ℕ} → to ≡ step_end r → EndsAt words at reading (Some to)
 ends_there {words} {at} {reading} stands e = subst (λ (x : ℕ). EndsAt words at reading (Some x)) (sym e) (stands_end stands)
 
 pub missing_end : {words : List ℕ} {at : ℕ} {reading : Reading Step} → StandsAt words at reading None

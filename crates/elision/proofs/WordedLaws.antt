@@ -16,7 +16,7 @@ use Rattle.elision.specs.declared.lowerer.Lowerer.{Lowerer}
 use Rattle.elision.specs.declared.lowerer.Stepped.{Stepped}
 use Rattle.elision.specs.Steps.{Step, Lifetime, Generics, SelfType, read_step}
 use Rattle.elision.specs.Machine.{one_step, stepped, whole_step, worded_step}
-use Rattle.elision.specs.Inner.{StandsAt, end_of}
+use Rattle.elision.specs.Inner.{StandsAt, step_end}
 use Rattle.elision.specs.Inner as inner
 use Rattle.elision.proofs.StepLaws.{ends_there}
 use Rattle.elision.proofs.PartLaws.{told}
@@ -61,7 +61,7 @@ module _ (names : List ℕ) (out : Bool) (words : List ℕ) (s : Lowerer) where
   unfolding worded_step
   worded_none h = no_step h
 
-  module _ {r : StepAt} (h : StandsAt words 0 (read_step words) (Some r)) {place : ℕ} (behind : place ≡ end_of r) where
+  module _ {r : StepAt} (h : StandsAt words 0 (read_step words) (Some r)) {place : ℕ} (behind : place ≡ step_end r) where
     pub worded_more : (place ≡ length words → ⊥) → Err Malformed ≡ stepped (worded_step names out words s)
     unfolding worded_step
     worded_more other = more_words {to = place} (ends_there h behind) other
@@ -70,16 +70,16 @@ module _ (names : List ℕ) (out : Bool) (words : List ℕ) (s : Lowerer) where
       pub worded_lifetime : {word to : ℕ} → r ≡ standing.Lifetime word to
           → d ≡ stepped (one_step names out (Lifetime word) s) → d ≡ stepped (worded_step names out words s)
       unfolding worded_step
-      worded_lifetime e t = t ∙ whole_lifetime (told h e) (sym (ap end_of e) ∙ sym behind ∙ all)
+      worded_lifetime e t = t ∙ whole_lifetime (told h e) (sym (ap step_end e) ∙ sym behind ∙ all)
 
       pub worded_generics : {g from to : ℕ} → r ≡ standing.Generics g from to
           → d ≡ stepped (one_step names out (Generics g (take (to - from) (drop from words))) s)
           → d ≡ stepped (worded_step names out words s)
       unfolding worded_step
-      worded_generics e t = t ∙ whole_generics (told h e) (sym (ap end_of e) ∙ sym behind ∙ all)
+      worded_generics e t = t ∙ whole_generics (told h e) (sym (ap step_end e) ∙ sym behind ∙ all)
 
       pub worded_self : {from to : ℕ} → r ≡ standing.SelfType from to
           → d ≡ stepped (one_step names out (SelfType (take (to - from) (drop from words))) s)
           → d ≡ stepped (worded_step names out words s)
       unfolding worded_step
-      worded_self e t = t ∙ whole_self (told h e) (sym (ap end_of e) ∙ sym behind ∙ all)
+      worded_self e t = t ∙ whole_self (told h e) (sym (ap step_end e) ∙ sym behind ∙ all)

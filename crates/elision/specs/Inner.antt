@@ -1,12 +1,12 @@
 -- For private functions only: where a step stands in a record, and what the inner functions answer. No public contract
 -- cites this file.
-use Rattle.std.specs.Prelude.{ℕ, ◌+◌, ◌-◌, ◌≤◌, ◌<◌, ◌≡◌, Bool, true, false, cond, unwrap_or, List, ◌∷◌, map, length, take, drop, replicate, Ok, Err, Some, None, Option}
+use Rattle.std.specs.Prelude.{ℕ, ◌+◌, ◌-◌, ◌≤◌, ◌<◌, ◌≡◌, Bool, true, false, unwrap_or, List, ◌∷◌, map, length}
+use Rattle.std.specs.Prelude.{take, drop, replicate, Ok, Err, Some, None, Option}
 use Rattle.std.proofs.lemmas.List.Edits.{sets}
-use Rattle.lifetimes.specs.declared.maybe_static.MaybeStatic.{MaybeStatic}
+use Rattle.elision.specs.Rfc.{MethodLifetime}
 use Rattle.answers.specs.declared.Refusal.{Refusal}
 use Rattle.lifetimes.specs.LoweredWords.{word_answer}
 use Rattle.answers.specs.Refusals.{Outcome, over}
-use Rattle.ast_lifetimes.specs.Env.{place, is_declared}
 use Rattle.records.specs.Reading.{Reading, Read, Fails, most_list}
 use Rattle.elision.specs.declared.steps.StepAt.{StepAt}
 use Rattle.elision.specs.declared.steps.StepAt.TheVariants as standing
@@ -36,14 +36,14 @@ pub data StandsAt (words : List ℕ) (at : ℕ) : Reading Step → Option StepAt
   missing : StandsAt words at Fails None
 
 -- it stands somewhere
-abbrev pub Stands : List ℕ → StepAt → Type 0
-Stands words step = (at : ℕ) × StandsAt words at (read_step (drop at words)) (Some step)
+abbrev pub IsSomewhere : List ℕ → StepAt → Type 0
+IsSomewhere words step = (at : ℕ) × StandsAt words at (read_step (drop at words)) (Some step)
 
 -- the place behind it
-abbrev pub end_of : StepAt → ℕ
-end_of (standing.Lifetime word to) = to
-end_of (standing.Generics g from to) = to
-end_of (standing.SelfType from to) = to
+abbrev pub step_end : StepAt → ℕ
+step_end (standing.Lifetime word to) = to
+step_end (standing.Generics g from to) = to
+step_end (standing.SelfType from to) = to
 
 abbrev pub worded : Outcome (Advanced Seen) → Outcome Worded
 worded o = over (λ a. record { lifetime = first_or a.given; seen = a.left }) o
@@ -51,14 +51,10 @@ worded o = over (λ a. record { lifetime = first_or a.given; seen = a.left }) o
 abbrev pub ran : Outcome (Advanced Seen) → Outcome Run
 ran o = over (λ a. record { lifetimes = laid a.given; seen = a.left }) o
 
--- the number of a name, where it is declared
-abbrev pub place_of : List ℕ → ℕ → Option ℕ
-place_of names word = cond (is_declared names word) (Some (place names word)) None
-
 -- The whole records
 
 -- the word of a lifetime, where it has one
-abbrev pub shown : MaybeStatic → ℕ
+abbrev pub shown : MethodLifetime → ℕ
 shown l = unwrap_or (word_answer l) 0
 
 abbrev pub put_of : ℕ → Outcome (Advanced Seen) → Outcome Put
@@ -91,7 +87,8 @@ pub record Shows (s : Lowerer) (k : SmallLowerer) : Type 0 where
 
 -- what is given: the small lowerer shows the next one, and the words are in the slice from a place on, as far as it
 -- takes them; the place behind them is m
-pub record Given (o : Outcome (Advanced Lowerer)) (n : ℕ) (before behind : List ℕ) (k : SmallLowerer) (m : ℕ) : Type 0 where
+pub record Given (o : Outcome (Advanced Lowerer)) (n : ℕ) (before behind : List ℕ) (k : SmallLowerer)
+    (m : ℕ) : Type 0 where
   pub it : Advanced Lowerer
   pub is : o ≡ Ok it
   pub shows : Shows it.left k
@@ -130,7 +127,8 @@ totals o =
       count = m.count;
     }) o
 
-pub record RunsAll (o : Outcome Method) (own given taken own₁ given₁ taken₁ : List ℕ) (r : Outcome Totals) : Type 0 where
+pub record RunsAll (o : Outcome Method) (own given taken own₁ given₁ taken₁ : List ℕ)
+    (r : Outcome Totals) : Type 0 where
   pub answers : r ≡ totals o
   pub self : (m : Method) → o ≡ Ok m → own₁ ≡ sets own 0 (map shown m.self)
   pub steps : (m : Method) → o ≡ Ok m → given₁ ≡ sets given 0 (map shown m.steps)

@@ -2,7 +2,7 @@
 -- method's environment (`finish`).
 use Rattle.std.specs.Prelude.{ℕ, Bool, ◌&&◌, not, ◌≡◌, List, [], ◌∷◌, ◌++◌, map, length}
 use Rattle.answers.specs.declared.Refusal.TheVariants.{Malformed}
-use Rattle.lifetimes.specs.declared.maybe_static.MaybeStatic.{MaybeStatic}
+use Rattle.elision.specs.Rfc.{MethodLifetime}
 use Rattle.lifetimes.specs.declared.env.LifetimeEnv as hir
 use Rattle.answers.specs.Refusals.{Check, check, Outcome, unless, over}
 use Rattle.answers.specs.Lent.{Slice, Fills, room_check}
@@ -16,7 +16,7 @@ use Rattle.elision.specs.Steps.{self_in_shape, steps_in_shape, steps_of, receive
 use Rattle.elision.specs.Rfc.{Method, method_of, elision_checks}
 
 -- 01's lowered words: 0 static, k the lifetime numbered k − 1
-abbrev pub words : List MaybeStatic → List ℕ
+abbrev pub words : List MethodLifetime → List ℕ
 words ls = map word_of ls
 
 -- what RFC 141 says of the three records
@@ -79,7 +79,8 @@ abbrev pub return_words : Outcome Method → Outcome (List ℕ)
 return_words o = over (λ m. words m.returns) o
 
 -- both, of what `lower` gives
-pub record LowersTo (e : ast.LifetimeEnv) (o : Outcome Method) (r : Outcome Lowering) (own given taken : Slice) : Type 0 where
+pub record LowersTo (e : ast.LifetimeEnv) (o : Outcome Method) (r : Outcome Lowering)
+    (own given taken : Slice) : Type 0 where
   pub answer : r ≡ answered e o
   pub own_filled : Fills (own_words o) own
   pub given_filled : Fills (step_words o) given

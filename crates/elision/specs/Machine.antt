@@ -4,7 +4,7 @@
 use Rattle.std.specs.Prelude.{ℕ, ◌+◌, ◌-◌, Bool, true, false, cond, ◌&&◌, List, [], ◌∷◌, ◌++◌, map, eqb, leb, Ok, Err}
 use Rattle.std.specs.Prelude.{length, take, replicate}
 use Rattle.answers.specs.declared.Refusal.TheVariants.{Malformed, Undeclared, Full, NoSource, Ambiguous}
-use Rattle.lifetimes.specs.declared.maybe_static.MaybeStatic.{MaybeStatic}
+use Rattle.elision.specs.Rfc.{MethodLifetime}
 use Rattle.lifetimes.specs.declared.maybe_static.MaybeStatic.TheVariants.{Static, NonStatic}
 use Rattle.lifetimes.specs.Numbers.{lifetime}
 use Rattle.answers.specs.Refusals.{Outcome, over, bind}
@@ -25,7 +25,7 @@ use Rattle.elision.specs.Rfc.{appended, standing_in, Method}
 use Rattle.lifetimes.specs.Limits.{most_lifetimes}
 
 -- the source after one more input position
-abbrev pub visit_lifetime : ElisionSource → MaybeStatic → ElisionSource
+abbrev pub visit_lifetime : ElisionSource → MethodLifetime → ElisionSource
 visit_lifetime NoBorrows l = OneParam l
 visit_lifetime (SelfParam own) l = SelfParam own
 visit_lifetime (OneParam one) l = MultipleBorrows
@@ -33,10 +33,10 @@ visit_lifetime MultipleBorrows l = MultipleBorrows
 
 -- what a step gives, and the state that it leaves for the next
 pub record Advanced (S : Type 0) : Type 0 where
-  pub given : List MaybeStatic
+  pub given : List MethodLifetime
   pub left : S
 
-abbrev pub advanced : {S : Type 0} → List MaybeStatic → S → Advanced S
+abbrev pub advanced : {S : Type 0} → List MethodLifetime → S → Advanced S
 advanced ls s = record { given = ls; left = s }
 
 -- one step after another, each from the state that the one before left
@@ -49,13 +49,13 @@ in_turn step (a ∷ l) s =
 -- One lifetime
 
 -- only an input position changes the source
-abbrev pub visited : Standing → MaybeStatic → ElisionSource → ℕ → Seen
+abbrev pub visited : Standing → MethodLifetime → ElisionSource → ℕ → Seen
 visited Input l source count = record { source = visit_lifetime source l; count = count }
 visited Aside l source count = record { source = source; count = count }
 visited Output l source count = record { source = source; count = count }
 
 -- one lifetime given, and what is seen then
-abbrev pub lowers : Standing → MaybeStatic → ElisionSource → ℕ → Outcome (Advanced Seen)
+abbrev pub lowers : Standing → MethodLifetime → ElisionSource → ℕ → Outcome (Advanced Seen)
 lowers st l source count = Ok (advanced (l ∷ []) (visited st l source count))
 
 -- a new lifetime, the next number
@@ -89,15 +89,15 @@ lower_words names st words s = in_turn (lower_word names st) words s
 
 -- Lists of lifetimes in 16 places
 
-abbrev pub lowered : MaybeStatic → Lowered
+abbrev pub lowered : MethodLifetime → Lowered
 lowered l = record { lifetime = l }
 
 -- the lifetimes in the first n places
-abbrev pub values_in : Lifetimes → List MaybeStatic
+abbrev pub values_in : Lifetimes → List MethodLifetime
 values_in ls = map (λ (x : Lowered). x.lifetime) (take ls.n ls.list)
 
 -- a list in 16 places, the rest 'static
-unfoldable pub laid : List MaybeStatic → Lifetimes
+unfoldable pub laid : List MethodLifetime → Lifetimes
 laid ls = record { n = length ls; list = map lowered ls ++ replicate (most_list - length ls) (lowered Static) }
 
 -- Steps
@@ -135,7 +135,7 @@ unfoldable pub unused : List ℕ → Lowerer
 unused names = record { seen = record { source = NoBorrows; count = length names }; kept = false; own = laid [] }
 
 -- the first of a list; 'static where there is none
-abbrev pub first_or : List MaybeStatic → MaybeStatic
+abbrev pub first_or : List MethodLifetime → MethodLifetime
 first_or [] = Static
 first_or (l ∷ ls) = l
 

@@ -6,6 +6,7 @@
 use Rattle.std.specs.Prelude.{ℕ, ◌+◌, ◌-◌, Bool, true, false, cond, ◌&&◌, not, List, [], ◌∷◌, ◌++◌, map, eqb, Ok, Err}
 use Rattle.std.specs.Prelude.{leb, length, replicate}
 use Rattle.answers.specs.declared.Refusal.TheVariants.{Undeclared, Full, NoSource, Ambiguous}
+use Rattle.lifetimes.specs.declared.lifetime.Lifetime as hir
 use Rattle.lifetimes.specs.declared.maybe_static.MaybeStatic.{MaybeStatic}
 use Rattle.lifetimes.specs.declared.maybe_static.MaybeStatic.TheVariants.{Static, NonStatic}
 use Rattle.lifetimes.specs.Numbers.{lifetime}
@@ -17,6 +18,10 @@ use Rattle.elision.specs.declared.lowerer.Standing.{Standing}
 use Rattle.elision.specs.declared.lowerer.Standing.TheVariants.{Input, Aside, Output}
 use Rattle.elision.specs.Steps.{Step, Lifetime, Generics, SelfType, Receiver, NoSelf, SelfRef}
 use Rattle.lifetimes.specs.Limits.{most_lifetimes}
+
+-- a lifetime of a method, or 'static
+abbrev pub MethodLifetime : Type 0
+MethodLifetime = MaybeStatic hir.Lifetime
 
 -- what each of a list brings, in view of those before it
 unfoldable pub throughout : {A B : Type 0} → (List A → A → List B) → List A → List A → List B
@@ -51,62 +56,62 @@ abbrev pub count_of : List ℕ → List Occurrence → ℕ
 count_of names before = length names + anonymous before
 
 -- a word's lifetime, given that of an anonymous one: 0 'static, 1 anonymous, else a name's number
-abbrev pub lifetime_of : List ℕ → MaybeStatic → ℕ → MaybeStatic
+abbrev pub lifetime_of : List ℕ → MethodLifetime → ℕ → MethodLifetime
 lifetime_of names elided word =
     cond (eqb word 1) elided (cond (eqb word 0) Static (NonStatic (lifetime (place names word))))
 
 -- the lifetime of a word that makes a new one if it is anonymous: each elided input its own, the next number
-abbrev pub made_at : List ℕ → List Occurrence → ℕ → MaybeStatic
+abbrev pub made_at : List ℕ → List Occurrence → ℕ → MethodLifetime
 made_at names before word = lifetime_of names (NonStatic (lifetime (count_of names before))) word
 
 -- The source of elision
 
 -- a lifetime, if it stands in an input position
-abbrev pub if_input : Standing → MaybeStatic → List MaybeStatic
+abbrev pub if_input : Standing → MethodLifetime → List MethodLifetime
 if_input Input l = l ∷ []
 if_input Aside l = []
 if_input Output l = []
 
-abbrev pub position_at : List ℕ → List Occurrence → Occurrence → List MaybeStatic
+abbrev pub position_at : List ℕ → List Occurrence → Occurrence → List MethodLifetime
 position_at names before o = if_input o.standing (made_at names before o.word)
 
 -- the lifetimes of all input positions, in order
-abbrev pub positions : List ℕ → List Occurrence → List MaybeStatic
+abbrev pub positions : List ℕ → List Occurrence → List MethodLifetime
 positions names l = throughout (position_at names) [] l
 
 -- the lifetime of the only position. None is 5, several are 6
-abbrev pub only : List MaybeStatic → Outcome MaybeStatic
+abbrev pub only : List MethodLifetime → Outcome MethodLifetime
 only [] = Err NoSource
 only (l ∷ []) = Ok l
 only (l ∷ m ∷ ls) = Err Ambiguous
 
 -- "`&self` first, static included; else exactly one input position"
-abbrev pub source_at : List ℕ → Receiver → List Occurrence → Outcome MaybeStatic
+abbrev pub source_at : List ℕ → Receiver → List Occurrence → Outcome MethodLifetime
 source_at names NoSelf before = only (positions names before)
 source_at names (SelfRef word) before = Ok (made_at names [] word)
 
 -- The value of an occurrence, and the refusals due at it
 
 -- a source that is not there stands for none; it is never looked at
-abbrev pub source_or : Outcome MaybeStatic → MaybeStatic
+abbrev pub source_or : Outcome MethodLifetime → MethodLifetime
 source_or (Ok l) = l
 source_or (Err r) = Static
 
 -- the lifetime of an anonymous word that stands so
-abbrev pub elided_at : List ℕ → Receiver → List Occurrence → Standing → MaybeStatic
+abbrev pub elided_at : List ℕ → Receiver → List Occurrence → Standing → MethodLifetime
 elided_at names self before Input = NonStatic (lifetime (count_of names before))
 elided_at names self before Aside = NonStatic (lifetime (count_of names before))
 elided_at names self before Output = source_or (source_at names self before)
 
 -- the lifetime of an occurrence, in view of those before it
-abbrev pub value_at : List ℕ → Receiver → List Occurrence → Occurrence → MaybeStatic
+abbrev pub value_at : List ℕ → Receiver → List Occurrence → Occurrence → MethodLifetime
 value_at names self before o = lifetime_of names (elided_at names self before o.standing) o.word
 
-abbrev pub values : List ℕ → Receiver → List Occurrence → List Occurrence → List MaybeStatic
+abbrev pub values : List ℕ → Receiver → List Occurrence → List Occurrence → List MethodLifetime
 values names self before l = throughout (λ b o. value_at names self b o ∷ []) before l
 
 -- an anonymous one in the output without a source: 5 or 6
-abbrev pub source_check : Bool → Outcome MaybeStatic → Check
+abbrev pub source_check : Bool → Outcome MethodLifetime → Check
 source_check anon (Ok l) = check false NoSource
 source_check anon (Err r) = check anon r
 
@@ -175,7 +180,7 @@ abbrev pub occurrences : Receiver → List Item → List Occurrence
 occurrences self l = self_occurrences self ++ throughout occurrences_at [] l
 
 -- the lifetimes of the `Self` type: made at its first use among some steps
-unfoldable pub own_from : List ℕ → Receiver → List Item → List Item → List MaybeStatic
+unfoldable pub own_from : List ℕ → Receiver → List Item → List Item → List MethodLifetime
 own_from names self before [] = []
 own_from names self before (i ∷ l) =
     cond (is_self_type i.step)
@@ -183,7 +188,7 @@ own_from names self before (i ∷ l) =
     (own_from names self (before ++ (i ∷ [])) l)
 
 -- the lifetimes of a step: "Kind 2 answers with the list made at its first use"
-abbrev pub lowered_at : List ℕ → Receiver → List Item → Item → List MaybeStatic
+abbrev pub lowered_at : List ℕ → Receiver → List Item → Item → List MethodLifetime
 lowered_at names self before i =
     cond (is_self_type i.step) (own_from names self [] (before ++ (i ∷ [])))
     (values names self (occurrences self before) (occurrences_at before i))
@@ -199,13 +204,13 @@ inputs steps = map input steps
 abbrev pub outputs : List Step → List Item
 outputs returns = map output returns
 
-abbrev pub lowered_self : List ℕ → Receiver → List MaybeStatic
+abbrev pub lowered_self : List ℕ → Receiver → List MethodLifetime
 lowered_self names self = values names self [] (self_occurrences self)
 
-abbrev pub lowered_steps : List ℕ → Receiver → List Step → List MaybeStatic
+abbrev pub lowered_steps : List ℕ → Receiver → List Step → List MethodLifetime
 lowered_steps names self steps = throughout (lowered_at names self) [] (inputs steps)
 
-abbrev pub lowered_returns : List ℕ → Receiver → List Step → List Step → List MaybeStatic
+abbrev pub lowered_returns : List ℕ → Receiver → List Step → List Step → List MethodLifetime
 lowered_returns names self steps returns = throughout (lowered_at names self) (inputs steps) (outputs returns)
 
 -- "(at most 64)": all lifetimes, declared and new
@@ -221,9 +226,9 @@ elision_checks names self steps returns =
 
 -- the lifetimes of self, steps and returns, and how many lifetimes there are
 pub record Method : Type 0 where
-  pub self : List MaybeStatic
-  pub steps : List MaybeStatic
-  pub returns : List MaybeStatic
+  pub self : List MethodLifetime
+  pub steps : List MethodLifetime
+  pub returns : List MethodLifetime
   pub count : ℕ
 
 abbrev pub method_of : List ℕ → Receiver → List Step → List Step → Method

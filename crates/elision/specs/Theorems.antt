@@ -2,7 +2,7 @@
 -- small letters, in proofs/Theorems.antt.
 use Rattle.std.specs.Prelude.{ℕ, ◌+◌, ◌≤◌, ◌<◌, Bool, true, ◌≡◌, ◌↔◌, List, [], ◌∷◌, ◌++◌, map, length, Ok, Err}
 use Rattle.answers.specs.declared.Refusal.{Refusal}
-use Rattle.lifetimes.specs.declared.maybe_static.MaybeStatic.{MaybeStatic}
+use Rattle.elision.specs.Rfc.{MethodLifetime}
 use Rattle.lifetimes.specs.declared.maybe_static.MaybeStatic.TheVariants.{Static, NonStatic}
 use Rattle.lifetimes.specs.Numbers.{lifetime}
 use Rattle.answers.specs.Refusals.{FirstDue, NoneDue}
@@ -38,10 +38,10 @@ pub record Says (names : List ℕ) (self : Receiver) (steps returns : List Step)
   pub named : (st : Standing) (before : List Occurrence) (word : ℕ) → 2 ≤ word
       → value_at names self before (occurs st word) ≡ NonStatic (lifetime (place names word))
   -- an elided output has the source's lifetime, and there is one
-  pub returned : (before : List Occurrence) (l : MaybeStatic) → source_at names self before ≡ Ok l
+  pub returned : (before : List Occurrence) (l : MethodLifetime) → source_at names self before ≡ Ok l
       → value_at names self before (occurs Output 1) ≡ l
-  pub source : (before : List Occurrence) → NoneDue (checks_at names self before (occurs Output 1)) → (l : MaybeStatic)
-      × (source_at names self before ≡ Ok l)
+  pub source : (before : List Occurrence) → NoneDue (checks_at names self before (occurs Output 1))
+      → (l : MethodLifetime) × (source_at names self before ≡ Ok l)
   -- each later kind 2 has the first one's list, and nothing of it is looked up
   pub again : (before : List Item) (i : Item) → has_self_type before ≡ true → is_self_type i.step ≡ true
       → (lowered_at names self before i ≡ own_from names self [] before) × (occurrences_at before i ≡ [])

@@ -1,16 +1,16 @@
 // The lowerer: what it knows between two steps, and the steps, by value.
 ghost use Rattle.std.specs.Prelude.{◌≡◌, List, [], ◌∷◌, ◌++◌, ◌<◌, ◌≤◌, length, get_or};
 ghost use Rattle.answers.specs.Lent.{held, left};
-ghost use Rattle.lifetimes.specs.declared.maybe_static.MaybeStatic.{MaybeStatic};
 ghost use Rattle.elision.specs.Steps as steps;
-ghost use Rattle.elision.specs.Rfc.{appended, standing_in};
+ghost use Rattle.elision.specs.Rfc.{MethodLifetime, appended, standing_in};
 ghost use Rattle.elision.specs.Machine.{visited, new_lifetime, lower_anonymous, lower_word, lower_words, unused};
 ghost use Rattle.elision.specs.Machine.{self_ref, one_step, laid, values_in, stepped};
-ghost use Rattle.elision.specs.Inner.{worded, ran, place_of};
+ghost use Rattle.elision.specs.Inner.{worded, ran};
 ghost use Rattle.records.specs.Reading.{most_list};
 
 use super::source::ElisionSource;
 use answers::Refusal;
+use ast_lifetimes::position;
 use lifetimes::{Lifetime, MaybeStatic};
 use records::MAX_LIST;
 
@@ -28,7 +28,7 @@ pub enum Standing {
 // A lowered lifetime, as it stands in a list.
 #[derive(Clone, Copy)]
 pub struct Lowered {
-    pub lifetime: MaybeStatic,
+    pub lifetime: MaybeStatic<Lifetime>,
 }
 
 // The lowered lifetimes of one type: the first n of the array. In the Rust it is in hir/lifetimes.rs.
@@ -64,7 +64,7 @@ pub struct Stepped {
 // One lifetime lowered, and what is seen then.
 #[derive(Clone, Copy)]
 pub(crate) struct Worded {
-    pub(crate) lifetime: MaybeStatic,
+    pub(crate) lifetime: MaybeStatic<Lifetime>,
     pub(crate) seen: Seen,
 }
 
@@ -90,9 +90,9 @@ impl Lifetimes {
     }
 
     // One lifetime more, behind those of the list.
-    fn push(&mut self, lifetime: MaybeStatic)
+    fn push(&mut self, lifetime: MaybeStatic<Lifetime>)
         requires { self.old.n < most_list }
-        ensures { (ls : List MaybeStatic) → held self ≡ laid ls → left self ≡ laid (ls ++ (lifetime ∷ [])) }
+        ensures { (ls : List MethodLifetime) → held self ≡ laid ls → left self ≡ laid (ls ++ (lifetime ∷ [])) }
     {
         let n = self.n;
         self.list[n] = Lowered { lifetime };
@@ -314,7 +314,7 @@ fn elided(seen: Seen) -> Result<Worded, Refusal>
 }
 
 // One lifetime lowered, and what is seen then: only an input position changes the source.
-fn lowers(standing: Standing, lifetime: MaybeStatic, seen: Seen) -> Worded
+fn lowers(standing: Standing, lifetime: MaybeStatic<Lifetime>, seen: Seen) -> Worded
     ensures { result ≡ record { lifetime = lifetime; seen = visited standing lifetime seen.source seen.count } }
 {
     let source = match standing {
@@ -325,11 +325,4 @@ fn lowers(standing: Standing, lifetime: MaybeStatic, seen: Seen) -> Worded
         lifetime,
         seen: Seen { source, ..seen },
     }
-}
-
-// The number of a name: its place; of equal names the first counts.
-fn position(names: &[usize], name: usize) -> Option<usize>
-    ensures { result ≡ place_of names.now name }
-{
-    names.iter().position(|&n| n == name)
 }

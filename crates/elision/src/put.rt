@@ -7,7 +7,8 @@ ghost use Rattle.std.proofs.lemmas.List.Edits.{sets};
 ghost use Rattle.elision.specs.Steps.{receiver_of, read_step, steps_in_shape, steps_of};
 ghost use Rattle.elision.specs.Rfc.{appended, standing_in};
 ghost use Rattle.elision.specs.Machine.{lower_words, lower_self, words_step, self_step, run_steps};
-ghost use Rattle.elision.specs.Inner.{StandsAt, Stands, shown, small_unused, Shows, Lowers, Puts, PutsOne, PutsStep};
+ghost use Rattle.elision.specs.Inner.{StandsAt, IsSomewhere, shown, small_unused};
+ghost use Rattle.elision.specs.Inner.{Shows, Lowers, Puts, PutsOne, PutsStep};
 ghost use Rattle.elision.specs.declared.lowerer.Lowerer.{Lowerer};
 ghost use Rattle.answers.specs.Lent.{held, left};
 ghost use Rattle.records.specs.Reading.{most_list};
@@ -16,7 +17,7 @@ use super::lowerer::{Seen, Standing, lower_word, standing_in, word_or_anonymous}
 use super::source::ElisionSource;
 use super::steps::{StepAt, read_step};
 use answers::Refusal;
-use lifetimes::MaybeStatic;
+use lifetimes::{Lifetime, MaybeStatic};
 use records::MAX_LIST;
 
 // A lowerer as it goes through the records: what is seen, whether the `Self` type was there, and how many lifetimes it
@@ -131,7 +132,7 @@ impl SmallLowerer {
         n: usize,
         out: &mut [usize],
     ) -> Result<usize, Refusal>
-        requires { Stands words.now step × (self.old.own ≤ most_list) × (n ≤ 65536) }
+        requires { IsSomewhere words.now step × (self.old.own ≤ most_list) × (n ≤ 65536) }
         ensures { (at : ℕ) → StandsAt words.now at (read_step (drop at words.now)) (Some step)
             → PutsStep names.now words.now output at n (held self) (left self) (held out) (left out) result }
     {
@@ -208,8 +209,8 @@ impl SmallLowerer {
         Ok(self.put_own(n, out))
     }
 
-    // Store the words of the lifetimes of the `Self` type from a place on, as far as the slice takes them; the answer is
-    // the place behind them.
+    // Store the words of the lifetimes of the `Self` type from a place on, as far as the slice takes them; the answer
+    // is the place behind them.
     fn put_own(&self, n: usize, out: &mut [usize]) -> usize
         requires { (self.now.own ≤ most_list) × (n ≤ 65536) }
         ensures answer { result ≡ n + self.now.own }
@@ -261,7 +262,7 @@ fn store(out: &mut [usize], at: usize, word: usize)
 }
 
 // The word of a lifetime.
-fn word_of(lifetime: MaybeStatic) -> usize
+fn word_of(lifetime: MaybeStatic<Lifetime>) -> usize
     ensures { result ≡ shown lifetime }
 {
     lifetime.word().unwrap_or(0)

@@ -2,7 +2,7 @@
 ghost use Rattle.std.specs.Prelude.{◌≡◌};
 ghost use Rattle.elision.specs.Machine.{visit_lifetime};
 
-use lifetimes::MaybeStatic;
+use lifetimes::{Lifetime, MaybeStatic};
 
 // Where an elided lifetime of the output comes from, by the inputs so far.
 #[derive(Clone, Copy)]
@@ -10,16 +10,16 @@ pub enum ElisionSource {
     // No input position: nothing to take.
     NoBorrows,
     // `&self` or `&mut self`: its lifetime, whatever else the inputs hold.
-    SelfParam(MaybeStatic),
+    SelfParam(MaybeStatic<Lifetime>),
     // One input position: its lifetime.
-    OneParam(MaybeStatic),
+    OneParam(MaybeStatic<Lifetime>),
     // Several input positions, and no `&self`: ambiguous.
     MultipleBorrows,
 }
 
 impl ElisionSource {
     // The source after one more input position.
-    pub fn visit_lifetime(self, lifetime: MaybeStatic) -> Self
+    pub fn visit_lifetime(self, lifetime: MaybeStatic<Lifetime>) -> Self
         ensures answer { result ≡ visit_lifetime self lifetime }
     {
         match self {

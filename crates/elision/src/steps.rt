@@ -2,7 +2,7 @@
 ghost use Rattle.std.specs.Prelude.{◌≡◌, drop};
 ghost use Rattle.records.specs.Reading.{shape_verdict};
 ghost use Rattle.elision.specs.Steps.{read_step, self_in_shape, steps_in_shape};
-ghost use Rattle.elision.specs.Inner.{StandsAt, end_of};
+ghost use Rattle.elision.specs.Inner.{StandsAt, step_end};
 
 use answers::Refusal;
 use records::{MAX_LIST, MAX_WORDS, lifetimes_end};
@@ -29,7 +29,7 @@ pub(crate) enum StepAt {
 impl StepAt {
     // The place behind the step.
     pub(crate) fn end(self) -> usize
-        ensures { result ≡ end_of self }
+        ensures { result ≡ step_end self }
     {
         match self {
             StepAt::Lifetime { to, .. }

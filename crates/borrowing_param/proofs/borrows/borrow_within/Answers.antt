@@ -9,8 +9,6 @@ returns-in_err-method c = sheet_unborrowed _ _ _ _ c.judge_sheet.ensures c.in_er
     (way_out c.from_residual.ensures) refl refl refl
 
 pub returns : goal.returns
-returns c = sheet_borrowed _ _ _ _ c.judge_sheet.ensures c.in_ok-method.was
-    c.record_words.ensures.answer c.record_words-2.ensures.answer
-    c.record_words-3.ensures.answer c.record_words-4.ensures.answer
+returns c = sheet_borrowed _ _ _ _ c.judge_sheet.ensures c.in_ok-method.was c.laid-records.ensures.answer
     c.borrow_method.ensures.answer.counts c.borrow_method.ensures.answer.used_filled
     c.borrow_method.ensures.answer.answers_filled c.borrow_method.ensures.answer.edges_filled
