@@ -1,7 +1,7 @@
 -- An accepted method, listed from what stands in scratch: all lists and sets as `all_lists` leaves them, the answers
 -- and edges of `borrow_map`.
 use Rattle.std.specs.Prelude.{Ok, Err, Some, None, Option}
-use Prim.Native.Nat.{ℕ, ◌+◌, ◌*◌, ◌-◌, ◌≤◌, ◌<◌, ◌^◌}
+use Prim.Native.Nat.{ℕ, ◌+◌, ◌*◌, ◌-◌, ◌/◌, ◌≤◌, ◌<◌, ◌^◌}
 use mathlib.Core.Bool.{Bool, true, false, cond}
 use mathlib.Core.Path.{◌≡◌, refl, sym, ap, subst, ◌∙◌}
 use mathlib.Core.List.{List, [], ◌∷◌, ◌++◌, map, flat_map, flatten}
@@ -11,6 +11,7 @@ use borrow.Author.Tests.{le-ltb, lt-ltb, ltb-true, ltb-false}
 use lib.Dec.{ltb}
 use lib.ListN.{length, take, drop, length-append, length-map}
 use lib.Seq.{take-append_seam}
+use Rattle.std.proofs.lemmas.List.{append-nil}
 use Rattle.answers.specs.declared.Refusal.{Refusal}
 use Rattle.answers.specs.declared.Refusal.TheVariants.{NoRoom}
 use Rattle.lifetimes.specs.declared.env.LifetimeEnv.{LifetimeEnv}
@@ -46,7 +47,7 @@ use Rattle.listing.specs.Listing.{count_heading, lowered_heading, longer_heading
 use Rattle.listing.specs.Listing.{edge_lines, most_edges}
 use Rattle.text.specs.Printing.{Prints}
 use Rattle.text.proofs.PrintLaws.{prints_length}
-use Rattle.listing.specs.InnerSections.{list_lines, cut_from, Ascend}
+use Rattle.listing.specs.InnerSections.{list_lines, cut_from, Ascend, edges_of_words}
 use Rattle.listing.specs.InnerListing.{ListsWithin, method_borrows, method_listing, listed_method, Listable}
 use Rattle.listing.specs.InnerListing.{sections, edges_overflow, lists_room, edges_room}
 use Rattle.listing.proofs.ListingLaws.{cut_lists, ends_ascend, numbered_map}
@@ -153,18 +154,31 @@ module _ {env : LifetimeEnv} {used : ℕ} {structs params own given taken : List
     unfolding list_ends
     ends_are = ended ∙ ap (λ (o : Outcome (List ℕ)). written o ends) (due_given (ends_from 0 (all_lists true env)) lists_none)
 
-    pub lists_ascend : Ascend 0 (length lists₁) ends₁ env.count
+    -- the ends, as the part of the scratch that is handed on
+    abbrev ends₂ : List ℕ
+    ends₂ = take (env.count - 0) (drop 0 ends₁)
+
+    ends_many : length (ends_from 0 (all_lists true env)) ≡ env.count
+    ends_many = length_ends 0 (all_lists true env) ∙ lists_many
+
+    ends₂_are : ends₂ ≡ ends_from 0 (all_lists true env)
+    ends₂_are =
+        rw (sub-zero, ends_are)
+        (subst (λ (n : ℕ). take n (ends_from 0 (all_lists true env) ++ past) ≡ ends_from 0 (all_lists true env)) ends_many
+        (take-append_seam (ends_from 0 (all_lists true env)) past))
+
+    pub ends_inside : env.count ≤ length ends₁
+    ends_inside = rw (ends_are, length-append) (omega (arith, ends_many))
+
+    pub lists_ascend : Ascend 0 (length lists₁) ends₂
     lists_ascend =
         let k : 0 + length (flatten (all_lists true env)) ≤ length lists₁ = rw (lists_are, length-append) (omega arith) in
-        subst (λ (n : ℕ). Ascend 0 (length lists₁) ends₁ n) lists_many
-        (rw ends_are (ends_ascend 0 (length lists₁) (all_lists true env) past k))
+        rw ends₂_are (ends_ascend 0 (length lists₁) (all_lists true env) k)
 
-    lists_cut : cut_from 0 lists₁ ends₁ env.count ≡ all_lists true env
-    lists_cut =
-        subst (λ (n : ℕ). cut_from 0 lists₁ ends₁ n ≡ all_lists true env) lists_many
-        (rw (lists_are, ends_are) (cut_lists [] (all_lists true env) behind past))
+    lists_cut : cut_from 0 lists₁ ends₂ ≡ all_lists true env
+    lists_cut = rw (ends₂_are, lists_are) (cut_lists [] (all_lists true env) behind)
 
-    longer_are : longer_heading ++ list_lines 0 (cut_from 0 lists₁ ends₁ env.count) ≡ longer_lines env
+    longer_are : longer_heading ++ list_lines 0 (cut_from 0 lists₁ ends₂) ≡ longer_lines env
     unfolding all_lists
     longer_are =
         rw lists_cut
@@ -279,7 +293,7 @@ module _ {env : LifetimeEnv} {used : ℕ} {structs params own given taken : List
           pub params_inside : b.params ≤ length answers₁
           params_inside = rw (map_is, answers_stand, length-append) (omega arith)
 
-          pub edges_inside : width * b.edges ≤ length edges₁
+          pub edges_inside : b.edges * width ≤ length edges₁
           edges_inside = rw (map_is, edges_stand, length-append, words_many borrows.edges) (omega arith)
 
           -- ---- the whole
@@ -293,14 +307,31 @@ module _ {env : LifetimeEnv} {used : ℕ} {structs params own given taken : List
           answers₂_are : answers₂ ≡ borrows.answers
           answers₂_are = rw (sub-zero, map_is, answers_stand) (take-append_seam borrows.answers _)
 
-          edges₂_are : edges_in b.edges edges₁ ≡ borrows.edges
-          edges₂_are = rw (map_is, edges_stand) (words_read borrows.edges _)
+          abbrev edges₂ : List ℕ
+          edges₂ = take (b.edges * width - 0) (drop 0 edges₁)
+
+          edges₂_words : edges₂ ≡ flat_map edge_words borrows.edges
+          edges₂_words =
+              let many : length (flat_map edge_words borrows.edges) ≡ length borrows.edges * width =
+              words_many borrows.edges ∙ omega arith in
+              rw (sub-zero, map_is, edges_stand)
+              (subst (λ (n : ℕ). take n (flat_map edge_words borrows.edges ++ drop (length (flat_map edge_words borrows.edges)) edges)
+              ≡ flat_map edge_words borrows.edges) many
+              (take-append_seam (flat_map edge_words borrows.edges) _))
+
+          edges₂_are : edges_of_words edges₂ ≡ borrows.edges
+          edges₂_are =
+              let many : length (flat_map edge_words borrows.edges) / width ≡ length borrows.edges =
+              omega (arith, words_many borrows.edges) in
+              rw (edges₂_words, many)
+              (ap (edges_in (length borrows.edges)) (sym (append-nil (flat_map edge_words borrows.edges)))
+              ∙ words_read borrows.edges [])
 
           few_edges : length borrows.edges ≤ most_edges
           few_edges = omega (arith, edges_fit, most)
 
           module _ {many : ℕ} (counted : many ≡ sets.cardinality used) where
-            sections_are : sections (counts many) own given taken lists₁ ends₁ answers₂ edges₁
+            sections_are : sections (counts many) own given taken lists₁ ends₂ answers₂ edges₂
                 ≡ method_listing env used structs params own given taken
             unfolding sections method_listing sets.cardinality visitor_from
             sections_are =
@@ -308,11 +339,11 @@ module _ {env : LifetimeEnv} {used : ℕ} {structs params own given taken : List
                 (ap (λ (ns : List ℕ). count_heading ++ line ns) (rw (counted, map_is)))
                 longer_are (ap answer_lines answers₂_are) (ap edge_lines edges₂_are)
 
-            sections_small : 0 + length (sections (counts many) own given taken lists₁ ends₁ answers₂ edges₁) < 2 ^ 64
+            sections_small : 0 + length (sections (counts many) own given taken lists₁ ends₂ answers₂ edges₂) < 2 ^ 64
             sections_small = rw sections_are (omega (arith, can.short few_edges))
 
             pub method_listed : {n : ℕ} {out out₁ : List ℕ}
-                → Prints (sections (counts many) own given taken lists₁ ends₁ answers₂ edges₁) 0 out n out₁
+                → Prints (sections (counts many) own given taken lists₁ ends₂ answers₂ edges₂) 0 out n out₁
                 → ListsWithin listing ((lists_room ≤ length lists) × (edges_room ≤ length edges)) out (Ok (Some n)) out₁
             unfolding listed_method
             method_listed p = (

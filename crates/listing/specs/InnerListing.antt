@@ -1,5 +1,5 @@
 -- For private functions only: a listing made in lent scratch. No public contract cites this file.
-use Rattle.std.specs.Prelude.{ℕ, ◌*◌, ◌≤◌, ◌<◌, true, cond, ◌≡◌, List, [], ◌∷◌, ◌++◌, ltb, length, get_or, Ok, Err, Some, None, Option}
+use Rattle.std.specs.Prelude.{ℕ, ◌*◌, ◌≤◌, ◌<◌, true, cond, ◌≡◌, List, [], ◌∷◌, ◌++◌, ltb, length, Ok, Err, Some, None, Option}
 use Rattle.std.proofs.lemmas.List.Edits.{sets}
 use Rattle.answers.specs.declared.Refusal.TheVariants.{NoRoom}
 use Rattle.lifetimes.specs.declared.env.LifetimeEnv.{LifetimeEnv}
@@ -11,7 +11,7 @@ use Rattle.records.specs.Reading.{most_words}
 use Rattle.sheet.specs.Text.{Records, record_count}
 use Rattle.text.specs.Decimal.{line}
 use Rattle.sheet.specs.Reading.{sheet_of}
-use Rattle.borrowing_param.specs.Edges.{width, edges_in}
+use Rattle.borrowing_param.specs.Edges.{width}
 use Rattle.borrowing_param.specs.New.{new_visitor}
 use Rattle.borrowing_param.specs.SheetMethod.{lowering_checks}
 use Rattle.borrowing_param.specs.Borrows.{Borrows, borrows_by}
@@ -20,7 +20,7 @@ use Rattle.listing.specs.declared.within.Scratch.{Scratch}
 use Rattle.listing.specs.Listing.{count_heading, count_lines, lowered_heading, longer_heading, longer_lines}
 use Rattle.listing.specs.Listing.{answer_lines, edge_lines, most_edges, edges_check, listing_of, listing_checks}
 use Rattle.listing.specs.Listing.{room_bytes}
-use Rattle.listing.specs.InnerSections.{list_lines, cut_from}
+use Rattle.listing.specs.InnerSections.{list_lines, cut_from, edges_of_words}
 
 -- what is listed, or why not
 abbrev pub listed_sheet : List ℕ → Outcome (List ℕ)
@@ -104,9 +104,9 @@ unfoldable pub sections : List ℕ → List ℕ → List ℕ → List ℕ → Li
 sections counts own given taken lists ends answers edges =
     (count_heading ++ line counts)
     ++ ((lowered_heading ++ (line own ++ (line given ++ line taken)))
-    ++ ((longer_heading ++ list_lines 0 (cut_from 0 lists ends (get_or counts 0 0)))
+    ++ ((longer_heading ++ list_lines 0 (cut_from 0 lists ends))
     ++ (answer_lines answers
-    ++ edge_lines (edges_in (get_or counts 3 0) edges))))
+    ++ edge_lines (edges_of_words edges))))
 
 -- the edges do not fit so many words
 abbrev pub edges_overflow : ℕ → Outcome (Option ℕ)

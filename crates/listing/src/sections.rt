@@ -1,14 +1,13 @@
 // The sections of a listing, each its heading and its lines.
-ghost use Rattle.std.specs.Prelude.{◌*◌, ◌≤◌, length};
+ghost use Rattle.std.specs.Prelude.{length};
 ghost use mathlib.Core.List.{◌++◌, flat_map};
 ghost use Rattle.answers.specs.Lent.{held, left};
 ghost use Rattle.text.specs.Decimal.{line};
 ghost use Rattle.text.specs.Printing.{Prints};
-ghost use Rattle.borrowing_param.specs.Edges.{width, edges_in};
 ghost use Rattle.listing.specs.Listing.{lowered_heading, longer_heading};
 ghost use Rattle.listing.specs.Listing.{answer_lines_from, answer_lines};
 ghost use Rattle.listing.specs.Listing.{edge_line, edge_lines};
-ghost use Rattle.listing.specs.InnerSections.{list_lines, cut_from, Ascend};
+ghost use Rattle.listing.specs.InnerSections.{list_lines, cut_from, Ascend, edges_of_words};
 
 use borrowing_param::BorrowingParamVisitor;
 use text::{put_following, put_line, put_number, put_text};
@@ -39,33 +38,25 @@ pub(crate) fn put_lowered(
 }
 
 // Each lifetime and its list: the lists stand one after another in a slice, and another says where each ends.
-pub(crate) fn put_longer(
-    out: &mut [u8],
-    at: usize,
-    words: &[usize],
-    ends: &[usize],
-    count: usize,
-) -> usize
-    requires { Ascend 0 (length words.now) ends.now count }
-    ensures { Prints (longer_heading ++ list_lines 0 (cut_from 0 words.now ends.now count)) at (held out) result
-        (left out) }
+pub(crate) fn put_longer(out: &mut [u8], at: usize, words: &[usize], ends: &[usize]) -> usize
+    requires { Ascend 0 (length words.now) ends.now }
+    ensures { Prints (longer_heading ++ list_lines 0 (cut_from 0 words.now ends.now)) at (held out) result (left out) }
 {
     let next = put_text(out, at, b"lifetime longer\n");
-    put_numbered(out, next, words, ends, count)
+    put_numbered(out, next, words, ends)
 }
 
 // The lines of numbered lists.
-fn put_numbered(out: &mut [u8], at: usize, words: &[usize], ends: &[usize], count: usize) -> usize
-    requires { Ascend 0 (length words.now) ends.now count }
-    ensures { Prints (list_lines 0 (cut_from 0 words.now ends.now count)) at (held out) result (left out) }
+fn put_numbered(out: &mut [u8], at: usize, words: &[usize], ends: &[usize]) -> usize
+    requires { Ascend 0 (length words.now) ends.now }
+    ensures { Prints (list_lines 0 (cut_from 0 words.now ends.now)) at (held out) result (left out) }
 {
     let mut next = at;
     let mut from = 0;
-    for i in 0..count {
-        let to = ends[i];
-        let start = put_number(out, next, i);
-        next = put_following(out, start, &words[from..to]);
-        from = to;
+    for (number, to) in ends.iter().enumerate() {
+        let start = put_number(out, next, number);
+        next = put_following(out, start, &words[from..*to]);
+        from = *to;
     }
     next
 }
@@ -89,22 +80,18 @@ fn put_each_answer(out: &mut [u8], at: usize, answers: &[usize]) -> usize
 }
 
 // Each edge, by the values that stand for it.
-pub(crate) fn put_edges(out: &mut [u8], at: usize, edges: &[usize], count: usize) -> usize
-    requires { width * count ≤ length edges.now }
-    ensures { Prints (edge_lines (edges_in count edges.now)) at (held out) result (left out) }
+pub(crate) fn put_edges(out: &mut [u8], at: usize, edges: &[usize]) -> usize
+    ensures { Prints (edge_lines (edges_of_words edges.now)) at (held out) result (left out) }
 {
     let next = put_text(out, at, b"used param kind def option\n");
-    put_each_edge(out, next, edges, count)
+    put_each_edge(out, next, edges)
 }
 
-fn put_each_edge(out: &mut [u8], at: usize, edges: &[usize], count: usize) -> usize
-    requires { width * count ≤ length edges.now }
-    ensures { Prints (flat_map edge_line (edges_in count edges.now)) at (held out) result (left out) }
+fn put_each_edge(out: &mut [u8], at: usize, edges: &[usize]) -> usize
+    ensures { Prints (flat_map edge_line (edges_of_words edges.now)) at (held out) result (left out) }
 {
     let mut next = at;
-    for edge in edges[..count * BorrowingParamVisitor::EDGE_WORDS].chunks_exact(
-        BorrowingParamVisitor::EDGE_WORDS,
-    ) {
+    for edge in edges.chunks_exact(BorrowingParamVisitor::EDGE_WORDS) {
         next = put_line(out, next, edge);
     }
     next

@@ -180,9 +180,9 @@ fn list_method(
         given,
         taken,
         lists,
-        &ends,
+        &ends[0..count],
         &answers[0..map.params],
-        edges,
+        &edges[0..map.edges * BorrowingParamVisitor::EDGE_WORDS],
     );
     Ok(Some(length))
 }

@@ -1,6 +1,7 @@
 -- `put_each_edge` meets its contract: each turn prints one edge.
-use mathlib.Core.Path.{◌≡◌, ap, ◌∙◌}
-use mathlib.Core.List.{List}
+use Prim.Native.Nat.{◌<◌, ◌^◌}
+use mathlib.Core.Path.{refl, ◌∙◌}
+use lib.ListN.{length}
 use native.Mathlib.Omega.{arith}
 use borrow.Author.Rules.{rules}
 use Rattle.listing.proofs.SectionsLaws.{edging_start, edging_end, edging_more}
@@ -9,14 +10,10 @@ use Rattle.listing.proofs.sections.put_each_edge.Goals as goal
 
 pub loop-edge-init : goal.loop-edge-init
 loop-edge-init c =
-    rw (
-      c.into_iter-edge-iterator.ensures.into_iter_gives,
-      c.chunks_exact-edge-items.ensures.rest,
-      c.chunks_exact-edge-items.ensures.size,
-    ) (
-      edging_start c.args.edges.now c.args.count c.args.at c.args.out.now c.requires (search rules) (omega (arith, c.ranges.at)),
-      search rules,
-    )
+    let small : length c.args.out.now < 2 ^ 64 = search rules in
+    rw (c.into_iter-edge-iterator.ensures.into_iter_gives, c.chunks_exact-edge-items.ensures.rest,
+    c.chunks_exact-edge-items.ensures.size)
+    (edging_start c.args.edges.now c.args.at c.args.out.now small (omega (arith, c.ranges.at)), refl)
 
 pub loop-edge-preserved : goal.loop-edge-preserved
 loop-edge-preserved c =

@@ -5,5 +5,5 @@ use Rattle.listing.proofs.SectionsLaws.{Edging}
 use Rattle.listing.proofs.sections.put_each_edge.Given as goal
 
 abbrev pub invariant-loop-edge : goal.invariant-loop-edge
-invariant-loop-edge l = Edging l.edges l.count l.at l.initial.out l.next l.out l.edge-iterator.rest.now
+invariant-loop-edge l = Edging l.edges l.at l.initial.out l.next l.out l.edge-iterator.rest.now
     × (l.edge-iterator.size ≡ width)

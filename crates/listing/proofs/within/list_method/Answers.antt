@@ -5,7 +5,7 @@ use native.Mathlib.Omega.{arith}
 use lib.ListN.{replicate}
 use Rattle.listing.proofs.RoomLaws.{lifetimes_few}
 use Rattle.listing.proofs.WithinMethodLaws.{AllListed, Mapped, lists_short, map_refused, params_inside}
-use Rattle.listing.proofs.WithinMethodLaws.{lists_ascend, edges_inside, method_listed}
+use Rattle.listing.proofs.WithinMethodLaws.{ends_inside, lists_ascend, edges_inside, method_listed}
 use Rattle.listing.proofs.within.list_method.Goals as goal
 use Rattle.listing.proofs.within.list_method.Goals.{After-borrow_map}
 
@@ -44,18 +44,27 @@ returns-in_default c =
     _ c.args.out.now c.in_default.is c.too_many.ensures
 
 pub slice_bounds-put_listing-end : goal.slice_bounds-put_listing-end
-slice_bounds-put_listing-end c =
-    let at = (goal.at.slice_bounds-put_listing-end c).After-borrow_map in
+slice_bounds-put_listing-end c = ends_inside c.requires.0 (all_listed (goal.at.slice_bounds-put_listing-end c).After-borrow_map)
+
+pub slice_bounds-put_listing-end-2 : goal.slice_bounds-put_listing-end-2
+slice_bounds-put_listing-end-2 c =
+    let at = (goal.at.slice_bounds-put_listing-end-2 c).After-borrow_map in
     params_inside c.requires.0 (all_listed at) c.from_sets-visitor.ensures.answer (mapped at) c.in-Ok.is
+
+pub overflow_mul-map : goal.overflow_mul-map
+overflow_mul-map c =
+    let at = (goal.at.overflow_mul-map c).After-borrow_map in
+    let h = edges_inside c.requires.0 (all_listed at) c.from_sets-visitor.ensures.answer (mapped at) c.in-Ok.is in
+    omega (arith, h, c.requires.1, c.borrow_map.auto.edges)
+
+pub slice_bounds-put_listing-end-3 : goal.slice_bounds-put_listing-end-3
+slice_bounds-put_listing-end-3 c =
+    let at = (goal.at.slice_bounds-put_listing-end-3 c).After-borrow_map in
+    edges_inside c.requires.0 (all_listed at) c.from_sets-visitor.ensures.answer (mapped at) c.in-Ok.is
 
 pub put_listing-length-requires : goal.put_listing-length-requires
 put_listing-length-requires c =
-    let at = (goal.at.put_listing-length-requires c).After-borrow_map in
-    record {
-      counts_len = refl;
-      ascend = lists_ascend c.requires.0 (all_listed at);
-      counts_in_bounds = edges_inside c.requires.0 (all_listed at) c.from_sets-visitor.ensures.answer (mapped at) c.in-Ok.is;
-    }
+    lists_ascend c.requires.0 (all_listed (goal.at.put_listing-length-requires c).After-borrow_map)
 
 pub returns : goal.returns
 returns c =
