@@ -11,8 +11,8 @@ pub(crate) fn check(rt: &impl Print, questions: &mut Questions<'_>) {
     print::verdict(rt, bounds.check(lifetimes));
 }
 
-// Bounds of which so many count as pushed, whatever their number is; their places hold the pairs of a record, longer and
-// shorter, and 0 0 behind them.
+// Bounds of which so many count as pushed, whatever their number is; their places hold the pairs of a record, longer
+// and shorter, and 0 0 behind them.
 pub(crate) fn made_by_hand(questions: &mut Questions<'_>) -> Bounds {
     let pushed = questions.number();
     let pairs = questions.record();

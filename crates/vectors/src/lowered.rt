@@ -33,8 +33,8 @@ pub(crate) fn made_by_hand<'a>(questions: &mut Questions<'a>) -> Method<'a> {
     }
 }
 
-// Kind 10: a method made by hand. `check_method`: the refusal's number or 0. Then `used_method_lifetimes`: the refusal's
-// number; or 0 and the set, ascending.
+// Kind 10: a method made by hand. `check_method`: the refusal's number or 0. Then `used_method_lifetimes`: the
+// refusal's number; or 0 and the set, ascending.
 pub(crate) fn used_method_lifetimes(rt: &impl Print, questions: &mut Questions<'_>) {
     let m = made_by_hand(questions);
     let verdict = methods::check_method(m.env, m.structs, m.params, m.output, m.force);

@@ -6,8 +6,8 @@
 // record in it is the number of its words, then they. Each answer is a line of numbers on standard output. The files
 // stdin and stdout beside src/ are made by tests/vectors.py.
 //
-// To add a kind: a function in the module of its crate that takes the question off the front and prints one line; a line
-// in `answer` below; question and answer in tests/model/questions.py; cases in tests/vectors.py.
+// To add a kind: a function in the module of its crate that takes the question off the front and prints one line; a
+// line in `answer` below; question and answer in tests/model/questions.py; cases in tests/vectors.py.
 #![tactic(auto)]
 
 mod ast;
@@ -31,8 +31,8 @@ mod writes;
 use input::{read_input, room};
 use questions::Questions;
 
-// Print the answer to the first question, whose kind is read. Behind a kind that is not known all is taken off, so that the answers stop.
-// The kinds are numbers and no enum: their names would stand twice, there and here.
+// Print the answer to the first question, whose kind is read. Behind a kind that is not known all is taken off, so that
+// the answers stop. The kinds are numbers and no enum: their names would stand twice, there and here.
 fn answer(rt: &impl Print, kind: usize, questions: &mut Questions<'_>) {
     match kind {
         1 => ast::from_method_item(rt, questions),

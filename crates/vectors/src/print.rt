@@ -1,5 +1,5 @@
-// Writing: a line of numbers, one blank between. The program `readings` has the same few lines and not the crate `input`:
-// what goes to a handle is nothing that a contract could say, and a public function has one.
+// Writing: a line of numbers, one blank between. The program `readings` has the same few lines and not the crate
+// `input`: what goes to a handle is nothing that a contract could say, and a public function has one.
 use answers::Refusal;
 
 // The first number of a line.

@@ -1,4 +1,4 @@
-// What is left of the questions, whose numbers and records are taken off the front. Where numbers are missing they are 0.
+// What is left of the questions, whose numbers and records are taken off the front. A number that is missing is 0.
 #[derive(Clone, Copy)]
 pub(crate) struct Questions<'a> {
     pub(crate) left: &'a [usize],

@@ -1,5 +1,5 @@
-// Room for what a call writes. A slice that is lent is a part of an array, as long as the question says. Every word is 99
-// before and every byte a dot, so that each one that is written shows.
+// Room for what a call writes. A slice that is lent is a part of an array, as long as the question says. Every word is
+// 99 before and every byte a dot, so that each one that is written shows.
 ghost use Rattle.std.specs.Prelude.{◌≡◌, length};
 
 use input::room;

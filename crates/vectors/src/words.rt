@@ -25,8 +25,8 @@ pub(crate) fn list(rt: &impl Print, questions: &mut Questions<'_>) {
     print::end(rt);
 }
 
-// Kind 20: 0 for static, else the lifetime with the number behind it. Its lowered word as a lifetime of a method, and as
-// one of a definition: 0 and the word, or 1 and 0 where it has none.
+// Kind 20: 0 for static, else the lifetime with the number behind it. Its lowered word as a lifetime of a method, and
+// as one of a definition: 0 and the word, or 1 and 0 where it has none.
 pub(crate) fn word(rt: &impl Print, questions: &mut Questions<'_>) {
     let code = questions.number();
     let number = questions.number();
