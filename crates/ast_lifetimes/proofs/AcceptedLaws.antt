@@ -1,24 +1,21 @@
 -- What `from_method_item` gives is an environment on which nothing is due: the names are at most 32, the bounds at most
 -- 256, each between names.
-use Rattle.std.specs.Prelude.{Ok}
 use Prim.Native.Nat.{ℕ, suc, ◌+◌, ◌≤◌}
 use mathlib.Core.Bool.{true, not}
-use mathlib.Core.Path.{◌≡◌, sym, ◌∙◌, ap}
+use mathlib.Core.Path.{◌≡◌, refl, ap}
 use mathlib.Core.List.{List, [], ◌∷◌, ◌++◌}
 use native.Mathlib.Omega.{arith}
-use borrow.Author.Tests.{leb-false, le-ltb}
+use borrow.Author.Tests.{leb-false, le-ltb, not-false}
 use lib.ListN.{length, length-append, length-map}
 use lib.Seq.{take-append_seam}
+use Rattle.answers.specs.Lists.{all}
 use Rattle.answers.specs.Refusals.{NoneDue, next, end}
 use Rattle.lifetimes.specs.Bounds.{all_below, bounds_from}
-use Rattle.answers.proofs.RefusalLaws.{accepted_none, none_first, none_rest, none_split}
-use Rattle.ast_lifetimes.specs.declared.env.Counts.{Counts}
-use Rattle.ast_lifetimes.specs.Inner.{sides_of, Built}
+use Rattle.answers.proofs.RefusalLaws.{none_first, none_rest, none_split}
 use Rattle.ast_lifetimes.specs.Shapes.{impl_names, method_names, Pair, impl_pairs, method_pairs}
-use Rattle.ast_lifetimes.specs.Env.{name_checks, all_pair_checks, names_of, bounds_of, named_env, env_checks, all_names_of}
+use Rattle.ast_lifetimes.specs.Env.{is_declared, name_checks, all_pair_checks, bounds_for, names_of, bounds_of, named_env, env_checks, all_names_of}
 use Rattle.ast_lifetimes.specs.Env.{implied_pairs, item_place_checks, method_bounds}
 use Rattle.lifetimes.proofs.BoundsLaws.{below_larger, below_append, bounds_made}
-use Rattle.ast_lifetimes.proofs.BuildLaws.{pairs_below}
 
 names_few : (before names : List ℕ) → NoneDue (name_checks before names) → length before ≤ 32 → length before + length names ≤ 32
 unfolding name_checks
@@ -37,6 +34,15 @@ pairs_few names pushed (p ∷ ps) n h =
     let k = leb-false 256 pushed (none_first (none_rest (none_rest n))) in
     let m = pairs_few names (suc pushed) ps (none_rest (none_rest (none_rest n))) (omega (arith, k)) in
     omega (arith, m)
+
+-- accepted pairs are between names
+pairs_below : (names : List ℕ) (pushed : ℕ) (ps : List Pair) → NoneDue (all_pair_checks names pushed ps)
+    → all_below (length names) (bounds_for names ps) ≡ true
+unfolding all_pair_checks all
+pairs_below names pushed [] d = refl
+pairs_below names pushed (p ∷ ps) (next a (next b (next c d))) =
+    rw (not-false (is_declared names p.longer) a, not-false (is_declared names p.shorter) b)
+    (pairs_below names (suc pushed) ps d)
 
 module _ (names bounds types : List ℕ) (n : NoneDue (item_place_checks names bounds types)) where
   abbrev impls : ℕ
@@ -78,9 +84,6 @@ module _ (names bounds types : List ℕ) (n : NoneDue (item_place_checks names b
       (pairs_below (all_names_of names) impls (method_pairs bounds) parts.3))
       (pairs_below (all_names_of names) (impls + owns) (implied_pairs names bounds types) parts.4)
 
-  pub accepted_small : all_below 255 (method_bounds names bounds types) ≡ true
-  accepted_small = below_larger _ 255 (omega (arith, accepted_names)) _ accepted_below
-
   pub accepted_names_of : names_of (named_env (all_names_of names) (method_bounds names bounds types)) ≡ all_names_of names
   unfolding named_env
   accepted_names_of = take-append_seam (all_names_of names) _
@@ -97,12 +100,3 @@ module _ (names bounds types : List ℕ) (n : NoneDue (item_place_checks names b
       rw accepted_bounds_of accepted_below in
       next (le-ltb 32 (length (all_names_of names)) accepted_names)
       (next (le-ltb 256 (length (method_bounds names bounds types)) accepted_pushed) (next (ap not below) end))
-
--- the sides that `build` leaves in its arrays
-pub built_small : {names bounds types declared longs shorts : List ℕ} {r : Counts}
-    → Built names bounds types declared longs shorts r → r.verdict ≡ Ok (tt {0})
-    → all_below 255 (sides_of r.pushed longs shorts) ≡ true
-built_small {names} {bounds} {types} b e =
-    rw (b.bounded e)
-    (accepted_small names bounds types
-    (accepted_none (tt {0}) (item_place_checks names bounds types) (sym b.verdict ∙ e)))

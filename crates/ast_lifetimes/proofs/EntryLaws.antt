@@ -16,7 +16,7 @@ use Rattle.ast_lifetimes.specs.Env.{name_checks, pair_checks, all_pair_checks, b
 use Rattle.ast_lifetimes.specs.Env.{Nothing, behind_ref, path_pairs, implied, all_implied, named_env, all_names_of}
 use Rattle.ast_lifetimes.specs.Env.{explicit_bounds, method_bounds, item_place_checks, from_method_item}
 use Rattle.ast_lifetimes.specs.Entries.{Entry, Name, Bounded, paths, entries, SoFar, so_far, fold}
-use Rattle.ast_lifetimes.specs.Entries.{push_pair, step, built}
+use Rattle.ast_lifetimes.specs.Entries.{declare, push_pair, step, built}
 use Rattle.ast_lifetimes.proofs.BoundsLaws.{all_pair_checks_append}
 
 -- some checks, and then what follows if none is due
@@ -31,7 +31,7 @@ after_unless (c ∷ cs) more a b f e = go c.due (after_unless cs more a b f e)
     go true h = refl
     go false h = h
 
-fold_append : {A B : Type 0} (f : A → B → Outcome A) (a : A) (l m : List B) → fold f a (l ++ m) ≡ bind (fold f a l) (λ b. fold f b m)
+pub fold_append : {A B : Type 0} (f : A → B → Outcome A) (a : A) (l m : List B) → fold f a (l ++ m) ≡ bind (fold f a l) (λ b. fold f b m)
 unfolding fold
 fold_append f a [] m = refl
 fold_append {A = A} f a (x ∷ l) m = go (f a x) (λ b. fold_append f b l m)
@@ -56,8 +56,18 @@ fold_names names bs (x ∷ l) =
     (so_far (names ++ (x ∷ l)) bs) (λ next. fold step next (map Name l))
     (rw (append_assoc names (x ∷ []) l) at (fold_names (names ++ (x ∷ [])) bs l))
 
+pub fold_named : (s : SoFar) (l : List ℕ) → fold step s (map Name l) ≡ fold declare s l
+unfolding fold
+fold_named s [] = refl
+fold_named s (x ∷ l) = go (declare s x) (λ t. fold_named t l)
+  where
+    go : (o : Outcome SoFar) → ((t : SoFar) → fold step t (map Name l) ≡ fold declare t l)
+        → bind o (λ next. fold step next (map Name l)) ≡ bind o (λ next. fold declare next l)
+    go (Ok t) h = h t
+    go (Err r) h = refl
+
 -- a run of pairs
-fold_pairs : (names : List ℕ) (bs : List Bound) (l : List Pair)
+pub fold_pairs : (names : List ℕ) (bs : List Bound) (l : List Pair)
     → fold push_pair (so_far names bs) l ≡ unless (all_pair_checks names (length bs) l) (so_far names (bs ++ bounds_for names l))
 unfolding fold all_pair_checks unless
 fold_pairs names bs [] = rw (append-nil bs)
@@ -68,7 +78,7 @@ fold_pairs names bs (p ∷ l) =
     (λ next. fold push_pair next l)
     (rw (more, append_assoc bs (bound_of names p ∷ []) (bounds_for names l)) at (fold_pairs names (bs ++ (bound_of names p ∷ [])) l))
 
-fold_bounded : (s : SoFar) (l : List Pair) → fold step s (map Bounded l) ≡ fold push_pair s l
+pub fold_bounded : (s : SoFar) (l : List Pair) → fold step s (map Bounded l) ≡ fold push_pair s l
 unfolding fold
 fold_bounded s [] = refl
 fold_bounded s (p ∷ l) = go (push_pair s p) (λ t. fold_bounded t l)
@@ -115,7 +125,7 @@ fold_paths names b bs (Result t u) =
     (implied names Nothing (bs ++ bounds_for names (implied names Nothing bs t)) u)
     (fold_paths names Nothing bs t) (fold_paths names Nothing (bs ++ bounds_for names (implied names Nothing bs t)) u)
 
-fold_types : (names : List ℕ) (bs : List Bound) (ts : List TypeName)
+pub fold_types : (names : List ℕ) (bs : List Bound) (ts : List TypeName)
     → fold step (so_far names bs) (flat_map (paths Nothing) ts) ≡ unless (all_pair_checks names (length bs) (all_implied names bs ts))
     (so_far names (bs ++ bounds_for names (all_implied names bs ts)))
 unfolding flat_map all_implied fold all_pair_checks unless

@@ -1,50 +1,36 @@
--- The shape of three records from that of each; and the environment's checks.
+-- What the verdict on a record's shape says; and the environment's checks.
 use Rattle.std.specs.Prelude.{Ok, Err}
-use Prim.Native.Nat.{ℕ, ◌≤◌, ◌<◌}
-use mathlib.Core.Bool.{Bool, true, false, ◌&&◌}
+use Prim.Native.Nat.{◌≤◌, ◌<◌}
+use mathlib.Core.Bool.{Bool, true, false}
 use mathlib.Core.Path.{◌≡◌, refl, sym, ◌∙◌}
-use mathlib.Core.List.{List}
 use borrow.Author.Tests.{lt-ltb, le-ltb}
 use Rattle.answers.specs.declared.Refusal.{Refusal}
-use Rattle.answers.specs.declared.Refusal.TheVariants.{Full}
+use Rattle.answers.specs.declared.Refusal.TheVariants.{Malformed, Full}
 use Rattle.answers.specs.Lists.{all}
 use Rattle.answers.specs.Refusals.{unless, Verdict}
 use Rattle.answers.specs.Lent.{judged}
 use Rattle.lifetimes.specs.Bounds.{bounds_checks}
 use Rattle.ast_lifetimes.specs.declared.env.LifetimeEnv.{LifetimeEnv}
 use Rattle.records.specs.Reading.{shape_verdict}
-use Rattle.ast_lifetimes.specs.Shapes.{names_in_shape, bounds_in_shape}
-use Rattle.ast_lifetimes.specs.Types.{types_in_shape}
 use Rattle.ast_lifetimes.specs.Env.{env_checks}
 use Rattle.answers.proofs.VerdictLaws.{refused_accepted}
 
--- ---- `shape_of`
+-- ---- a record in shape, or not
 
--- a record that is refused decides; after one that is accepted the others do
-stops : (a b : Bool) {v : Verdict} {r : Refusal} → v ≡ shape_verdict a → v ≡ Err r → v ≡ shape_verdict (a && b)
-stops true b e k = refused_accepted (sym k ∙ e)
-stops false b e k = e
+module _ {t : Bool} {v : Verdict} (e : v ≡ shape_verdict t) where
+  pub in_shape : v ≡ Ok (tt {0}) → t ≡ true
+  in_shape k = go t refl
+    where
+      go : (s : Bool) → t ≡ s → t ≡ true
+      go true h = h
+      go false h = let f : v ≡ Err Malformed = e ∙ rw h in refused_accepted (sym f ∙ k)
 
-goes_on : (a b : Bool) {v : Verdict} → v ≡ shape_verdict a → v ≡ Ok (tt {0}) → shape_verdict b ≡ shape_verdict (a && b)
-goes_on true b e k = refl
-goes_on false b e k = refused_accepted (sym e ∙ k)
-
-module _ (names bounds types : List ℕ) {v : Verdict} (e : v ≡ shape_verdict (names_in_shape names)) where
-  pub shape_names : {r : Refusal} → v ≡ Err r
-      → v ≡ shape_verdict (names_in_shape names && (bounds_in_shape bounds && types_in_shape types))
-  shape_names k = stops (names_in_shape names) (bounds_in_shape bounds && types_in_shape types) e k
-
-  module _ (k : v ≡ Ok (tt {0})) {w : Verdict} (f : w ≡ shape_verdict (bounds_in_shape bounds)) where
-    pub shape_bounds : {r : Refusal} → w ≡ Err r
-        → w ≡ shape_verdict (names_in_shape names && (bounds_in_shape bounds && types_in_shape types))
-    shape_bounds l = stops (bounds_in_shape bounds) (types_in_shape types) f l
-        ∙ goes_on (names_in_shape names) (bounds_in_shape bounds && types_in_shape types) e k
-
-    pub shape_types : w ≡ Ok (tt {0}) → {x : Verdict} → x ≡ shape_verdict (types_in_shape types)
-        → x ≡ shape_verdict (names_in_shape names && (bounds_in_shape bounds && types_in_shape types))
-    shape_types l g =
-        g ∙ goes_on (bounds_in_shape bounds) (types_in_shape types) f l
-        ∙ goes_on (names_in_shape names) (bounds_in_shape bounds && types_in_shape types) e k
+  pub off_shape : {x : Refusal} → v ≡ Err x → (t ≡ false) × (x ≡ Malformed)
+  off_shape {x} k = go t refl
+    where
+      go : (s : Bool) → t ≡ s → (t ≡ false) × (x ≡ Malformed)
+      go true h = let f : v ≡ Ok (tt {0}) = e ∙ rw h in refused_accepted (sym k ∙ f)
+      go false h = (h, let f : v ≡ Err Malformed = e ∙ rw h in cc)
 
 -- ---- `check`
 

@@ -3,21 +3,22 @@
 pub mod ShapeLaws
 pub mod ReadingLaws
 pub mod TypesLaws
--- Names, pairs, what types imply:
+-- Names, pairs, entries:
 pub mod NamesLaws
 pub mod BoundsLaws
+pub mod EntryLaws
+-- An environment under way, and what types imply:
+pub mod StandsLaws
 pub mod OutlivedLaws
-pub mod ImpliedLoops
 pub mod PathLaws
+pub mod PathLoops
 pub mod ImpliedLaws
 -- The environment:
 pub mod EnvLaws
-pub mod AssembledLaws
 pub mod ThanLaws
-pub mod BuildLaws
+pub mod ItemLaws
 pub mod AcceptedLaws
 pub mod ExtendLaws
-pub mod EntryLaws
 pub mod DepthFirstLaws
 -- The main theorems:
 pub mod Theorems

@@ -1,26 +1,23 @@
 -- The sets of those that outlive each lifetime: with no bound, with one bound more (the loop of `join`), with all
--- bounds of two arrays of sides (the loop of `close`).
+-- bounds of an environment (the loop of `of`).
 use Prim.Native.Nat.{ℕ, ◌+◌, ◌≤◌, ◌<◌}
 use mathlib.Core.Bool.{Bool, true, false, cond, ◌||◌, true≢false}
 use mathlib.Core.Path.{◌≡◌, refl, sym, subst, ◌∙◌}
 use mathlib.Core.Logic.{◌⊎◌, inl, inr, ⊎_elim, ◌↔◌}
 use mathlib.Core.List.Memᴰ
-use mathlib.Core.List.{List, [], ◌∷◌, ◌++◌, map-append}
-use native.Mathlib.Nat.{zero-add}
+use mathlib.Core.List.{List, [], ◌∷◌, ◌++◌}
 use native.Mathlib.Decide.{ℕ_discrete}
 use native.Mathlib.Omega.{arith}
 use native.Mathlib.Numerals.{add-one}
-use lib.ListN.{length, get_or, set, length-set}
-use lib.Seq.{get_or-set_same, get_or-set_other}
+use lib.ListN.{length, get_or, take, set, length-set}
+use lib.Seq.{get_or-set_same, get_or-set_other, take-suc}
 use Rattle.lifetimes.specs.declared.bounds.Bound.{Bound}
-use Rattle.answers.specs.Lists.{range}
 use Rattle.lifetimes.specs.Sets.{empty, member, insert, union}
 use Rattle.lifetimes.specs.Bounds.{above}
 use Rattle.lifetimes.specs.Outlives.{Outlives, itself}
-use Rattle.answers.proofs.ListLaws.{range_snoc}
 use Rattle.lifetimes.proofs.SetLaws.{member_empty, member_insert_same, member_insert_true, member_union}
 use Rattle.lifetimes.proofs.OutlivesLaws.{least, outlives_added}
-use Rattle.ast_lifetimes.specs.Inner.{sides_of, OutliveSets, Joins}
+use Rattle.ast_lifetimes.specs.Inner.{OutliveSets}
 
 -- with no bound each outlives itself only
 alone : {x y : ℕ} → Outlives [] x y → x ≡ y
@@ -113,12 +110,9 @@ module _ {long short : ℕ} {before now : List ℕ} {x : ℕ} (inv : Joining lon
     left = λ j h. rw (get_or-set_other now x j (union (get_or now x 0) joined) 0 (λ q. omega arith)) (inv.left j (omega arith));
   }
 
-  pub joining_end : (named : ℕ) → named ≤ x → long < named → Joins named long short before now
-  joining_end named h inside =
-      record {
-        size = inv.size;
-        joins = reaches_joined named long short before now inside (λ j k. inv.done j (omega arith));
-      }
+  pub joining_end : (named : ℕ) → named ≤ x → long < named
+      → (bs : List Bound) → OutliveSets bs named before → OutliveSets (bs ++ (above long short ∷ [])) named now
+  joining_end named h inside = reaches_joined named long short before now inside (λ j k. inv.done j (omega arith))
 
 -- the loop of `each_itself`
 pub record Starting (now : List ℕ) (x : ℕ) : Type 0 where
@@ -134,17 +128,11 @@ starting_more {now} {x} inv h s e = record {
   ];
 }
 
--- one bound more of two arrays of sides
-pub sides_next : (n : ℕ) (longs shorts : List ℕ)
-    → sides_of (n + 1) longs shorts ≡ sides_of n longs shorts ++ (above (get_or longs n 0) (get_or shorts n 0) ∷ [])
-sides_next n longs shorts = rw (add-one n, range_snoc 0 n, map-append, zero-add n)
+-- the loop of `of`: the sets of the first bounds
+pub reaching_start : (named : ℕ) (bounds : List Bound) (sets : List ℕ) → OutliveSets [] named sets → OutliveSets (take 0 bounds) named sets
+reaching_start named bounds sets r = r
 
--- the loop of `close`: the sets of the first bounds
-pub closing_start : (named : ℕ) (longs shorts reach : List ℕ) → OutliveSets [] named reach → OutliveSets (sides_of 0 longs shorts) named reach
-unfolding range
-closing_start named longs shorts reach r = r
-
-pub closing_more : (i : ℕ) (longs shorts : List ℕ) {named : ℕ} {reach reach₁ : List ℕ}
-    → Joins named (get_or longs i 0) (get_or shorts i 0) reach reach₁ → OutliveSets (sides_of i longs shorts) named reach
-    → OutliveSets (sides_of (i + 1) longs shorts) named reach₁
-closing_more i longs shorts joins r = rw (sides_next i longs shorts) (joins.joins (sides_of i longs shorts) r)
+pub reaching_more : (named i : ℕ) (bounds : List Bound) (before after : List ℕ) → i < length bounds
+    → ((bs : List Bound) → OutliveSets bs named before → OutliveSets (bs ++ (get_or bounds i (above 0 0) ∷ [])) named after)
+    → OutliveSets (take i bounds) named before → OutliveSets (take (i + 1) bounds) named after
+reaching_more named i bounds before after h joins r = rw (add-one i, take-suc bounds i (above 0 0) h) (joins (take i bounds) r)

@@ -1,16 +1,16 @@
 -- What a path implies: the code's test by sets is the definition's by lists, and the loop of `push_path`.
+use Rattle.std.specs.Prelude.{Option, Some, None}
 use Prim.Native.Nat.{ℕ, suc, ◌+◌, ◌≤◌, ◌<◌}
 use mathlib.Core.Bool.{Bool, true, false, cond, ◌&&◌, not, true≢false}
 use mathlib.Core.Path.{◌≡◌, refl, sym, subst, ◌∙◌}
 use mathlib.Core.Logic.{◌↔◌}
-use mathlib.Core.List.{List, [], ◌∷◌, ◌++◌, map, Memᴰ}
+use mathlib.Core.List.{List, [], ◌∷◌, map, Memᴰ}
 use mathlib.Core.List.Memᴰ
-use native.Mathlib.Omega.{arith}
 use native.Mathlib.Numerals.{add-one}
-use borrow.Author.Tests.{eqb-true, eq-eqb, ltb-true}
+use borrow.Author.Tests.{eqb-true, eq-eqb, ltb-true, le-leb}
 use lib.Dec.{eqb}
-use lib.ListN.{length, get_or}
-use lib.Seq.{slice, slice-cons, slice_empty}
+use lib.ListN.{length, get_or, drop, drop_of_length-le}
+use lib.Seq.{drop-cons}
 use Rattle.lifetimes.specs.declared.bounds.Bound.{Bound}
 use Rattle.answers.specs.Lists.{any, filter}
 use Rattle.answers.proofs.ListLaws.{any_has}
@@ -19,8 +19,10 @@ use Rattle.lifetimes.specs.Walk.{FirstFirst, traversal}
 use Rattle.lifetimes.proofs.SetLaws.{member_empty}
 use Rattle.lifetimes.proofs.ReachLaws.{listed_toward}
 use Rattle.ast_lifetimes.specs.Shapes.{is_name, pair}
-use Rattle.ast_lifetimes.specs.Env.{place, is_declared, reach_of, among, path_pairs}
+use Rattle.ast_lifetimes.specs.Env.{place, is_declared, number_of, reach_of, among, path_pairs}
 use Rattle.ast_lifetimes.specs.Inner.{OutliveSets, outlived_by, is_implied}
+use Rattle.ast_lifetimes.proofs.ShapeLaws.{same_test}
+use Rattle.ast_lifetimes.proofs.NamesLaws.{number_some, number_none}
 
 -- a number that is equal to some entry of a list is in it
 in_list : (x : ℕ) (l : List ℕ) → (any (eqb x) l ≡ true) ↔ Memᴰ x l
@@ -28,12 +30,6 @@ in_list x l = (
   λ h. let found = (any_has (eqb x) l).0 h in subst (λ (y : ℕ). Memᴰ y l) (sym (eqb-true x _ found.2)) found.1,
   λ m. (any_has (eqb x) l).1 (x, m, eq-eqb x x refl),
 )
-
--- two tests that say the same are equal
-same_test : (p q : Bool) → (p ≡ true) ↔ (q ≡ true) → p ≡ q
-same_test true q h = sym (h.0 refl)
-same_test false true h = h.1 refl
-same_test false false h = refl
 
 module _ (names : List ℕ) (bs : List Bound) (reach : List ℕ) (reaches : OutliveSets bs (length names) reach) (r : ℕ) where
   -- the set that is taken has the members of `longer_than` the reference
@@ -59,41 +55,44 @@ module _ (names : List ℕ) (bs : List Bound) (reach : List ℕ) (reaches : Outl
   pub implied_test : (word : ℕ) → is_implied names (outlived_by names reach r) word ≡ (is_name word && not (among names bs r word))
   implied_test word = rw (taken_has (place names word))
 
--- what is left of a path's pairs
-module _ (names : List ℕ) (bs : List Bound) (r : ℕ) (words : List ℕ) (at to : ℕ) (inside : at < to) (fits : to ≤ length words) where
-  test : Bool
-  test = is_name (get_or words at 0) && not (among names bs r (get_or words at 0))
+-- the answers of `is_implied`
+module _ (names : List ℕ) (taken word : ℕ) {r : Option ℕ} (e : r ≡ number_of names word) (name : 2 ≤ word) where
+  pub implied_known : {at : ℕ} → r ≡ Some at → not (member taken at) ≡ is_implied names taken word
+  implied_known h = let k = number_some names word (sym e ∙ h) in rw (le-leb 2 word name, k.0, k.1)
 
-  path_next : path_pairs names bs r (slice at to words)
-      ≡ cond test (pair (get_or words at 0) r ∷ path_pairs names bs r (slice (at + 1) to words))
-      (path_pairs names bs r (slice (at + 1) to words))
-  unfolding filter test
+  pub implied_unknown : r ≡ None → true ≡ is_implied names taken word
+  implied_unknown h = rw (le-leb 2 word name, number_none names word (sym e ∙ h))
+
+-- the answers of `outlived`
+module _ (names sets : List ℕ) (word : ℕ) {r : Option ℕ} (e : r ≡ number_of names word) where
+  pub outlived_known : {at : ℕ} → r ≡ Some at → get_or sets at 0 ≡ outlived_by names sets word
+  outlived_known h = let k = number_some names word (sym e ∙ h) in rw (k.0, k.1)
+
+  pub outlived_unknown : r ≡ None → empty ≡ outlived_by names sets word
+  outlived_unknown h = rw (number_none names word (sym e ∙ h))
+
+-- what is left of a path's pairs
+module _ (names : List ℕ) (bs : List Bound) (r : ℕ) (lifetimes : List ℕ) (i : ℕ) (inside : i < length lifetimes) where
+  pub path_next : path_pairs names bs r (drop i lifetimes)
+      ≡ cond (is_name (get_or lifetimes i 0) && not (among names bs r (get_or lifetimes i 0)))
+      (pair (get_or lifetimes i 0) r ∷ path_pairs names bs r (drop (i + 1) lifetimes))
+      (path_pairs names bs r (drop (i + 1) lifetimes))
+  unfolding filter
   path_next =
-      rw (slice-cons at to words 0 inside fits, add-one at)
-      (go (is_name (get_or words at 0) && not (among names bs r (get_or words at 0))))
+      rw (drop-cons lifetimes i 0 inside, add-one i)
+      (go (is_name (get_or lifetimes i 0) && not (among names bs r (get_or lifetimes i 0))))
     where
       go : (t : Bool)
           → map (λ word. pair word r)
           (cond t
-          (get_or words at 0 ∷ filter (λ word. is_name word && not (among names bs r word)) (slice (suc at) to words))
-          (filter (λ word. is_name word && not (among names bs r word)) (slice (suc at) to words)))
-          ≡ cond t (pair (get_or words at 0) r ∷ path_pairs names bs r (slice (suc at) to words))
-          (path_pairs names bs r (slice (suc at) to words))
+          (get_or lifetimes i 0 ∷ filter (λ word. is_name word && not (among names bs r word)) (drop (suc i) lifetimes))
+          (filter (λ word. is_name word && not (among names bs r word)) (drop (suc i) lifetimes)))
+          ≡ cond t (pair (get_or lifetimes i 0) r ∷ path_pairs names bs r (drop (suc i) lifetimes))
+          (path_pairs names bs r (drop (suc i) lifetimes))
       go true = refl
       go false = refl
 
-  pub path_pushed : (is_name (get_or words at 0) && not (among names bs r (get_or words at 0))) ≡ true
-      → path_pairs names bs r (slice at to words) ≡ (pair (get_or words at 0) r ∷ []) ++ path_pairs names bs r
-      (slice (at + 1) to words)
-  unfolding test
-  path_pushed t = path_next ∙ rw t
-
-  pub path_passed : (is_name (get_or words at 0) && not (among names bs r (get_or words at 0))) ≡ false
-      → path_pairs names bs r (slice at to words) ≡ path_pairs names bs r (slice (at + 1) to words)
-  unfolding test
-  path_passed t = path_next ∙ rw t
-
-pub path_end : (names : List ℕ) (bs : List Bound) (r : ℕ) (words : List ℕ) (at to : ℕ) → at ≤ to
-    → to ≤ at → path_pairs names bs r (slice at to words) ≡ []
+pub path_end : (names : List ℕ) (bs : List Bound) (r : ℕ) (lifetimes : List ℕ) (i : ℕ) → length lifetimes ≤ i
+    → path_pairs names bs r (drop i lifetimes) ≡ []
 unfolding filter
-path_end names bs r words at to a b = let e : at ≡ to = omega arith in rw (e, slice_empty to words)
+path_end names bs r lifetimes i h = rw (drop_of_length-le lifetimes {i = i} h)

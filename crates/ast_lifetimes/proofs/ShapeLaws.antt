@@ -1,16 +1,17 @@
--- The shape of the records `names` and `bounds`, test by test, and the loop of `all_names`: the words that were read
--- are names, so what is left decides.
-use Rattle.std.specs.Prelude.{Ok, Err}
-use Prim.Native.Nat.{ℕ, ◌+◌, ◌-◌, ◌/◌, ◌%◌, ◌≤◌, ◌<◌}
-use mathlib.Core.Bool.{Bool, true, false}
-use mathlib.Core.Path.{◌≡◌, refl, ◌∙◌}
+-- The shape of the records `names` and `bounds`, test by test, and what the test of all
+-- names says.
+use Rattle.std.specs.Prelude.{Ok, Err, IsTrue, EachIndex}
+use Prim.Native.Nat.{ℕ, zero, suc, ◌-◌, ◌/◌, ◌%◌, ◌≤◌, ◌<◌}
+use mathlib.Core.Bool.{Bool, true, false, and-eq-true_iff}
+use mathlib.Core.Path.{◌≡◌, refl, sym}
+use mathlib.Core.Logic.{◌↔◌}
 use mathlib.Core.List.{List, [], ◌∷◌}
-use native.Mathlib.Numerals.{add-one}
 use native.Mathlib.Omega.{arith}
-use borrow.Author.Tests.{le-leb, lt-leb, eq-eqb, ne_eqb}
+use borrow.Author.Tests.{le-leb, lt-leb, leb-true, eq-eqb, ne_eqb}
 use lib.Dec.{eqb, leb}
-use lib.ListN.{length, get_or, drop, drop_of_length-le}
-use lib.Seq.{drop-cons}
+use lib.ListN.{length, get_or}
+use Rattle.std.specs.List.{between}
+use Rattle.std.proofs.lemmas.Slice.{between_to_end}
 use Rattle.answers.specs.declared.Refusal.TheVariants.{Malformed}
 use Rattle.records.specs.Reading.{shape_verdict}
 use Rattle.answers.specs.Lists.{all}
@@ -18,26 +19,26 @@ use Rattle.ast_lifetimes.specs.Shapes.{is_name, names_in_shape, bounds_in_shape}
 
 -- ---- `all_names`
 
--- what is left decides
-pub record Naming (words : List ℕ) (i : ℕ) : Type 0 where
-  pub left : all is_name (drop 1 words) ≡ all is_name (drop i words)
+-- two tests that say the same are equal
+pub same_test : (p q : Bool) → (p ≡ true) ↔ (q ≡ true) → p ≡ q
+same_test true q h = sym (h.0 refl)
+same_test false true h = h.1 refl
+same_test false false h = refl
 
-pub naming_start : (words : List ℕ) → Naming words 1
-naming_start words = record { left = refl }
+names_each : (words : List ℕ) → all is_name words ≡ true → EachIndex words (λ i. 2 ≤ get_or words i 0)
+unfolding all
+names_each [] e i h = absurd (omega arith)
+names_each (w ∷ words) e zero h = leb-true 2 w ((and-eq-true_iff (is_name w) (all is_name words)).0 e).0
+names_each (w ∷ words) e (suc i) h = names_each words ((and-eq-true_iff (is_name w) (all is_name words)).0 e).1 i (omega arith)
 
-module _ {words : List ℕ} {i : ℕ} (inv : Naming words i) where
-  pub naming_end : length words ≤ i → true ≡ all is_name (drop 1 words)
-  unfolding all
-  naming_end h = rw (inv.left, drop_of_length-le words {i = i} h)
+each_name : (words : List ℕ) → EachIndex words (λ i. 2 ≤ get_or words i 0) → all is_name words ≡ true
+unfolding all
+each_name [] e = refl
+each_name (w ∷ words) e = rw (le-leb 2 w (e 0 (omega arith))) (each_name words (λ i h. e (suc i) (omega arith)))
 
-  module _ (h : i < length words) where
-    pub naming_refused : get_or words i 0 < 2 → false ≡ all is_name (drop 1 words)
-    unfolding all
-    naming_refused k = rw (inv.left, drop-cons words i 0 h, lt-leb 2 (get_or words i 0) k)
-
-    pub naming_more : 2 ≤ get_or words i 0 → Naming words (i + 1)
-    unfolding all
-    naming_more k = record { left = inv.left ∙ rw (add-one, drop-cons words i 0 h, le-leb 2 (get_or words i 0) k) }
+-- what passes the library's test at each place
+pub all_names_lem : (words : List ℕ) {t : Bool} → IsTrue t ↔ EachIndex words (λ i. 2 ≤ get_or words i 0) → t ≡ all is_name words
+all_names_lem words {t} each = same_test t (all is_name words) (λ e. each_name words (each.0 e), λ e. each.1 (names_each words e))
 
 -- ---- `names_shape`
 
@@ -59,11 +60,13 @@ names_over (w ∷ words) few h = rw (le-leb (length (w ∷ words)) 1024 few, lt-
 
 -- the other tests passed, the names decide
 pub names_decide : (words : List ℕ) {t : Bool} → (length words ≡ 0 → ⊥) → length words ≤ 1024
-    → get_or words 0 0 ≤ length words - 1 → all is_name (drop 1 words) ≡ t
+    → get_or words 0 0 ≤ length words - 1 → all is_name (between 1 (length words) words) ≡ t
     → shape_verdict t ≡ shape_verdict (names_in_shape words)
 unfolding names_in_shape
 names_decide [] some few h e = absurd (some refl)
-names_decide (w ∷ words) some few h e = rw (le-leb (length (w ∷ words)) 1024 few, le-leb w (length words) (omega arith), e)
+names_decide (w ∷ words) some few h e =
+    let others = rw (between_to_end (w ∷ words) 1 (length (w ∷ words)) (omega arith)) at e in
+    rw (le-leb (length (w ∷ words)) 1024 few, le-leb w (length words) (omega arith), others)
 
 -- ---- `bounds_shape`
 

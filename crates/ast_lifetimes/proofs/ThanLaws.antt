@@ -1,12 +1,12 @@
 -- What `longer_than` and `shorter_than` answer, by what their tests show: a refusal of the environment, nothing for an
 -- unknown name, or what the traversal of the same bounds answers, whose other checks are then not due.
-use Rattle.std.specs.Prelude.{Ok, Err}
+use Rattle.std.specs.Prelude.{Option, Some, None, Ok, Err}
 use Prim.Native.Nat.{ℕ, ◌≤◌, ◌<◌}
-use mathlib.Core.Bool.{Bool}
-use mathlib.Core.Path.{◌≡◌}
+use mathlib.Core.Bool.{Bool, true}
+use mathlib.Core.Path.{◌≡◌, sym, ◌∙◌}
 use mathlib.Core.List.{List, [], ◌∷◌}
 use native.Mathlib.Omega.{arith}
-use borrow.Author.Tests.{lt-ltb, le-ltb, lt-leb, ltb-false, not-false}
+use borrow.Author.Tests.{lt-leb, ltb-true, ltb-false, not-false}
 use lib.ListN.{length}
 use lib.Seq.{length-take-le}
 use Rattle.answers.specs.declared.Refusal.{Refusal}
@@ -22,7 +22,8 @@ use Rattle.answers.proofs.RefusalLaws.{none_first, none_rest, first_more, none_m
 use Rattle.lifetimes.proofs.EnvLaws.{none_due}
 use Rattle.answers.proofs.LentLaws.{answers_refusal, answers_list, has_room}
 use Rattle.ast_lifetimes.specs.declared.env.LifetimeEnv.{LifetimeEnv}
-use Rattle.ast_lifetimes.specs.Env.{place, names_of, bounds_of, reach_of, env_checks, list_than}
+use Rattle.ast_lifetimes.specs.Env.{place, is_declared, number_of, names_of, bounds_of, reach_of, env_checks, list_than}
+use Rattle.ast_lifetimes.proofs.NamesLaws.{number_none, number_some}
 use Rattle.answers.proofs.VerdictLaws.{unless_after}
 
 -- an environment whose names are all its lifetimes, with the same bounds
@@ -44,32 +45,34 @@ module _ (d : Bool) (e : LifetimeEnv) (word : ℕ) (slice : List ℕ) where
   unfolding list_than
   than_refused f = answers_refusal _ slice (first_more _ f)
 
-  module _ (none : NoneDue (env_checks e)) (full : length e.names ≡ 32) {at : ℕ} (placed : at ≡ place (names_of e) word) where
+  module _ (none : NoneDue (env_checks e)) (full : length e.names ≡ 32) {found : Option ℕ} (number : found ≡ number_of (names_of e) word) where
     count_named : length (names_of e) ≡ e.named
     count_named = length-take-le e.named e.names (omega (arith, few_names e none))
 
-    unknown : e.named ≤ at → reach_of d (names_of e) (bounds_of e) word ≡ []
-    unknown h = rw (count_named, ← placed, le-ltb at e.named h)
-
-    known : at < e.named → reach_of d (names_of e) (bounds_of e) word ≡ traversal FirstFirst d (bounds_of e) at
-    known h = rw (count_named, ← placed, lt-ltb at e.named h)
-
-    pub than_unknown : e.named ≤ at → (Ok 0 ≡ counted (list_than d e word (length slice)))
+    pub than_unknown : found ≡ None → (Ok 0 ≡ counted (list_than d e word (length slice)))
         × (slice ≡ written (list_than d e word (length slice)) slice)
     unfolding list_than
-    than_unknown h = rw (unknown h) (answers_list [] slice (none_more none (has_room (length slice) [] (omega arith) end)))
+    than_unknown h =
+        rw (number_none (names_of e) word (sym number ∙ h))
+        (answers_list [] slice (none_more none (has_room (length slice) [] (omega arith) end)))
 
-    -- the traversal's own checks are not due, but for room
-    same : at < e.named → list_depth_first d (hir_of e) at (length slice) ≡ list_than d e word (length slice)
-    unfolding list_than list_from depth_first
-    same h =
-        let l = traversal FirstFirst d (bounds_of e) at in
-        let checked = none_more (hir_none e none) (next (lt-leb e.named at h) end) in
-        rw (known h, unless_after l (room_check (length slice) l ∷ []) none) (unless_after l (room_check (length slice) l ∷ []) checked)
+    -- a declared name: the traversal's own checks are not due, but for room
+    module _ {at : ℕ} (h : found ≡ Some at) where
+      known : (is_declared (names_of e) word ≡ true) × (at ≡ place (names_of e) word)
+      known = number_some (names_of e) word (sym number ∙ h)
 
-    pub than_traversal : at < e.named → {made : hir.LifetimeEnv} → made ≡ hir_of e → {l : Lifetime} → l ≡ lifetime at
-        → {r : Outcome ℕ} {after : List ℕ}
-        → (r ≡ counted (list_depth_first d made l.0 (length slice)))
-        × (after ≡ written (list_depth_first d made l.0 (length slice)) slice)
-        → (r ≡ counted (list_than d e word (length slice))) × (after ≡ written (list_than d e word (length slice)) slice)
-    than_traversal h j i a = rw (j, i, same h) at a
+      same : list_depth_first d (hir_of e) at (length slice) ≡ list_than d e word (length slice)
+      unfolding list_than list_from depth_first
+      same =
+          let l = traversal FirstFirst d (bounds_of e) at in
+          let inside : at < e.named = omega (arith, ltb-true _ _ known.0, known.1, count_named) in
+          let listed : reach_of d (names_of e) (bounds_of e) word ≡ l = rw (known.0, ← known.1) in
+          let checked = none_more (hir_none e none) (next (lt-leb e.named at inside) end) in
+          rw (listed, unless_after l (room_check (length slice) l ∷ []) none) (unless_after l (room_check (length slice) l ∷ []) checked)
+
+      pub than_traversal : {made : hir.LifetimeEnv} → made ≡ hir_of e → {l : Lifetime} → l ≡ lifetime at
+          → {r : Outcome ℕ} {after : List ℕ}
+          → (r ≡ counted (list_depth_first d made l.0 (length slice)))
+          × (after ≡ written (list_depth_first d made l.0 (length slice)) slice)
+          → (r ≡ counted (list_than d e word (length slice))) × (after ≡ written (list_than d e word (length slice)) slice)
+      than_traversal j i a = rw (j, i, same) at a

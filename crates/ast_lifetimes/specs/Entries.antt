@@ -30,6 +30,9 @@ paths b (Reference word t) = paths (behind_ref word) t
 paths b (Option t) = paths Nothing t
 paths b (Result t u) = paths Nothing t ++ paths Nothing u
 
+abbrev pub all_paths : List ℕ → List Entry
+all_paths types = flat_map (paths Nothing) (type_names_of types)
+
 -- 01: "impl names, impl bounds, method names, method bounds", then the types
 abbrev pub entries : List ℕ → List ℕ → List ℕ → List Entry
 entries names bounds types =
@@ -37,7 +40,7 @@ entries names bounds types =
     ++ (map Bounded (impl_pairs bounds)
     ++ (map Name (method_names names)
     ++ (map Bounded (method_pairs bounds)
-    ++ flat_map (paths Nothing) (type_names_of types))))
+    ++ all_paths types)))
 
 -- the names and bounds so far
 pub record SoFar : Type 0 where

@@ -1,17 +1,17 @@
 -- The AST's environment, as `from_method_item` builds it: names in order of declaration, and bounds between them by
 -- number.
 use Rattle.std.specs.Prelude.{ℕ, suc, ◌+◌, ◌-◌, Bool, true, cond, ◌&&◌, not, List, [], ◌∷◌, ◌++◌, map, eqb}
-use Rattle.std.specs.Prelude.{leb, ltb, length, take, replicate}
+use Rattle.std.specs.Prelude as prelude
+use Rattle.std.specs.Prelude.{leb, ltb, length, take, replicate, position}
 use Rattle.answers.specs.declared.Refusal.TheVariants.{Malformed, Duplicate, Undeclared, Full}
 use Rattle.lifetimes.specs.declared.bounds.Bound.{Bound}
 use Rattle.answers.specs.Lists.{any, filter}
 use Rattle.answers.specs.Refusals.{Check, check, Outcome, unless}
-use Rattle.answers.specs.Lent.{verdict_of, result_or, room_check}
+use Rattle.answers.specs.Lent.{room_check}
 use Rattle.lifetimes.specs.Limits.{most_bounds}
 use Rattle.lifetimes.specs.Bounds.{above, list_of, bounds_from, bounds_checks}
 use Rattle.lifetimes.specs.Walk.{FirstFirst, traversal}
 use Rattle.ast_lifetimes.specs.declared.env.LifetimeEnv.{LifetimeEnv}
-use Rattle.ast_lifetimes.specs.declared.env.Made.{Made}
 use Rattle.ast_lifetimes.specs.Shapes.{is_name, names_in_shape, impl_names, method_names, Pair, pair, bounds_in_shape}
 use Rattle.ast_lifetimes.specs.Shapes.{impl_pairs, method_pairs}
 use Rattle.ast_lifetimes.specs.Types.{TypeName, Other, Named, Reference, Option, Result}
@@ -31,6 +31,10 @@ place (name ∷ names) word = cond (eqb name word) 0 (suc (place names word))
 
 abbrev pub is_declared : List ℕ → ℕ → Bool
 is_declared names word = ltb (place names word) (length names)
+
+-- the number of a name; none for one that is not declared
+abbrev pub number_of : List ℕ → ℕ → prelude.Option ℕ
+number_of names word = position (λ name. eqb name word) names
 
 -- at a name: a 33rd (4), declared again (2)
 unfoldable pub name_checks : List ℕ → List ℕ → List Check
@@ -181,7 +185,3 @@ unfoldable pub list_than : Bool → LifetimeEnv → ℕ → ℕ → Outcome (Lis
 list_than longer e word room =
     unless (env_checks e ++ (room_check room (reach_of longer (names_of e) (bounds_of e) word) ∷ []))
     (reach_of longer (names_of e) (bounds_of e) word)
-
--- What the calls answer that make an environment
-abbrev pub made : LifetimeEnv → Outcome LifetimeEnv → Made
-made other o = record { verdict = verdict_of o; env = result_or other o }

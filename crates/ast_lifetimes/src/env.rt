@@ -1,21 +1,17 @@
-// The AST's environment: names in order of declaration, and bounds between them by number.
-ghost use Rattle.std.specs.Prelude.{◌≡◌, true, false, [], ◌≤◌, length, take, ◌&&◌};
-ghost use Rattle.std.proofs.lemmas.List.Edits.{sets};
-ghost use Rattle.answers.specs.Refusals.{NoneDue, unless};
+// The AST's environment: names in order of declaration, and bounds between them by number. It is built in place, entry
+// by entry.
+ghost use Rattle.std.specs.Prelude.{◌≡◌, ◌≤◌, ◌&&◌, true, false, [], IfOk};
+ghost use Rattle.answers.specs.Refusals.{NoneDue};
 ghost use Rattle.answers.specs.Lent.{counted, judged, held, room, left, Fills};
-ghost use Rattle.lifetimes.specs.Bounds.{all_below, bounds_from};
-ghost use Rattle.records.specs.Reading.{shape_verdict};
-ghost use Rattle.ast_lifetimes.specs.Shapes.{names_in_shape, bounds_in_shape};
+ghost use Rattle.ast_lifetimes.specs.Shapes.{pair, pairs_of, names_in_shape, bounds_in_shape};
 ghost use Rattle.ast_lifetimes.specs.Types.{types_in_shape};
-ghost use Rattle.ast_lifetimes.specs.Env.{all_pair_checks, named_env, env_checks, names_of, from_method_item};
-ghost use Rattle.ast_lifetimes.specs.Env.{implied_on};
-ghost use Rattle.ast_lifetimes.specs.Env.{most_names, extended_with, extend_implied, list_than, made};
-ghost use Rattle.ast_lifetimes.specs.Inner.{sides_of, Splits, Built};
-ghost use Rattle.lifetimes.specs.Limits.{most_bounds};
+ghost use Rattle.ast_lifetimes.specs.Env.{named_env, env_checks, names_of, bounds_of, bound_of, from_method_item};
+ghost use Rattle.ast_lifetimes.specs.Env.{most_names, extend_implied, list_than, number_of};
+ghost use Rattle.ast_lifetimes.specs.Entries.{fold, declare, push_pair};
+ghost use Rattle.ast_lifetimes.specs.Inner.{Stands, Leaves, so_far_of};
 
-use super::bounds::{bounds_shape, push_pairs};
-use super::implied::{close, push_types};
-use super::names::{declare_all, names_shape, position};
+use super::bounds::bounds_shape;
+use super::names::{names_shape, position};
 use super::types::types_shape;
 use answers::Refusal;
 use lifetimes::{Bound, Bounds, Lifetime};
@@ -29,21 +25,6 @@ pub struct LifetimeEnv {
     pub bounds: Bounds,
 }
 
-// An environment; beside a refusal, the one that the call says.
-#[derive(Clone, Copy)]
-pub struct Made {
-    pub verdict: Result<(), Refusal>,
-    pub env: LifetimeEnv,
-}
-
-// How far building came: the verdict, and how many names and bounds there are.
-#[derive(Clone, Copy)]
-struct Counts {
-    verdict: Result<(), Refusal>,
-    named: usize,
-    pushed: usize,
-}
-
 impl LifetimeEnv {
     // How many names an environment may have.
     pub const MAX_NAMES: usize = 32;
@@ -51,7 +32,7 @@ impl LifetimeEnv {
     // How deep a type may be nested, the outermost counting 1.
     pub const MAX_NESTING: usize = 8;
 
-    // The environment without names, which stands beside a refusal.
+    // The environment without names.
     pub fn none() -> LifetimeEnv
         ensures answer { result ≡ named_env [] [] }
     {
@@ -63,51 +44,30 @@ impl LifetimeEnv {
     }
 
     // The environment of a method, from its records: impl names, impl bounds, method names, method bounds, then what
-    // the types imply. Refused by 1 over all three records, then by 2, 3, 4 at the first bad place, with an environment
-    // without names beside the refusal.
-    pub fn from_method_item(names: &[usize], bounds: &[usize], types: &[usize]) -> Made
-        ensures answer { result ≡ made (named_env [] []) (from_method_item names.now bounds.now types.now) }
+    // the types imply. Refused by 1 over all three records, then by 2, 3, 4 at the first bad place.
+    pub fn from_method_item(
+        names: &[usize],
+        bounds: &[usize],
+        types: &[usize],
+    ) -> Result<LifetimeEnv, Refusal>
+        ensures answer { result ≡ from_method_item names.now bounds.now types.now }
     {
-        let shape = shape_of(names, bounds, types);
-        let Ok(()) = shape else {
-            return refused(shape);
-        };
-        let mut declared = [0usize; LifetimeEnv::MAX_NAMES];
-        let mut longs = [0u8; Bounds::MAX];
-        let mut shorts = [0u8; Bounds::MAX];
-        let built = build(names, bounds, types, &mut declared, &mut longs, &mut shorts);
-        let verdict = built.verdict;
-        let Ok(()) = verdict else {
-            return refused(verdict);
-        };
-        let named = built.named;
-        let pushed = built.pushed;
-        Made {
-            verdict: Ok(()),
-            env: assembled(&declared, named, &longs, &shorts, pushed),
-        }
+        names_shape(names)?;
+        bounds_shape(bounds)?;
+        types_shape(types)?;
+        LifetimeEnv::built(names, bounds, types)
     }
 
     // The environment with what some types imply pushed behind its bounds. Refused by 1 (the types' shape), by 4 and 8
-    // as the environment is, then by 3 and 4 at the first bad place, with the environment as it was beside the refusal.
-    pub fn extend_implicit_lifetime_bounds(self, types: &[usize]) -> Made
-        ensures answer { result ≡ made self (extend_implied self types.now) }
+    // as the environment is, then by 3 and 4 at the first bad place.
+    pub fn extend_implicit_lifetime_bounds(self, types: &[usize]) -> Result<LifetimeEnv, Refusal>
+        ensures answer { result ≡ extend_implied self types.now }
     {
-        let shape = types_shape(types);
-        let Ok(()) = shape else {
-            return Made {
-                verdict: shape,
-                env: self,
-            };
-        };
-        let valid = self.check();
-        let Ok(()) = valid else {
-            return Made {
-                verdict: valid,
-                env: self,
-            };
-        };
-        extended(self, types)
+        types_shape(types)?;
+        self.check()?;
+        let mut env = self.cleared();
+        env.extend_implied(types)?;
+        Ok(env)
     }
 
     // Whether this can be an environment: refused by 4 (33rd name, 257th bound) or 8 (a bound past the names). A caller
@@ -142,237 +102,130 @@ impl LifetimeEnv {
     {
         list_than(self, name, false, out)
     }
+
+    // The environment of records in shape. An impl bound sees impl names only.
+    fn built(names: &[usize], bounds: &[usize], types: &[usize]) -> Result<LifetimeEnv, Refusal>
+        requires { names_in_shape names.now && (bounds_in_shape bounds.now && types_in_shape types.now) ≡ true }
+        ensures { result ≡ from_method_item names.now bounds.now types.now }
+    {
+        let impls = names[0];
+        let first = bounds[0];
+        let mut env = LifetimeEnv::none();
+        env.extend_lifetimes(&names[1..1 + impls])?;
+        env.extend_bounds(&bounds[1..1 + 2 * first])?;
+        env.extend_lifetimes(&names[1 + impls..])?;
+        env.extend_bounds(&bounds[1 + 2 * first..])?;
+        env.extend_implied(types)?;
+        Ok(env)
+    }
+
+    // The same names and bounds, with nothing in the places behind them.
+    fn cleared(self) -> LifetimeEnv
+        requires { NoneDue (env_checks self) }
+        ensures { result ≡ named_env (names_of self) (bounds_of self) }
+    {
+        let named = self.named;
+        let mut names = self.names;
+        names[named..].fill(0);
+        let pushed = self.bounds.pushed;
+        let mut list = self.bounds.list;
+        let none = Bound {
+            longer: 0,
+            shorter: 0,
+        };
+        list[pushed..].fill(none);
+        LifetimeEnv {
+            names,
+            named,
+            bounds: Bounds { pushed, list },
+        }
+    }
+
+    // The number of a name; none for one that is not declared.
+    pub(crate) fn id(&self, name: usize) -> Option<usize>
+        requires { self.now.named ≤ most_names }
+        ensures { result ≡ number_of (names_of self.now) name }
+    {
+        position(&self.names[..self.named], name)
+    }
+
+    // Declare one name more. Refused by 4 for a 33rd, by 2 for one that is declared.
+    fn declare(&mut self, name: usize) -> Result<(), Refusal>
+        requires { Stands (so_far_of self.old) self.old }
+        ensures { Leaves (declare (so_far_of self.old) name) self.new result }
+    {
+        let named = self.named;
+        if LifetimeEnv::MAX_NAMES <= named {
+            return Err(Refusal::Full);
+        }
+        if self.id(name).is_some() {
+            return Err(Refusal::Duplicate);
+        }
+        self.names[named] = name;
+        self.named += 1;
+        Ok(())
+    }
+
+    // Declare some names one after another. Refused at the first bad place.
+    fn extend_lifetimes(&mut self, names: &[usize]) -> Result<(), Refusal>
+        requires { Stands (so_far_of self.old) self.old }
+        ensures { Leaves (fold declare (so_far_of self.old) names.now) self.new result }
+    {
+        for name in names {
+            self.declare(*name)?;
+        }
+        Ok(())
+    }
+
+    // Push the bound of two names, and answer it. Refused by 3 for a side that is not declared, longer before shorter,
+    // then by 4 for a 257th.
+    pub(crate) fn push(&mut self, longer: usize, shorter: usize) -> Result<Bound, Refusal>
+        requires { Stands (so_far_of self.old) self.old }
+        ensures pushed { Leaves (push_pair (so_far_of self.old) (pair longer shorter)) self.new result }
+        ensures bound { IfOk result (λ b. b ≡ bound_of (names_of self.old) (pair longer shorter)) }
+    {
+        let long = self.id(longer).ok_or(Refusal::Undeclared)?;
+        let short = self.id(shorter).ok_or(Refusal::Undeclared)?;
+        let pushed = self.bounds.pushed;
+        if Bounds::MAX <= pushed {
+            return Err(Refusal::Full);
+        }
+        let bound = Bound {
+            longer: long as u8,
+            shorter: short as u8,
+        };
+        self.bounds.list[pushed] = bound;
+        self.bounds.pushed += 1;
+        Ok(bound)
+    }
+
+    // Push some words, pair after pair. Refused at the first bad place.
+    fn extend_bounds(&mut self, words: &[usize]) -> Result<(), Refusal>
+        requires { Stands (so_far_of self.old) self.old }
+        ensures { Leaves (fold push_pair (so_far_of self.old) (pairs_of words.now)) self.new result }
+    {
+        for pair in words.chunks_exact(2) {
+            self.push(pair[0], pair[1])?;
+        }
+        Ok(())
+    }
 }
 
 // The list of one name in one direction.
-fn list_than(env: LifetimeEnv, name: usize, longer: bool, out: &mut [usize]) -> Result<usize, Refusal>
+fn list_than(
+    env: LifetimeEnv,
+    name: usize,
+    longer: bool,
+    out: &mut [usize],
+) -> Result<usize, Refusal>
     ensures value { result ≡ counted (list_than longer env name (room out)) }
     ensures fills { Fills (list_than longer env name (room out)) out }
 {
-    let verdict = env.check();
-    if let Err(refusal) = verdict {
-        return Err(refusal);
-    }
-    let names = env.names;
+    env.check()?;
     let named = env.named;
-    let at = position(&names, named, name);
-    if named <= at {
+    let Some(at) = env.id(name) else {
         return Ok(0);
-    }
+    };
     let hir = lifetimes::LifetimeEnv::from_bounds(named, named, env.bounds);
     hir.depth_first_lifetimes(Lifetime::new(at), longer, out)
-}
-
-// The environment with what types in shape imply. Refused by 3 and 4 at the first bad place.
-fn extended(env: LifetimeEnv, types: &[usize]) -> Made
-    requires { NoneDue (env_checks env) × (types_in_shape types.now ≡ true) }
-    ensures { result
-        ≡ made env
-        (unless (all_pair_checks (names_of env) env.bounds.pushed (implied_on env types.now))
-        (extended_with env types.now)) }
-{
-    let names = env.names;
-    let named = env.named;
-    let bounds = env.bounds;
-    let pushed = bounds.pushed;
-    let mut longs = [0u8; Bounds::MAX];
-    let mut shorts = [0u8; Bounds::MAX];
-    let mut reach = [0u64; LifetimeEnv::MAX_NAMES];
-    split(bounds, &mut longs, &mut shorts);
-    close(&longs, &shorts, pushed, named, &mut reach);
-    let implied = push_types(
-        types,
-        &names,
-        named,
-        &mut longs,
-        &mut shorts,
-        pushed,
-        &mut reach,
-    );
-    let verdict = implied.verdict;
-    let Ok(()) = verdict else {
-        return Made { verdict, env };
-    };
-    let all = implied.pushed;
-    Made {
-        verdict: Ok(()),
-        env: assembled(&names, named, &longs, &shorts, all),
-    }
-}
-
-// The sides of bounds, in two arrays.
-fn split(bounds: Bounds, longs: &mut [u8; Bounds::MAX], shorts: &mut [u8; Bounds::MAX])
-    requires { (bounds.pushed ≤ most_bounds) × (length longs.old ≡ most_bounds)
-        × (length shorts.old ≡ most_bounds) }
-    ensures { Splits bounds (left longs) (left shorts) }
-{
-    let pushed = bounds.pushed;
-    let mut i = 0;
-    while i < pushed {
-        let b = bounds.list[i];
-        longs[i] = b.longer;
-        shorts[i] = b.shorter;
-        i += 1;
-    }
-}
-
-// The shape of the three records.
-fn shape_of(names: &[usize], bounds: &[usize], types: &[usize]) -> Result<(), Refusal>
-    ensures { result
-        ≡ shape_verdict (names_in_shape names.now && (bounds_in_shape bounds.now && types_in_shape types.now)) }
-{
-    let first = names_shape(names);
-    let Ok(()) = first else {
-        return first;
-    };
-    let second = bounds_shape(bounds);
-    let Ok(()) = second else {
-        return second;
-    };
-    types_shape(types)
-}
-
-// The names, and the sides of the bounds, of records in shape, in arrays.
-fn build(
-    names: &[usize],
-    bounds: &[usize],
-    types: &[usize],
-    declared: &mut [usize; LifetimeEnv::MAX_NAMES],
-    longs: &mut [u8; Bounds::MAX],
-    shorts: &mut [u8; Bounds::MAX],
-) -> Counts
-    requires names_value { (names_in_shape names.now ≡ true) × (bounds_in_shape bounds.now ≡ true)
-        × (types_in_shape types.now ≡ true) }
-    requires declared_len { (length declared.old ≡ most_names) × (length longs.old ≡ most_bounds)
-        × (length shorts.old ≡ most_bounds) }
-    ensures { Built names.now bounds.now types.now (left declared) (left longs) (left shorts) result }
-{
-    let impls = names[0];
-    let all = names.len() - 1;
-    let first = bounds[0];
-    let pairs = (bounds.len() - 1) / 2;
-    let named = declare_all(names, 1, 1 + impls, declared, 0);
-    let Ok(()) = named else {
-        return Counts {
-            verdict: named,
-            named: 0,
-            pushed: 0,
-        };
-    };
-    let bounded = push_pairs(bounds, 1, first, declared, impls, longs, shorts, 0);
-    let Ok(()) = bounded else {
-        return Counts {
-            verdict: bounded,
-            named: 0,
-            pushed: 0,
-        };
-    };
-    let renamed = declare_all(names, 1 + impls, 1 + all, declared, impls);
-    let Ok(()) = renamed else {
-        return Counts {
-            verdict: renamed,
-            named: 0,
-            pushed: 0,
-        };
-    };
-    let rebounded = push_pairs(
-        bounds,
-        1 + 2 * first,
-        pairs - first,
-        declared,
-        all,
-        longs,
-        shorts,
-        first,
-    );
-    let Ok(()) = rebounded else {
-        return Counts {
-            verdict: rebounded,
-            named: 0,
-            pushed: 0,
-        };
-    };
-    let mut reach = [0u64; LifetimeEnv::MAX_NAMES];
-    close(longs, shorts, pairs, all, &mut reach);
-    let implied = push_types(types, declared, all, longs, shorts, pairs, &mut reach);
-    let verdict = implied.verdict;
-    let pushed = implied.pushed;
-    Counts {
-        verdict,
-        named: all,
-        pushed,
-    }
-}
-
-// A refusal, beside an environment without names.
-fn refused(verdict: Result<(), Refusal>) -> Made
-    ensures { result ≡ record { verdict = verdict; env = named_env [] [] } }
-{
-    Made {
-        verdict,
-        env: LifetimeEnv::none(),
-    }
-}
-
-// The environment of the first names of an array and the first bounds of two arrays of sides.
-fn assembled(
-    declared: &[usize; LifetimeEnv::MAX_NAMES],
-    named: usize,
-    longs: &[u8; Bounds::MAX],
-    shorts: &[u8; Bounds::MAX],
-    pushed: usize,
-) -> LifetimeEnv
-    requires named_le_most_names { (named ≤ most_names) × (pushed ≤ most_bounds) }
-    requires declared_len { (length declared.now ≡ most_names) × (length longs.now ≡ most_bounds)
-        × (length shorts.now ≡ most_bounds) }
-    requires shorts_value { all_below 255 (sides_of pushed longs.now shorts.now) ≡ true }
-    ensures { result ≡ named_env (take named declared.now) (sides_of pushed longs.now shorts.now) }
-{
-    let bounds = joined(longs, shorts, pushed);
-    let mut names = [0usize; LifetimeEnv::MAX_NAMES];
-    copy_names(declared, named, &mut names);
-    LifetimeEnv {
-        names,
-        named,
-        bounds,
-    }
-}
-
-// The first bounds of two arrays of sides.
-fn joined(longs: &[u8; Bounds::MAX], shorts: &[u8; Bounds::MAX], pushed: usize) -> Bounds
-    requires pushed_le_most_bounds { (pushed ≤ most_bounds) × (length longs.now ≡ most_bounds)
-        × (length shorts.now ≡ most_bounds) }
-    requires shorts_value { all_below 255 (sides_of pushed longs.now shorts.now) ≡ true }
-    ensures { result ≡ bounds_from (sides_of pushed longs.now shorts.now) }
-{
-    let none = Bound {
-        longer: 0,
-        shorter: 0,
-    };
-    let mut list = [none; Bounds::MAX];
-    let mut i = 0;
-    while i < pushed {
-        list[i] = Bound::new(
-            Lifetime::new(longs[i] as usize),
-            Lifetime::new(shorts[i] as usize),
-        );
-        i += 1;
-    }
-    Bounds { pushed, list }
-}
-
-// Copy the first names of an array to the first places of another.
-fn copy_names(
-    declared: &[usize; LifetimeEnv::MAX_NAMES],
-    named: usize,
-    names: &mut [usize; LifetimeEnv::MAX_NAMES],
-)
-    requires { (named ≤ most_names) × (length declared.now ≡ most_names) × (length names.old ≡ most_names) }
-    ensures { left names ≡ sets (held names) 0 (take named declared.now) }
-{
-    let mut i = 0;
-    while i < named {
-        names[i] = declared[i];
-        i += 1;
-    }
 }

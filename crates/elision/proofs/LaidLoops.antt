@@ -1,20 +1,17 @@
 -- Lists of lifetimes in 16 places: an array filled from its front, and the loop of `first_of`.
-use Prim.Native.Nat.{ℕ, suc, ◌+◌, ◌-◌, ◌≤◌, ◌<◌}
-use mathlib.Core.Bool.{Bool, true, false, cond}
+use Prim.Native.Nat.{ℕ, suc, ◌+◌, ◌-◌, min, ◌≤◌, ◌<◌}
 use mathlib.Core.Path.{◌≡◌, refl, sym, ap, ◌∙◌}
 use mathlib.Core.List.{List, [], ◌∷◌, ◌++◌, map}
 use native.Mathlib.Numerals.{add-one}
 use native.Mathlib.Omega.{arith}
-use borrow.Author.Tests.{ltb-true, ltb-false}
-use lib.Dec.{ltb}
-use lib.ListN.{length, get_or, take, set, replicate, length-append}
-use lib.Seq.{set_at, take-suc, take_all}
+use Rattle.std.proofs.lemmas.List.{take_min}
+use lib.ListN.{length, get_or, take, set, replicate, length-append, length-map}
+use lib.Seq.{set_at, take-suc, length-take-le}
 use Rattle.lifetimes.specs.declared.maybe_static.MaybeStatic.{MaybeStatic}
 use Rattle.lifetimes.specs.declared.maybe_static.MaybeStatic.TheVariants.{Static}
 use Rattle.elision.specs.declared.lowerer.Lowered.{Lowered}
 use Rattle.elision.specs.declared.lowerer.Lifetimes.{Lifetimes}
 use Rattle.elision.specs.Machine.{lowered, values_in, laid}
-use Rattle.elision.specs.Inner.{at_most16}
 use Rattle.elision.proofs.RfcLaws.{length_lowered}
 
 -- the first places hold these lifetimes, the others a static one
@@ -42,9 +39,25 @@ module _ {done : List MaybeStatic} {list : List Lowered} {i : ℕ} (inv : Filled
             (length_lowered done ∙ inv.size));
       }
 
-  pub filled_laid : record { n = i; list = list } ≡ laid done
+  filled_laid : record { n = i; list = list } ≡ laid done
   unfolding laid
   filled_laid = rw (inv.size, inv.stands)
+
+-- one lifetime more, behind those of a list
+pub pushed : {n : ℕ} {list : List Lowered} (ls : List MaybeStatic) (l : MaybeStatic) → n < 16
+    → record { n = n; list = list } ≡ laid ls
+    → record { n = n + 1; list = set list n (lowered l) } ≡ laid (ls ++ (l ∷ []))
+unfolding laid
+pushed {n} {list} ls l h e =
+    let size : length ls ≡ n = sym (ap (λ (x : Lifetimes). x.n) e) in
+    let stands : list ≡ map lowered ls ++ replicate (16 - length ls) (lowered Static) = ap (λ (x : Lifetimes). x.list) e in
+    let inv : Filled ls list n = record { size = size; stands = rw size at stands } in
+    filled_laid (filled_more inv h l)
+
+-- how many there are
+pub laid_many : {own : Lifetimes} (ls : List MaybeStatic) → own ≡ laid ls → own.n ≡ length ls
+unfolding laid
+laid_many ls e = ap (λ (x : Lifetimes). x.n) e
 
 -- ---- the loop of `first_of`
 
@@ -55,44 +68,34 @@ lifetimes_last : (l : List Lowered) (x : Lowered) → lifetimes_in (l ++ (x ∷ 
 lifetimes_last [] x = refl
 lifetimes_last (y ∷ l) x = ap (λ (m : List MaybeStatic). y.lifetime ∷ m) (lifetimes_last l x)
 
-pub record Firsts (own : Lifetimes) (n : ℕ) (list : List Lowered) (i : ℕ) : Type 0 where
-  pub here : i ≤ n
-  pub most : n ≡ at_most16 own.n
-  pub filled : Filled (map (λ (x : Lowered). x.lifetime) (take i own.list)) list i
+-- the lifetimes of the first places
+pub record Firsts (own first : Lifetimes) (i : ℕ) : Type 0 where
+  pub laid_so : first ≡ laid (lifetimes_in (take i own.list))
 
-most_few : (m : ℕ) → at_most16 m ≤ 16
-most_few m = go (ltb m 16) refl
-  where
-    go : (t : Bool) → ltb m 16 ≡ t → cond t m 16 ≤ 16
-    go true e = omega (arith, ltb-true m 16 e)
-    go false e = omega arith
+pub firsts_start : (own : Lifetimes) {first : Lifetimes} → first ≡ laid [] → Firsts own first 0
+firsts_start own e = record { laid_so = e }
 
-pub firsts_start : (own : Lifetimes) {n : ℕ} → n ≡ at_most16 own.n → Firsts own n (replicate 16 (lowered Static)) 0
-firsts_start own e = record { here = omega arith; most = e; filled = filled_none }
+module _ {own first : Lifetimes} {i : ℕ} (full : length own.list ≡ 16) (inv : Firsts own first i) where
+  pub firsts_room : {n : ℕ} → n ≡ min own.n 16 → i < n → first.n < 16
+  firsts_room m h =
+      let many : length (lifetimes_in (take i own.list)) ≡ i =
+      length-map (take i own.list) (λ (x : Lowered). x.lifetime) ∙ length-take-le i own.list (omega (arith, full)) in
+      omega (arith, laid_many (lifetimes_in (take i own.list)) inv.laid_so, many)
 
-module _ {own : Lifetimes} {n : ℕ} {list : List Lowered} {i : ℕ} (inv : Firsts own n list i) where
-  pub firsts_few : i < n → i < 16
-  firsts_few h = omega (arith, inv.most, most_few own.n)
+  pub firsts_more : {n : ℕ} → n ≡ min own.n 16 → i < n → {next : Lifetimes}
+      → ((ls : List MaybeStatic) → first ≡ laid ls
+      → next ≡ laid (ls ++ ((get_or own.list i (lowered Static)).lifetime ∷ []))) → Firsts own next (i + 1)
+  firsts_more m h push =
+      let one : lifetimes_in (take (i + 1) own.list)
+      ≡ lifetimes_in (take i own.list) ++ ((get_or own.list i (lowered Static)).lifetime ∷ []) =
+      rw (add-one i, take-suc own.list i (lowered Static) (omega (arith, full)))
+      (lifetimes_last (take i own.list) (get_or own.list i (lowered Static))) in
+      record { laid_so = push (lifetimes_in (take i own.list)) inv.laid_so ∙ ap laid (sym one) }
 
-  module _ (full : length own.list ≡ 16) where
-    pub firsts_more : i < n → (x : Lowered) → x ≡ get_or own.list i (lowered Static) → Firsts own n (set list i x) (i + 1)
-    firsts_more h x e =
-        let one : map (λ (y : Lowered). y.lifetime) (take (i + 1) own.list) ≡ map (λ (y : Lowered). y.lifetime)
-        (take i own.list) ++ (x.lifetime ∷ []) =
-        rw (add-one i, take-suc own.list i (lowered Static) (omega (arith, firsts_few h)), ← e)
-        (lifetimes_last (take i own.list) x) in
-        record { here = omega arith; most = inv.most; filled = rw one (filled_more inv.filled (firsts_few h) x.lifetime) }
-
-    pub firsts_end : n ≤ i → record { n = n; list = list } ≡ laid (values_in own)
-    firsts_end h =
-        let e : i ≡ n = omega (arith, inv.here) in
-        rw (← same) (rw e at (filled_laid inv.filled))
-      where
-        go : (t : Bool) → ltb own.n 16 ≡ t → take (cond t own.n 16) own.list ≡ take own.n own.list
-        go true k = refl
-        go false k =
-            take_all 16 own.list (omega arith)
-            ∙ sym (take_all own.n own.list (omega (arith, ltb-false own.n 16 k)))
-
-        same : map (λ (y : Lowered). y.lifetime) (take n own.list) ≡ values_in own
-        same = rw (inv.most, go (ltb own.n 16) refl)
+  pub firsts_end : {n : ℕ} → n ≡ min own.n 16 → i ≤ n → n ≤ i → first ≡ laid (values_in own)
+  firsts_end {n} m h k =
+      let e : i ≡ min own.n 16 = omega arith in
+      inv.laid_so ∙ ap (λ (l : List Lowered). laid (lifetimes_in l)) (rw e (taken own.n own.list full))
+    where
+      taken : (n : ℕ) (l : List Lowered) → length l ≡ 16 → take (min n 16) l ≡ take n l
+      taken n l full = rw (← full) (take_min n l)

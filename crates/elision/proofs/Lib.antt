@@ -1,5 +1,7 @@
+-- Outcomes that are made into something else.
+pub mod OutcomeLaws
 -- Laws of lists, names and steps in a record.
-pub mod LaidLaws
+pub mod EmptyLaws
 pub mod NameLaws
 pub mod StepLaws
 pub mod ShapeLaws
@@ -13,9 +15,9 @@ pub mod StepCheckLaws
 pub mod LaidLoops
 pub mod LowererLoops
 pub mod LowererLaws
--- The whole records: taking a step, a step lowered and stored, a step by its words, one record, three records, every
+-- The whole records: where a step's words are, a step lowered and stored, a step by its words, one record, three records, every
 -- lifetime has a word, the answers.
-pub mod TookLaws
+pub mod PartLaws
 pub mod PutLaws
 pub mod WordedLaws
 pub mod PutLoops

@@ -1,7 +1,7 @@
 -- The loops of `lower_words` and `put_words`: what is left, lowered from here behind what is done, is what all gives
 -- from the start.
 use Rattle.std.specs.Prelude.{Ok, Err}
-use Prim.Native.Nat.{ℕ, zero, suc, ◌+◌, ◌-◌, ◌≤◌, ◌<◌}
+use Prim.Native.Nat.{ℕ, zero, suc, ◌+◌, ◌-◌, max, ◌≤◌, ◌<◌}
 use mathlib.Core.Bool.{Bool, true, false, cond}
 use mathlib.Core.Path.{◌≡◌, refl, sym, ap, ◌∙◌}
 use mathlib.Core.List.{List, [], ◌∷◌, ◌++◌, map, append-nil, append_assoc, map-append}
@@ -23,16 +23,17 @@ use Rattle.elision.specs.declared.source.ElisionSource.TheVariants.{NoBorrows, S
 use Rattle.elision.specs.declared.source.ElisionSource.TheVariants.{MultipleBorrows}
 use Rattle.elision.specs.declared.lowerer.Standing.{Standing}
 use Rattle.elision.specs.declared.lowerer.Standing.TheVariants.{Input, Aside, Output}
-use Rattle.elision.specs.declared.lowerer.Lowered.{Lowered}
+use Rattle.elision.specs.declared.lowerer.Lifetimes.{Lifetimes}
 use Rattle.elision.specs.declared.lowerer.Seen.{Seen}
 use Rattle.elision.specs.declared.lowerer.Worded.{Worded}
+use Rattle.elision.specs.declared.put.Put.{Put}
 use Rattle.elision.specs.Rfc.{appended}
 use Rattle.elision.specs.Machine.{Advanced, advanced, in_turn, lowers, from_source, lower_anonymous, lower_word}
-use Rattle.elision.specs.Machine.{lower_words, lowered, laid, first_or}
+use Rattle.elision.specs.Machine.{lower_words, laid, first_or}
 use Rattle.elision.specs.Inner.{worded, ran, shown, Puts}
 use Rattle.answers.proofs.Copying.{sets_append}
-use Rattle.answers.proofs.VerdictLaws.{refused_accepted}
-use Rattle.elision.proofs.LaidLoops.{Filled, filled_none, filled_more, filled_laid}
+use Rattle.elision.proofs.OutcomeLaws.{both, same_given, same_refused}
+use Rattle.elision.proofs.LaidLoops.{laid_many}
 
 -- ---- one word gives one lifetime
 
@@ -68,15 +69,15 @@ single_word names st word s =
     single_cond (eqb word 1) (lower_anonymous st s) (cond (eqb word 0) static name) (single_anonymous st s)
     (single_cond (eqb word 0) static name refl (single_cond (is_declared names word) named (Err Undeclared) refl tt))
 
-module _ {r : Worded} (s : Seen) where
-  pub accepted_word : (o : Outcome (Advanced Seen)) → r ≡ worded s o → Single o → r.verdict ≡ Ok (tt {0})
-      → o ≡ Ok (advanced (r.lifetime ∷ []) r.seen)
-  accepted_word (Ok a) e one v = rw e (ap (λ (l : List MaybeStatic). Ok (advanced l a.left)) one)
-  accepted_word (Err k) e one v = refused_accepted (sym (ap (λ (w : Worded). w.verdict) e) ∙ v)
+pub accepted_word : {r : Worded} (o : Outcome (Advanced Seen)) → Ok r ≡ worded o → Single o
+    → o ≡ Ok (advanced (r.lifetime ∷ []) r.seen)
+accepted_word {r} (Ok a) e one =
+    rw (same_given e) (ap (λ (l : List MaybeStatic). Ok (advanced l a.left)) one)
+accepted_word (Err k) e one = both (sym e)
 
-  pub refused_word : {k : Refusal} (o : Outcome (Advanced Seen)) → r ≡ worded s o → r.verdict ≡ Err k → o ≡ Err k
-  refused_word (Ok a) e v = refused_accepted (sym v ∙ ap (λ (w : Worded). w.verdict) e)
-  refused_word (Err j) e v = let h : Err j ≡ Err _ = sym (ap (λ (w : Worded). w.verdict) e) ∙ v in cc
+pub refused_word : {k : Refusal} (o : Outcome (Advanced Seen)) → Err k ≡ worded o → o ≡ Err k
+refused_word (Ok a) e = both e
+refused_word (Err j) e = ap (λ (r : Refusal). Err r) (sym (same_refused e))
 
 -- ---- the words, with those that are appended
 
@@ -94,11 +95,7 @@ abbrev behind : List MaybeStatic → Advanced Seen → Outcome (Advanced Seen)
 behind done a = Ok (advanced (done ++ a.given) a.left)
 
 -- what is left to lower, and what is done
-pub record Going (names : List ℕ) (st : Standing) (g : ℕ) (words : List ℕ) (seen : Seen) (total : ℕ) (here : Seen)
-    (i : ℕ) : Type 0 where
-  pub count : total ≡ length words + (g - length words)
-  pub few : total ≤ 16
-  pub within : i ≤ total
+pub record Going (names : List ℕ) (st : Standing) (g : ℕ) (words : List ℕ) (seen here : Seen) (i : ℕ) : Type 0 where
   pub done : List MaybeStatic
   pub many : length done ≡ i
   pub left : lower_words names st (appended g words) seen ≡ bind (lower_words names st (drop i (appended g words)) here) (behind done)
@@ -107,48 +104,43 @@ after_itself : (o : Outcome (Advanced Seen)) → o ≡ bind o (behind [])
 after_itself (Ok a) = refl
 after_itself (Err r) = refl
 
-unfoldable going_start : (names : List ℕ) (st : Standing) (g : ℕ) (words : List ℕ) (seen : Seen) {total : ℕ}
-    → total ≡ length words + (g - length words) → length words ≤ 16 → g ≤ 16
-    → Going names st g words seen total seen 0
-going_start names st g words seen e h k = record {
-  count = e;
-  few = omega arith;
-  within = omega arith;
+unfoldable going_start : (names : List ℕ) (st : Standing) (g : ℕ) (words : List ℕ) (seen : Seen)
+    → Going names st g words seen seen 0
+going_start names st g words seen = record {
   done = [];
   many = refl;
   left = after_itself (lower_words names st (appended g words) seen);
 }
 
-module _ {names : List ℕ} {st : Standing} {g : ℕ} {words : List ℕ} {seen : Seen} {total : ℕ} {here : Seen} {i : ℕ}
-    (inv : Going names st g words seen total here i) where
-  going_end : total ≤ i → lower_words names st (appended g words) seen ≡ Ok (advanced inv.done here)
+module _ {names : List ℕ} {st : Standing} {g : ℕ} {words : List ℕ} {seen here : Seen} {i : ℕ}
+    (inv : Going names st g words seen here i) where
+  going_end : {total : ℕ} → total ≡ max (length words) g → total ≤ i
+      → lower_words names st (appended g words) seen ≡ Ok (advanced inv.done here)
   unfolding in_turn
-  going_end h =
-      let past : length (appended g words) ≤ i = omega (arith, appended_length g words, inv.count) in
+  going_end e h =
+      let past : length (appended g words) ≤ i = omega (arith, appended_length g words) in
       rw (inv.left, drop_of_length-le (appended g words) {i = i} past, append-nil inv.done)
 
-  module _ (h : i < total) {word : ℕ} (w : word ≡ get_or words i 1) {r : Worded}
-      (said : r ≡ worded here (lower_word names st word here)) where
+  module _ {total : ℕ} (e : total ≡ max (length words) g) (h : i < total) {word : ℕ} (w : word ≡ get_or words i 1) where
     next : lower_words names st (drop i (appended g words)) here
         ≡ bind (lower_word names st word here)
         (λ first. bind (lower_words names st (drop (i + 1) (appended g words)) first.left)
         (λ rest. Ok (advanced (first.given ++ rest.given) rest.left)))
     unfolding in_turn
     next =
-        let inside : i < length (appended g words) = omega (arith, appended_length g words, inv.count) in
-        rw (drop-cons (appended g words) i 0 inside, appended_at words (g - length words) i (omega (arith, inv.count)), ← w, add-one i)
+        let inside : i < length (appended g words) = omega (arith, appended_length g words) in
+        rw (drop-cons (appended g words) i 0 inside, appended_at words (g - length words) i (omega arith), ← w, add-one i)
 
-    going_refused : {k : Refusal} → r.verdict ≡ Err k → lower_words names st (appended g words) seen ≡ Err k
-    going_refused v = rw (inv.left, next, refused_word here (lower_word names st word here) said v)
+    going_refused : {k : Refusal} → Err k ≡ worded (lower_word names st word here)
+        → lower_words names st (appended g words) seen ≡ Err k
+    going_refused v = rw (inv.left, next, refused_word (lower_word names st word here) v)
 
-    unfoldable going_more : r.verdict ≡ Ok (tt {0}) → Going names st g words seen total r.seen (i + 1)
-    going_more v = record {
-      count = inv.count;
-      few = inv.few;
-      within = omega arith;
+    unfoldable going_more : {r : Worded} → Ok r ≡ worded (lower_word names st word here)
+        → Going names st g words seen r.seen (i + 1)
+    going_more {r} v = record {
       done = inv.done ++ (r.lifetime ∷ []);
       many = length-append inv.done (r.lifetime ∷ []) ∙ rw inv.many;
-      left = rw (inv.left, next, accepted_word here (lower_word names st word here) said (single_word names st word here) v)
+      left = rw (inv.left, next, accepted_word (lower_word names st word here) v (single_word names st word here))
           (join (lower_words names st (drop (i + 1) (appended g words)) r.seen));
     }
       where
@@ -160,100 +152,86 @@ module _ {names : List ℕ} {st : Standing} {g : ℕ} {words : List ℕ} {seen :
 
 -- ---- `lower_words`: what is done stands in the list
 
-pub record Running (names : List ℕ) (st : Standing) (g : ℕ) (words : List ℕ) (seen : Seen) (total : ℕ)
-    (list : List Lowered) (here : Seen) (i : ℕ) : Type 0 where
-  pub going : Going names st g words seen total here i
-  pub filled : Filled going.done list i
+pub record Running (names : List ℕ) (st : Standing) (g : ℕ) (words : List ℕ) (seen : Seen) (lifetimes : Lifetimes)
+    (here : Seen) (i : ℕ) : Type 0 where
+  pub going : Going names st g words seen here i
+  pub laid_so : lifetimes ≡ laid going.done
 
-pub running_start : (names : List ℕ) (st : Standing) (g : ℕ) (words : List ℕ) (seen : Seen) {total : ℕ}
-    → total ≡ length words + (g - length words) → length words ≤ 16 → g ≤ 16
-    → Running names st g words seen total (replicate 16 (lowered Static)) seen 0
+pub running_start : (names : List ℕ) (st : Standing) (g : ℕ) (words : List ℕ) (seen : Seen) {none : Lifetimes}
+    → none ≡ laid [] → Running names st g words seen none seen 0
 unfolding going_start
-running_start names st g words seen e h k = record { going = going_start names st g words seen e h k; filled = filled_none }
+running_start names st g words seen e = record { going = going_start names st g words seen; laid_so = e }
 
-module _ {names : List ℕ} {st : Standing} {g : ℕ} {words : List ℕ} {seen : Seen} {total : ℕ} {list : List Lowered}
-    {here : Seen} {i : ℕ}
-    (inv : Running names st g words seen total list here i) where
-  pub running_few : i < total → i < 16
-  running_few h = omega (arith, inv.going.few)
+module _ {names : List ℕ} {st : Standing} {g : ℕ} {words : List ℕ} {seen : Seen} {lifetimes : Lifetimes} {here : Seen}
+    {i : ℕ} (inv : Running names st g words seen lifetimes here i) where
+  pub running_room : {total : ℕ} → total ≡ max (length words) g → length words ≤ 16 → g ≤ 16 → i < total
+      → lifetimes.n < 16
+  running_room e a b h = omega (arith, laid_many inv.going.done inv.laid_so, inv.going.many)
 
-  pub running_end : total ≤ i
-      → record { verdict = Ok (tt {0}); seen = here; lifetimes = record { n = total; list = list } }
-      ≡ ran seen (lower_words names st (appended g words) seen)
-  running_end h =
-      let e : total ≡ i = omega (arith, inv.going.within) in
-      rw (going_end inv.going h, ← filled_laid inv.filled, e)
+  pub running_end : {total : ℕ} → total ≡ max (length words) g → total ≤ i
+      → Ok (record { lifetimes = lifetimes; seen = here }) ≡ ran (lower_words names st (appended g words) seen)
+  running_end e h = rw (going_end inv.going e h, inv.laid_so)
 
-  module _ (h : i < total) {word : ℕ} (w : word ≡ get_or words i 1) {r : Worded}
-      (said : r ≡ worded here (lower_word names st word here)) where
-    pub running_refused : {k : Refusal} → r.verdict ≡ Err k
-        → record { verdict = Err k; seen = seen; lifetimes = laid [] }
-        ≡ ran seen (lower_words names st (appended g words) seen)
-    running_refused v = rw (going_refused inv.going h w said v)
+  module _ {total : ℕ} (e : total ≡ max (length words) g) (h : i < total) {word : ℕ} (w : word ≡ get_or words i 1) where
+    pub running_refused : {k : Refusal} → Err k ≡ worded (lower_word names st word here)
+        → Err k ≡ ran (lower_words names st (appended g words) seen)
+    running_refused v = rw (going_refused inv.going e h w v)
 
-    pub running_more : r.verdict ≡ Ok (tt {0})
-        → Running names st g words seen total (set list i (lowered r.lifetime)) r.seen (i + 1)
+    pub running_more : {r : Worded} → Ok r ≡ worded (lower_word names st word here) → {next : Lifetimes}
+        → ((ls : List MaybeStatic) → lifetimes ≡ laid ls → next ≡ laid (ls ++ (r.lifetime ∷ [])))
+        → Running names st g words seen next r.seen (i + 1)
     unfolding going_more
-    running_more v =
-        record {
-          going = going_more inv.going h w said v;
-          filled = filled_more inv.filled (running_few h) r.lifetime;
-        }
+    running_more v push =
+        record { going = going_more inv.going e h w v; laid_so = push inv.going.done inv.laid_so }
 
 -- ---- `put_words`: the words of what is done stand in the slice, from a place on
 
-pub record Putting (names : List ℕ) (st : Standing) (g : ℕ) (words : List ℕ) (seen : Seen) (total at : ℕ)
+pub record Putting (names : List ℕ) (st : Standing) (g : ℕ) (words : List ℕ) (seen : Seen) (at : ℕ)
     (slice₀ slice : List ℕ) (here : Seen) (i : ℕ) : Type 0 where
-  pub going : Going names st g words seen total here i
+  pub going : Going names st g words seen here i
   pub size : length slice ≡ length slice₀
   pub stored : slice ≡ sets slice₀ at (map shown going.done)
 
-pub putting_start : (names : List ℕ) (st : Standing) (g : ℕ) (words : List ℕ) (seen : Seen) {total : ℕ} (at : ℕ)
-    (slice : List ℕ) → total ≡ length words + (g - length words) → length words ≤ 16 → g ≤ 16
-    → Putting names st g words seen total at slice slice seen 0
+pub putting_start : (names : List ℕ) (st : Standing) (g : ℕ) (words : List ℕ) (seen : Seen) (at : ℕ) (slice : List ℕ)
+    → Putting names st g words seen at slice slice seen 0
 unfolding going_start
-putting_start names st g words seen at slice e h k =
-    record { going = going_start names st g words seen e h k; size = refl; stored = refl }
+putting_start names st g words seen at slice =
+    record { going = going_start names st g words seen; size = refl; stored = refl }
 
-module _ {names : List ℕ} {st : Standing} {g : ℕ} {words : List ℕ} {seen : Seen} {total at : ℕ} {slice₀ slice : List ℕ}
-    {here : Seen} {i : ℕ}
-    (inv : Putting names st g words seen total at slice₀ slice here i) where
-  pub putting_end : total ≤ i
-      → Puts seen (lower_words names st (appended g words) seen) at slice₀ slice
-      (record { verdict = Ok (tt {0}); seen = here; at = at + total })
-  putting_end h =
-      let e : total ≡ length inv.going.done = omega (arith, inv.going.within, inv.going.many) in
-      let whole = going_end inv.going h in
+module _ {names : List ℕ} {st : Standing} {g : ℕ} {words : List ℕ} {seen : Seen} {at : ℕ} {slice₀ slice : List ℕ}
+    {here : Seen} {i : ℕ} (inv : Putting names st g words seen at slice₀ slice here i) where
+  pub putting_end : {total : ℕ} → total ≡ max (length words) g → length words ≤ 16 → g ≤ 16 → i ≤ total → total ≤ i
+      → Puts (lower_words names st (appended g words) seen) at slice₀ slice
+      (Ok (record { seen = here; at = at + total }))
+  putting_end {total} e a b k h =
+      let size : total ≡ length inv.going.done = omega (arith, inv.going.many) in
+      let whole = going_end inv.going e h in
       record {
-        answers = rw (whole, e);
-        few = omega (arith, inv.going.few);
-        stores = λ a k. let same : inv.going.done ≡ a.given = given (sym whole ∙ k) in rw (← same) inv.stored;
+        answers = rw (whole, size);
+        few = λ p q. let same = ap (λ (x : Put). x.at) (same_given q) in omega (arith, same);
+        stores = λ p q. let same = same_given (sym whole ∙ q) in
+            rw (← ap (λ (x : Advanced Seen). x.given) same) inv.stored;
       }
-    where
-      given : {a : Advanced Seen} → ◌≡◌ {A = Outcome (Advanced Seen)} (Ok (advanced inv.going.done here)) (Ok a) → inv.going.done ≡ a.given
-      given {a} k = let q : advanced inv.going.done here ≡ a = cc in ap (λ (x : Advanced Seen). x.given) q
 
-  module _ (h : i < total) {word : ℕ} (w : word ≡ get_or words i 1) {r : Worded}
-      (said : r ≡ worded here (lower_word names st word here)) where
-    pub putting_refused : {k : Refusal} → r.verdict ≡ Err k
-        → Puts seen (lower_words names st (appended g words) seen) at slice₀ slice
-        (record { verdict = Err k; seen = seen; at = at })
-    putting_refused {k} v =
-        let whole = going_refused inv.going h w said v in
+  module _ {total : ℕ} (e : total ≡ max (length words) g) (h : i < total) {word : ℕ} (w : word ≡ get_or words i 1) where
+    pub putting_refused : {k : Refusal} → Err k ≡ worded (lower_word names st word here)
+        → {o : Outcome Put} → o ≡ Err k → Puts (lower_words names st (appended g words) seen) at slice₀ slice o
+    putting_refused {k} v f =
+        let whole = going_refused inv.going e h w v in
         record {
-          answers = rw whole;
-          few = omega arith;
-          stores = λ a e. let z : ◌≡◌ {A = ℕ} 0 1 = cc (sym e ∙ whole) in absurd (omega arith);
+          answers = f ∙ rw whole;
+          few = λ p q. both (sym f ∙ q);
+          stores = λ a q. both (sym whole ∙ q);
         }
 
-    pub putting_more : r.verdict ≡ Ok (tt {0}) → {shows : ℕ} → shows ≡ shown r.lifetime → {slice₁ : List ℕ}
-        → slice₁ ≡ set slice (at + i) shows
-        → Putting names st g words seen total at slice₀ slice₁ r.seen (i + 1)
+    pub putting_more : {r : Worded} → Ok r ≡ worded (lower_word names st word here) → {shows : ℕ}
+        → shows ≡ shown r.lifetime → {slice₁ : List ℕ} → slice₁ ≡ set slice (at + i) shows
+        → Putting names st g words seen at slice₀ slice₁ r.seen (i + 1)
     unfolding going_more
-    putting_more v {shows} sh {slice₁} put =
+    putting_more {r} v {shows} sh {slice₁} put =
         let len : at + length (map shown inv.going.done) ≡ at + i = rw (length-map, inv.going.many) in
         record {
-          going = going_more inv.going h w said v;
+          going = going_more inv.going e h w v;
           size = ap length put ∙ rw length-set inv.size;
           stored = rw (
             put,

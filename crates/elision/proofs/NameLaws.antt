@@ -1,36 +1,40 @@
--- The loop of `position`: the names that were read are others, so the name's place among those that are left, counted
--- from here, is its number.
-use Prim.Native.Nat.{ℕ, suc, ◌+◌, ◌≤◌, ◌<◌}
-use mathlib.Core.Path.{◌≡◌}
+-- The number of a name, its place, is where the first equal name stands.
+use Rattle.std.specs.Prelude.{Some, None, Option}
+use Prim.Native.Nat.{ℕ}
+use mathlib.Core.Bool.{Bool, true, false, cond}
+use mathlib.Core.Path.{◌≡◌, refl}
 use mathlib.Core.List.{List}
-use native.Mathlib.Nat.{zero-add, add-zero}
-use native.Mathlib.Numerals.{add-one}
+use native.Mathlib.Numerals.{one-add}
 use native.Mathlib.Omega.{arith}
-use borrow.Author.Tests.{eq-eqb, ne_eqb}
-use lib.ListN.{length, get_or, drop, drop_of_length-le}
-use lib.Seq.{drop-cons}
-use Rattle.ast_lifetimes.specs.Env.{place}
+use lib.Dec.{eqb, ltb}
+use lib.ListN.{length}
+use Rattle.std.specs.List.{position_or_len}
+use Rattle.std.proofs.lemmas.List.Recursion.{is_position_or_len}
+use Rattle.ast_lifetimes.specs.Env.{place, is_declared}
+use Rattle.elision.specs.Inner.{place_of}
 
-pub record Placing (names : List ℕ) (word i : ℕ) : Type 0 where
-  pub here : i ≤ length names
-  pub left : i + place (drop i names) word ≡ place names word
+place_position : (names : List ℕ) (word : ℕ) → place names word ≡ position_or_len (λ n. eqb n word) names
+unfolding place
+place_position names word =
+    is_position_or_len (λ ns. place ns word) (λ n. eqb n word) refl (λ n ns. rw one-add) names
 
-pub placing_start : (names : List ℕ) (word : ℕ) → Placing names word 0
-placing_start names word = record { here = omega arith; left = zero-add (place names word) }
+pub place_lem : (names : List ℕ) (word : ℕ) {r : Option ℕ}
+    → r ≡ cond (ltb (position_or_len (λ n. eqb n word) names) (length names)) (Some (position_or_len (λ n. eqb n word) names)) None
+    → r ≡ place_of names word
+place_lem names word e = rw (place_position names word) e
 
-module _ {names : List ℕ} {word i : ℕ} (inv : Placing names word i) where
-  pub placing_end : length names ≤ i → i ≡ place names word
-  unfolding place
-  placing_end h = rw (drop_of_length-le names {i = i} h, add-zero) at inv.left
+-- what is found tells whether the name is declared
+tested : (t : Bool) (n : ℕ) → None ≡ cond t (Some n) None → t ≡ false
+tested true n e = let z : ◌≡◌ {A = ℕ} 0 1 = cc in absurd (omega arith)
+tested false n e = refl
 
-  module _ (h : i < length names) where
-    pub placing_found : get_or names i 0 ≡ word → i ≡ place names word
-    unfolding place
-    placing_found e = rw (drop-cons names i 0 h, eq-eqb (get_or names i 0) word e, add-zero) at inv.left
+found : (t : Bool) {m : ℕ} (n : ℕ) → Some m ≡ cond t (Some n) None → (t ≡ true) × (n ≡ m)
+found true n e = (refl, cc)
+found false n e = let z : ◌≡◌ {A = ℕ} 0 1 = cc in absurd (omega arith)
 
-    pub placing_more : (get_or names i 0 ≡ word → ⊥) → Placing names word (i + 1)
-    unfolding place
-    placing_more n =
-        let e : i + suc (place (drop (suc i) names) word) ≡ place names word =
-        rw (drop-cons names i 0 h, ne_eqb (get_or names i 0) word n) at inv.left in
-        record { here = omega arith; left = rw (add-one i) (omega arith) }
+pub place_none : (names : List ℕ) (word : ℕ) → None ≡ place_of names word → is_declared names word ≡ false
+place_none names word e = tested (is_declared names word) (place names word) e
+
+pub place_some : (names : List ℕ) (word : ℕ) {at : ℕ} → Some at ≡ place_of names word
+    → (is_declared names word ≡ true) × (place names word ≡ at)
+place_some names word e = found (is_declared names word) (place names word) e

@@ -1,6 +1,6 @@
--- A record lowered step by step: the loop of `put_record`. What is left to be read, lowered from here behind what is
+-- A record lowered step by step: the loop of `put_steps`. What is left to be read, lowered from here behind what is
 -- done, is what the whole record gives.
-use Rattle.std.specs.Prelude.{Ok, Err, Some}
+use Rattle.std.specs.Prelude.{Ok, Err, Some, None}
 use Prim.Native.Nat.{ℕ, zero, suc, ◌+◌, ◌*◌, ◌≤◌, ◌<◌}
 use mathlib.Core.Bool.{Bool, true, and-eq-true_iff}
 use mathlib.Core.Path.{◌≡◌, refl, sym, ap, ◌∙◌}
@@ -11,19 +11,22 @@ use borrow.Author.Tests.{leb-true}
 use lib.ListN.{length, drop, length-append, length-map, length-drop, drop_of_length-le}
 use lib.Seq.{sets}
 use Rattle.answers.specs.declared.Refusal.{Refusal}
+use Rattle.answers.specs.declared.Refusal.TheVariants.{Malformed}
 use Rattle.lifetimes.specs.declared.maybe_static.MaybeStatic.{MaybeStatic}
 use Rattle.answers.specs.Refusals.{Outcome, bind}
 use Rattle.answers.proofs.Copying.{sets_append}
 use Rattle.records.specs.Reading.{Reading, Read, Fails, onward, is_read, read_or, read_all, in_shape, items_of, few_words}
 use Rattle.records.specs.Ends.{EndsAt, ends}
-use Rattle.answers.proofs.VerdictLaws.{refused_accepted}
 use Rattle.records.proofs.ReadingLaws.{passed, fails_read}
 use Rattle.elision.specs.declared.lowerer.Lowerer.{Lowerer}
-use Rattle.elision.specs.declared.lowerer.Seen.{Seen}
-use Rattle.elision.specs.declared.put.Took.{Took}
+use Rattle.elision.specs.declared.put.SmallLowerer.{SmallLowerer}
 use Rattle.elision.specs.Steps.{Step, read_step, steps_in_shape, steps_of}
 use Rattle.elision.specs.Machine.{Advanced, advanced, in_turn, fits, lower_step, one_step, run_steps}
-use Rattle.elision.specs.Inner.{shown, Shows, Given, Lowers, PutsStep}
+use Rattle.elision.specs.Inner.{StandsAt, end_of, shown, Shows, Given, Lowers, PutsStep}
+use Rattle.elision.specs.declared.steps.StepAt.{StepAt}
+use Rattle.elision.proofs.StepLaws.{ends_there}
+use Rattle.elision.proofs.PutLaws.{puts_missing}
+use Rattle.elision.proofs.OutcomeLaws.{both, same_given, carried}
 
 abbrev item : ℕ → List ℕ → Reading Step
 item number = read_step
@@ -79,10 +82,10 @@ read_none number (suc fuel) rest tail e = cc
 abbrev behind_done : List MaybeStatic → Advanced Lowerer → Outcome (Advanced Lowerer)
 behind_done done a = Ok (advanced (done ++ a.given) a.left)
 
--- from the lowerer that the record starts with: what is left of the record, the lowerer that it is left to, shown as it
--- is passed on, and what is done
-pub record Reached (names : List ℕ) (out : Bool) (words : List ℕ) (start : Lowerer) (slice₀ slice list : List ℕ)
-    (seen : Seen) (kept : Bool) (own n at : ℕ) : Type 0 where
+-- from the lowerer that the record starts with: what is left of the record, the lowerer that it is left to, shown by
+-- the small one, and what is done
+pub record Reached (names : List ℕ) (out : Bool) (words : List ℕ) (start : Lowerer) (slice₀ slice : List ℕ)
+    (k : SmallLowerer) (n at : ℕ) : Type 0 where
   pub number : ℕ
   pub fuel : ℕ
   pub rest : List Step
@@ -91,29 +94,28 @@ pub record Reached (names : List ℕ) (out : Bool) (words : List ℕ) (start : L
   pub done : List MaybeStatic
   pub count : length done ≡ n
   pub here : Lowerer
-  pub shows : Shows here seen kept own list
+  pub shows : Shows here k
   pub left : run_steps names out (steps_of words) start ≡ bind (run_steps names out rest here) (behind_done done)
   pub stored : slice ≡ sets slice₀ 0 (map shown done)
 
--- the loop: numbers that are safe, and the above for every lowerer that the first numbers show
-pub record Recording (names : List ℕ) (out : Bool) (words : List ℕ) (before : Seen) (was : Bool) (had : ℕ)
-    (list₀ slice₀ list slice : List ℕ) (seen : Seen) (kept : Bool) (own n at : ℕ) : Type 0 where
+-- the loop: numbers that are safe, and the above for every lowerer that the first small one shows
+pub record Recording (names : List ℕ) (out : Bool) (words : List ℕ) (before : SmallLowerer) (slice₀ slice : List ℕ)
+    (k : SmallLowerer) (n at : ℕ) : Type 0 where
   pub few : length words ≤ 1024
   pub within : at ≤ length words
   pub small : n ≤ 16 * at
-  pub held : own ≤ 16
+  pub held : k.own ≤ 16
   pub size : length slice ≡ length slice₀
-  pub reached : (s : Lowerer) → Shows s before was had list₀ → Reached names out words s slice₀ slice list seen kept own n at
+  pub reached : (s : Lowerer) → Shows s before → Reached names out words s slice₀ slice k n at
 
 after_itself : (o : Outcome (Advanced Lowerer)) → o ≡ bind o (behind_done [])
 after_itself (Ok a) = refl
 after_itself (Err r) = refl
 
-pub recording_start : (names : List ℕ) (out : Bool) (words : List ℕ) (before : Seen) (was : Bool) (had : ℕ)
-    (list slice : List ℕ) → steps_in_shape words ≡ true → had ≤ 16
-    → Recording names out words before was had list slice list slice before was had 0 0
+pub recording_start : (names : List ℕ) (out : Bool) (words : List ℕ) (before : SmallLowerer) (slice : List ℕ)
+    → steps_in_shape words ≡ true → before.own ≤ 16 → Recording names out words before slice slice before 0 0
 unfolding in_shape items_of
-recording_start names out words before was had list slice e few =
+recording_start names out words before slice e few =
     let p = (and-eq-true_iff (few_words words) (is_read (read_all item 0 (length words) words))).0 e in
     let q = read_is (read_all item 0 (length words) words) p.1 in
     record {
@@ -152,26 +154,23 @@ unfolding one_step
 one_fits names out step s h = rw h
 
 -- one lowerer: the end, and one step more
-module _ {names : List ℕ} {out : Bool} {words : List ℕ} {start : Lowerer} {slice₀ slice list : List ℕ} {seen : Seen}
-    {kept : Bool} {own n at : ℕ}
-    (inv : Reached names out words start slice₀ slice list seen kept own n at) where
-  reached_end : length words ≤ at → {to : ℕ}
-      → Lowers (run_steps names out (steps_of words) start) 0 list slice₀ slice
-      (record { verdict = Ok (tt {0}); seen = seen; kept = kept; own = own; n = n; to = to })
+module _ {names : List ℕ} {out : Bool} {words : List ℕ} {start : Lowerer} {slice₀ slice : List ℕ} {k : SmallLowerer}
+    {n at : ℕ} (inv : Reached names out words start slice₀ slice k n at) where
+  reached_end : length words ≤ at → Lowers (run_steps names out (steps_of words) start) 0 slice₀ slice k (Ok n)
   unfolding in_turn
   reached_end h =
       let none : inv.rest ≡ [] =
       read_none inv.number inv.fuel inv.rest inv.tail
       (rw (drop_of_length-le words {i = at} h) at inv.reads) in
       record {
-        accepted = λ v. record {
+        accepted = λ m q. record {
           it = advanced inv.done inv.here;
           is = rw (inv.left, none, append-nil inv.done);
           shows = inv.shows;
-          count = sym inv.count ∙ sym (zero-add (length inv.done));
+          count = sym (same_given q) ∙ sym inv.count ∙ sym (zero-add (length inv.done));
           stored = inv.stored;
         };
-        refused = λ k v. refused_accepted (sym v);
+        refused = λ j q. both (sym q);
       }
 
   module _ (h : at < length words) where
@@ -187,16 +186,15 @@ module _ {names : List ℕ} {out : Bool} {words : List ℕ} {start : Lowerer} {s
     next = inv.left ∙ ap (λ (o : Outcome (Advanced Lowerer)). bind o (behind_done inv.done))
         (ap (λ (l : List Step). run_steps names out l inv.here) turn.all)
 
-    module _ {list₁ slice₁ : List ℕ} {r : Took} (put : PutsStep names words out at seen kept own n list list₁ slice slice₁ r) where
-      one : Lowers (lower_step names out turn.step inv.here) n list₁ slice slice₁ r
-      one = put.lowers inv.here inv.shows turn.step turn.behind turn.is
+    module _ {k₁ : SmallLowerer} {slice₁ : List ℕ} where
+      reached_refused : {j : Refusal} → PutsStep names words out at n k k₁ slice slice₁ (Err j)
+          → run_steps names out (steps_of words) start ≡ Err j
+      reached_refused {j} put = rw (next, (put.lowers inv.here inv.shows turn.step turn.behind turn.is).refused j refl)
 
-      reached_refused : (k : Refusal) → r.verdict ≡ Err k → run_steps names out (steps_of words) start ≡ Err k
-      reached_refused k v = rw (next, one.refused k v)
-
-      reached_more : r.verdict ≡ Ok (tt {0})
-          → Reached names out words start slice₀ slice₁ list₁ r.seen r.kept r.own r.n r.to
-      reached_more v = go (one.accepted v)
+      reached_more : {m to : ℕ} → EndsAt words at (read_step (drop at words)) (Some to)
+          → PutsStep names words out at n k k₁ slice slice₁ (Ok m)
+          → Reached names out words start slice₀ slice₁ k₁ m to
+      reached_more {m} {to} ended put = go ((put.lowers inv.here inv.shows turn.step turn.behind turn.is).accepted m refl)
         where
           join : (a : Advanced Lowerer) (o : Outcome (Advanced Lowerer))
               → bind (bind o (λ rest. Ok (advanced (a.given ++ rest.given) rest.left))) (behind_done inv.done)
@@ -204,8 +202,8 @@ module _ {names : List ℕ} {out : Bool} {words : List ℕ} {start : Lowerer} {s
           join a (Ok b) = rw append_assoc
           join a (Err k) = refl
 
-          go : Given (lower_step names out turn.step inv.here) n list₁ slice slice₁ r
-              → Reached names out words start slice₀ slice₁ list₁ r.seen r.kept r.own r.n r.to
+          go : Given (lower_step names out turn.step inv.here) n slice slice₁ k₁ m
+              → Reached names out words start slice₀ slice₁ k₁ m to
           go g =
               let a = g.it in
               let size : length (map shown inv.done) ≡ n = length-map inv.done shown ∙ inv.count in
@@ -215,7 +213,7 @@ module _ {names : List ℕ} {out : Bool} {words : List ℕ} {start : Lowerer} {s
                 fuel = turn.fuel;
                 rest = turn.items;
                 tail = inv.tail;
-                reads = rw (ends_behind turn.step turn.behind (put.ends v) turn.is) turn.more;
+                reads = rw (ends_behind turn.step turn.behind ended turn.is) turn.more;
                 done = inv.done ++ a.given;
                 count = length-append inv.done a.given ∙ rw (inv.count, g.count);
                 here = a.left;
@@ -230,46 +228,44 @@ module _ {names : List ℕ} {out : Bool} {words : List ℕ} {start : Lowerer} {s
                 );
               }
 
-pub recording_less : {names words : List ℕ} {out : Bool} {at : ℕ} {seen : Seen} {kept : Bool} {own n : ℕ}
-    {list list₁ slice slice₁ : List ℕ} {r : Took}
-    → PutsStep names words out at seen kept own n list list₁ slice slice₁ r → r.verdict ≡ Ok (tt {0})
-    → (at < r.to) × (r.to ≤ length words)
-recording_less put v = ends_order (put.ends v)
+pub recording_less : {words : List ℕ} {at : ℕ} {q : StepAt} → StandsAt words at (read_step (drop at words)) (Some q)
+    → {to : ℕ} → to ≡ end_of q → (at < to) × (to ≤ length words)
+recording_less stands e = ends_order (ends_there stands e)
 
-module _ {names : List ℕ} {out : Bool} {words : List ℕ} {before : Seen} {was : Bool} {had : ℕ}
-    {list₀ slice₀ list slice : List ℕ} {seen : Seen} {kept : Bool} {own n at : ℕ}
-    (inv : Recording names out words before was had list₀ slice₀ list slice seen kept own n at) where
-  pub recording_room : at < length words → (own ≤ 16) × (n ≤ 65536)
+module _ {names : List ℕ} {out : Bool} {words : List ℕ} {before : SmallLowerer} {slice₀ slice : List ℕ}
+    {k : SmallLowerer} {n at : ℕ} (inv : Recording names out words before slice₀ slice k n at) where
+  pub recording_room : at < length words → (k.own ≤ 16) × (n ≤ 65536)
   recording_room h = (inv.held, omega (arith, inv.small, inv.few))
 
-  pub recording_end : length words ≤ at → {to : ℕ} → (own ≤ 16) × ((s : Lowerer) → Shows s before was had list₀
-      → Lowers (run_steps names out (steps_of words) s) 0 list slice₀ slice
-      (record { verdict = Ok (tt {0}); seen = seen; kept = kept; own = own; n = n; to = to }))
-  recording_end h = (inv.held, λ s sh. reached_end (inv.reached s sh) h)
+  pub recording_end : length words ≤ at → (s : Lowerer) → Shows s before
+      → Lowers (run_steps names out (steps_of words) s) 0 slice₀ slice k (Ok n)
+  recording_end h s sh = reached_end (inv.reached s sh) h
 
-  module _ {list₁ slice₁ : List ℕ} {r : Took} (put : PutsStep names words out at seen kept own n list list₁ slice slice₁ r) where
-    pub recording_refused : {k : Refusal} → at < length words → r.verdict ≡ Err k
-        → (r.own ≤ 16)
-        × ((s : Lowerer) → Shows s before was had list₀
-        → Lowers (run_steps names out (steps_of words) s) 0 list₁ slice₀ slice₁ r)
-    recording_refused {k} h v = (
-      put.few,
-      λ s sh. record {
-        accepted = λ a. refused_accepted (sym v ∙ a);
-        refused = λ j e. reached_refused (inv.reached s sh) h put j e;
-      },
-    )
+  -- where no step stands
+  pub recording_torn : StandsAt words at (read_step (drop at words)) None → at < length words → (s : Lowerer)
+      → Shows s before → Lowers (run_steps names out (steps_of words) s) 0 slice₀ slice k (Err Malformed)
+  recording_torn stands h s sh = puts_missing stands (turn (inv.reached s sh) h).is
 
-    pub recording_more : r.verdict ≡ Ok (tt {0}) → length slice₁ ≡ length slice
-        → Recording names out words before was had list₀ slice₀ list₁ slice₁ r.seen r.kept r.own r.n r.to
-    recording_more v size =
-        let order = recording_less put v in
+  module _ {k₁ : SmallLowerer} {slice₁ : List ℕ} where
+    pub recording_refused : {j : Refusal} → PutsStep names words out at n k k₁ slice slice₁ (Err j)
+        → at < length words → {r : Outcome ℕ} → r ≡ Err j → (s : Lowerer) → Shows s before
+        → Lowers (run_steps names out (steps_of words) s) 0 slice₀ slice₁ k₁ r
+    recording_refused {j} put h e s sh = record {
+      accepted = λ m q. both (sym e ∙ q);
+      refused = λ i q. reached_refused (inv.reached s sh) h put ∙ carried (sym e ∙ q);
+    }
+
+    pub recording_more : {q : StepAt} → StandsAt words at (read_step (drop at words)) (Some q) → {m : ℕ}
+        → PutsStep names words out at n k k₁ slice slice₁ (Ok m) → {to : ℕ} → to ≡ end_of q
+        → length slice₁ ≡ length slice → Recording names out words before slice₀ slice₁ k₁ m to
+    recording_more {q} stands {m} put {to} e size =
+        let order = recording_less stands e in
         let h : at < length words = omega (arith, order.0, order.1) in
         record {
           few = inv.few;
           within = order.1;
-          small = omega (arith, inv.small, put.near, order.0);
+          small = omega (arith, inv.small, put.near m refl, order.0);
           held = put.few;
           size = size ∙ inv.size;
-          reached = λ s sh. reached_more (inv.reached s sh) h put v;
+          reached = λ s sh. reached_more (inv.reached s sh) h (ends_there stands e) put;
         }

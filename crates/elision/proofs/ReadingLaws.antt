@@ -27,7 +27,7 @@ use Rattle.elision.specs.Rfc.{occurrences_at, own_from, lowered_at}
 use Rattle.elision.specs.Machine.{Advanced, advanced, in_turn, fits, lower_step, one_step, run_steps}
 use Rattle.elision.proofs.RfcLaws.{count_more, own_again, occurrences_last}
 use Rattle.elision.proofs.PutLoops.{one_fits}
-use Rattle.elision.proofs.TookLaws.{step_fits}
+use Rattle.elision.proofs.PartLaws.{step_fits}
 use Rattle.answers.proofs.ListLaws.{count_append}
 use Rattle.answers.specs.Lists.{count}
 

@@ -1,5 +1,5 @@
 -- Steps in a record: the ways out of `read_step`, and where a step ends that stands somewhere.
-use Rattle.std.specs.Prelude.{Some, None}
+use Rattle.std.specs.Prelude.{Some, None, Option}
 use Prim.Native.Nat.{ℕ, suc, ◌+◌, ◌-◌, ◌≤◌, ◌<◌}
 use mathlib.Core.Path.{◌≡◌, sym, ap, subst, ◌∙◌}
 use mathlib.Core.List.{List, ◌∷◌, ◌++◌}
@@ -14,7 +14,7 @@ use Rattle.records.proofs.ReadingLaws.{Holds, LifetimesIn, holds_read, lifetimes
 use Rattle.elision.specs.declared.steps.StepAt.{StepAt}
 use Rattle.elision.specs.declared.steps.StepAt.TheVariants as standing
 use Rattle.elision.specs.Steps.{Step, Generics, SelfType, read_step}
-use Rattle.elision.specs.Inner.{StandsAt}
+use Rattle.elision.specs.Inner.{StandsAt, end_of}
 use Rattle.elision.specs.Inner as inner
 
 -- a run of words between two places
@@ -34,44 +34,44 @@ lifetimes_slice words p to ls rest q d b e =
 
 self_there : {words : List ℕ} {at p to : ℕ} {reading : Reading (List ℕ)} → at ≤ p → EndsAt words p reading (Some to)
     → Holds (LifetimesIn (drop p words)) reading
-    → StandsAt words at (onward reading (λ ls rest. Read (SelfType ls) rest)) (standing.SelfType (p + 1) to)
+    → StandsAt words at (onward reading (λ ls rest. Read (SelfType ls) rest)) (Some (standing.SelfType (p + 1) to))
 self_there {words} {at} {p} {to} l (ends {a} {rest} d b e) h =
     inner.self_type {from = p + 1} {to = to}
     (lifetimes_slice words p to a rest (holds_read (LifetimesIn (drop p words)) a rest h) d b e) d (omega arith)
     (omega arith) e
 
 self_missing : {words : List ℕ} {at p : ℕ} {reading : Reading (List ℕ)} → EndsAt words p reading None
-    → StandsAt words at (onward reading (λ ls rest. Read (SelfType ls) rest)) standing.Missing
+    → StandsAt words at (onward reading (λ ls rest. Read (SelfType ls) rest)) None
 self_missing missing = inner.missing
 
 generics_there : (g : ℕ) {words : List ℕ} {at p to : ℕ} {reading : Reading (List ℕ)} → at ≤ p
     → EndsAt words p reading (Some to) → Holds (LifetimesIn (drop p words)) reading
-    → StandsAt words at (onward reading (λ ls rest. Read (Generics g ls) rest)) (standing.Generics g (p + 1) to)
+    → StandsAt words at (onward reading (λ ls rest. Read (Generics g ls) rest)) (Some (standing.Generics g (p + 1) to))
 generics_there g {words} {at} {p} {to} l (ends {a} {rest} d b e) h =
     inner.generics {from = p + 1} {to = to}
     (lifetimes_slice words p to a rest (holds_read (LifetimesIn (drop p words)) a rest h) d b e) d (omega arith)
     (omega arith) e
 
 generics_missing : (g : ℕ) {words : List ℕ} {at p : ℕ} {reading : Reading (List ℕ)} → EndsAt words p reading None
-    → StandsAt words at (onward reading (λ ls rest. Read (Generics g ls) rest)) standing.Missing
+    → StandsAt words at (onward reading (λ ls rest. Read (Generics g ls) rest)) None
 generics_missing g missing = inner.missing
 
 module _ (words : List ℕ) (at : ℕ) where
-  abbrev Stands : StepAt → Type 0
+  abbrev Stands : Option StepAt → Type 0
   Stands r = StandsAt words at (read_step (drop at words)) r
 
-  pub step_none : length words ≤ at → Stands standing.Missing
+  pub step_none : length words ≤ at → Stands None
   unfolding read_step
   step_none h = rw (drop_of_length-le words {i = at} h) inner.missing
 
   module _ (h : at < length words) where
-    pub lifetime_short : get_or words at 0 ≡ 0 → length words ≤ at + 1 → Stands standing.Missing
+    pub lifetime_short : get_or words at 0 ≡ 0 → length words ≤ at + 1 → Stands None
     unfolding read_step
     lifetime_short k m =
         rw (drop-cons words at 0 h, eq-eqb (get_or words at 0) 0 k, drop_of_length-le words {i = suc at} (omega arith))
         inner.missing
 
-    pub lifetime_there : get_or words at 0 ≡ 0 → at + 1 < length words → Stands (standing.Lifetime (get_or words (at + 1) 0) (at + 1 + 1))
+    pub lifetime_there : get_or words at 0 ≡ 0 → at + 1 < length words → Stands (Some (standing.Lifetime (get_or words (at + 1) 0) (at + 1 + 1)))
     unfolding read_step
     lifetime_there k m =
         let e : drop (suc at + 1) words ≡ drop (suc (suc at)) words = rw (add-one (suc at)) in
@@ -82,12 +82,12 @@ module _ (words : List ℕ) (at : ℕ) where
         (inner.lifetime {to = suc at + 1} {rest = drop (suc (suc at)) words} word e (omega arith) (omega arith))
 
     module _ (k : get_or words at 0 ≡ 1) where
-      pub generics_short : length words ≤ at + 1 → Stands standing.Missing
+      pub generics_short : length words ≤ at + 1 → Stands None
       unfolding read_step
       generics_short m = rw (drop-cons words at 0 h, k, drop_of_length-le words {i = suc at} (omega arith)) inner.missing
 
       module _ (m : at + 1 < length words) where
-        pub generics_many : 16 < get_or words (at + 1) 0 → Stands standing.Missing
+        pub generics_many : 16 < get_or words (at + 1) 0 → Stands None
         unfolding read_step
         generics_many g =
             let g₁ : 16 < get_or words (suc at) 0 = rw (add-one at) at g in
@@ -99,7 +99,7 @@ module _ (words : List ℕ) (at : ℕ) where
             ) inner.missing
 
         pub generics_none : get_or words (at + 1) 0 ≤ 16
-            → EndsAt words (at + 1 + 1) (read_lifetimes (drop (at + 1 + 1) words)) None → Stands standing.Missing
+            → EndsAt words (at + 1 + 1) (read_lifetimes (drop (at + 1 + 1) words)) None → Stands None
         unfolding read_step
         generics_none g r =
             let g₁ : get_or words (suc at) 0 ≤ 16 = rw (add-one at) at g in
@@ -114,7 +114,7 @@ module _ (words : List ℕ) (at : ℕ) where
 
         pub generics_whole : {to : ℕ} → get_or words (at + 1) 0 ≤ 16
             → EndsAt words (at + 1 + 1) (read_lifetimes (drop (at + 1 + 1) words)) (Some to)
-            → Stands (standing.Generics (get_or words (at + 1) 0) (at + 1 + 1 + 1) to)
+            → Stands (Some (standing.Generics (get_or words (at + 1) 0) (at + 1 + 1 + 1) to))
         unfolding read_step
         generics_whole g r =
             let g₁ : get_or words (suc at) 0 ≤ 16 = rw (add-one at) at g in
@@ -131,20 +131,20 @@ module _ (words : List ℕ) (at : ℕ) where
             (generics_there (get_or words (suc at) 0) (omega arith) r₁ (lifetimes_read (drop (suc (suc at)) words)))
 
     module _ (k : get_or words at 0 ≡ 2) where
-      pub self_none : EndsAt words (at + 1) (read_lifetimes (drop (at + 1) words)) None → Stands standing.Missing
+      pub self_none : EndsAt words (at + 1) (read_lifetimes (drop (at + 1) words)) None → Stands None
       unfolding read_step
       self_none r =
           let r₁ : EndsAt words (suc at) (read_lifetimes (drop (suc at) words)) None = rw (add-one at) at r in
           rw (drop-cons words at 0 h, k) (self_missing r₁)
 
       pub self_whole : {to : ℕ} → EndsAt words (at + 1) (read_lifetimes (drop (at + 1) words)) (Some to)
-          → Stands (standing.SelfType (at + 1 + 1) to)
+          → Stands (Some (standing.SelfType (at + 1 + 1) to))
       unfolding read_step
       self_whole r =
           let r₁ : EndsAt words (suc at) (read_lifetimes (drop (suc at) words)) (Some _) = rw (add-one at) at r in
           rw (drop-cons words at 0 h, k, add-one at) (self_there (omega arith) r₁ (lifetimes_read (drop (suc at) words)))
 
-    pub step_unknown : (get_or words at 0 ≡ 0 → ⊥) → (get_or words at 0 ≡ 1 → ⊥) → (get_or words at 0 ≡ 2 → ⊥) → Stands standing.Missing
+    pub step_unknown : (get_or words at 0 ≡ 0 → ⊥) → (get_or words at 0 ≡ 1 → ⊥) → (get_or words at 0 ≡ 2 → ⊥) → Stands None
     unfolding read_step
     step_unknown a b d =
         rw (
@@ -156,34 +156,16 @@ module _ (words : List ℕ) (at : ℕ) where
 
 -- ---- where it ends
 
-lifetime_end : {words : List ℕ} {at : ℕ} {reading : Reading Step} {word to : ℕ}
-    → StandsAt words at reading (standing.Lifetime word to) → EndsAt words at reading (Some to)
-lifetime_end (inner.lifetime w d b e) = ends d b e
+stands_end : {words : List ℕ} {at : ℕ} {reading : Reading Step} {r : StepAt} → StandsAt words at reading (Some r)
+    → EndsAt words at reading (Some (end_of r))
+stands_end (inner.lifetime w d b e) = ends d b e
+stands_end (inner.generics l d b m e) = ends d b e
+stands_end (inner.self_type l d b m e) = ends d b e
 
-generics_end : {words : List ℕ} {at : ℕ} {reading : Reading Step} {g from to : ℕ}
-    → StandsAt words at reading (standing.Generics g from to) → EndsAt words at reading (Some to)
-generics_end (inner.generics l d b m e) = ends d b e
+pub ends_there : {words : List ℕ} {at : ℕ} {reading : Reading Step} {r : StepAt} → StandsAt words at reading (Some r)
+    → {to : ℕ} → to ≡ end_of r → EndsAt words at reading (Some to)
+ends_there {words} {at} {reading} stands e = subst (λ (x : ℕ). EndsAt words at reading (Some x)) (sym e) (stands_end stands)
 
-self_end : {words : List ℕ} {at : ℕ} {reading : Reading Step} {from to : ℕ}
-    → StandsAt words at reading (standing.SelfType from to) → EndsAt words at reading (Some to)
-self_end (inner.self_type l d b m e) = ends d b e
-
-missing_end : {words : List ℕ} {at : ℕ} {reading : Reading Step} → StandsAt words at reading standing.Missing
+pub missing_end : {words : List ℕ} {at : ℕ} {reading : Reading Step} → StandsAt words at reading None
     → EndsAt words at reading None
 missing_end inner.missing = missing
-
-module _ {words : List ℕ} {at : ℕ} {reading : Reading Step} {r : StepAt} (s : StandsAt words at reading r) where
-  told : {q : StepAt} → r ≡ q → StandsAt words at reading q
-  told e = subst (StandsAt words at reading) e s
-
-  pub ends_lifetime : {word to : ℕ} → r ≡ standing.Lifetime word to → EndsAt words at reading (Some to)
-  ends_lifetime e = lifetime_end (told e)
-
-  pub ends_generics : {g from to : ℕ} → r ≡ standing.Generics g from to → EndsAt words at reading (Some to)
-  ends_generics e = generics_end (told e)
-
-  pub ends_self : {from to : ℕ} → r ≡ standing.SelfType from to → EndsAt words at reading (Some to)
-  ends_self e = self_end (told e)
-
-  pub ends_missing : r ≡ standing.Missing → EndsAt words at reading None
-  ends_missing e = missing_end (told e)

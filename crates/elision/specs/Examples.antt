@@ -4,10 +4,11 @@ use Rattle.std.specs.Prelude.{ℕ, Bool, true, false, ◌≡◌, List, [], ◌�
 use Rattle.answers.specs.declared.Refusal.TheVariants.{Undeclared, NoSource, Ambiguous}
 use Rattle.answers.specs.Refusals.{Outcome, over}
 use Rattle.ast_lifetimes.specs.Env.{named_env}
-use Rattle.elision.specs.declared.lowerer.Stepped.{Stepped}
+use Rattle.elision.specs.declared.lowerer.Lifetimes.{Lifetimes}
+use Rattle.elision.specs.declared.lowerer.Lowerer.{Lowerer}
 use Rattle.elision.specs.Steps.{NoSelf, steps_of}
 use Rattle.elision.specs.Rfc.{Method, positions, occurrences, inputs}
-use Rattle.elision.specs.Machine.{laid, unused, stepped, worded_step}
+use Rattle.elision.specs.Machine.{unused, given_by, left_by, worded_step}
 use Rattle.elision.specs.Lowering.{words, lower_records}
 
 pub data Question : Type 0 where
@@ -27,7 +28,8 @@ pub record Words : Type 0 where
 pub data Answer : Type 0 where
   Lowered : Outcome Words → Answer
   Count : ℕ → Answer
-  Steps : Stepped → Answer
+  -- the lifetimes, and what a lowerer that is lent is then
+  Steps : Outcome Lifetimes → Lowerer → Answer
 
 abbrev pub in_words : Outcome Method → Outcome Words
 in_words o = over (λ m. record { self = words m.self; steps = words m.steps; returns = words m.returns }) o
@@ -36,7 +38,8 @@ abbrev pub answer : Question → Answer
 answer (Lower names self steps returns) =
     Lowered (in_words (lower_records (named_env names []) self steps returns 16 16 16))
 answer (Positions names steps) = Count (length (positions names (occurrences NoSelf (inputs (steps_of steps)))))
-answer (OneStep names out step) = Steps (stepped (unused names) (worded_step names out step (unused names)))
+answer (OneStep names out step) = let o = worded_step names out step (unused names) in
+    Steps (given_by o) (left_by (unused names) o)
 
 pub record Example : Type 0 where
   pub question : Question
@@ -68,9 +71,9 @@ further =
     -- a refused step leaves the lowerer as it was: `0 1` in the output gives 5; `1 0 2 1 9` gives 3 behind the new
     -- lifetime of its first word
     ∷ asked (OneStep [] true (0 ∷ 1 ∷ []))
-    (Steps (record { verdict = Err NoSource; lowerer = unused []; lifetimes = laid [] }))
+    (Steps (Err NoSource) (unused []))
     ∷ asked (OneStep [] false (1 ∷ 0 ∷ 2 ∷ 1 ∷ 9 ∷ []))
-    (Steps (record { verdict = Err Undeclared; lowerer = unused []; lifetimes = laid [] }))
+    (Steps (Err Undeclared) (unused []))
     ∷ []
 
 -- each question of a list has its expected answer

@@ -1,13 +1,13 @@
 -- The whole records `self`, `steps` and `returns` over the names of an AST environment: their lowered words, and the
 -- method's environment (`finish`).
-use Rattle.std.specs.Prelude.{ℕ, Bool, ◌&&◌, not, ◌≡◌, List, [], ◌∷◌, ◌++◌, map, length, Ok, Err}
+use Rattle.std.specs.Prelude.{ℕ, Bool, ◌&&◌, not, ◌≡◌, List, [], ◌∷◌, ◌++◌, map, length}
 use Rattle.answers.specs.declared.Refusal.TheVariants.{Malformed}
 use Rattle.lifetimes.specs.declared.maybe_static.MaybeStatic.{MaybeStatic}
 use Rattle.lifetimes.specs.declared.env.LifetimeEnv as hir
 use Rattle.answers.specs.Refusals.{Check, check, Outcome, unless, over}
 use Rattle.answers.specs.Lent.{Slice, Fills, room_check}
 use Rattle.lifetimes.specs.LoweredWords.{word_of}
-use Rattle.lifetimes.specs.Env.{env_with, env_of}
+use Rattle.lifetimes.specs.Env.{env_with}
 use Rattle.lifetimes.specs.Env as hirenv
 use Rattle.ast_lifetimes.specs.declared.env.LifetimeEnv as ast
 use Rattle.ast_lifetimes.specs.Env.{names_of, env_checks}
@@ -60,17 +60,14 @@ unfoldable pub lower_records : ast.LifetimeEnv → List ℕ → List ℕ → Lis
 lower_records e self steps returns own given taken =
     unless (lower_checks e self steps returns own given taken) (lowered_records e self steps returns)
 
--- What the calls answer, and what `lower` writes: given, the words of each record; refused, nothing, and an environment
--- without lifetimes
-abbrev pub answered : ast.LifetimeEnv → Outcome Method → Lowering
-answered e (Ok m) = record {
-  verdict = Ok (tt {0});
+-- What the calls answer, and what `lower` writes: given, how many words each record has, and these words
+abbrev pub answered : ast.LifetimeEnv → Outcome Method → Outcome Lowering
+answered e o = over (λ m. record {
   selves = length (words m.self);
   steps = length (words m.steps);
   returns = length (words m.returns);
   env = finished e m.count;
-}
-answered e (Err r) = record { verdict = Err r; selves = 0; steps = 0; returns = 0; env = env_of 0 0 [] }
+}) o
 
 abbrev pub own_words : Outcome Method → Outcome (List ℕ)
 own_words o = over (λ m. words m.self) o
@@ -82,7 +79,7 @@ abbrev pub return_words : Outcome Method → Outcome (List ℕ)
 return_words o = over (λ m. words m.returns) o
 
 -- both, of what `lower` gives
-pub record LowersTo (e : ast.LifetimeEnv) (o : Outcome Method) (r : Lowering) (own given taken : Slice) : Type 0 where
+pub record LowersTo (e : ast.LifetimeEnv) (o : Outcome Method) (r : Outcome Lowering) (own given taken : Slice) : Type 0 where
   pub answer : r ≡ answered e o
   pub own_filled : Fills (own_words o) own
   pub given_filled : Fills (step_words o) given

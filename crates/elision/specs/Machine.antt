@@ -7,7 +7,7 @@ use Rattle.answers.specs.declared.Refusal.TheVariants.{Malformed, Undeclared, Fu
 use Rattle.lifetimes.specs.declared.maybe_static.MaybeStatic.{MaybeStatic}
 use Rattle.lifetimes.specs.declared.maybe_static.MaybeStatic.TheVariants.{Static, NonStatic}
 use Rattle.lifetimes.specs.Numbers.{lifetime}
-use Rattle.answers.specs.Refusals.{Outcome, bind}
+use Rattle.answers.specs.Refusals.{Outcome, over, bind}
 use Rattle.ast_lifetimes.specs.Env.{place, is_declared}
 use Rattle.elision.specs.declared.source.ElisionSource.{ElisionSource}
 use Rattle.elision.specs.declared.source.ElisionSource.TheVariants.{NoBorrows, SelfParam, OneParam}
@@ -19,7 +19,6 @@ use Rattle.elision.specs.declared.lowerer.Lifetimes.{Lifetimes}
 use Rattle.elision.specs.declared.lowerer.Seen.{Seen}
 use Rattle.elision.specs.declared.lowerer.Lowerer.{Lowerer}
 use Rattle.elision.specs.declared.lowerer.Stepped.{Stepped}
-use Rattle.elision.specs.declared.step.StepAnswer.{StepAnswer}
 use Rattle.records.specs.Reading.{Reading, Read, Fails, most_list}
 use Rattle.elision.specs.Steps.{Step, Lifetime, Generics, SelfType, Receiver, NoSelf, SelfRef, read_step}
 use Rattle.elision.specs.Rfc.{appended, standing_in, Method}
@@ -155,10 +154,18 @@ abbrev pub lower_self : List ℕ → Receiver → Outcome (Advanced Lowerer)
 lower_self names NoSelf = Ok (advanced [] (unused names))
 lower_self names (SelfRef word) = self_ref names word
 
--- What a step answers: refused, no lifetimes and the lowerer as it was
-abbrev pub stepped : Lowerer → Outcome (Advanced Lowerer) → Stepped
-stepped s (Ok a) = record { verdict = Ok (tt {0}); lowerer = a.left; lifetimes = laid a.given }
-stepped s (Err r) = record { verdict = Err r; lowerer = s; lifetimes = laid [] }
+-- What a step answers: the lifetimes and the next lowerer
+abbrev pub stepped : Outcome (Advanced Lowerer) → Outcome Stepped
+stepped o = over (λ a. record { lowerer = a.left; lifetimes = laid a.given }) o
+
+-- where the lowerer is lent: the lifetimes
+abbrev pub given_by : Outcome (Advanced Lowerer) → Outcome Lifetimes
+given_by o = over (λ a. laid a.given) o
+
+-- and what the lowerer is then; refused, as it was
+abbrev pub left_by : Lowerer → Outcome (Advanced Lowerer) → Lowerer
+left_by s (Ok a) = a.left
+left_by s (Err r) = s
 
 -- One step by its words, as they stand in a record: exactly one step, else 1
 abbrev pub whole_step : Reading Step → Outcome Step
@@ -169,15 +176,9 @@ whole_step Fails = Err Malformed
 unfoldable pub worded_step : List ℕ → Bool → List ℕ → Lowerer → Outcome (Advanced Lowerer)
 worded_step names out words s = bind (whole_step (read_step words)) (λ step. one_step names out step s)
 
--- what is answered where the lowerer is lent
-abbrev pub step_answer : Stepped → StepAnswer
-step_answer d = record { verdict = d.verdict; lifetimes = d.lifetimes }
-
 -- a step of a parameter, then one of the output, from the lowerer that the first left
-abbrev pub input_then_output : List ℕ → List ℕ → List ℕ → Lowerer → Stepped
-input_then_output names input output s =
-    let behind = (stepped s (worded_step names false input s)).lowerer in
-    stepped behind (worded_step names true output behind)
+abbrev pub input_then_output : List ℕ → List ℕ → List ℕ → Lowerer → Outcome (Advanced Lowerer)
+input_then_output names input output s = worded_step names true output (left_by s (worded_step names false input s))
 
 -- Whole records
 

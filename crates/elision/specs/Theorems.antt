@@ -14,7 +14,7 @@ use Rattle.elision.specs.Steps.{Step, Receiver, words_of_step, all_words, steps_
 use Rattle.elision.specs.Rfc.{Occurrence, occurs, makes, is_new, anonymous, count_of, source_at, value_at, checks_at}
 use Rattle.elision.specs.Rfc.{Item, is_self_type, has_self_type, occurrences_at, occurrences, own_from, lowered_at}
 use Rattle.elision.specs.Rfc.{inputs, outputs, Method, elision_checks, method_of, rfc141}
-use Rattle.elision.specs.Machine.{in_turn, one_step, unused, self_ref, stepped, worded_step, run_steps, run_method}
+use Rattle.elision.specs.Machine.{in_turn, one_step, unused, self_ref, left_by, worded_step, run_steps, run_method}
 use Rattle.elision.specs.StepChecks.{word_checks, single_step_checks, worded_checks}
 use Rattle.elision.specs.Examples.{starred, further, Right}
 
@@ -72,7 +72,7 @@ pub record Lends (names : List ℕ) (out : Bool) (words : List ℕ) (s : Lowerer
   pub together : in_turn (worded_step names out) (map words_of_step (steps_of words)) s
       ≡ run_steps names out (steps_of words) s
   pub kept : (r : Refusal) → worded_step names out words s ≡ Err r
-      → (stepped s (worded_step names out words s)).lowerer ≡ s
+      → left_by s (worded_step names out words s) ≡ s
 
 abbrev pub LentSteps : Type 0
 LentSteps = (names : List ℕ) (out : Bool) (words : List ℕ) (s : Lowerer) → Lends names out words s

@@ -25,5 +25,5 @@ mod steps;
 pub use lowerer::{Lifetimes, Lowered, Lowerer, Seen, Standing, Stepped};
 pub use method::{Lowering, finish, lower, measure};
 pub use source::ElisionSource;
-pub use step::{StepAnswer, input_then_output};
+pub use step::input_then_output;
 pub use steps::{self_shape, steps_shape};

@@ -1,9 +1,8 @@
 // The records `self`, `steps` and `returns`: their shape.
 ghost use Rattle.std.specs.Prelude.{◌≡◌, drop};
 ghost use Rattle.records.specs.Reading.{shape_verdict};
-ghost use Rattle.records.specs.Ends.{EndsAt};
 ghost use Rattle.elision.specs.Steps.{read_step, self_in_shape, steps_in_shape};
-ghost use Rattle.elision.specs.Inner.{StandsAt};
+ghost use Rattle.elision.specs.Inner.{StandsAt, end_of};
 
 use answers::Refusal;
 use records::{MAX_LIST, MAX_WORDS, lifetimes_end};
@@ -25,7 +24,19 @@ pub(crate) enum StepAt {
         from: usize,
         to: usize,
     },
-    Missing,
+}
+
+impl StepAt {
+    // The place behind the step.
+    pub(crate) fn end(self) -> usize
+        ensures { result ≡ end_of self }
+    {
+        match self {
+            StepAt::Lifetime { to, .. }
+            | StepAt::Generics { to, .. }
+            | StepAt::SelfType { to, .. } => to,
+        }
+    }
 }
 
 // Whether the record `self` is in shape: empty, or one lifetime. Refused by 1.
@@ -48,76 +59,42 @@ pub fn steps_shape(steps: &[usize]) -> Result<(), Refusal>
     }
     let mut at = 0;
     while at < steps.len() {
-        let end = step_end(steps, at);
-        let Some(next) = end else {
+        let Some(step) = read_step(steps, at) else {
             return Err(Refusal::Malformed);
         };
-        at = next;
+        at = step.end();
     }
     Ok(())
 }
 
-// Where the step ends that stands at a place.
-pub(crate) fn step_end(words: &[usize], at: usize) -> Option<usize>
-    ensures { EndsAt words.now at (read_step (drop at words.now)) result }
-{
-    let step = read_step(words, at);
-    match step {
-        StepAt::Lifetime { word: _, to } => Some(to),
-        StepAt::Generics {
-            generics: _,
-            from: _,
-            to,
-        } => Some(to),
-        StepAt::SelfType { from: _, to } => Some(to),
-        StepAt::Missing => None,
-    }
-}
-
 // The step that stands at a place.
-pub(crate) fn read_step(words: &[usize], at: usize) -> StepAt
+pub(crate) fn read_step(words: &[usize], at: usize) -> Option<StepAt>
     ensures { StandsAt words.now at (read_step (drop at words.now)) result }
 {
-    let n = words.len();
-    if n <= at {
-        return StepAt::Missing;
-    }
-    let kind = words[at];
+    let kind = *words.get(at)?;
     let next = at + 1;
-    if kind == 0 {
-        if n <= next {
-            return StepAt::Missing;
-        }
-        return StepAt::Lifetime {
-            word: words[next],
+    match kind {
+        0 => Some(StepAt::Lifetime {
+            word: *words.get(next)?,
             to: next + 1,
-        };
-    }
-    if kind == 1 {
-        if n <= next {
-            return StepAt::Missing;
+        }),
+        1 => {
+            let generics = *words.get(next)?;
+            if MAX_LIST < generics {
+                return None;
+            }
+            let count = next + 1;
+            let to = lifetimes_end(words, count)?;
+            Some(StepAt::Generics {
+                generics,
+                from: count + 1,
+                to,
+            })
         }
-        let generics = words[next];
-        if MAX_LIST < generics {
-            return StepAt::Missing;
+        2 => {
+            let to = lifetimes_end(words, next)?;
+            Some(StepAt::SelfType { from: next + 1, to })
         }
-        let count = next + 1;
-        let end = lifetimes_end(words, count);
-        let Some(to) = end else {
-            return StepAt::Missing;
-        };
-        return StepAt::Generics {
-            generics,
-            from: count + 1,
-            to,
-        };
+        _ => None,
     }
-    if kind == 2 {
-        let end = lifetimes_end(words, next);
-        let Some(to) = end else {
-            return StepAt::Missing;
-        };
-        return StepAt::SelfType { from: next + 1, to };
-    }
-    StepAt::Missing
 }

@@ -2,12 +2,12 @@
 use Rattle.std.specs.Prelude.{Some, None}
 use Prim.Native.Nat.{ℕ, ◌+◌, ◌≤◌, ◌<◌}
 use mathlib.Core.Bool.{true, false}
-use mathlib.Core.Path.{◌≡◌, refl, sym, ◌∙◌}
+use mathlib.Core.Path.{◌≡◌, sym, ◌∙◌}
 use mathlib.Core.List.{List, ◌∷◌}
-use native.Mathlib.Nat.{le_refl}
 use native.Mathlib.Omega.{arith}
 use native.Mathlib.Numerals.{add-one}
 use lib.ListN.{length, get_or}
+use Rattle.lifetimes.specs.declared.index.Index.{Index}
 use Rattle.lifetimes.specs.declared.lifetime.Lifetime.{Lifetime}
 use Rattle.lifetimes.specs.Sets.{member}
 use Rattle.lifetimes.specs.Bounds.{above}
@@ -19,18 +19,8 @@ pub record Skipping (g : Graph) (stack : List ℕ) (seen at₀ depth₀ at depth
   pub here : at ≤ length g.bounds
   pub deep : depth ≤ depth₀
 
-pub skipping_start : {g : Graph} {stack : List ℕ} {at depth : ℕ} (seen : ℕ) → Ready g stack at depth
-    → Skipping g stack seen at depth at depth
-skipping_start seen r = record { skips = refl; here = r.here; deep = le_refl _ }
-
-module _ {g : Graph} {fars befores stack : List ℕ} (ch : Chained g fars befores) {seen at₀ depth₀ : ℕ}
+module _ {g : Graph} {ix : Index} {stack : List ℕ} (ch : Chained g ix) {seen at₀ depth₀ : ℕ}
     (ready : Ready g stack at₀ depth₀) {at depth : ℕ} (inv : Skipping g stack seen at₀ depth₀ at depth) where
-  pub skipping_at : at ≤ 256
-  skipping_at = omega (arith, inv.here, ch.few)
-
-  pub skipping_depth : depth ≤ 64
-  skipping_depth = omega (arith, inv.deep, ready.deep)
-
   -- the stack's last chain is taken
   module _ (z : at ≡ 0) (k : ℕ) (e : depth ≡ k + 1) where
     pub skipping_top : get_or stack k 0 ≤ length g.bounds
@@ -49,16 +39,16 @@ module _ {g : Graph} {fars befores stack : List ℕ} (ch : Chained g fars before
     inside : i < length g.bounds
     inside = omega (arith, inv.here)
 
-    pub skipping_far : get_or fars i 0 < 64
+    pub skipping_far : get_or ix.far i 0 < 64
     skipping_far = rw (ch.far i inside) (ch.small (get_or g.bounds i (above 0 0)) (at_mem g.bounds i (above 0 0) inside))
 
-    pub skipping_before : get_or befores i 0 ≤ i
+    pub skipping_before : get_or ix.before i 0 ≤ i
     skipping_before = rw (ch.before i inside) (last_le g i (near_at g i))
 
-    one : chain g at ≡ get_or fars i 0 ∷ chain g (get_or befores i 0)
+    one : chain g at ≡ get_or ix.far i 0 ∷ chain g (get_or ix.before i 0)
     one = rw (e, add-one i, chain_more g i, ch.far i inside, ch.before i inside)
 
-    pub skipping_seen : member seen (get_or fars i 0) ≡ true → Skipping g stack seen at₀ depth₀ (get_or befores i 0) depth
+    pub skipping_seen : member seen (get_or ix.far i 0) ≡ true → Skipping g stack seen at₀ depth₀ (get_or ix.before i 0) depth
     unfolding skip
     skipping_seen m = record {
       skips = (rw (one, m) at inv.skips);
@@ -66,8 +56,8 @@ module _ {g : Graph} {fars befores stack : List ℕ} (ch : Chained g fars before
       deep = inv.deep;
     }
 
-    pub skipping_found : member seen (get_or fars i 0) ≡ false → (l : Lifetime) → l.0 ≡ get_or fars i 0
-        → Steps g stack seen at₀ depth₀ (record { next = Some l; at = get_or befores i 0; depth = depth })
+    pub skipping_found : member seen (get_or ix.far i 0) ≡ false → (l : Lifetime) → l.0 ≡ get_or ix.far i 0
+        → Steps g stack seen at₀ depth₀ (record { next = Some l; at = get_or ix.before i 0; depth = depth })
     unfolding skip
     skipping_found m l f = record {
       skips = sym (rw (one, m) at inv.skips) ∙ rw f;

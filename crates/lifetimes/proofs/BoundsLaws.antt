@@ -81,9 +81,6 @@ pub record Checking (n : ℕ) (b : Bounds) (i : ℕ) : Type 0 where
   pub few : b.pushed ≤ 256
   pub left : all_below n (list_of b) ≡ all_below n (drop i (list_of b))
 
-pub checking_start : (n : ℕ) (b : Bounds) → b.pushed ≤ 256 → Checking n b 0
-checking_start n b h = record { few = h; left = refl }
-
 module _ {n : ℕ} {b : Bounds} {i : ℕ} (inv : Checking n b i) where
   pub checking_end : b.pushed ≤ i → Ok (tt {0}) ≡ judged (bounds_checks n b)
   unfolding unless all

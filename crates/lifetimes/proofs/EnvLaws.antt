@@ -4,21 +4,22 @@ use Rattle.std.specs.Prelude.{Ok, Err}
 use Prim.Native.Nat.{ℕ, ◌+◌, ◌≤◌, ◌<◌}
 use mathlib.Core.Bool.{Bool, true, false, not, ◌&&◌}
 use mathlib.Core.Path.{◌≡◌, refl, sym, ap, ◌∙◌}
-use mathlib.Core.List.{[], ◌∷◌, Memᴰ}
+use mathlib.Core.List.{Memᴰ}
 use native.Mathlib.Decide.{dec_lt}
 use native.Mathlib.Omega.{arith}
 use borrow.Author.Tests.{ltb-true, ltb-false, lt-ltb, le-ltb, not-true, not-false}
 use lib.ListN.{length}
 use Rattle.answers.specs.declared.Refusal.{Refusal}
 use Rattle.answers.specs.declared.Refusal.TheVariants.{Full, OutOfRange}
-use Rattle.answers.specs.Refusals.{unless, FirstDue, here, later, NoneDue, end, next, Verdict}
+use Rattle.answers.specs.Refusals.{unless, FirstDue, here, later, NoneDue, end, next}
 use Rattle.answers.specs.Lists.{all}
 use Rattle.answers.specs.Lent.{judged}
 use Rattle.answers.proofs.RefusalLaws.{due_given, due_refused, given_due, refused_first, accepted_none, none_first, none_rest}
 use Rattle.lifetimes.specs.declared.bounds.Bound.{Bound}
+use Rattle.lifetimes.specs.declared.bounds.Bounds.{Bounds}
 use Rattle.lifetimes.specs.declared.env.LifetimeEnv.{LifetimeEnv}
 use Rattle.lifetimes.specs.Bounds.{both_below, all_below, bounds_checks}
-use Rattle.lifetimes.specs.Env.{bounds_of, too_few, env_checks, with_bound, push_bound, made}
+use Rattle.lifetimes.specs.Env.{bounds_of, env_checks, with_bound, push_bound}
 use Rattle.lifetimes.specs.Walk.{near, far}
 use Rattle.lifetimes.proofs.BoundsLaws.{both_below_lem, all_below_lem, bounds_pushed}
 
@@ -83,71 +84,68 @@ module _ (e : LifetimeEnv) where
 pub accepted_valid : (e : LifetimeEnv) → unless (env_checks e) e ≡ Ok e → NoneDue (env_checks e)
 accepted_valid e h = (given_due e e (env_checks e) h).0
 
+-- what the verdict says that `check` answers
+pub check_passed : (e : LifetimeEnv) → Ok (tt {0}) ≡ judged (env_checks e) → NoneDue (env_checks e)
+check_passed e k = accepted_none (tt {0}) (env_checks e) (sym k)
+
+pub check_failed : (e : LifetimeEnv) {r : Refusal} → Err r ≡ judged (env_checks e) → FirstDue r (env_checks e)
+check_failed e {r} k = refused_first (tt {0}) r (env_checks e) (sym k)
+
 -- ---- `check`
 
--- where the limits are kept and the bounds are inside, what is left to look at is the number of the declared
-ranges : (e : LifetimeEnv) → e.count ≤ 64 → e.bounds.pushed ≤ 256 → all_below e.declared (bounds_of e) ≡ true
-    → judged (too_few e.declared e.count ∷ []) ≡ judged (env_checks e)
-unfolding unless
-ranges e lifetimes few inside = rw (le-ltb 64 e.count lifetimes, le-ltb 256 e.bounds.pushed few, inside)
-
-pub declared_refused : (declared count : ℕ) → count < declared → Err OutOfRange ≡ judged (too_few declared count ∷ [])
-unfolding unless
-declared_refused declared count h = rw (lt-ltb count declared h)
-
-pub declared_accepted : (declared count : ℕ) → declared ≤ count → Ok (tt {0}) ≡ judged (too_few declared count ∷ [])
-unfolding unless
-declared_accepted declared count h = rw (le-ltb count declared h)
-
 module _ (e : LifetimeEnv) where
-  pub check_empty : e.count ≤ 64 → e.bounds.pushed ≡ 0 → {w : Verdict} → w ≡ judged (too_few e.declared e.count ∷ [])
-      → w ≡ judged (env_checks e)
-  unfolding all
-  check_empty lifetimes none p = p ∙ ranges e lifetimes (omega arith) (rw none)
-
   pub check_lifetimes : 64 < e.count → Err Full ≡ judged (env_checks e)
   check_lifetimes h = rw (due_refused (tt {0}) (lifetimes_due e h))
 
-  module _ (lifetimes : e.count ≤ 64) {v : Verdict} (checked : v ≡ judged (bounds_checks e.declared e.bounds)) where
-    pub check_bounds : {r : Refusal} → v ≡ Err r → v ≡ judged (env_checks e)
+  module _ (lifetimes : e.count ≤ 64) where
+    pub check_bounds : {r : Refusal} → Err r ≡ judged (bounds_checks e.declared e.bounds) → Err r ≡ judged (env_checks e)
     check_bounds {r} k =
-        rw (k, due_refused (tt {0}) (go (refused_first (tt {0}) r (bounds_checks e.declared e.bounds) (sym checked ∙ k))))
+        rw (due_refused (tt {0}) (go (refused_first (tt {0}) r (bounds_checks e.declared e.bounds) (sym k))))
       where
         go : FirstDue r (bounds_checks e.declared e.bounds) → FirstDue r (env_checks e)
         go (here h q) = later (le-ltb 64 e.count lifetimes) (here h q)
         go (later d (here h q)) = rw (← q) (outside_due e lifetimes (ltb-false 256 e.bounds.pushed d) (not-true _ h))
         go (later d (later _ x9)) = elim x9 [ ]
 
-    none : v ≡ Ok (tt {0}) → NoneDue (bounds_checks e.declared e.bounds)
-    none k = accepted_none (tt {0}) (bounds_checks e.declared e.bounds) (sym checked ∙ k)
+    -- the bounds pass, as they do where there are none
+    module _ (inside : NoneDue (bounds_checks e.declared e.bounds)) where
+      few : e.bounds.pushed ≤ 256
+      few = ltb-false 256 e.bounds.pushed (none_first inside)
 
-    few : v ≡ Ok (tt {0}) → e.bounds.pushed ≤ 256
-    few k = ltb-false 256 e.bounds.pushed (none_first (none k))
+      pub check_declared : e.count < e.declared → Err OutOfRange ≡ judged (env_checks e)
+      check_declared h = rw (due_refused (tt {0}) (declared_due e lifetimes few h))
 
-    pub check_rest : v ≡ Ok (tt {0}) → {w : Verdict} → w ≡ judged (too_few e.declared e.count ∷ []) → w ≡ judged (env_checks e)
-    check_rest k p = p ∙ ranges e lifetimes (few k) (not-false _ (none_first (none_rest (none k))))
+      pub check_given : e.declared ≤ e.count → Ok (tt {0}) ≡ judged (env_checks e)
+      check_given h = rw (due_given (tt {0}) (none_due e lifetimes few h (not-false _ (none_first (none_rest inside)))))
+
+-- what the bounds' verdict says
+pub bounds_passed : (n : ℕ) (b : Bounds) → Ok (tt {0}) ≡ judged (bounds_checks n b) → NoneDue (bounds_checks n b)
+bounds_passed n b k = accepted_none (tt {0}) (bounds_checks n b) (sym k)
+
+pub bounds_none : (n : ℕ) (b : Bounds) → b.pushed ≡ 0 → NoneDue (bounds_checks n b)
+unfolding all
+bounds_none n b h = next (rw h) (next (rw h) end)
 
 -- ---- `push_bound`
 
 module _ (e : LifetimeEnv) (b : Bound) where
   refused_with : {r : Refusal} → FirstDue r (env_checks (with_bound e b))
-      → record { verdict = Err r; env = e } ≡ made e (push_bound e b)
+      → Err r ≡ push_bound e b
   unfolding push_bound
-  refused_with due = rw (due_refused (with_bound e b) due)
+  refused_with due = sym (due_refused (with_bound e b) due)
 
-  pub push_full : 256 ≤ e.bounds.pushed → record { verdict = Err Full; env = e } ≡ made e (push_bound e b)
+  pub push_full : 256 ≤ e.bounds.pushed → Err Full ≡ push_bound e b
   push_full h = refused_with (elim (dec_lt 64 e.count) [
     | yes l ↦ lifetimes_due (with_bound e b) l
     | no g ↦ bounds_due (with_bound e b) (omega arith) (omega arith)
   ])
 
-  module _ (full : length e.bounds.list ≡ 256) (room : e.bounds.pushed < 256) {v : Verdict}
-      (checked : v ≡ judged (env_checks e)) where
+  module _ (full : length e.bounds.list ≡ 256) (room : e.bounds.pushed < 256) where
     sides : all_below e.declared (bounds_of (with_bound e b)) ≡ all_below e.declared (bounds_of e) && both_below e.declared b
     sides = bounds_pushed e.declared e.bounds b full room
 
-    pub push_refused : {r : Refusal} → v ≡ Err r → record { verdict = v; env = e } ≡ made e (push_bound e b)
-    push_refused {r} k = rw k (refused_with (go (refused_first (tt {0}) r (env_checks e) (sym checked ∙ k))))
+    pub push_refused : {r : Refusal} → Err r ≡ judged (env_checks e) → Err r ≡ push_bound e b
+    push_refused {r} k = refused_with (go (check_failed e k))
       where
         go : FirstDue r (env_checks e) → FirstDue r (env_checks (with_bound e b))
         go (here h q) = here h q
@@ -158,29 +156,24 @@ module _ (e : LifetimeEnv) (b : Bound) where
             later c (later (le-ltb 256 (e.bounds.pushed + 1) (omega arith)) (later l (here (ap not past) q)))
         go (later c (later d (later l (later _ x15)))) = elim x15 [ ]
 
-    none_before : v ≡ Ok (tt {0}) → NoneDue (env_checks e)
-    none_before k = accepted_none (tt {0}) (env_checks e) (sym checked ∙ k)
+    module _ (passed : Ok (tt {0}) ≡ judged (env_checks e)) where
+      fine : Valid e
+      fine = valid e (check_passed e passed)
 
-    inside : v ≡ Ok (tt {0}) → all_below e.declared (bounds_of e) ≡ true
-    inside k = not-false _ (none_first (none_rest (none_rest (none_rest (none_before k)))))
+      inside : all_below e.declared (bounds_of e) ≡ true
+      inside = not-false _ (none_first (none_rest (none_rest (none_rest (check_passed e passed)))))
 
-    pub push_outside : v ≡ Ok (tt {0}) → both_below e.declared b ≡ false
-        → record { verdict = Err OutOfRange; env = e } ≡ made e (push_bound e b)
-    push_outside k f =
-        let fine = valid e (none_before k) in
-        refused_with (side_due (with_bound e b) fine.counted (omega arith) fine.declares (sides ∙ rw (inside k, f)))
+      pub push_outside : both_below e.declared b ≡ false → Err OutOfRange ≡ push_bound e b
+      push_outside f = refused_with (side_due (with_bound e b) fine.counted (omega arith) fine.declares (sides ∙ rw (inside, f)))
 
-    -- a bound that is taken has numbers that fit a byte
-    pub push_small : v ≡ Ok (tt {0}) → both_below e.declared b ≡ true → (b.longer < 256) × (b.shorter < 256)
-    push_small k t =
-        let fine = valid e (none_before k) in
-        let both = both_below_lem b t in
-        (omega (arith, both.0, fine.counted, fine.declares), omega (arith, both.1, fine.counted, fine.declares))
+      -- a bound that is taken has numbers that fit a byte
+      pub push_small : both_below e.declared b ≡ true → (b.longer < 256) × (b.shorter < 256)
+      push_small t =
+          let both = both_below_lem b t in
+          (omega (arith, both.0, fine.counted, fine.declares), omega (arith, both.1, fine.counted, fine.declares))
 
-    pub push_given : v ≡ Ok (tt {0}) → both_below e.declared b ≡ true
-        → record { verdict = Ok (tt {0}); env = with_bound e b } ≡ made e (push_bound e b)
-    unfolding push_bound
-    push_given k t =
-        let fine = valid e (none_before k) in
-        let fits = none_due (with_bound e b) fine.counted (omega arith) fine.declares (sides ∙ rw (inside k, t)) in
-        rw (due_given (with_bound e b) fits)
+      pub push_given : both_below e.declared b ≡ true → Ok (with_bound e b) ≡ push_bound e b
+      unfolding push_bound
+      push_given t =
+          let fits = none_due (with_bound e b) fine.counted (omega arith) fine.declares (sides ∙ rw (inside, t)) in
+          sym (due_given (with_bound e b) fits)

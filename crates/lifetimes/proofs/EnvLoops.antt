@@ -1,15 +1,14 @@
 -- Pairs longer, shorter as words: how a loop reads them, and the loops of `pairs_below` and `filled`. Then the answers
 -- of `LifetimeEnv::new`.
 use Rattle.std.specs.Prelude.{Ok, Err}
-use Prim.Native.Nat.{ℕ, suc, ◌+◌, ◌-◌, ◌/◌, ◌%◌, ◌≤◌, ◌<◌}
+use Prim.Native.Nat.{ℕ, suc, ◌+◌, ◌*◌, ◌-◌, ◌/◌, ◌%◌, ◌≤◌, ◌<◌}
 use mathlib.Core.Bool.{Bool, true, false, and-eq-true_iff}
-use mathlib.Core.Path.{◌≡◌, refl, ap, ◌∙◌}
+use mathlib.Core.Path.{◌≡◌, refl, sym, ◌∙◌}
 use mathlib.Core.List.{List, [], ◌∷◌, ◌++◌}
 use native.Mathlib.Nat.{zero-add}
 use native.Mathlib.Numerals.{add-one}
 use native.Mathlib.Omega.{arith}
-use borrow.Author.Tests.{eq-eqb, ne_eqb, ltb-true}
-use lib.Dec.{ltb}
+use borrow.Author.Tests.{eq-eqb, ne_eqb}
 use lib.ListN.{length, get_or, drop, set, replicate, drop_of_length-le}
 use lib.Seq.{drop-cons, sets, sets-eq}
 use Rattle.answers.specs.Lists.{all}
@@ -18,11 +17,10 @@ use Rattle.answers.specs.declared.Refusal.TheVariants.{Malformed, Full, OutOfRan
 use Rattle.lifetimes.specs.declared.bounds.Bound.{Bound}
 use Rattle.lifetimes.specs.declared.bounds.Bounds.{Bounds}
 use Rattle.lifetimes.specs.declared.env.LifetimeEnv.{LifetimeEnv}
-use Rattle.lifetimes.specs.declared.env.Made.{Made}
 use Rattle.answers.specs.Refusals.{FirstDue, here, later, NoneDue, next}
 use Rattle.lifetimes.specs.Bounds.{above, bounds_from, both_below, all_below}
-use Rattle.lifetimes.specs.Env.{bounds_of, env_checks, bounds_of_pairs, new_checks, env_of, new_env, made}
-use Rattle.lifetimes.proofs.BoundsLaws.{bounds_made}
+use Rattle.lifetimes.specs.Env.{bounds_of, env_checks, bounds_of_pairs, new_checks, env_of, new_env}
+use Rattle.lifetimes.proofs.BoundsLaws.{both_below_lem, bounds_made}
 use Rattle.lifetimes.proofs.EnvLaws.{lifetimes_due, bounds_due, declared_due, side_due, none_due}
 use Rattle.answers.proofs.RefusalLaws.{due_given, due_refused}
 use Rattle.answers.proofs.Copying.{drop_replicate}
@@ -42,107 +40,82 @@ pairs_many [] = omega arith
 pairs_many (l ∷ []) = omega arith
 pairs_many (l ∷ s ∷ words) = let r = pairs_many words in omega arith
 
-pairs_end : (words : List ℕ) (i : ℕ) → length words ≤ i → bounds_of_pairs (drop i words) ≡ []
-unfolding bounds_of_pairs
-pairs_end words i h = rw (drop_of_length-le words {i = i} h)
+-- where no word is left over, there are half as many bounds
+pairs_half : (words : List ℕ) → length words % 2 ≡ 0 → length (bounds_of_pairs words) ≡ length words / 2
+pairs_half words even = omega (arith, pairs_few words, pairs_many words)
 
--- a pair begins at i, or the words have ended
-pub record AtPair (words : List ℕ) (i : ℕ) : Type 0 where
-  pub even : (length words - i) % 2 ≡ 0
-
-at_start : (words : List ℕ) → length words % 2 ≡ 0 → AtPair words 0
-at_start words e = record { even = omega arith }
-
-module _ {words : List ℕ} {i : ℕ} (at : AtPair words i) (h : i < length words) where
-  pub pair_second : i + 1 < length words
-  pair_second = omega (arith, at.even)
-
-  pair_next : AtPair words (i + 2)
-  pair_next = record { even = omega (arith, at.even) }
-
-  pair_read : bounds_of_pairs (drop i words) ≡ above (get_or words i 0) (get_or words (i + 1) 0) ∷ bounds_of_pairs (drop (i + 2) words)
+module _ (words : List ℕ) (even : length words % 2 ≡ 0) (i : ℕ) where
+  pairs_end : length words / 2 ≤ i → bounds_of_pairs (drop (2 * i) words) ≡ []
   unfolding bounds_of_pairs
-  pair_read =
-      let two : i + 2 ≡ suc (suc i) = omega arith in
-      let k : suc i < length words = omega (arith, pair_second) in
-      rw (two, add-one i, drop-cons words i 0 h, drop-cons words (suc i) 0 k)
+  pairs_end h = rw (drop_of_length-le words {i = 2 * i} (omega arith))
+
+  pair_read : i < length words / 2 → bounds_of_pairs (drop (2 * i) words)
+      ≡ above (get_or words (2 * i) 0) (get_or words (2 * i + 1) 0) ∷ bounds_of_pairs (drop (2 * (i + 1)) words)
+  unfolding bounds_of_pairs
+  pair_read h =
+      let two : 2 * (i + 1) ≡ suc (suc (2 * i)) = omega arith in
+      let first : 2 * i < length words = omega arith in
+      let second : suc (2 * i) < length words = omega arith in
+      rw (two, add-one (2 * i), drop-cons words (2 * i) 0 first, drop-cons words (suc (2 * i)) 0 second)
 
 -- ---- `pairs_below`
 
 pub record Below (limit : ℕ) (words : List ℕ) (i : ℕ) : Type 0 where
-  pub at : AtPair words i
-  pub left : all_below limit (bounds_of_pairs words) ≡ all_below limit (bounds_of_pairs (drop i words))
-
-pub below_start : (limit : ℕ) (words : List ℕ) → length words % 2 ≡ 0 → Below limit words 0
-below_start limit words e = record { at = at_start words e; left = refl }
+  pub even : length words % 2 ≡ 0
+  pub left : all_below limit (bounds_of_pairs words) ≡ all_below limit (bounds_of_pairs (drop (2 * i) words))
 
 module _ {limit : ℕ} {words : List ℕ} {i : ℕ} (inv : Below limit words i) where
-  pub below_end : length words ≤ i → true ≡ all_below limit (bounds_of_pairs words)
+  pub below_end : length words / 2 ≤ i → true ≡ all_below limit (bounds_of_pairs words)
   unfolding all
-  below_end h = rw (inv.left, pairs_end words i h)
+  below_end h = rw (inv.left, pairs_end words inv.even i h)
 
-  module _ (h : i < length words) where
-    pub below_refused : both_below limit (above (get_or words i 0) (get_or words (i + 1) 0)) ≡ false
+  module _ (h : i < length words / 2) where
+    pub below_refused : both_below limit (above (get_or words (2 * i) 0) (get_or words (2 * i + 1) 0)) ≡ false
         → false ≡ all_below limit (bounds_of_pairs words)
     unfolding all
-    below_refused f = rw (inv.left, pair_read inv.at h, f)
+    below_refused f = rw (inv.left, pair_read words inv.even i h, f)
 
-    pub below_more : both_below limit (above (get_or words i 0) (get_or words (i + 1) 0)) ≡ true → Below limit words (i + 2)
+    pub below_more : both_below limit (above (get_or words (2 * i) 0) (get_or words (2 * i + 1) 0)) ≡ true
+        → Below limit words (i + 1)
     unfolding all
-    below_more t = record { at = pair_next inv.at h; left = inv.left ∙ rw (pair_read inv.at h, t) }
+    below_more t = record { even = inv.even; left = inv.left ∙ rw (pair_read words inv.even i h, t) }
 
 -- ---- `filled`
 
 -- what is left to store, stored from here, gives what all pairs give from the array's start
-pub record Filling (words : List ℕ) (bounds : List Bound) (pushed i : ℕ) : Type 0 where
-  pub at : AtPair words i
-  pub places : pushed + length (bounds_of_pairs (drop i words)) ≡ length (bounds_of_pairs words)
-  pub stored : sets bounds pushed (bounds_of_pairs (drop i words)) ≡ sets (replicate 256 (above 0 0)) 0 (bounds_of_pairs words)
-  pub small : all_below 256 (bounds_of_pairs (drop i words)) ≡ true
+pub record Filling (words : List ℕ) (bounds : List Bound) (i : ℕ) : Type 0 where
+  pub even : length words % 2 ≡ 0
+  pub stored : sets bounds i (bounds_of_pairs (drop (2 * i) words)) ≡ sets (replicate 256 (above 0 0)) 0 (bounds_of_pairs words)
+  pub small : all_below 256 (bounds_of_pairs (drop (2 * i) words)) ≡ true
 
-pub filling_start : (words : List ℕ) → length words % 2 ≡ 0 → all_below 256 (bounds_of_pairs words) ≡ true → {b : Bound}
-    → b ≡ above 0 0 → Filling words (replicate 256 b) 0 0
-filling_start words e small {b} q =
-    record { at = at_start words e; places = zero-add (length (bounds_of_pairs words)); stored = rw q; small = small }
-
-module _ {words : List ℕ} {bounds : List Bound} {pushed i : ℕ} (inv : Filling words bounds pushed i) where
-  module _ (h : i < length words) where
-    sides_here : (both_below 256 (above (get_or words i 0) (get_or words (i + 1) 0)) ≡ true)
-        × (all_below 256 (bounds_of_pairs (drop (i + 2) words)) ≡ true)
+module _ {words : List ℕ} {bounds : List Bound} {i : ℕ} (inv : Filling words bounds i) where
+  module _ (h : i < length words / 2) where
+    sides_here : (both_below 256 (above (get_or words (2 * i) 0) (get_or words (2 * i + 1) 0)) ≡ true)
+        × (all_below 256 (bounds_of_pairs (drop (2 * (i + 1)) words)) ≡ true)
     unfolding all
-    sides_here = (and-eq-true_iff _ _).0 (rw (pair_read inv.at h) at inv.small)
+    sides_here = (and-eq-true_iff _ _).0 (rw (pair_read words inv.even i h) at inv.small)
 
-    pub filling_small : (get_or words i 0 < 256) × (get_or words (i + 1) 0 < 256)
-    filling_small =
-        let sides = (and-eq-true_iff (ltb (get_or words i 0) 256) (ltb (get_or words (i + 1) 0) 256)).0 sides_here.0 in
-        (ltb-true (get_or words i 0) 256 sides.0, ltb-true (get_or words (i + 1) 0) 256 sides.1)
+    pub filling_small : (get_or words (2 * i) 0 < 256) × (get_or words (2 * i + 1) 0 < 256)
+    filling_small = both_below_lem (above (get_or words (2 * i) 0) (get_or words (2 * i + 1) 0)) sides_here.0
 
-    pub filling_more : {b : Bound} → b ≡ above (get_or words i 0) (get_or words (i + 1) 0)
-        → Filling words (set bounds pushed b) (pushed + 1) (i + 2)
-    filling_more {b} q =
-        let e = pair_read inv.at h in
-        record {
-          at = pair_next inv.at h;
-          places = omega (arith, inv.places, ap length e);
-          stored = rw (q, add-one pushed) (rw e at inv.stored);
-          small = sides_here.1;
-        }
+    pub filling_more : {b : Bound} → b ≡ above (get_or words (2 * i) 0) (get_or words (2 * i + 1) 0)
+        → Filling words (set bounds i b) (i + 1)
+    filling_more {b} q = record {
+      even = inv.even;
+      stored = rw (q, add-one i) (rw (pair_read words inv.even i h, add-one i) at inv.stored);
+      small = sides_here.1;
+    }
 
-  module _ (few : length words ≤ 512) where
-    pub filling_room : i < length words → pushed < 256
-    filling_room h = omega (arith, inv.places, ap length (pair_read inv.at h), pairs_few words)
-
-    all_stored : length words ≤ i → bounds ≡ bounds_of_pairs words ++ replicate (256 - length (bounds_of_pairs words)) (above 0 0)
-    all_stored h =
-        rw (pairs_end words i h) at inv.stored
-        ∙ sets-eq (bounds_of_pairs words) (replicate 256 (above 0 0)) 0 (omega (arith, pairs_few words))
-        ∙ rw (zero-add, drop_replicate (length (bounds_of_pairs words)) 256 (above 0 0))
-
-    pub filling_end : length words ≤ i → record { pushed = pushed; list = bounds } ≡ bounds_from (bounds_of_pairs words)
-    unfolding bounds_from
-    filling_end h =
-        let all : pushed ≡ length (bounds_of_pairs words) = omega (arith, inv.places, ap length (pairs_end words i h)) in
-        rw (all, all_stored h)
+  pub filling_end : length words ≤ 512 → length words / 2 ≤ i
+      → record { pushed = length words / 2; list = bounds } ≡ bounds_from (bounds_of_pairs words)
+  unfolding bounds_from
+  filling_end few h =
+      let half = pairs_half words inv.even in
+      let all : bounds ≡ bounds_of_pairs words ++ replicate (256 - length (bounds_of_pairs words)) (above 0 0) =
+      rw (pairs_end words inv.even i h) at inv.stored
+      ∙ sets-eq (bounds_of_pairs words) (replicate 256 (above 0 0)) 0 (omega (arith, half))
+      ∙ rw (zero-add, drop_replicate (length (bounds_of_pairs words)) 256 (above 0 0)) in
+      rw (← half, all)
 
 -- ---- `LifetimeEnv::new`
 
@@ -150,54 +123,45 @@ module _ (declared count : ℕ) (words : List ℕ) where
   abbrev asked : LifetimeEnv
   asked = env_of declared count (bounds_of_pairs words)
 
-  refused_by_lem : {r : Refusal} {m : Made} → FirstDue r (new_checks declared count words)
-      → m ≡ record { verdict = Err r; env = env_of 0 0 [] } → m ≡ made (env_of 0 0 []) (new_env declared count words)
+  refused_by_lem : {r : Refusal} → FirstDue r (new_checks declared count words) → Err r ≡ new_env declared count words
   unfolding new_env
-  refused_by_lem f e = rw (due_refused asked f) e
+  refused_by_lem f = sym (due_refused asked f)
 
-  pub new_half : {m : Made} → length words % 2 ≡ 1
-      → m ≡ record { verdict = Err Malformed; env = env_of 0 0 [] } → m ≡ made (env_of 0 0 []) (new_env declared count words)
-  new_half h e = refused_by_lem (here (eq-eqb (length words % 2) 1 h) refl) e
+  pub new_half : length words % 2 ≡ 1 → Err Malformed ≡ new_env declared count words
+  new_half h = refused_by_lem (here (eq-eqb (length words % 2) 1 h) refl)
 
   module _ (even : length words % 2 ≡ 1 → ⊥) where
-    new_refused : {r : Refusal} {m : Made} → FirstDue r (env_checks asked)
-        → m ≡ record { verdict = Err r; env = env_of 0 0 [] } → m ≡ made (env_of 0 0 []) (new_env declared count words)
-    new_refused f e = refused_by_lem (later (ne_eqb (length words % 2) 1 even) f) e
+    new_refused : {r : Refusal} → FirstDue r (env_checks asked) → Err r ≡ new_env declared count words
+    new_refused f = refused_by_lem (later (ne_eqb (length words % 2) 1 even) f)
 
-    pub new_lifetimes : {m : Made} → 64 < count → m ≡ record { verdict = Err Full; env = env_of 0 0 [] }
-        → m ≡ made (env_of 0 0 []) (new_env declared count words)
+    pub new_lifetimes : 64 < count → Err Full ≡ new_env declared count words
     unfolding env_of
-    new_lifetimes h e = new_refused (lifetimes_due asked h) e
+    new_lifetimes h = new_refused (lifetimes_due asked h)
 
     module _ (lifetimes : count ≤ 64) where
-      pub new_bounds : {m : Made} → 256 < length words / 2 → m ≡ record { verdict = Err Full; env = env_of 0 0 [] }
-          → m ≡ made (env_of 0 0 []) (new_env declared count words)
+      pub new_bounds : 256 < length words / 2 → Err Full ≡ new_env declared count words
       unfolding env_of bounds_from
-      new_bounds h e = new_refused (bounds_due asked lifetimes (omega (arith, pairs_many words))) e
+      new_bounds h = new_refused (bounds_due asked lifetimes (omega (arith, pairs_many words)))
 
       module _ (few : length words / 2 ≤ 256) where
         few_pairs : length (bounds_of_pairs words) ≤ 256
         few_pairs = omega (arith, pairs_few words)
 
-        pub new_declared : {m : Made} → count < declared → m ≡ record { verdict = Err OutOfRange; env = env_of 0 0 [] }
-            → m ≡ made (env_of 0 0 []) (new_env declared count words)
+        pub new_declared : count < declared → Err OutOfRange ≡ new_env declared count words
         unfolding env_of bounds_from
-        new_declared h e = new_refused (declared_due asked lifetimes few_pairs h) e
+        new_declared h = new_refused (declared_due asked lifetimes few_pairs h)
 
         module _ (declares : declared ≤ count) where
           sides : {t : Bool} → all_below declared (bounds_of_pairs words) ≡ t → all_below declared (bounds_of asked) ≡ t
           unfolding env_of
           sides h = rw (bounds_made (bounds_of_pairs words)) h
 
-          pub new_outside : {m : Made} → all_below declared (bounds_of_pairs words) ≡ false
-              → m ≡ record { verdict = Err OutOfRange; env = env_of 0 0 [] }
-              → m ≡ made (env_of 0 0 []) (new_env declared count words)
+          pub new_outside : all_below declared (bounds_of_pairs words) ≡ false → Err OutOfRange ≡ new_env declared count words
           unfolding env_of bounds_from
-          new_outside h e = new_refused (side_due asked lifetimes few_pairs declares (sides h)) e
+          new_outside h = new_refused (side_due asked lifetimes few_pairs declares (sides h))
 
           pub new_given : {b : Bounds} → all_below declared (bounds_of_pairs words) ≡ true → b ≡ bounds_from (bounds_of_pairs words)
-              → record { verdict = Ok (tt {0}); env = record { declared = declared; count = count; bounds = b } }
-              ≡ made (env_of 0 0 []) (new_env declared count words)
+              → Ok (record { declared = declared; count = count; bounds = b }) ≡ new_env declared count words
           unfolding new_env env_of bounds_from
           new_given h e =
               let none : NoneDue (new_checks declared count words) =

@@ -1,7 +1,6 @@
 -- Laws of the definitions, and of the loops over plain values.
 -- Of definitions:
 pub mod SetLaws
-pub mod MaybeStaticLaws
 pub mod BoundsLaws
 pub mod EnvLaws
 pub mod NeighbourLaws

@@ -3,17 +3,17 @@ use Rattle.std.specs.Prelude.{Ok, Err}
 use Prim.Native.Nat.{ℕ, ◌≤◌, ◌<◌}
 use mathlib.Core.Bool.{Bool, true, false}
 use mathlib.Core.Path.{◌≡◌, refl, sym, ap, ◌∙◌}
-use mathlib.Core.List.{List, map, flatten}
+use mathlib.Core.List.{List, ◌++◌, map, flatten}
 use native.Mathlib.Omega.{arith}
 use borrow.Author.Tests.{le-leb, lt-leb, le-ltb}
-use lib.ListN.{length, take, length-map}
+use lib.ListN.{length, drop, take, length-map}
 use lib.Seq.{sets, length-take-le}
 use Rattle.answers.specs.declared.Refusal.{Refusal}
 use Rattle.answers.specs.declared.Refusal.TheVariants.{OutOfRange, NoRoom}
 use Rattle.lifetimes.specs.declared.env.LifetimeEnv.{LifetimeEnv}
 use Rattle.lifetimes.specs.declared.reach.Lists.{Lists}
 use Rattle.answers.specs.Lists.{range}
-use Rattle.answers.specs.Refusals.{FirstDue, here, later, NoneDue, end, next}
+use Rattle.answers.specs.Refusals.{Outcome, FirstDue, here, later, NoneDue, end, next}
 use Rattle.answers.specs.Lent.{counted, written}
 use Rattle.lifetimes.specs.Env.{bounds_of, env_checks}
 use Rattle.lifetimes.specs.Walk.{order_of}
@@ -61,13 +61,13 @@ module _ (e : LifetimeEnv) (x : ℕ) (list slice : List ℕ) where
           (first_after none (later (lt-leb e.count x inside) (no_room (length slice) list (omega (arith, long)))))
 
       pub list_given : n ≤ length slice → (Ok n ≡ counted (list_from e x list (length slice)))
-          × (sets slice 0 (take n items) ≡ written (list_from e x list (length slice)) slice)
+          × (take n items ++ drop n slice ≡ written (list_from e x list (length slice)) slice)
       unfolding list_from
       list_given h =
           let room : length list ≤ length slice = omega (arith, long) in
           let a = answers_list list slice
           (none_more none (next (lt-leb e.count x inside) (has_room (length slice) list room end))) in
-          (rw long a.0, rw is (sets_front slice list room ∙ a.1))
+          (rw long a.0, rw (is, long) a.1)
 
 -- the sets of all lifetimes, in an array of zeros
 sets_all : (d : Bool) (e : LifetimeEnv) → e.count ≤ 64 → (reach : List ℕ)
@@ -79,36 +79,35 @@ sets_all d e h reach is =
     is ∙ sets_front no_sets all (omega (arith, long)) ∙ rw (long, drop_replicate {A = ℕ} e.count 64 0)
 
 module _ (d : Bool) (e : LifetimeEnv) where
-  pub sets_refused : {r : Refusal} → FirstDue r (env_checks e) → record { verdict = Err r; sets = no_sets } ≡ reach_sets d e
+  pub sets_refused : {r : Refusal} → FirstDue r (env_checks e) → Err r ≡ reach_sets d e
   unfolding reach_sets
-  sets_refused f = rw (due_refused e f, due_refused (all_sets d e) f)
+  sets_refused f = sym (due_refused (all_sets d e) f)
 
   pub sets_given : {reach : List ℕ} {total : ℕ} → NoneDue (env_checks e)
       → Measures (graph_of d e) e.count no_sets reach total
-      → record { verdict = Ok (tt {0}); sets = reach } ≡ reach_sets d e
+      → Ok reach ≡ reach_sets d e
   unfolding reach_sets reach_set reach_list
-  sets_given {reach} none m =
-      rw (due_given e none, due_given (all_sets d e) none, sets_all d e (valid e none).counted reach m.reach)
+  sets_given {reach} none m = rw (due_given (all_sets d e) none, sets_all d e (valid e none).counted reach m.reach)
 
 -- all lists: the answer, the words, the ends
 module _ (d : Bool) (e : LifetimeEnv) (words ends : List ℕ) where
-  abbrev pub ListsAre : Lists → List ℕ → List ℕ → Type 0
+  abbrev pub ListsAre : Outcome Lists → List ℕ → List ℕ → Type 0
   ListsAre r words₁ ends₁ =
       (r ≡ lists_answer d e (length words) (length ends))
       × (words₁ ≡ written (list_words d e (length words) (length ends)) words)
       × (ends₁ ≡ written (list_ends d e (length words) (length ends)) ends)
 
   lists_by : {r : Refusal} → FirstDue r (lists_checks d e (length words) (length ends))
-      → ListsAre (record { listed = Err r; sets = no_sets }) words ends
+      → ListsAre (Err r) words ends
   unfolding lists_answer list_words list_ends
   lists_by f = (
-    rw (due_refused (flatten (all_lists d e)) f, due_refused (all_sets d e) f),
+    sym (due_refused (record { count = length (flatten (all_lists d e)); sets = all_sets d e }) f),
     rw (due_refused (flatten (all_lists d e)) f),
     rw (due_refused (ends_from 0 (all_lists d e)) f),
   )
 
   pub lists_refused : {r : Refusal} → FirstDue r (env_checks e)
-      → ListsAre (record { listed = Err r; sets = no_sets }) words ends
+      → ListsAre (Err r) words ends
   lists_refused f = lists_by (first_more _ f)
 
   module _ (none : NoneDue (env_checks e)) where
@@ -116,12 +115,12 @@ module _ (d : Bool) (e : LifetimeEnv) (words ends : List ℕ) where
     unfolding all_lists reach_list
     ends_long = length_ends 0 (lists_from (graph_of d e) 0 e.count) ∙ simp length-map (length_range 0 e.count)
 
-    pub lists_no_ends : length ends < e.count → ListsAre (record { listed = Err NoRoom; sets = no_sets }) words ends
+    pub lists_no_ends : length ends < e.count → ListsAre (Err NoRoom) words ends
     lists_no_ends h = lists_by (first_after none (no_room (length ends) (ends_from 0 (all_lists d e)) (omega (arith, ends_long))))
 
     module _ (places : e.count ≤ length ends) where
       pub lists_no_words : length words < length (flatten (lists_from (graph_of d e) 0 e.count))
-          → ListsAre (record { listed = Err NoRoom; sets = no_sets }) words ends
+          → ListsAre (Err NoRoom) words ends
       unfolding all_lists reach_list
       lists_no_words h =
           let room : length (ends_from 0 (all_lists d e)) ≤ length ends = omega (arith, ends_long) in
@@ -132,7 +131,7 @@ module _ (d : Bool) (e : LifetimeEnv) (words ends : List ℕ) where
       pub lists_given : length (flatten (lists_from (graph_of d e) 0 e.count)) ≤ length words
           → {words₁ ends₁ reach : List ℕ} {total : ℕ}
           → Lays (graph_of d e) e.count words ends no_sets words₁ ends₁ reach total
-          → ListsAre (record { listed = Ok total; sets = reach }) words₁ ends₁
+          → ListsAre (Ok (record { count = total; sets = reach })) words₁ ends₁
       unfolding lists_answer list_words list_ends all_lists reach_set reach_list
       lists_given fits {words₁} {ends₁} {reach} {total} lays =
           let room : length (ends_from 0 (all_lists d e)) ≤ length ends = omega (arith, ends_long) in
@@ -141,8 +140,7 @@ module _ (d : Bool) (e : LifetimeEnv) (words ends : List ℕ) where
           (has_room (length ends) (ends_from 0 (all_lists d e)) room
           (has_room (length words) (flatten (all_lists d e)) fits end)) in (
             rw (
-              due_given (flatten (all_lists d e)) n,
-              due_given (all_sets d e) n,
+              due_given {A = Lists} (record { count = length (flatten (all_lists d e)); sets = all_sets d e }) n,
               lays.measures.total,
               sets_all d e (valid e none).counted reach lays.measures.reach,
             ),

@@ -1,16 +1,21 @@
 -- The loops of `measure` and `lay`: what is left, done from here, gives what all gives from the start.
 use Prim.Native.Nat.{ℕ, zero, suc, ◌+◌, ◌*◌, ◌-◌, ◌≤◌, ◌<◌}
 use mathlib.Core.Path.{◌≡◌, refl, sym, ap, ◌∙◌}
-use mathlib.Core.List.{List, [], ◌∷◌, ◌++◌, flatten}
-use native.Mathlib.Nat.{sub-zero, zero-add, mul-suc}
+use mathlib.Core.List.{List, [], ◌∷◌, ◌++◌, append_assoc, flatten}
+use native.Mathlib.Nat.{mul-suc}
 use native.Mathlib.Omega.{arith}
 use native.Mathlib.Numerals.{add-one}
-use lib.ListN.{length, set, length-append}
-use lib.Seq.{sets}
+use borrow.Rule.Slice.PartMut.{put_mid}
+use lib.ListN.{length, set, take, length-append}
+use lib.Seq.{sets, sets-eq, length-take-le}
+use Rattle.std.proofs.lemmas.List.{drop-drop}
 use Rattle.answers.specs.Lists.{range}
 use Rattle.lifetimes.specs.Walk.{LastFirst}
 use Rattle.answers.specs.Lists.{ends_from}
-use Rattle.lifetimes.specs.Index.{Graph, Within, list_over, set_over, lists_from, sets_from, Measures, Lays}
+use Rattle.lifetimes.specs.declared.index.Index.{Index}
+use Rattle.lifetimes.specs.declared.walk.Walked.{Walked}
+use Rattle.lifetimes.specs.Index.{Graph, Indexed, Within, list_over, set_over, lists_from, sets_from, Complete}
+use Rattle.lifetimes.specs.Index.{Measures, Lays, Layable}
 use Rattle.lifetimes.proofs.ReachLaws.{traversal_few}
 use Rattle.answers.proofs.Copying.{sets_append}
 
@@ -47,16 +52,18 @@ pub record Measuring (g : Graph) (count : ℕ) (reach₀ reach : List ℕ) (x to
   pub total_left : total + length (flatten (lists_left g count x)) ≡ length (flatten (lists_from g 0 count))
   pub reach_left : sets reach x (sets_left g count x) ≡ sets reach₀ 0 (sets_from g 0 count)
 
-pub measuring_start : (g : Graph) (count : ℕ) (reach : List ℕ) → Measuring g count reach reach 0 0
-measuring_start g count reach = record { here = omega arith; total_left = rw (zero-add, sub-zero); reach_left = rw sub-zero }
-
 module _ {g : Graph} {count : ℕ} {reach₀ reach : List ℕ} {x total : ℕ} (inv : Measuring g count reach₀ reach x total) where
-  pub measuring_more : x < count → (n s : ℕ) → n ≡ length (list_over g x) → s ≡ set_over g x
-      → Measuring g count reach₀ (set reach x s) (x + 1) (total + n)
-  measuring_more h n s p q = record {
+  pub measuring_more : x < count → {items : List ℕ} {r : Walked} → r.count ≤ length items → Complete g x items r
+      → Measuring g count reach₀ (set reach x r.seen) (x + 1) (total + r.count)
+  measuring_more h {items} {r} few done = record {
     here = omega arith;
-    total_left = omega (arith, p, rw (words_next g count x h, length-append) at inv.total_left);
-    reach_left = rw (q, add-one x) (rw (sets_next g count x h, add-one x) at inv.reach_left);
+    total_left = omega (
+      arith,
+      length-take-le r.count items few,
+      ap length done.items,
+      rw (words_next g count x h, length-append) at inv.total_left,
+    );
+    reach_left = rw (done.seen, add-one x) (rw (sets_next g count x h, add-one x) at inv.reach_left);
   }
 
   pub measuring_end : count ≤ x → Measures g count reach₀ reach total
@@ -66,33 +73,43 @@ module _ {g : Graph} {count : ℕ} {reach₀ reach : List ℕ} {x total : ℕ} (
       record { total = omega (arith, rw none at inv.total_left); reach = (rw none at inv.reach_left) }
 
 -- `lay`
+
+-- what a copy to a part leaves
+pub put_sets : (l : List ℕ) (at n : ℕ) (vs : List ℕ) → length vs ≡ n → at + n ≤ length l
+    → put_mid at (at + n - at) l vs ≡ sets l at vs
+put_sets l at n vs e h =
+    let k : at + n - at ≡ length vs = omega arith in
+    rw (k, sets-eq vs l at (omega arith), drop-drop (length vs) at l, append_assoc)
+
 pub record Laying (g : Graph) (count : ℕ) (words₀ ends₀ reach₀ words ends reach : List ℕ) (x at : ℕ) : Type 0 where
   pub measuring : Measuring g count reach₀ reach x at
   pub words_left : sets words at (flatten (lists_left g count x)) ≡ sets words₀ 0 (flatten (lists_from g 0 count))
   pub ends_left : sets ends x (ends_from at (lists_left g count x)) ≡ sets ends₀ 0 (ends_from 0 (lists_from g 0 count))
 
-pub laying_start : (g : Graph) (count : ℕ) (words ends reach : List ℕ) → Laying g count words ends reach words ends reach 0 0
-laying_start g count words ends reach =
-    record { measuring = measuring_start g count reach; words_left = rw sub-zero; ends_left = rw sub-zero }
-
 module _ {g : Graph} {count : ℕ} {words₀ ends₀ reach₀ words ends reach : List ℕ} {x at : ℕ}
     (inv : Laying g count words₀ ends₀ reach₀ words ends reach x at) where
-  -- there is room for the next list
-  pub laying_room : x < count → length (flatten (lists_from g 0 count)) ≤ length words → at + length (list_over g x) ≤ length words
-  laying_room h room = omega (arith, rw (words_next g count x h, length-append) at inv.measuring.total_left)
+  module _ (h : x < count) {items : List ℕ} {r : Walked} (few : r.count ≤ length items) (done : Complete g x items r) where
+    long : r.count ≡ length (list_over g x)
+    long = sym (length-take-le r.count items few) ∙ ap length done.items
 
-  pub laying_more : x < count → (items : List ℕ) (n s : ℕ) → items ≡ list_over g x → n ≡ length items → s ≡ set_over g x
-      → Laying g count words₀ ends₀ reach₀ (sets words at items) (set ends x (at + n)) (set reach x s) (x + 1) (at + n)
-  unfolding ends_from
-  laying_more h items n s i p q =
-      let e : n ≡ length (list_over g x) = p ∙ ap length i in
-      record {
-        measuring = measuring_more inv.measuring h n s e q;
-        words_left =
-            rw (i, e) (sym (sets_append words at (list_over g x) (flatten (lists_left g count (x + 1))))
-            ∙ (rw (words_next g count x h) at inv.words_left));
-        ends_left = rw (e, add-one x) (rw (lists_next g count x h, add-one x) at inv.ends_left);
-      }
+    -- there is room for the next list
+    pub laying_room : length (flatten (lists_from g 0 count)) ≤ length words → at + r.count ≤ length words
+    laying_room room = omega (arith, long, rw (words_next g count x h, length-append) at inv.measuring.total_left)
+
+    pub laying_more : at + r.count ≤ length words → {vs : List ℕ} → vs ≡ take r.count items
+        → Laying g count words₀ ends₀ reach₀ (put_mid at (at + r.count - at) words vs) (set ends x (at + r.count))
+        (set reach x r.seen) (x + 1) (at + r.count)
+    unfolding ends_from
+    laying_more room {vs} p =
+        let list : vs ≡ list_over g x = p ∙ done.items in
+        let left = rw (words_next g count x h) at inv.words_left in
+        record {
+          measuring = measuring_more inv.measuring h few done;
+          words_left =
+              rw (put_sets words at r.count vs (ap length list ∙ sym long) room, list, long)
+              (sym (sets_append words at (list_over g x) (flatten (lists_left g count (x + 1)))) ∙ left);
+          ends_left = rw (long, add-one x) (rw (lists_next g count x h, add-one x) at inv.ends_left);
+        }
 
   pub laying_end : count ≤ x → Lays g count words₀ ends₀ reach₀ words ends reach at
   unfolding flatten ends_from
@@ -103,6 +120,21 @@ module _ {g : Graph} {count : ℕ} {words₀ ends₀ reach₀ words ends reach :
         words = (rw none at inv.words_left);
         ends = (rw none at inv.ends_left);
       }
+
+-- A turn of `lay`: what it keeps, and what its walk lists, are of every graph that the index is of; for the one that there
+-- is the lists have room together
+module _ {ix : Index} {declared count room : ℕ} (layable : Layable ix declared count room)
+    {words₀ ends₀ reach₀ words ends reach : List ℕ} {x at : ℕ}
+    (inv : (g : Graph) → Indexed g ix → Within g declared → Laying g count words₀ ends₀ reach₀ words ends reach x at)
+    (size : length words ≡ room) (h : x < count) {items : List ℕ} {r : Walked} (few : r.count ≤ length items)
+    (done : (g : Graph) → Indexed g ix → Within g declared → Complete g x items r) where
+  pub turn_room : at + r.count ≤ length words
+  turn_room = let (g, k, w, fits) = layable.0 in laying_room (inv g k w) h few (done g k w) (omega (arith, fits))
+
+  pub turn_lays : {vs : List ℕ} → vs ≡ take r.count items → (g : Graph) → Indexed g ix → Within g declared
+      → Laying g count words₀ ends₀ reach₀ (put_mid at (at + r.count - at) words vs) (set ends x (at + r.count))
+      (set reach x r.seen) (x + 1) (at + r.count)
+  turn_lays p g k w = laying_more (inv g k w) h few (done g k w) turn_room p
 
 -- no list is longer than there are lifetimes, so as many words for each of them are enough
 pub lists_few : (g : Graph) (limit : ℕ) → Within g limit → (x n : ℕ) → x + n ≤ limit → length (flatten (lists_from g x n)) ≤ limit * n

@@ -13,21 +13,18 @@ use native.Mathlib.Numerals.{add-one}
 use lib.ListN.{length, get_or, take, set}
 use lib.Seq.{take-suc-set, get_or-set_same, get_or-set_other}
 use Rattle.lifetimes.specs.declared.bounds.Bound.{Bound}
+use Rattle.lifetimes.specs.declared.index.Index.{Index}
 use Rattle.lifetimes.specs.declared.lifetime.Lifetime.{Lifetime}
 use Rattle.lifetimes.specs.declared.walk.Stepped.{Stepped}
 use Rattle.lifetimes.specs.Sets.{empty, member, insert, insert_all, set_of}
 use Rattle.lifetimes.specs.Walk.{neighbours, LastFirst, walk, traversal}
 use Rattle.lifetimes.specs.Index.{Graph, last_of, chain, chains, pending, skip, Indexed, Ready, Steps, Within}
-use Rattle.lifetimes.specs.Index.{Complete}
+use Rattle.lifetimes.specs.Index.{Chained, Complete, Walkable}
 use Rattle.lifetimes.proofs.SetLaws.{member_empty, insert_all_append}
 use Rattle.lifetimes.proofs.NeighbourLaws.{neighbours_only, push_in}
 use Rattle.lifetimes.proofs.WalkLaws.{walks, walk_nil, walk_seen, walk_new, unseen, unseen_empty, unseen_insert}
 use Rattle.lifetimes.proofs.WalkLaws.{walks_few}
 use Rattle.lifetimes.proofs.ChainLaws.{last_le, last_pushed, chains_kept}
-
--- a lifetime's last bound is one of the bounds, so its number fits two bytes
-pub last_small : {g : Graph} {fars befores lasts : List ℕ} → Indexed g fars befores lasts → (x : ℕ) → x < 64 → get_or lasts x 0 ≤ 256
-last_small {g} k x h = omega (arith, k.last x h, last_le g (length g.bounds) x, k.chained.few)
 
 -- `skip` leaves a part of what is pending, whose first entry was not seen, and the walk goes on from it
 skip_in : (s : ℕ) (p : List ℕ) (y : ℕ) → Memᴰ y (skip s p) → Memᴰ y p
@@ -157,15 +154,15 @@ pub record Walking (g : Graph) (limit start : ℕ) (items stack : List ℕ) (n s
   pub ready : Ready g stack at depth
   pub deep : depth < n
 
-module _ {g : Graph} {fars befores lasts : List ℕ} (linked : Indexed g fars befores lasts) {limit start : ℕ}
+module _ {g : Graph} {ix : Index} (linked : Indexed g ix) {limit start : ℕ}
     (within : Within g limit) (few : limit ≤ 64) where
   -- the pending entries are those of the new lifetime's chain, and those that the stack holds
   entered : (x : ℕ) → x < limit → (stack : List ℕ) (depth : ℕ) → {items : List ℕ} {n seen : ℕ} {q : List ℕ}
       → Stacked g stack depth q → depth < n → n ≤ limit
       → Going g limit start items n (reverse_aux (neighbours g.longer g.bounds x) q) seen
-      → Walking g limit start items stack n seen depth (get_or lasts x 0)
+      → Walking g limit start items stack n seen depth (get_or ix.last x 0)
   entered x small stack depth {n = n} {q} st deep m go =
-      let at : get_or lasts x 0 ≡ last_of g (length g.bounds) x = linked.last x (omega arith) in
+      let at : get_or ix.last x 0 ≡ last_of g (length g.bounds) x = linked.last x (omega arith) in
       record {
         going = rw (at, st.is, last_pushed g x q) go;
         ready = record { here = rw at (last_le g (length g.bounds) x); deep = omega arith; held = st.held };
@@ -173,7 +170,7 @@ module _ {g : Graph} {fars befores lasts : List ℕ} (linked : Indexed g fars be
       }
 
   pub walking_start : (items stack : List ℕ) → length items ≡ 64 → start < limit
-      → Walking g limit start (set items 0 start) stack 1 (insert empty start) 0 (get_or lasts start 0)
+      → Walking g limit start (set items 0 start) stack 1 (insert empty start) 0 (get_or ix.last start 0)
   unfolding skip chains
   walking_start items stack full h =
       entered start h stack 0 (record { is = refl; held = λ k i. absurd (omega arith) }) (omega arith) (omega arith)
@@ -196,10 +193,52 @@ module _ {g : Graph} {fars befores lasts : List ℕ} (linked : Indexed g fars be
 
       pub walking_more : n < limit → length items ≡ 64 → {stack' : List ℕ} {depth' : ℕ} → depth' ≤ r.depth + 1
           → Stacked g stack' depth' (pending g stack r.at r.depth)
-          → Walking g limit start (set items n l.0) stack' (n + 1) (insert seen l.0) depth' (get_or lasts l.0 0)
+          → Walking g limit start (set items n l.0) stack' (n + 1) (insert seen l.0) depth' (get_or ix.last l.0 0)
       walking_more m full {stack'} {depth'} d st =
           entered l.0 walking_small stack' depth' st (omega (arith, inv.deep, steps.deep)) (omega arith)
           (going_more within inv.going found (omega arith))
 
       pub walking_held : (k : ℕ) → k < r.depth → get_or stack k 0 ≤ length g.bounds
       walking_held k i = inv.ready.held k (omega (arith, steps.deep))
+
+-- A turn of `walk`: what it keeps, and what its step yields, are of every graph that the index is of; there is one
+module _ {ix : Index} {limit start : ℕ} (walkable : Walkable ix limit start) {items stack : List ℕ} {n seen depth at : ℕ}
+    (inv : (g : Graph) → Indexed g ix → Within g limit → Walking g limit start items stack n seen depth at) where
+  -- as many are listed as there are
+  pub turn_end : n ≡ limit → (g : Graph) → Indexed g ix → Within g limit
+      → Complete g start items (record { count = limit; seen = seen })
+  turn_end e g k w = rw (← e) (going_full w (inv g k w).going (omega arith))
+
+  module _ {r : Stepped} (steps : (g : Graph) → Chained g ix → Ready g stack at depth → Steps g stack seen at depth r) where
+    pub turn_steps : (g : Graph) → Indexed g ix → Within g limit → Steps g stack seen at depth r
+    turn_steps g k w = steps g k.chained (inv g k w).ready
+
+    pub turn_deep : n < limit → r.depth < 64
+    turn_deep h = let (g, k, w) = walkable.0 in omega (arith, walkable.1, (inv g k w).deep, (turn_steps g k w).deep)
+
+    pub turn_small : {l : Lifetime} → r.next ≡ Some l → l.0 < 64
+    turn_small h = let (g, k, w) = walkable.0 in
+        omega (arith, walkable.1, walking_small k w walkable.1 (inv g k w) (turn_steps g k w) h)
+
+    -- what the next turn has: the new lifetime stands among the items, and the rest of its bound's chain is stacked, or
+    -- has ended
+    module _ {l : Lifetime} (found : r.next ≡ Some l) (m : n < limit) (full : length items ≡ 64) {y seen' : ℕ}
+        (marked : seen' ≡ insert seen y) (is : y ≡ l.0) where
+      after : {stack' : List ℕ} {depth' : ℕ} → depth' ≤ r.depth + 1
+          → ((g : Graph) → Indexed g ix → Within g limit → Stacked g stack' depth' (pending g stack r.at r.depth))
+          → (g : Graph) → Indexed g ix → Within g limit
+          → Walking g limit start (set items n y) stack' (n + 1) seen' depth' (get_or ix.last y 0)
+      after d st g k w =
+          rw (marked, is) (walking_more k w walkable.1 (inv g k w) (turn_steps g k w) found m full d (st g k w))
+
+      held : (g : Graph) → Indexed g ix → Within g limit → (j : ℕ) → j < r.depth → get_or stack j 0 ≤ length g.bounds
+      held g k w = walking_held k w walkable.1 (inv g k w) (turn_steps g k w) found
+
+      pub turn_pushed : length stack ≡ 64 → (g : Graph) → Indexed g ix → Within g limit
+          → Walking g limit start (set items n y) (set stack r.depth r.at) (n + 1) seen' (r.depth + 1) (get_or ix.last y 0)
+      turn_pushed size = after (omega arith) (λ g k w.
+          stacked_push stack r.depth r.at (turn_steps g k w).here (held g k w) (omega (arith, size, turn_deep m)))
+
+      pub turn_ended : r.at ≡ 0 → (g : Graph) → Indexed g ix → Within g limit
+          → Walking g limit start (set items n y) stack (n + 1) seen' r.depth (get_or ix.last y 0)
+      turn_ended z = after (omega arith) (λ g k w. stacked_same stack r.depth r.at (turn_steps g k w).here (held g k w) z)

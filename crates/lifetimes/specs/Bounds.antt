@@ -1,5 +1,5 @@
 -- Bounds in push order, and their refusals. A caller can make any value, so every call that takes one checks it.
-use Rattle.std.specs.Prelude.{ℕ, ◌-◌, Bool, cond, ◌&&◌, not, List, [], ◌∷◌, ◌++◌, ltb, length, take, replicate}
+use Rattle.std.specs.Prelude.{ℕ, ◌-◌, min, Bool, ◌&&◌, not, List, [], ◌∷◌, ◌++◌, ltb, length, take, replicate}
 use Rattle.answers.specs.declared.Refusal.TheVariants.{Full, OutOfRange}
 use Rattle.answers.specs.Lists.{all}
 use Rattle.answers.specs.Refusals.{Check, check}
@@ -13,7 +13,7 @@ above l s = record { longer = l; shorter = s }
 
 -- a number as a bound keeps it, in a byte: 255 for all above 254
 abbrev pub byte_of : ℕ → ℕ
-byte_of n = cond (ltb n 255) n 255
+byte_of n = min n 255
 
 -- the bounds, in push order
 abbrev pub list_of : Bounds → List Bound

@@ -3,12 +3,10 @@
 use Rattle.std.specs.Prelude.{ℕ, ◌+◌, ◌%◌, Bool, List, [], ◌∷◌, ◌++◌, eqb, ltb, length, set}
 use Rattle.answers.specs.declared.Refusal.TheVariants.{Malformed, Full, OutOfRange}
 use Rattle.answers.specs.Refusals.{Check, check, Outcome, unless}
-use Rattle.answers.specs.Lent.{verdict_of, result_or}
 use Rattle.lifetimes.specs.declared.lifetime.Lifetime.{Lifetime}
 use Rattle.lifetimes.specs.declared.bounds.Bound.{Bound}
 use Rattle.lifetimes.specs.declared.bounds.Bounds.{Bounds}
 use Rattle.lifetimes.specs.declared.env.LifetimeEnv.{LifetimeEnv}
-use Rattle.lifetimes.specs.declared.env.Made.{Made}
 use Rattle.lifetimes.specs.Limits.{most_lifetimes}
 use Rattle.lifetimes.specs.Bounds.{above, list_of, bounds_from, too_many, one_past}
 
@@ -66,7 +64,3 @@ with_bound e b =
 
 unfoldable pub push_bound : LifetimeEnv → Bound → Outcome LifetimeEnv
 push_bound e b = unless (env_checks (with_bound e b)) (with_bound e b)
-
--- What the calls answer that make an environment: it, or a refusal and the environment that stands beside one
-abbrev pub made : LifetimeEnv → Outcome LifetimeEnv → Made
-made other o = record { verdict = verdict_of o; env = result_or other o }

@@ -3,17 +3,20 @@
 -- side, for each lifetime the last bound whose near side it is: chains. A bound's number is its place counted from 1,
 -- and 0 stands for none. A list is pushed in order and its last entry is taken first, so what a traversal pushes of a
 -- lifetime is the chain of its last bound.
-use Rattle.std.specs.Prelude.{ℕ, zero, suc, ◌≤◌, ◌<◌, Bool, true, false, cond, ◌≡◌, eqb, leb, length, get_or, take, Some, None, Option}
+use Rattle.std.specs.Prelude.{ℕ, zero, suc, ◌≤◌, ◌<◌, Bool, true, false, cond, ◌≡◌, eqb, leb, length, get_or, take}
+use Rattle.std.specs.Prelude.{Some, None, Option}
 use mathlib.Core.List.{List, [], ◌∷◌, ◌++◌, map, flatten, reverse, Memᴰ}
 use Rattle.std.proofs.lemmas.List.Edits.{sets}
 use Rattle.lifetimes.specs.declared.bounds.Bound.{Bound}
+use Rattle.lifetimes.specs.declared.bounds.Bounds.{Bounds}
 use Rattle.lifetimes.specs.declared.env.LifetimeEnv.{LifetimeEnv}
+use Rattle.lifetimes.specs.declared.index.Index.{Index}
 use Rattle.lifetimes.specs.declared.walk.Stepped.{Stepped}
 use Rattle.lifetimes.specs.declared.lifetime.Lifetime.{Lifetime}
 use Rattle.lifetimes.specs.declared.walk.Walked.{Walked}
 use Rattle.answers.specs.Lists.{range}
 use Rattle.lifetimes.specs.Sets.{member, set_of}
-use Rattle.lifetimes.specs.Bounds.{above}
+use Rattle.lifetimes.specs.Bounds.{above, list_of}
 use Rattle.lifetimes.specs.Env.{bounds_of}
 use Rattle.lifetimes.specs.Walk.{near, far, Order, LastFirst, FirstFirst, traversal}
 use Rattle.lifetimes.specs.Reach.{reach_list, depth_first}
@@ -77,18 +80,20 @@ pub record Fine (bs : List Bound) : Type 0 where
   pub few : length bs ≤ most_bounds
   pub small : (b : Bound) → Memᴰ b bs → (b.longer < most_lifetimes) × (b.shorter < most_lifetimes)
 
-pub record Chained (g : Graph) (fars befores : List ℕ) : Type 0 where
+-- what `link` asks of bounds
+pub record Linkable (b : Bounds) : Type 0 where
+  pub fine : Fine (list_of b)
+  pub all : length (list_of b) ≡ b.pushed
+
+pub record Chained (g : Graph) (x : Index) : Type 0 where
   pub few : length g.bounds ≤ most_bounds
   pub small : (b : Bound) → Memᴰ b g.bounds → far g.longer b < most_lifetimes
-  pub far : (j : ℕ) → j < length g.bounds → get_or fars j 0 ≡ far_at g j
-  pub before : (j : ℕ) → j < length g.bounds → get_or befores j 0 ≡ last_of g j (near_at g j)
+  pub far : (j : ℕ) → j < length g.bounds → get_or x.far j 0 ≡ far_at g j
+  pub before : (j : ℕ) → j < length g.bounds → get_or x.before j 0 ≡ last_of g j (near_at g j)
 
-pub record Indexed (g : Graph) (fars befores lasts : List ℕ) : Type 0 where
-  pub chained : Chained g fars befores
-  pub last : (x : ℕ) → x < most_lifetimes → get_or lasts x 0 ≡ last_of g (length g.bounds) x
-
-abbrev pub Zeros : List ℕ → Type 0
-Zeros l = (x : ℕ) → get_or l x 0 ≡ 0
+pub record Indexed (g : Graph) (x : Index) : Type 0 where
+  pub chained : Chained g x
+  pub last : (k : ℕ) → k < most_lifetimes → get_or x.last k 0 ≡ last_of g (length g.bounds) k
 
 -- each number that a traversal holds is that of a bound, or 0
 pub record Ready (g : Graph) (stack : List ℕ) (at depth : ℕ) : Type 0 where
@@ -96,8 +101,8 @@ pub record Ready (g : Graph) (stack : List ℕ) (at depth : ℕ) : Type 0 where
   pub deep : depth ≤ most_lifetimes
   pub held : (k : ℕ) → k < depth → get_or stack k 0 ≤ length g.bounds
 
-abbrev pub Standing : List ℕ → List ℕ → List ℕ → ℕ → ℕ → Type 0
-Standing fars befores stack at depth = (g : Graph) × Chained g fars befores × Ready g stack at depth
+abbrev pub Standing : Index → List ℕ → ℕ → ℕ → Type 0
+Standing x stack at depth = (g : Graph) × Chained g x × Ready g stack at depth
 
 -- what is pending from the first unseen entry on, by what a step yields
 abbrev pub step_of : Graph → List ℕ → Option Lifetime → ℕ → ℕ → List ℕ
@@ -113,9 +118,9 @@ pub record Steps (g : Graph) (stack : List ℕ) (seen at depth : ℕ) (r : Stepp
 abbrev pub Within : Graph → ℕ → Type 0
 Within g limit = (b : Bound) → Memᴰ b g.bounds → far g.longer b < limit
 
-abbrev pub Walkable : List ℕ → List ℕ → List ℕ → ℕ → ℕ → Type 0
-Walkable fars befores lasts limit start =
-    ((g : Graph) × Indexed g fars befores lasts × Within g limit) × (limit ≤ most_lifetimes)
+abbrev pub Walkable : Index → ℕ → ℕ → Type 0
+Walkable x limit start =
+    ((g : Graph) × Indexed g x × Within g limit) × (limit ≤ most_lifetimes)
     × (start < limit)
 
 -- the list of a lifetime over a graph, and its set
@@ -142,8 +147,8 @@ lists_from g x n = map (list_over g) (range x n)
 abbrev pub sets_from : Graph → ℕ → ℕ → List ℕ
 sets_from g x n = map (set_over g) (range x n)
 
-abbrev pub Measurable : List ℕ → List ℕ → List ℕ → ℕ → ℕ → Type 0
-Measurable fars befores lasts declared count = ((g : Graph) × Indexed g fars befores lasts × Within g declared)
+abbrev pub Measurable : Index → ℕ → ℕ → Type 0
+Measurable x declared count = ((g : Graph) × Indexed g x × Within g declared)
     × (declared ≤ count) × (count ≤ most_lifetimes)
 
 pub record Measures (g : Graph) (count : ℕ) (reach₀ reach₁ : List ℕ) (total₁ : ℕ) : Type 0 where
@@ -154,9 +159,9 @@ pub record Measures (g : Graph) (count : ℕ) (reach₀ reach₁ : List ℕ) (to
 pub record Fits (g : Graph) (count room : ℕ) (r : Bool) : Type 0 where
   pub fits : r ≡ leb (length (flatten (lists_from g 0 count))) room
 
-abbrev pub Layable : List ℕ → List ℕ → List ℕ → ℕ → ℕ → ℕ → Type 0
-Layable fars befores lasts declared count room =
-    ((g : Graph) × Indexed g fars befores lasts × Within g declared × (length (flatten (lists_from g 0 count)) ≤ room))
+abbrev pub Layable : Index → ℕ → ℕ → ℕ → Type 0
+Layable x declared count room =
+    ((g : Graph) × Indexed g x × Within g declared × (length (flatten (lists_from g 0 count)) ≤ room))
     × (declared ≤ count) × (count ≤ most_lifetimes)
 
 pub record Lays (g : Graph) (count : ℕ) (words₀ ends₀ reach₀ words₁ ends₁ reach₁ : List ℕ) (total₁ : ℕ) : Type 0 where

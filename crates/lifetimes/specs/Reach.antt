@@ -1,13 +1,12 @@
 -- Reach in an environment, and what the calls answer: one list, all lists with their ends, all sets.
-use Rattle.std.specs.Prelude.{ℕ, ◌-◌, Bool, leb, replicate}
+use Rattle.std.specs.Prelude.{ℕ, ◌-◌, Bool, leb, length, replicate}
 use mathlib.Core.List.{List, [], ◌∷◌, ◌++◌, map, flatten}
 use Rattle.answers.specs.declared.Refusal.TheVariants.{OutOfRange}
 use Rattle.lifetimes.specs.declared.env.LifetimeEnv.{LifetimeEnv}
-use Rattle.lifetimes.specs.declared.reach.ReachSets.{ReachSets}
 use Rattle.lifetimes.specs.declared.reach.Lists.{Lists}
 use Rattle.answers.specs.Lists.{range, ends_from}
 use Rattle.answers.specs.Refusals.{Check, check, Outcome, unless}
-use Rattle.answers.specs.Lent.{counted, verdict_of, result_or, room_check}
+use Rattle.answers.specs.Lent.{room_check}
 use Rattle.lifetimes.specs.Env.{bounds_of, env_checks}
 use Rattle.lifetimes.specs.Sets.{set_of}
 use Rattle.lifetimes.specs.Walk.{LastFirst, FirstFirst, traversal}
@@ -47,11 +46,8 @@ all_sets d e = map (reach_set d e) (range 0 e.count) ++ replicate (most_lifetime
 abbrev pub no_sets : List ℕ
 no_sets = replicate most_lifetimes 0
 
-unfoldable pub reach_sets : Bool → LifetimeEnv → ReachSets
-reach_sets d e = record {
-  verdict = verdict_of (unless (env_checks e) e);
-  sets = result_or no_sets (unless (env_checks e) (all_sets d e));
-}
+unfoldable pub reach_sets : Bool → LifetimeEnv → Outcome (List ℕ)
+reach_sets d e = unless (env_checks e) (all_sets d e)
 
 -- All lists: one after another, and where each of them ends
 unfoldable pub all_lists : Bool → LifetimeEnv → List (List ℕ)
@@ -71,8 +67,6 @@ list_words d e room places = unless (lists_checks d e room places) (flatten (all
 unfoldable pub list_ends : Bool → LifetimeEnv → ℕ → ℕ → Outcome (List ℕ)
 list_ends d e room places = unless (lists_checks d e room places) (ends_from 0 (all_lists d e))
 
-unfoldable pub lists_answer : Bool → LifetimeEnv → ℕ → ℕ → Lists
-lists_answer d e room places = record {
-  listed = counted (list_words d e room places);
-  sets = result_or no_sets (unless (lists_checks d e room places) (all_sets d e));
-}
+unfoldable pub lists_answer : Bool → LifetimeEnv → ℕ → ℕ → Outcome Lists
+lists_answer d e room places = unless (lists_checks d e room places)
+    (record { count = length (flatten (all_lists d e)); sets = all_sets d e })

@@ -1,12 +1,10 @@
 -- The main theorems of this crate, stated. Each has its proof, a term of exactly this type and of the same name in
 -- small letters, in proofs/Theorems.antt.
-use Rattle.std.specs.Prelude.{ℕ, ◌+◌, ◌≤◌, ◌<◌, Bool, true, false, ◌≡◌, ◌↔◌, length, get_or, Ok, Err}
+use Rattle.std.specs.Prelude.{ℕ, ◌+◌, ◌≤◌, ◌<◌, Bool, true, false, ◌≡◌, ◌↔◌, length, get_or, Ok, Err, Some, None}
 use mathlib.Core.List.{List, [], ◌∷◌, map, Memᴰ, Nodup}
 use Rattle.answers.specs.declared.Refusal.TheVariants.{Mismatch}
 use Rattle.lifetimes.specs.declared.bounds.Bound.{Bound}
 use Rattle.lifetimes.specs.declared.env.LifetimeEnv.{LifetimeEnv}
-use Rattle.lifetimes.specs.declared.linked.LinkedWord.TheVariants.{Word, Absent}
-use Rattle.lifetimes.specs.declared.linked.LinkedPair.TheVariants as pair
 use Rattle.answers.specs.Lists.{range}
 use Rattle.lifetimes.specs.Numbers.{def_lifetime}
 use Rattle.answers.specs.Refusals.{NoneDue}
@@ -64,10 +62,10 @@ OutlivesIsForced =
 -- places, and from the count on there is nothing; where they are not as many, both readers are refused by 7. For all
 -- words.
 pub record LinksByPlace (words : List ℕ) (count : ℕ) : Type 0 where
-  pub word : (j : ℕ) → j < count → linked_word words count (def_lifetime j) ≡ Ok (Word (get_or words j 0))
-  pub no_word : (j : ℕ) → count ≤ j → linked_word words count (def_lifetime j) ≡ Ok Absent
+  pub word : (j : ℕ) → j < count → linked_word words count (def_lifetime j) ≡ Ok (Some (get_or words j 0))
+  pub no_word : (j : ℕ) → count ≤ j → linked_word words count (def_lifetime j) ≡ Ok None
   pub pairs : map (linked_pair words count) (range 0 count) ≡ pairs_with_places 0 words
-  pub no_pair : (j : ℕ) → count ≤ j → linked_pair words count j ≡ Ok pair.Absent
+  pub no_pair : (j : ℕ) → count ≤ j → linked_pair words count j ≡ Ok None
 
 abbrev pub LinkedByPlace : Type 0
 LinkedByPlace =

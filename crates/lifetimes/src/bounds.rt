@@ -21,7 +21,7 @@ impl Bound {
     pub fn new(longer: Lifetime, shorter: Lifetime) -> Bound
         ensures answer { result ≡ above (byte_of longer.0) (byte_of shorter.0) }
     {
-        bound_of(byte_of(longer.index()), byte_of(shorter.index()))
+        bound_of(longer.index().min(255), shorter.index().min(255))
     }
 
     // Whether both sides are numbered below a limit.
@@ -36,9 +36,10 @@ impl Bound {
         ensures { result ≡ near longer self }
     {
         if longer {
-            return self.shorter as usize;
+            self.shorter as usize
+        } else {
+            self.longer as usize
         }
-        self.longer as usize
     }
 
     // The side that it goes to.
@@ -46,9 +47,10 @@ impl Bound {
         ensures { result ≡ far longer self }
     {
         if longer {
-            return self.longer as usize;
+            self.longer as usize
+        } else {
+            self.shorter as usize
         }
-        self.shorter as usize
     }
 }
 
@@ -80,13 +82,11 @@ impl Bounds {
         if Bounds::MAX < pushed {
             return Err(Refusal::Full);
         }
-        let mut i = 0;
-        while i < pushed {
+        for i in 0..pushed {
             let b = self.list[i];
             if !b.both_below(lifetimes) {
                 return Err(Refusal::OutOfRange);
             }
-            i += 1;
         }
         Ok(())
     }
@@ -97,16 +97,6 @@ pub(crate) fn numbers_below(longer: usize, shorter: usize, limit: usize) -> bool
     ensures { result ≡ both_below limit (above longer shorter) }
 {
     longer < limit && shorter < limit
-}
-
-// A number as a byte keeps it.
-fn byte_of(number: usize) -> usize
-    ensures { (result ≡ byte_of number) × (result < 256) }
-{
-    if number < 255 {
-        return number;
-    }
-    255
 }
 
 // The bound of two lifetimes, by their numbers.

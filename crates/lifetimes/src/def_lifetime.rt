@@ -3,7 +3,7 @@ ghost use Rattle.std.specs.Prelude.{◌≡◌};
 ghost use Rattle.lifetimes.specs.Numbers.{def_lifetime};
 
 // A lifetime that a type's definition declares: its number among them. The Rust uses its one `Lifetime` here too.
-#[derive(Clone, Copy)]
+#[derive(Clone, Copy, PartialEq, Eq)]
 pub struct DefLifetime(usize);
 
 impl DefLifetime {

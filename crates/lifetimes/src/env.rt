@@ -1,10 +1,10 @@
 // The environment of a method: its lifetimes and the bounds between them.
-ghost use Rattle.std.specs.Prelude.{◌≡◌, true, [], ◌∷◌, ◌%◌, ◌*◌, ◌≤◌, length};
-ghost use Rattle.answers.specs.Lent.{judged, held};
+ghost use Rattle.std.specs.Prelude.{◌≡◌, true, [], ◌%◌, ◌*◌, ◌≤◌, length};
+ghost use Rattle.answers.specs.Lent.{judged};
 ghost use Rattle.lifetimes.specs.Limits.{most_bounds};
 ghost use Rattle.lifetimes.specs.Bounds.{above, all_below, bounds_from};
-ghost use Rattle.lifetimes.specs.Env.{env_with, too_few, env_checks, is_declared, bounds_of_pairs, env_of};
-ghost use Rattle.lifetimes.specs.Env.{new_env, push_bound, made};
+ghost use Rattle.lifetimes.specs.Env.{env_with, env_checks, is_declared, bounds_of_pairs, env_of};
+ghost use Rattle.lifetimes.specs.Env.{new_env, push_bound};
 
 use super::bounds::{Bounds, bound_of, numbers_below};
 use super::lifetime::Lifetime;
@@ -17,13 +17,6 @@ pub struct LifetimeEnv {
     pub declared: usize,
     pub count: usize,
     pub bounds: Bounds,
-}
-
-// An environment; beside a refusal, the one that the call says.
-#[derive(Clone, Copy)]
-pub struct Made {
-    pub verdict: Result<(), Refusal>,
-    pub env: LifetimeEnv,
 }
 
 impl LifetimeEnv {
@@ -42,7 +35,7 @@ impl LifetimeEnv {
         }
     }
 
-    // The environment without lifetimes, which stands beside a refusal.
+    // The environment without lifetimes.
     pub fn none() -> LifetimeEnv
         ensures answer { result ≡ env_of 0 0 [] }
     {
@@ -50,65 +43,49 @@ impl LifetimeEnv {
     }
 
     // An environment made by hand, from a list of pairs longer, shorter. Refused by 1 (half a pair), 4 (65th lifetime,
-    // 257th bound), 8 (more declared than there are, a side past the declared), with an environment without lifetimes
-    // beside the refusal. Reads the list twice.
-    pub fn new(declared: usize, count: usize, pairs: &[usize]) -> Made
-        ensures answer { result ≡ made (env_of 0 0 []) (new_env declared count pairs.now) }
+    // 257th bound), 8 (more declared than there are, a side past the declared). Reads the list twice.
+    pub fn new(declared: usize, count: usize, pairs: &[usize]) -> Result<LifetimeEnv, Refusal>
+        ensures answer { result ≡ new_env declared count pairs.now }
     {
         if pairs.len() % 2 == 1 {
-            return refused(Refusal::Malformed);
+            return Err(Refusal::Malformed);
         }
         if LifetimeEnv::MAX_LIFETIMES < count {
-            return refused(Refusal::Full);
+            return Err(Refusal::Full);
         }
         if Bounds::MAX < pairs.len() / 2 {
-            return refused(Refusal::Full);
+            return Err(Refusal::Full);
         }
         if count < declared {
-            return refused(Refusal::OutOfRange);
+            return Err(Refusal::OutOfRange);
         }
         if !pairs_below(pairs, declared) {
-            return refused(Refusal::OutOfRange);
+            return Err(Refusal::OutOfRange);
         }
-        Made {
-            verdict: Ok(()),
-            env: LifetimeEnv::from_bounds(declared, count, filled(pairs)),
-        }
+        Ok(LifetimeEnv::from_bounds(declared, count, filled(pairs)))
     }
 
     // The environment with one bound more, at the end. Refused as every environment is, by 4 for a 257th bound, by 8
-    // for a side past the declared, with the environment as it was beside the refusal.
-    pub fn push_bound(self, longer: Lifetime, shorter: Lifetime) -> Made
-        ensures answer { result ≡ made self (push_bound self (above longer.0 shorter.0)) }
+    // for a side past the declared.
+    pub fn push_bound(self, longer: Lifetime, shorter: Lifetime) -> Result<LifetimeEnv, Refusal>
+        ensures answer { result ≡ push_bound self (above longer.0 shorter.0) }
     {
         let declared = self.declared;
         let count = self.count;
         let mut bounds = self.bounds;
         let at = bounds.pushed;
         if Bounds::MAX <= at {
-            return Made {
-                verdict: Err(Refusal::Full),
-                env: self,
-            };
+            return Err(Refusal::Full);
         }
-        let verdict = self.check();
-        let Ok(()) = verdict else {
-            return Made { verdict, env: self };
-        };
+        self.check()?;
         let from = longer.index();
         let to = shorter.index();
         if !numbers_below(from, to, declared) {
-            return Made {
-                verdict: Err(Refusal::OutOfRange),
-                env: self,
-            };
+            return Err(Refusal::OutOfRange);
         }
         bounds.list[at] = bound_of(from, to);
         bounds.pushed = at + 1;
-        Made {
-            verdict: Ok(()),
-            env: LifetimeEnv::from_bounds(declared, count, bounds),
-        }
+        Ok(LifetimeEnv::from_bounds(declared, count, bounds))
     }
 
     // Whether a lifetime is declared. The Rust's answer is its bounds; here they are in the one list.
@@ -124,39 +101,16 @@ impl LifetimeEnv {
     pub fn check(self) -> Result<(), Refusal>
         ensures answer { result ≡ judged (env_checks self) }
     {
-        let declared = self.declared;
-        let count = self.count;
-        if LifetimeEnv::MAX_LIFETIMES < count {
+        if LifetimeEnv::MAX_LIFETIMES < self.count {
             return Err(Refusal::Full);
         }
-        if self.bounds.pushed == 0 {
-            return check_declared(declared, count);
+        if self.bounds.pushed != 0 {
+            self.bounds.check(self.declared)?;
         }
-        let verdict = self.bounds.check(declared);
-        let Ok(()) = verdict else {
-            return verdict;
-        };
-        check_declared(declared, count)
-    }
-}
-
-// Whether no more lifetimes are declared than there are. Refused by 8.
-fn check_declared(declared: usize, count: usize) -> Result<(), Refusal>
-    ensures { result ≡ judged (too_few declared count ∷ []) }
-{
-    if count < declared {
-        return Err(Refusal::OutOfRange);
-    }
-    Ok(())
-}
-
-// A refusal, beside an environment without lifetimes.
-fn refused(refusal: Refusal) -> Made
-    ensures { result ≡ record { verdict = Err refusal; env = env_of 0 0 [] } }
-{
-    Made {
-        verdict: Err(refusal),
-        env: LifetimeEnv::none(),
+        if self.count < self.declared {
+            return Err(Refusal::OutOfRange);
+        }
+        Ok(())
     }
 }
 
@@ -165,12 +119,10 @@ fn pairs_below(pairs: &[usize], limit: usize) -> bool
     requires { length pairs.now % 2 ≡ 0 }
     ensures { result ≡ all_below limit (bounds_of_pairs pairs.now) }
 {
-    let mut i = 0;
-    while i < pairs.len() {
-        if !numbers_below(pairs[i], pairs[i + 1], limit) {
+    for i in 0..pairs.len() / 2 {
+        if !numbers_below(pairs[2 * i], pairs[2 * i + 1], limit) {
             return false;
         }
-        i += 2;
     }
     true
 }
@@ -182,12 +134,9 @@ fn filled(pairs: &[usize]) -> Bounds
     ensures { result ≡ bounds_from (bounds_of_pairs pairs.now) }
 {
     let mut list = [bound_of(0, 0); Bounds::MAX];
-    let mut pushed = 0;
-    let mut i = 0;
-    while i < pairs.len() {
-        list[pushed] = bound_of(pairs[i], pairs[i + 1]);
-        pushed += 1;
-        i += 2;
+    let pushed = pairs.len() / 2;
+    for i in 0..pushed {
+        list[i] = bound_of(pairs[2 * i], pairs[2 * i + 1]);
     }
     Bounds { pushed, list }
 }

@@ -2,45 +2,45 @@
 //
 // A list is pushed in order and its last entry is taken first, so each list is needed backwards: a chain that is linked
 // at its head. Made once for all traversals in a direction, in one pass over the bounds.
-ghost use Rattle.std.specs.Prelude.{◌≡◌, cond, ◌-◌, ◌<◌, length};
+ghost use Rattle.std.specs.Prelude.{◌≡◌, cond, ◌-◌, ◌<◌};
 ghost use Rattle.lifetimes.specs.Bounds.{list_of};
-ghost use Rattle.answers.specs.Lent.{left};
 ghost use Rattle.lifetimes.specs.Walk.{order_of};
-ghost use Rattle.lifetimes.specs.Index.{graph_in, Fine, Zeros, Indexed};
-ghost use Rattle.lifetimes.specs.Limits.{most_bounds, most_lifetimes};
+ghost use Rattle.lifetimes.specs.Index.{graph_in, Linkable, Indexed};
 
 use super::bounds::Bounds;
 use super::env::LifetimeEnv;
 
 // For each bound its far side, and the bound before it with the same near side; for each lifetime the last bound whose
-// near side it is. A bound's number is its place counted from 1, and 0 stands for none. The bounds are linked in push
-// order, or, for the AST's order, from the last to the first.
-pub(crate) fn link(
-    bounds: Bounds,
-    ast: bool,
-    longer: bool,
-    far: &mut [u8; Bounds::MAX],
-    before: &mut [u16; Bounds::MAX],
-    last: &mut [u16; LifetimeEnv::MAX_LIFETIMES],
-)
-    requires fine { Fine (list_of bounds) × (length (list_of bounds) ≡ bounds.pushed) }
-    requires zeros { Zeros last.old }
-    requires far_len { (length far.old ≡ most_bounds) × (length before.old ≡ most_bounds)
-        × (length last.old ≡ most_lifetimes) }
-    ensures { Indexed (graph_in (order_of ast) longer (list_of bounds)) (left far) (left before) (left last) }
-{
-    let n = bounds.pushed;
-    let mut i = 0;
-    while i < n {
-        let at = place(ast, n, i);
-        let b = bounds.list[at];
-        let x = b.near(longer);
-        let y = b.far(longer);
-        let older = last[x];
-        far[i] = y as u8;
-        before[i] = older;
-        i += 1;
-        last[x] = i as u16;
+// near side it is. A bound's number is its place counted from 1, and 0 stands for none.
+#[derive(Clone, Copy)]
+pub(crate) struct Index {
+    pub(crate) far: [u8; Bounds::MAX],
+    pub(crate) before: [u16; Bounds::MAX],
+    pub(crate) last: [u16; LifetimeEnv::MAX_LIFETIMES],
+}
+
+impl Index {
+    // The index of bounds, which are linked in push order, or, for the AST's order, from the last to the first.
+    pub(crate) fn link(bounds: Bounds, ast: bool, longer: bool) -> Index
+        requires { Linkable bounds }
+        ensures { Indexed (graph_in (order_of ast) longer (list_of bounds)) result }
+    {
+        let mut index = Index {
+            far: [0; Bounds::MAX],
+            before: [0; Bounds::MAX],
+            last: [0; LifetimeEnv::MAX_LIFETIMES],
+        };
+        let n = bounds.pushed;
+        for i in 0..n {
+            let at = place(ast, n, i);
+            let b = bounds.list[at];
+            let x = b.near(longer);
+            let y = b.far(longer);
+            index.far[i] = y as u8;
+            index.before[i] = index.last[x];
+            index.last[x] = (i + 1) as u16;
+        }
+        index
     }
 }
 
@@ -49,8 +49,5 @@ fn place(ast: bool, n: usize, i: usize) -> usize
     requires { i < n }
     ensures { result ≡ cond ast (n - 1 - i) i }
 {
-    if ast {
-        return n - 1 - i;
-    }
-    i
+    if ast { n - 1 - i } else { i }
 }

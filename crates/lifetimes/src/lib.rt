@@ -23,8 +23,8 @@ mod walk;
 
 pub use bounds::{Bound, Bounds};
 pub use def_lifetime::DefLifetime;
-pub use env::{LifetimeEnv, Made};
+pub use env::LifetimeEnv;
 pub use lifetime::Lifetime;
-pub use linked::{LinkedLifetimes, LinkedPair, LinkedWord, linked_pair, linked_word};
-pub use maybe_static::{MaybeStatic, MaybeStaticDef};
-pub use reach::{Lists, ReachSets};
+pub use linked::{LinkedLifetimes, linked_pair, linked_word};
+pub use maybe_static::{MaybeStatic, Numbered};
+pub use reach::Lists;

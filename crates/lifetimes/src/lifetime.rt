@@ -4,7 +4,7 @@ ghost use Rattle.lifetimes.specs.Numbers.{lifetime};
 
 // A lifetime of a method: its number in the method's environment. Made from its number by `new` and in no other way.
 // A lifetime of a definition is a `DefLifetime`, so that neither stands where the other is due.
-#[derive(Clone, Copy)]
+#[derive(Clone, Copy, PartialEq, Eq)]
 pub struct Lifetime(usize);
 
 impl Lifetime {

@@ -12,32 +12,27 @@ ghost use Rattle.lifetimes.specs.Index.{Graph, Indexed, Within, list_by, Measura
 ghost use Rattle.lifetimes.specs.Index.{Layable, Lays};
 ghost use Rattle.lifetimes.specs.Limits.{most_lifetimes};
 
-use super::bounds::Bounds;
 use super::env::LifetimeEnv;
-use super::index::link;
+use super::index::Index;
 use super::lifetime::Lifetime;
-use super::walk::walk;
 use answers::Refusal;
 
-// The reach of all lifetimes: the set of the lifetime x at place x. Places past the count hold 0, and all do beside a
-// refusal.
-#[derive(Clone, Copy)]
-pub struct ReachSets {
-    pub verdict: Result<(), Refusal>,
-    pub sets: [u64; LifetimeEnv::MAX_LIFETIMES],
-}
-
-// How many words all lists have together, and the sets as in `ReachSets`.
+// All lists of a direction: how many words they have together, and the set of the lifetime x at place x, 0 at places
+// past the count.
 #[derive(Clone, Copy)]
 pub struct Lists {
-    pub listed: Result<usize, Refusal>,
+    pub count: usize,
     pub sets: [u64; LifetimeEnv::MAX_LIFETIMES],
 }
 
 impl LifetimeEnv {
     // Write the lifetimes that outlive a lifetime to a slice, itself first, in the order of the Rust. Refused by 4 and
     // 8 as the environment is, by 8 for a lifetime past the count, by 9 where the slice is too short.
-    pub fn all_longer_lifetimes(self, lifetime: Lifetime, out: &mut [usize]) -> Result<usize, Refusal>
+    pub fn all_longer_lifetimes(
+        self,
+        lifetime: Lifetime,
+        out: &mut [usize],
+    ) -> Result<usize, Refusal>
         ensures answer { result ≡ counted (list_reach true self lifetime.0 (room out)) }
         ensures stored { Fills (list_reach true self lifetime.0 (room out)) out }
     {
@@ -45,7 +40,11 @@ impl LifetimeEnv {
     }
 
     // Write the lifetimes that a lifetime outlives, in the same way.
-    pub fn all_shorter_lifetimes(self, lifetime: Lifetime, out: &mut [usize]) -> Result<usize, Refusal>
+    pub fn all_shorter_lifetimes(
+        self,
+        lifetime: Lifetime,
+        out: &mut [usize],
+    ) -> Result<usize, Refusal>
         ensures answer { result ≡ counted (list_reach false self lifetime.0 (room out)) }
         ensures stored { Fills (list_reach false self lifetime.0 (room out)) out }
     {
@@ -66,69 +65,46 @@ impl LifetimeEnv {
         traverse(self, true, lifetime, longer, out)
     }
 
-    // The reach of all lifetimes as sets, in the direction longer or shorter. Refused by 4 and 8 as the environment is.
-    pub fn reach_sets(self, longer: bool) -> ReachSets
+    // The reach of all lifetimes as sets, in the direction longer or shorter: the set of the lifetime x at place x, 0
+    // at places past the count. Refused by 4 and 8 as the environment is.
+    pub fn reach_sets(self, longer: bool) -> Result<[u64; LifetimeEnv::MAX_LIFETIMES], Refusal>
         ensures answer { result ≡ reach_sets longer self }
     {
-        let mut sets = [0u64; LifetimeEnv::MAX_LIFETIMES];
-        let verdict = self.check();
-        let Ok(()) = verdict else {
-            return ReachSets { verdict, sets };
-        };
+        self.check()?;
         let declared = self.declared;
         let count = self.count;
-        let mut far = [0u8; Bounds::MAX];
-        let mut before = [0u16; Bounds::MAX];
-        let mut last = [0u16; LifetimeEnv::MAX_LIFETIMES];
-        link(self.bounds, false, longer, &mut far, &mut before, &mut last);
-        measure(&far, &before, &last, declared, count, &mut sets);
-        ReachSets {
-            verdict: Ok(()),
-            sets,
-        }
+        let index = Index::link(self.bounds, false, longer);
+        let mut sets = [0u64; LifetimeEnv::MAX_LIFETIMES];
+        index.measure(declared, count, &mut sets);
+        Ok(sets)
     }
 
     // Write all lists of a direction, one after another, to one slice, and where each ends to another. Refused by 4 and
     // 8 as the environment is, by 9 where either slice is too short. With as many words for each lifetime as there are
     // lifetimes the lists fit in any case; with less they are measured first.
-    pub fn all_lists(self, longer: bool, words: &mut [usize], ends: &mut [usize]) -> Lists
+    pub fn all_lists(
+        self,
+        longer: bool,
+        words: &mut [usize],
+        ends: &mut [usize],
+    ) -> Result<Lists, Refusal>
         ensures answer { result ≡ lists_answer longer self (room words) (room ends) }
         ensures words_filled { Fills (list_words longer self (room words) (room ends)) words }
         ensures ends_filled { Fills (list_ends longer self (room words) (room ends)) ends }
     {
-        let mut sets = [0u64; LifetimeEnv::MAX_LIFETIMES];
-        let verdict = self.check();
-        if let Err(refusal) = verdict {
-            return Lists {
-                listed: Err(refusal),
-                sets,
-            };
-        }
+        self.check()?;
         let declared = self.declared;
         let count = self.count;
         if ends.len() < count {
-            return Lists {
-                listed: Err(Refusal::NoRoom),
-                sets,
-            };
+            return Err(Refusal::NoRoom);
         }
-        let mut far = [0u8; Bounds::MAX];
-        let mut before = [0u16; Bounds::MAX];
-        let mut last = [0u16; LifetimeEnv::MAX_LIFETIMES];
-        link(self.bounds, false, longer, &mut far, &mut before, &mut last);
-        if !all_fit(&far, &before, &last, declared, count, words.len()) {
-            return Lists {
-                listed: Err(Refusal::NoRoom),
-                sets,
-            };
+        let index = Index::link(self.bounds, false, longer);
+        if !index.all_fit(declared, count, words.len()) {
+            return Err(Refusal::NoRoom);
         }
-        let total = lay(
-            &far, &before, &last, declared, count, words, ends, &mut sets,
-        );
-        Lists {
-            listed: Ok(total),
-            sets,
-        }
+        let mut sets = [0u64; LifetimeEnv::MAX_LIFETIMES];
+        let total = index.lay(declared, count, words, ends, &mut sets);
+        Ok(Lists { count: total, sets })
     }
 }
 
@@ -143,10 +119,7 @@ fn traverse(
     ensures value { result ≡ counted (list_from env lifetime.0 (list_by ast longer env lifetime.0) (room out)) }
     ensures fills { Fills (list_from env lifetime.0 (list_by ast longer env lifetime.0) (room out)) out }
 {
-    let verdict = env.check();
-    if let Err(refusal) = verdict {
-        return Err(refusal);
-    }
+    env.check()?;
     let start = lifetime.index();
     if env.count <= start {
         return Err(Refusal::OutOfRange);
@@ -156,7 +129,7 @@ fn traverse(
     if out.len() < n {
         return Err(Refusal::NoRoom);
     }
-    copy_to(&items, n, out, 0);
+    out[..n].copy_from_slice(&items[..n]);
     Ok(n)
 }
 
@@ -173,14 +146,10 @@ fn list(
     ensures { (result ≤ most_lifetimes) × (length (left items) ≡ most_lifetimes)
         × (take result (left items) ≡ list_by ast longer env start) }
 {
-    let declared = env.declared;
-    let count = env.count;
-    let mut far = [0u8; Bounds::MAX];
-    let mut before = [0u16; Bounds::MAX];
-    let mut last = [0u16; LifetimeEnv::MAX_LIFETIMES];
-    link(env.bounds, ast, longer, &mut far, &mut before, &mut last);
-    let limit = limit_of(declared, count, start);
-    walk(&far, &before, &last, limit, start, items).count
+    let limit = limit_of(env.declared, env.count, start);
+    Index::link(env.bounds, ast, longer)
+        .walk(limit, start, items)
+        .count
 }
 
 // How many lifetimes a traversal can list: the declared ones, unless it starts past them.
@@ -188,100 +157,71 @@ fn limit_of(declared: usize, count: usize, start: usize) -> usize
     requires { (start < count) × (declared ≤ count) }
     ensures { (start < result) × (result ≤ count) × (declared ≤ result) }
 {
-    if start < declared {
-        return declared;
-    }
-    count
+    if start < declared { declared } else { count }
 }
 
-// Copy the first n items to a place of a slice.
-fn copy_to(items: &[usize; LifetimeEnv::MAX_LIFETIMES], n: usize, out: &mut [usize], at: usize)
-    requires { (n ≤ most_lifetimes) × (length items.now ≡ most_lifetimes) × (at + n ≤ length out.old) }
-    ensures { left out ≡ sets (held out) at (take n items.now) }
-{
-    let mut i = 0;
-    while i < n {
-        out[at + i] = items[i];
-        i += 1;
+impl Index {
+    // Whether all lists have room together. None is longer than there are lifetimes, so with as many words for each
+    // they have; with less they are measured.
+    fn all_fit(&self, declared: usize, count: usize, room: usize) -> bool
+        requires { Measurable self.now declared count }
+        ensures { (g : Graph) → Indexed g self.now → Within g declared → Fits g count room result }
+    {
+        if count * count <= room {
+            return true;
+        }
+        let mut measured = [0u64; LifetimeEnv::MAX_LIFETIMES];
+        self.measure(declared, count, &mut measured) <= room
     }
-}
 
-// Whether all lists over an index have room together. None is longer than there are lifetimes, so with as many words
-// for each they have; with less they are measured.
-fn all_fit(
-    far: &[u8; Bounds::MAX],
-    before: &[u16; Bounds::MAX],
-    last: &[u16; LifetimeEnv::MAX_LIFETIMES],
-    declared: usize,
-    count: usize,
-    room: usize,
-) -> bool
-    requires { Measurable far.now before.now last.now declared count }
-    ensures { (g : Graph) → Indexed g far.now before.now last.now → Within g declared
-        → Fits g count room result }
-{
-    if count * count <= room {
-        return true;
+    // All traversals: the set of each to its place, and how many words all lists have together.
+    fn measure(
+        &self,
+        declared: usize,
+        count: usize,
+        reach: &mut [u64; LifetimeEnv::MAX_LIFETIMES],
+    ) -> usize
+        requires measurable { Measurable self.now declared count }
+        requires reach_len { length reach.old ≡ most_lifetimes }
+        ensures { (g : Graph) → Indexed g self.now → Within g declared
+            → Measures g count (held reach) (left reach) result }
+    {
+        let mut items = [0usize; LifetimeEnv::MAX_LIFETIMES];
+        let mut total = 0;
+        for x in 0..count {
+            let limit = limit_of(declared, count, x);
+            let walked = self.walk(limit, x, &mut items);
+            reach[x] = walked.seen;
+            total += walked.count;
+        }
+        total
     }
-    let mut measured = [0u64; LifetimeEnv::MAX_LIFETIMES];
-    measure(far, before, last, declared, count, &mut measured) <= room
-}
 
-// All traversals over an index: the set of each to its place, and how many words all lists have together.
-fn measure(
-    far: &[u8; Bounds::MAX],
-    before: &[u16; Bounds::MAX],
-    last: &[u16; LifetimeEnv::MAX_LIFETIMES],
-    declared: usize,
-    count: usize,
-    reach: &mut [u64; LifetimeEnv::MAX_LIFETIMES],
-) -> usize
-    requires measurable { Measurable far.now before.now last.now declared count }
-    requires reach_len { length reach.old ≡ most_lifetimes }
-    ensures { (g : Graph) → Indexed g far.now before.now last.now → Within g declared
-        → Measures g count (held reach) (left reach) result }
-{
-    let mut items = [0usize; LifetimeEnv::MAX_LIFETIMES];
-    let mut total = 0;
-    let mut x = 0;
-    while x < count {
-        let limit = limit_of(declared, count, x);
-        let walked = walk(far, before, last, limit, x, &mut items);
-        reach[x] = walked.seen;
-        total += walked.count;
-        x += 1;
+    // All traversals: the lists one after another, where each ends, and the set of each.
+    fn lay(
+        &self,
+        declared: usize,
+        count: usize,
+        words: &mut [usize],
+        ends: &mut [usize],
+        reach: &mut [u64; LifetimeEnv::MAX_LIFETIMES],
+    ) -> usize
+        requires layable { Layable self.now declared count (length words.old) }
+        requires count_in_bounds { (count ≤ length ends.old) × (length reach.old ≡ most_lifetimes) }
+        ensures { (g : Graph) → Indexed g self.now → Within g declared
+            → Lays g count (held words) (held ends) (held reach) (left words) (left ends) (left reach) result }
+    {
+        let mut items = [0usize; LifetimeEnv::MAX_LIFETIMES];
+        let mut at = 0;
+        for x in 0..count {
+            let limit = limit_of(declared, count, x);
+            let walked = self.walk(limit, x, &mut items);
+            let n = walked.count;
+            words[at..at + n].copy_from_slice(&items[..n]);
+            at += n;
+            ends[x] = at;
+            reach[x] = walked.seen;
+        }
+        at
     }
-    total
-}
-
-// All traversals over an index: the lists one after another, where each ends, and the set of each.
-fn lay(
-    far: &[u8; Bounds::MAX],
-    before: &[u16; Bounds::MAX],
-    last: &[u16; LifetimeEnv::MAX_LIFETIMES],
-    declared: usize,
-    count: usize,
-    words: &mut [usize],
-    ends: &mut [usize],
-    reach: &mut [u64; LifetimeEnv::MAX_LIFETIMES],
-) -> usize
-    requires layable { Layable far.now before.now last.now declared count (length words.old) }
-    requires count_in_bounds { (count ≤ length ends.old) × (length reach.old ≡ most_lifetimes) }
-    ensures { (g : Graph) → Indexed g far.now before.now last.now → Within g declared
-        → Lays g count (held words) (held ends) (held reach) (left words) (left ends) (left reach) result }
-{
-    let mut items = [0usize; LifetimeEnv::MAX_LIFETIMES];
-    let mut at = 0;
-    let mut x = 0;
-    while x < count {
-        let limit = limit_of(declared, count, x);
-        let walked = walk(far, before, last, limit, x, &mut items);
-        let n = walked.count;
-        copy_to(&items, n, words, at);
-        at += n;
-        ends[x] = at;
-        reach[x] = walked.seen;
-        x += 1;
-    }
-    at
 }

@@ -20,10 +20,7 @@ pub fn contains(set: u64, lifetime: Lifetime) -> bool
     ensures answer { result ≡ sets.member set lifetime.0 }
 {
     let number = lifetime.index();
-    if number < CAPACITY {
-        return holds(set, number);
-    }
-    false
+    number < CAPACITY && holds(set, number)
 }
 
 // The set with one lifetime more. One of 64 or more is in no set: the set stays.
@@ -62,13 +59,11 @@ pub fn members(set: u64, out: &mut [usize]) -> Result<usize, Refusal>
         return Err(Refusal::NoRoom);
     }
     let mut at = 0;
-    let mut x = 0;
-    while x < CAPACITY {
+    for x in 0..CAPACITY {
         if holds(set, x) {
             out[at] = x;
             at += 1;
         }
-        x += 1;
     }
     Ok(n)
 }

@@ -1,4 +1,4 @@
--- Where a reading ends: laws of `EndsAt`, and the ways out of `lifetimes_end`.
+-- Where a reading ends: laws of `EndsAt`, and what `lifetimes_end` says.
 use Rattle.std.specs.Prelude.{Some, None, Option}
 use Prim.Native.Nat.{ℕ, suc, ◌+◌, ◌-◌, ◌≤◌, ◌<◌}
 use mathlib.Core.Bool.{Bool, true, false, cond, ◌&&◌, and-eq-true_iff}
@@ -7,9 +7,9 @@ use mathlib.Core.List.{List, [], ◌∷◌}
 use native.Mathlib.Numerals.{add-one}
 use native.Mathlib.Omega.{arith}
 use lib.Dec.{leb}
-use lib.ListN.{length, get_or, take, drop, length-drop, drop_of_length-le}
+use lib.ListN.{length, take, drop, length-drop}
 use lib.Seq.{drop-cons, drop-drop}
-use borrow.Author.Tests.{le-leb, lt-leb, leb-true}
+use borrow.Author.Tests.{leb-true}
 use Rattle.records.specs.Reading.{Reading, Read, Fails, onward, read_lifetimes, end_of}
 use Rattle.records.specs.Ends.{EndsAt, ends, missing}
 
@@ -47,38 +47,6 @@ pub wrapped_both : {A B C : Type 0} {words : List ℕ} {from second : ℕ} {read
 wrapped_both at l next f (ends {a} d b e) h = rw (← d) (wrapped at (omega arith) (f a) h)
 
 -- ---- `lifetimes_end`
-
-module _ (words : List ℕ) (at : ℕ) where
-  pub end_none : length words ≤ at → None ≡ end_of (length words) (read_lifetimes (drop at words))
-  end_none h = rw (drop_of_length-le words {i = at} h)
-
-  module _ (h : at < length words) where
-    pub end_many : 16 < get_or words at 0 → None ≡ end_of (length words) (read_lifetimes (drop at words))
-    end_many m = rw (drop-cons words at 0 h, lt-leb (get_or words at 0) 16 m)
-
-    module _ (few : get_or words at 0 ≤ 16) where
-      pub end_short : length words - (at + 1) < get_or words at 0 → None ≡ end_of (length words) (read_lifetimes (drop at words))
-      end_short m =
-          rw (
-            drop-cons words at 0 h,
-            le-leb (get_or words at 0) 16 few,
-            length-drop,
-            lt-leb (get_or words at 0) (length words - suc at) (omega arith),
-          )
-
-      pub end_whole : get_or words at 0 ≤ length words - (at + 1)
-          → Some (at + 1 + get_or words at 0) ≡ end_of (length words) (read_lifetimes (drop at words))
-      end_whole m =
-          let e : length words - (length words - suc at - get_or words at 0) ≡ at + 1 + get_or words at 0 = omega arith in
-          rw (
-            drop-cons words at 0 h,
-            le-leb (get_or words at 0) 16 few,
-            length-drop,
-            le-leb (get_or words at 0) (length words - suc at) (omega arith),
-            length-drop,
-            length-drop,
-            e,
-          )
 
 -- what the call says of the place where it ends
 pub lifetimes_end : (words : List ℕ) (at : ℕ) {r : Option ℕ} → r ≡ end_of (length words) (read_lifetimes (drop at words))

@@ -1,5 +1,6 @@
 -- Reading a record: what stands in front of some words, and the words behind it; items one after another to the end.
-use Rattle.std.specs.Prelude.{ℕ, zero, suc, ◌-◌, Bool, true, false, cond, ◌&&◌, List, [], ◌∷◌, leb, length, take, drop, Ok, Err, Some, None, Option}
+use Rattle.std.specs.Prelude.{ℕ, zero, suc, ◌-◌, Bool, true, false, cond, ◌&&◌, List, [], ◌∷◌, leb, length, take, drop}
+use Rattle.std.specs.Prelude.{Ok, Err, Some, None, Option}
 use Rattle.answers.specs.declared.Refusal.TheVariants.{Malformed}
 use Rattle.answers.specs.Refusals.{Verdict}
 

@@ -5,8 +5,8 @@
 // an item the answer is none; which refusal that is, the caller says.
 #![tactic(auto)]
 
-ghost use Rattle.std.specs.Prelude.{min, ◌≡◌, length, drop};
-ghost use Rattle.answers.specs.Lent.{counted, held, room, Fills};
+ghost use Rattle.std.specs.Prelude.{◌≡◌, length, drop};
+ghost use Rattle.answers.specs.Lent.{counted, room, Fills};
 ghost use Rattle.records.specs.Copied.{copied};
 ghost use Rattle.records.specs.Reading.{read_lifetimes, end_of};
 
@@ -22,16 +22,9 @@ pub const MAX_LIST: usize = 16;
 pub fn lifetimes_end(words: &[usize], at: usize) -> Option<usize>
     ensures answer { result ≡ end_of (length words.now) (read_lifetimes (drop at words.now)) }
 {
-    let n = words.len();
-    if n <= at {
-        return None;
-    }
-    let count = words[at];
-    if MAX_LIST < count {
-        return None;
-    }
+    let count = *words.get(at)?;
     let from = at + 1;
-    if n - from < count {
+    if MAX_LIST < count || words.len() - from < count {
         return None;
     }
     Some(from + count)
@@ -47,8 +40,6 @@ pub fn copy_words(words: &[usize], count: usize, out: &mut [usize]) -> Result<us
     if out.len() < n {
         return Err(Refusal::NoRoom);
     }
-    for i in 0..n {
-        out[i] = words[i];
-    }
+    out[..n].copy_from_slice(&words[..n]);
     Ok(n)
 }

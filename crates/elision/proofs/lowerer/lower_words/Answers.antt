@@ -1,24 +1,23 @@
--- `lower_words` meets its contract. The loop's invariant is `Running` of proofs/LowererLoops.antt; the measure is how many
--- words are to be lowered.
+-- `lower_words` meets its contract, by the laws of `Running` of proofs/LowererLoops.antt.
 use borrow.Author.Rules.{rules}
-use Rattle.elision.proofs.LowererLoops.{running_start, running_few, running_refused, running_more}
-use Rattle.elision.proofs.LowererLoops.{running_end}
+use Rattle.elision.proofs.OutcomeLaws.{passed_on}
+use Rattle.elision.proofs.LowererLoops.{running_start, running_room, running_refused, running_more, running_end}
 use Rattle.elision.proofs.lowerer.lower_words.Goals as goal
 
 pub loop-i-init : goal.loop-i-init
 loop-i-init c = search (running_start, rules)
 
-pub returns-in-Err : goal.returns-in-Err
-returns-in-Err c = rw c.no_lifetimes.ensures
-    (running_refused c.loop-i.invariant c.loop-i-test.true
-    c.word_or_anonymous-word.ensures c.lower_word-done.ensures
-    c.in-Err.is)
+pub returns-in_err-done : goal.returns-in_err-done
+returns-in_err-done c = passed_on c.from_residual.ensures.1
+    (running_refused c.loop-i.invariant c.max-total.ensures c.loop-i-test.true c.word_or_anonymous-word.ensures
+    c.in_err-done.ensures)
 
-pub bounds-list-i : goal.bounds-list-i
-bounds-list-i c = search (running_few, rules)
+pub push-requires : goal.push-requires
+push-requires c = search (running_room, rules)
 
 pub loop-i-preserved : goal.loop-i-preserved
-loop-i-preserved c = search (running_more, rules)
+loop-i-preserved c = running_more c.loop-i.invariant c.max-total.ensures c.loop-i-test.true
+    c.word_or_anonymous-word.ensures c.in_ok-done.ensures c.push.ensures
 
 pub returns : goal.returns
 returns c = search (running_end, rules)

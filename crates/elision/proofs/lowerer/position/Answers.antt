@@ -1,17 +1,14 @@
--- `position` meets its contract. The loop's invariant is `Placing` of proofs/NameLaws.antt; the measure is how many
--- names are to be read.
+-- `position` meets its contract: the first name that is equal stands at its place.
 use borrow.Author.Rules.{rules}
-use Rattle.elision.proofs.NameLaws.{placing_start, placing_found, placing_more, placing_end}
+use Rattle.std.proofs.Common.{tests}
+use lib.Dec.{eqb}
+use Rattle.std.proofs.lemmas.Iterator.{YieldsList-from_slice}
+use Rattle.std.proofs.lemmas.Iterator.Search.{position_from_yields_List}
+use Rattle.elision.proofs.NameLaws.{place_lem}
 use Rattle.elision.proofs.lowerer.position.Goals as goal
 
-pub loop-i-init : goal.loop-i-init
-loop-i-init c = search (placing_start, rules)
-
-pub returns-then-names-i : goal.returns-then-names-i
-returns-then-names-i c = search (placing_found, rules)
-
-pub loop-i-preserved : goal.loop-i-preserved
-loop-i-preserved c = search (placing_more, rules)
-
 pub returns : goal.returns
-returns c = search (placing_end, rules)
+returns c =
+    place_lem c.args.names.now c.args.name
+    (position_from_yields_List (λ n. eqb n c.args.name) _ _ _ c.position.ensures.ran
+    (YieldsList-from_slice c.args.names.now cc) (λ x b q k. search (rules, tests)))

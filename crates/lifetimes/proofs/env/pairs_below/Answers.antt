@@ -1,27 +1,17 @@
--- `pairs_below` meets its contract. The loop's invariant is `Below` of proofs/EnvLoops.antt; the measure is how many
--- words are to be read.
+-- `pairs_below` meets its contract. The loop's invariant is `Below` of proofs/EnvLoops.antt.
 use borrow.Author.Rules.{rules}
 use mathlib.Core.Path.{sym, ◌∙◌}
-use Rattle.lifetimes.proofs.EnvLoops.{pair_second, below_start, below_refused, below_more, below_end}
+use Rattle.lifetimes.proofs.EnvLoops.{below_refused, below_more, below_end}
 use Rattle.lifetimes.proofs.env.pairs_below.Goals as goal
-
-pub loop-i-init : goal.loop-i-init
-loop-i-init c = search (below_start, rules)
-
-pub offset_bounds-pairs-i-in-loop-i : goal.offset_bounds-pairs-i-in-loop-i
-offset_bounds-pairs-i-in-loop-i c = search (pair_second, rules)
-
-pub bounds-pairs-i-in-loop-i : goal.bounds-pairs-i-in-loop-i
-bounds-pairs-i-in-loop-i c = search (pair_second, rules)
 
 pub returns-then-not-numbers_below : goal.returns-then-not-numbers_below
 returns-then-not-numbers_below c = below_refused c.loop-i.invariant
-    c.loop-i-test.true
+    (search rules)
     (sym c.numbers_below.ensures ∙ c.if-not-numbers_below.true)
 
 pub loop-i-preserved : goal.loop-i-preserved
 loop-i-preserved c = below_more c.loop-i.invariant
-    c.loop-i-test.true
+    (search rules)
     (sym c.numbers_below.ensures ∙ c.if-not-numbers_below.false)
 
 pub returns : goal.returns

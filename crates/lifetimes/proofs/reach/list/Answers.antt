@@ -1,23 +1,18 @@
 -- `list` meets its contract: the index is that of the environment, linked in the order that is asked for, and the walk
 -- over it lists the traversal in that order.
-use mathlib.Core.Path.{◌≡◌, refl, ◌∙◌}
+use mathlib.Core.Path.{◌∙◌}
 use native.Mathlib.Omega.{arith}
-use lib.ListN.{length}
 use Rattle.lifetimes.specs.Env.{bounds_of}
 use Rattle.lifetimes.specs.Walk.{order_of}
 use Rattle.lifetimes.specs.Index.{graph_in}
 use Rattle.lifetimes.proofs.EnvLaws.{Valid, valid}
-use Rattle.lifetimes.proofs.IndexLaws.{bounds_length, bounds_fine, bounds_within, zeros}
+use Rattle.lifetimes.proofs.IndexLaws.{bounds_linkable, bounds_within}
 use Rattle.lifetimes.proofs.ReachAnswers.{list_by_lem}
 use borrow.Author.Rules.{rules}
 use Rattle.lifetimes.proofs.reach.list.Goals as goal
 
 pub link-requires : goal.link-requires
-link-requires c =
-    let holds : Valid c.args.env = valid c.args.env c.requires.none_due.0 in
-    let full : length c.args.env.bounds.list ≡ 256 = search rules in
-    let v = holds in
-    record { fine = (bounds_fine v full, bounds_length v full); zeros = zeros 64; far_len = (refl, refl, refl) }
+link-requires c = bounds_linkable (valid c.args.env c.requires.none_due.0) (search rules)
 
 pub limit_of-limit-requires : goal.limit_of-limit-requires
 limit_of-limit-requires c =

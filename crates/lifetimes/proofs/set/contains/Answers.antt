@@ -1,20 +1,12 @@
 -- `set::contains` meets its contract: a lifetime of 64 or more is in no set of 64 bits.
-use mathlib.Core.Path.{sym, ap, ◌∙◌}
-use Prim.Native.Nat.{ℕ}
+use mathlib.Core.Path.{sym}
 use native.Mathlib.Omega.{arith}
-use Rattle.lifetimes.specs.Sets.{member}
+use borrow.Author.Tests.{le-ltb}
 use Rattle.lifetimes.proofs.SetLaws.{member_past}
 use Rattle.lifetimes.proofs.set.contains.Goals as goal
 
-pub returns-then-number-lt-CAPACITY : goal.returns-then-number-lt-CAPACITY
-returns-then-number-lt-CAPACITY c = record {
-  answer = c.holds.ensures ∙ ap (λ (n : ℕ). member c.args.set n)
-      c.index-number.ensures.answer;
-}
-
-pub returns : goal.returns
-returns c = record {
-  answer = sym
-      (member_past 64 c.args.set c.args.lifetime.0 (omega arith)
-      (omega (arith, c.index-number.ensures.answer)));
+pub returns-else-number-lt-CAPACITY : goal.returns-else-number-lt-CAPACITY
+returns-else-number-lt-CAPACITY c = record {
+  answer = rw (le-ltb c.index-number.result 64 c.if-number-lt-CAPACITY.false)
+      (sym (member_past 64 c.args.set c.args.lifetime.0 (omega arith) (omega (arith, c.index-number.ensures.answer))));
 }

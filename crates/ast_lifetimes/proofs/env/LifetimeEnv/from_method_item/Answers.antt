@@ -1,34 +1,35 @@
--- `from_method_item` meets its contract: refused by the shape, refused at a place, or given, as proofs/BuildLaws.antt
--- says.
-use mathlib.Core.Path.{refl, ◌∙◌}
-use borrow.Author.Rules.{rules}
-use Rattle.ast_lifetimes.proofs.AcceptedLaws.{built_small}
-use Rattle.ast_lifetimes.proofs.BuildLaws.{shape_refused, shape_given, place_refused, method_given}
+-- `from_method_item` meets its contract: the first record that is not in shape refuses.
+use Rattle.std.proofs.lemmas.Result.{err_from_is_err_and}
+use Rattle.ast_lifetimes.proofs.ItemLaws.{item_names, item_bounds, item_types, item_shaped}
 use Rattle.ast_lifetimes.proofs.env.LifetimeEnv.from_method_item.Goals as goal
 
-pub returns-in_default : goal.returns-in_default
-returns-in_default c = record {
-  answer = c.refused.ensures ∙ shape_refused _ _ _ c.shape_of-shape.ensures
-      c.in_default.is;
+pub returns-in_err-names_shape : goal.returns-in_err-names_shape
+returns-in_err-names_shape c = record {
+  answer = let p = err_from_is_err_and c.from_residual.result c.from_residual.ensures.1 in
+      rw (p.1, p.2)
+      (item_names c.args.names.now c.args.bounds.now c.args.types.now c.names_shape.ensures.answer c.in_err-names_shape.was);
 }
 
-pub build-built-requires : goal.build-built-requires
-build-built-requires c = record {
-  names_value = shape_given _ _ _ c.shape_of-shape.ensures c.in-Ok.is;
-  declared_len = (refl, refl, refl);
+pub returns-in_err-bounds_shape : goal.returns-in_err-bounds_shape
+returns-in_err-bounds_shape c = record {
+  answer = let p = err_from_is_err_and c.from_residual-in_err-bounds_shape.result
+      c.from_residual-in_err-bounds_shape.ensures.1 in
+      rw (p.1, p.2)
+      (item_bounds c.args.names.now c.args.bounds.now c.args.types.now c.names_shape.ensures.answer
+      c.in_ok-names_shape.was c.bounds_shape.ensures.answer c.in_err-bounds_shape.was);
 }
 
-pub returns-in_default-verdict : goal.returns-in_default-verdict
-returns-in_default-verdict c = record {
-  answer = c.refused-in_default-verdict.ensures
-      ∙ place_refused _ _ _ c.shape_of-shape.ensures c.in-Ok.is
-      c.build-built.ensures c.in_default-verdict.is;
+pub returns-in_err-types_shape : goal.returns-in_err-types_shape
+returns-in_err-types_shape c = record {
+  answer = let p = err_from_is_err_and c.from_residual-in_err-types_shape.result
+      c.from_residual-in_err-types_shape.ensures.1 in
+      rw (p.1, p.2)
+      (item_types c.args.names.now c.args.bounds.now c.args.types.now c.names_shape.ensures.answer
+      c.in_ok-names_shape.was c.bounds_shape.ensures.answer c.in_ok-bounds_shape.was c.types_shape.ensures.answer
+      c.in_err-types_shape.was);
 }
 
-pub assembled-requires : goal.assembled-requires
-assembled-requires c = let b = c.build-built.ensures in
-    let e = c.in-Ok-verdict.is in
-    record { named_le_most_names = b.few e; declared_len = b.sizes; shorts_value = built_small b e }
-
-pub returns : goal.returns
-returns c = search (method_given, rules)
+pub built-requires : goal.built-requires
+built-requires c = item_shaped c.args.names.now c.args.bounds.now c.args.types.now c.names_shape.ensures.answer
+    c.in_ok-names_shape.was c.bounds_shape.ensures.answer c.in_ok-bounds_shape.was c.types_shape.ensures.answer
+    c.in_ok-types_shape.was

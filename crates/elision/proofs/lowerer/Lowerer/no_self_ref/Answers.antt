@@ -4,4 +4,4 @@ use Rattle.elision.proofs.lowerer.Lowerer.no_self_ref.Goals as goal
 
 pub returns : goal.returns
 unfolding unused
-returns c = record { answer = rw c.no_lifetimes.ensures }
+returns c = record { answer = rw c.none.ensures }

@@ -3,15 +3,12 @@
 use mathlib.Core.Path.{◌≡◌, sym, ◌∙◌}
 use lib.ListN.{length}
 use borrow.Author.Rules.{rules}
-use Rattle.lifetimes.proofs.BoundsLaws.{check_many, checking_start, checking_refused, checking_more}
+use Rattle.lifetimes.proofs.BoundsLaws.{check_many, checking_refused, checking_more}
 use Rattle.lifetimes.proofs.BoundsLaws.{checking_end}
 use Rattle.lifetimes.proofs.bounds.Bounds.check.Goals as goal
 
 pub returns-then-pushed-gt-MAX : goal.returns-then-pushed-gt-MAX
 returns-then-pushed-gt-MAX c = search (check_many, rules)
-
-pub loop-i-init : goal.loop-i-init
-loop-i-init c = search (checking_start, rules)
 
 pub returns-then-not-both_below : goal.returns-then-not-both_below
 returns-then-not-both_below c =

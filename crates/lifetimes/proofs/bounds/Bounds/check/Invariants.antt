@@ -1,11 +1,6 @@
--- `Bounds::check` meets its contract. The loop's invariant is `Checking` of proofs/BoundsLaws.antt; the measure is how
--- many bounds are to be read.
-use Prim.Native.Nat.{◌-◌}
+-- `Bounds::check` meets its contract. The loop's invariant is `Checking` of proofs/BoundsLaws.antt.
 use Rattle.lifetimes.proofs.BoundsLaws.{Checking}
 use Rattle.lifetimes.proofs.bounds.Bounds.check.Given as goal
 
 abbrev pub invariant-loop-i : goal.invariant-loop-i
 invariant-loop-i l = Checking l.lifetimes l.self l.i
-
-abbrev pub decreases-loop-i : goal.decreases-loop-i
-decreases-loop-i l = l.pushed - l.i

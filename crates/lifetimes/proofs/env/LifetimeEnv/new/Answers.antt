@@ -25,8 +25,7 @@ returns-then-not-pairs_below c = record {
       new_outside a.declared a.count a.pairs.now c.if-pairs-eq1.false c.if-count-gt-MAX_LIFETIMES.false
       c.if-pairs-gt-MAX.false
       c.if-count-declared.false
-      (sym c.pairs_below.ensures ∙ c.if-not-pairs_below.true)
-      c.refused-then-not-pairs_below.ensures;
+      (sym c.pairs_below.ensures ∙ c.if-not-pairs_below.true);
 }
 
 pub filled-requires : goal.filled-requires

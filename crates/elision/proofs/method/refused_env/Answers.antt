@@ -1,5 +1,0 @@
--- `refused_env` meets its contract: the environment is that without lifetimes.
-use Rattle.elision.proofs.method.refused_env.Goals as goal
-
-pub returns : goal.returns
-returns c = rw c.none.ensures.answer
