@@ -19,9 +19,9 @@ pub(crate) fn from_method_item(rt: &impl Print, questions: &mut Questions<'_>) {
     let names = questions.record();
     let bounds = questions.record();
     let made = LifetimeEnv::from_method_item(names, bounds, questions.record());
-    print::first(rt, print::number_of(&made.verdict));
-    if let Ok(()) = made.verdict {
-        print_environment(rt, made.env);
+    print::first(rt, print::number_of(&made));
+    if let Ok(env) = made {
+        print_environment(rt, env);
     }
     print::end(rt);
 }
@@ -65,8 +65,8 @@ pub(crate) fn lists(rt: &impl Print, questions: &mut Questions<'_>) {
 pub(crate) fn extend_implicit_lifetime_bounds(rt: &impl Print, questions: &mut Questions<'_>) {
     let env = made_by_hand(questions);
     let extended = env.extend_implicit_lifetime_bounds(questions.record());
-    print::first(rt, print::number_of(&extended.verdict));
-    print_whole(rt, extended.env);
+    print::first(rt, print::number_of(&extended));
+    print_whole(rt, extended.unwrap_or(env));
     print::end(rt);
 }
 

@@ -1,6 +1,7 @@
 // Questions for the crate `borrowing_param` that borrow a whole method.
 use super::questions::Questions;
 use super::{lowered, print, rooms};
+use answers::Refusal;
 use borrowing_param::{Borrows, borrow_method};
 
 // Kind 23: a method made by hand, and the record of how long the three lent slices are: used lifetimes, answers, edges.
@@ -26,10 +27,11 @@ pub(crate) fn borrow(rt: &impl Print, questions: &mut Questions<'_>) {
     print::end(rt);
 }
 
-// The refusal's number or 0, and how many used lifetimes, parameters and edges there are.
-pub(crate) fn print_borrows(rt: &impl Print, borrows: Borrows) {
-    print::first(rt, print::number_of(&borrows.verdict));
-    print::next(rt, borrows.used);
-    print::next(rt, borrows.params);
-    print::next(rt, borrows.edges);
+// The refusal's number or 0, and how many used lifetimes, parameters and edges there are; refused, none.
+pub(crate) fn print_borrows(rt: &impl Print, borrows: Result<Borrows, Refusal>) {
+    print::first(rt, print::number_of(&borrows));
+    print::all(
+        rt,
+        &borrows.map_or([0; 3], |some| [some.used, some.params, some.edges]),
+    );
 }

@@ -14,21 +14,21 @@ pub(crate) fn new(rt: &impl Print, questions: &mut Questions<'_>) {
     let declared = questions.number();
     let count = questions.number();
     let made = LifetimeEnv::new(declared, count, questions.record());
-    print::first(rt, print::number_of(&made.verdict));
-    print_environment(rt, made.env);
+    print::first(rt, print::number_of(&made));
+    print_environment(rt, made.unwrap_or(LifetimeEnv::none()));
     print::end(rt);
 }
 
 // Kind 18: an environment made by hand, and a bound, longer and shorter. `push_bound`: the refusal's number or 0, and
-// the whole environment afterwards. Behind it, of the longer one and of the shorter one, whether `get_bounds` of the
+// the whole environment afterwards; refused, as it was. Behind it, of the longer one and of the shorter one, whether `get_bounds` of the
 // environment as it was knows it.
 pub(crate) fn push_bound(rt: &impl Print, questions: &mut Questions<'_>) {
     let env = made_by_hand(questions);
     let longer = Lifetime::new(questions.number());
     let shorter = Lifetime::new(questions.number());
     let pushed = env.push_bound(longer, shorter);
-    print::first(rt, print::number_of(&pushed.verdict));
-    print_environment(rt, pushed.env);
+    print::first(rt, print::number_of(&pushed));
+    print_environment(rt, pushed.unwrap_or(env));
     print::flag(rt, env.get_bounds(longer));
     print::flag(rt, env.get_bounds(shorter));
     print::end(rt);

@@ -1,10 +1,8 @@
 // Questions for the crates `hir_types` and `methods`, and methods made by hand.
 use super::questions::Questions;
 use super::{environments, print};
-use answers::Refusal;
-use hir_types::LifetimeAt;
 use lifetimes::{Lifetime, LifetimeEnv, MaybeStatic, set};
-use methods::{FieldAnswer, FieldLifetimes};
+use methods::FieldLifetimes;
 use records::MAX_LIST;
 
 // A method made by hand: an environment made by hand as in environments.rt, and records structs, params, output, force.
@@ -50,9 +48,24 @@ pub(crate) fn used_method_lifetimes(rt: &impl Print, questions: &mut Questions<'
 pub(crate) fn compute_for_struct_field(rt: &impl Print, questions: &mut Questions<'_>) {
     let structs = questions.record();
     let row = questions.number();
-    let lifetimes = methods::compute_for_struct_field(structs, row, questions.number());
-    print_field(rt, lifetimes);
+    let found = methods::compute_for_struct_field(structs, row, questions.number());
+    print::first(rt, print::number_of(&found));
+    if let Ok(lifetimes) = found {
+        match lifetimes {
+            None => print::next(rt, 0),
+            Some(lifetimes) => print_pairs(rt, lifetimes),
+        }
+    }
     print::end(rt);
+}
+
+// The pairs of a field, with their number in front.
+fn print_pairs(rt: &impl Print, lifetimes: FieldLifetimes) {
+    print::next(rt, lifetimes.count);
+    for pair in &lifetimes.pairs[..lifetimes.count.min(MAX_LIST)] {
+        print::next(rt, pair.def.index());
+        print::next(rt, pair.outer.index());
+    }
 }
 
 // Kind 12: a record, a lowered type, and an index. `type_lifetimes`: the refusal's number; or 0, and 0 for none, 1 for
@@ -60,15 +73,15 @@ pub(crate) fn compute_for_struct_field(rt: &impl Print, questions: &mut Question
 pub(crate) fn type_lifetimes(rt: &impl Print, questions: &mut Questions<'_>) {
     let words = questions.record();
     let found = hir_types::type_lifetimes(words, questions.number());
-    match found {
-        LifetimeAt::Refused(refusal) => print::first(rt, refusal.number()),
-        LifetimeAt::Absent => {
-            print::first(rt, 0);
-            print::next(rt, 0);
-        }
-        LifetimeAt::Lifetime(lifetime) => {
-            print::first(rt, 0);
-            print_lifetime(rt, lifetime);
+    print::first(rt, print::number_of(&found));
+    if let Ok(lifetime) = found {
+        match lifetime {
+            None => print::next(rt, 0),
+            Some(MaybeStatic::Static) => print::next(rt, 1),
+            Some(MaybeStatic::NonStatic(lifetime)) => {
+                print::next(rt, 2);
+                print::next(rt, lifetime.index());
+            }
         }
     }
     print::end(rt);
@@ -79,36 +92,6 @@ pub(crate) fn print_members(rt: &impl Print, members: u64) {
     for i in 0..set::CAPACITY {
         if set::contains(members, Lifetime::new(i)) {
             print::next(rt, i);
-        }
-    }
-}
-
-// A lifetime or static.
-fn print_lifetime(rt: &impl Print, lifetime: MaybeStatic) {
-    match lifetime {
-        MaybeStatic::Static => print::next(rt, 1),
-        MaybeStatic::NonStatic(found) => {
-            print::next(rt, 2);
-            print::next(rt, found.index());
-        }
-    }
-}
-
-// What kind 11 prints.
-fn print_field(rt: &impl Print, lifetimes: FieldLifetimes) {
-    match lifetimes.answer {
-        FieldAnswer::Refused(refusal) => print::first(rt, refusal.number()),
-        FieldAnswer::Absent => {
-            print::first(rt, 0);
-            print::next(rt, 0);
-        }
-        FieldAnswer::Pairs(count) => {
-            print::first(rt, 0);
-            print::next(rt, count);
-            for pair in &lifetimes.pairs[..count.min(MAX_LIST)] {
-                print::next(rt, pair.def.index());
-                print::next(rt, pair.outer.index());
-            }
         }
     }
 }

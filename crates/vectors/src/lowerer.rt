@@ -5,8 +5,9 @@
 // had, and the record of their lowered words, the first 16 of them; the others are static.
 use super::questions::Questions;
 use super::{ast, print};
+use answers::Refusal;
 use elision::{ElisionSource, Lifetimes, Lowered, Lowerer, Seen, Stepped};
-use lifetimes::MaybeStatic;
+use lifetimes::{Lifetime, LifetimeEnv, MaybeStatic};
 use records::MAX_LIST;
 
 // Kind 14: record of names, a lowerer made by hand, and a step: its kind, the number of generics (kind 0: the
@@ -27,7 +28,7 @@ pub(crate) fn step(rt: &impl Print, questions: &mut Questions<'_>) {
         2 => lowerer.is_self(names, words, output),
         _ => lowerer.lower_step(names, words, output),
     };
-    print_stepped(rt, stepped);
+    print_stepped(rt, stepped, lowerer);
     print::end(rt);
 }
 
@@ -36,10 +37,11 @@ pub(crate) fn step(rt: &impl Print, questions: &mut Questions<'_>) {
 pub(crate) fn finish(rt: &impl Print, questions: &mut Questions<'_>) {
     let lowerer = made_by_hand(questions);
     let made = elision::finish(lowerer, ast::made_by_hand(questions));
-    print::first(rt, print::number_of(&made.verdict));
-    print::next(rt, made.env.declared);
-    print::next(rt, made.env.count);
-    print::next(rt, made.env.bounds.pushed);
+    print::first(rt, print::number_of(&made));
+    let env = made.unwrap_or(LifetimeEnv::none());
+    print::next(rt, env.declared);
+    print::next(rt, env.count);
+    print::next(rt, env.bounds.pushed);
     print::end(rt);
 }
 
@@ -48,15 +50,12 @@ pub(crate) fn finish(rt: &impl Print, questions: &mut Questions<'_>) {
 pub(crate) fn start(rt: &impl Print, questions: &mut Questions<'_>) {
     let names = questions.record();
     let receiver = questions.record();
+    let lowerer = Lowerer::no_self_ref(names);
     let stepped = match receiver.first() {
         Some(word) => Lowerer::lower_self_ref(names, *word),
-        None => Stepped {
-            verdict: Ok(()),
-            lowerer: Lowerer::no_self_ref(names),
-            lifetimes: list_of(0, &[]),
-        },
+        None => Ok(unmoved(lowerer)),
     };
-    print_stepped(rt, stepped);
+    print_stepped(rt, stepped, lowerer);
     print::end(rt);
 }
 
@@ -67,8 +66,8 @@ pub(crate) fn input_then_output(rt: &impl Print, questions: &mut Questions<'_>) 
     let lowerer = made_by_hand(questions);
     let input = questions.record();
     let answer = elision::input_then_output(lowerer, names, input, questions.record());
-    print::first(rt, print::number_of(&answer.verdict));
-    print_list(rt, answer.lifetimes);
+    print::first(rt, print::number_of(&answer));
+    print_list(rt, answer.unwrap_or(list_of(0, &[])));
     print::end(rt);
 }
 
@@ -105,10 +104,19 @@ fn list_of(n: usize, words: &[usize]) -> Lifetimes {
     Lifetimes { n, list }
 }
 
-// What kind 14 prints.
-fn print_stepped(rt: &impl Print, stepped: Stepped) {
+// A lowerer as it was, and no lifetimes.
+fn unmoved(lowerer: Lowerer) -> Stepped {
+    Stepped {
+        lowerer,
+        lifetimes: list_of(0, &[]),
+    }
+}
+
+// What kind 14 prints, of a step from this lowerer.
+fn print_stepped(rt: &impl Print, answer: Result<Stepped, Refusal>, before: Lowerer) {
+    print::first(rt, print::number_of(&answer));
+    let stepped = answer.unwrap_or(unmoved(before));
     let after = stepped.lowerer;
-    print::first(rt, print::number_of(&stepped.verdict));
     print_source(rt, after.seen.source);
     print::next(rt, after.seen.count);
     print::flag(rt, after.kept);
@@ -129,7 +137,7 @@ fn print_source(rt: &impl Print, source: ElisionSource) {
 }
 
 // The word of a lifetime; the largest number where it has none.
-fn print_word(rt: &impl Print, lifetime: MaybeStatic) {
+fn print_word(rt: &impl Print, lifetime: MaybeStatic<Lifetime>) {
     print::next(rt, lifetime.word().unwrap_or(usize::MAX));
 }
 

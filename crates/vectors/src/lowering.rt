@@ -2,6 +2,7 @@
 use super::questions::Questions;
 use super::{print, rooms};
 use ast_lifetimes::LifetimeEnv;
+use elision::Lowering;
 
 // The longest slice that is lent for the lowered `self`: more than the one word that it may have.
 const OWN: usize = 4;
@@ -23,22 +24,29 @@ pub(crate) fn lower(rt: &impl Print, questions: &mut Questions<'_>) {
     let own = &mut own[..questions.number().min(OWN)];
     let given = &mut given[..questions.number().min(rooms::WORDS)];
     let taken = &mut taken[..questions.number().min(rooms::WORDS)];
-    match made.verdict {
+    match made {
         Err(refusal) => print::first(rt, refusal.number()),
-        Ok(()) => {
-            let lowering = elision::lower(made.env, receiver, steps, returns, own, given, taken);
-            print::first(rt, print::number_of(&lowering.verdict));
-            print::next(rt, lowering.selves);
-            print::next(rt, lowering.steps);
-            print::next(rt, lowering.returns);
-            print::next(rt, lowering.env.declared);
-            print::next(rt, lowering.env.count);
+        Ok(env) => {
+            let lowering = elision::lower(env, receiver, steps, returns, own, given, taken);
+            print::first(rt, print::number_of(&lowering));
+            print::all(rt, &lowering.map_or([0; 5], counts));
             print::all(rt, own);
             print::all(rt, given);
             print::all(rt, taken);
         }
     }
     print::end(rt);
+}
+
+// How many words each record gave, and how many lifetimes are declared and there are.
+fn counts(lowering: Lowering) -> [usize; 5] {
+    [
+        lowering.selves,
+        lowering.steps,
+        lowering.returns,
+        lowering.env.declared,
+        lowering.env.count,
+    ]
 }
 
 // Kind 8: record self. Its shape.

@@ -3,12 +3,14 @@
 // Each is the record of the sheet's bytes, and the record of how long the lent slices are.
 use super::questions::Questions;
 use super::{borrows, environments, print, rooms, scan};
-use borrowing_param::{borrow_sheet, lower_sheet};
+use borrowing_param::{SheetMethod, borrow_sheet, lower_sheet};
 use exports::{borrows_listing, borrows_sheet};
+use lifetimes::LifetimeEnv;
 use listing::listing;
+use sheet::Text;
 
 // Kind 24, one slice for words: `lower_sheet`. The refusal's number or 0, the ten ends, the whole environment, and all
-// words of the slice.
+// words of the slice. Refused, the ends are 0, and there is no lifetime.
 pub(crate) fn lower(rt: &impl Print, questions: &mut Questions<'_>) {
     let mut bytes: [u8; rooms::BYTES] = rooms::bytes();
     let n = scan::lay(questions.record(), &mut bytes);
@@ -18,7 +20,11 @@ pub(crate) fn lower(rt: &impl Print, questions: &mut Questions<'_>) {
     let mut words: [usize; rooms::WORDS] = rooms::words();
     let words = &mut words[..lengths.number().min(rooms::WORDS)];
     let method = lower_sheet(&bytes[..n], words);
-    print::first(rt, print::number_of(&method.verdict));
+    print::first(rt, print::number_of(&method));
+    let method = method.unwrap_or(SheetMethod {
+        ends: [0; Text::RECORDS],
+        env: LifetimeEnv::none(),
+    });
     print::all(rt, &method.ends);
     environments::print_environment(rt, method.env);
     print::all(rt, words);

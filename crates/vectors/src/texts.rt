@@ -3,7 +3,7 @@
 // Bytes are asked for as a record of words, each by its remainder by 256; the first 16,384 are taken.
 use super::questions::Questions;
 use super::{print, rooms, scan};
-use text::{Found, put_following, put_line, put_number, put_padded, put_text, read_number};
+use text::{put_following, put_line, put_number, put_padded, put_text, read_number};
 
 // Kind 28: which printer (0 `put_text`, 1 `put_number`, 2 `put_padded`, 3 `put_following`, else `put_line`), the place,
 // a number, a width, a record of words, and how long the lent slice is, at most 16,384. The number is for 1 and 2, the
@@ -45,11 +45,11 @@ pub(crate) fn read(rt: &impl Print, questions: &mut Questions<'_>) {
     let place = questions.number();
     let found = read_number(&bytes[..n], place, questions.number());
     match found {
-        Found::Nothing => print::first(rt, 0),
-        Found::Number { value, at } => {
+        None => print::first(rt, 0),
+        Some(found) => {
             print::first(rt, 1);
-            print::next(rt, value);
-            print::next(rt, at);
+            print::next(rt, found.value);
+            print::next(rt, found.at);
         }
     }
     print::end(rt);

@@ -1,6 +1,7 @@
 // Questions for the crate `borrowing_param`.
 use super::questions::Questions;
 use super::{lowered, print, rooms, words};
+use answers::Refusal;
 use borrowing_param::{BorrowingParamVisitor, ParamBorrowInfo, edge_at};
 use lifetimes::{LifetimeEnv, set};
 
@@ -13,9 +14,9 @@ pub(crate) fn visit_params(rt: &impl Print, questions: &mut Questions<'_>) {
     let edges = &mut edges[..questions.number().min(rooms::EDGES)];
     let visits = questions.record();
     let created = BorrowingParamVisitor::new(m.env, m.structs, m.params, m.output, m.force);
-    print::first(rt, print::number_of(&created.verdict));
-    if let Ok(()) = created.verdict {
-        let mut visitor = created.visitor;
+    print::first(rt, print::number_of(&created));
+    if let Ok(first) = created {
+        let mut visitor = first;
         for param in visits {
             let visited = visitor.visit_param(m.structs, m.params, *param, edges);
             print_info(rt, visited.info);
@@ -29,8 +30,12 @@ pub(crate) fn visit_params(rt: &impl Print, questions: &mut Questions<'_>) {
 
 // What a visit answers: the refusal's number or 0, the answer's number, and of how many definition lifetimes there are
 // pairs; for each of these it, how many used lifetimes it has, and they. Refused, the other two are 0.
-fn print_info(rt: &impl Print, info: ParamBorrowInfo) {
-    print::next(rt, print::number_of(&info.verdict));
+fn print_info(rt: &impl Print, answer: Result<ParamBorrowInfo, Refusal>) {
+    print::next(rt, print::number_of(&answer));
+    let info = answer.unwrap_or(ParamBorrowInfo {
+        number: 0,
+        pairs: [set::EMPTY; ParamBorrowInfo::MAX_DEFS],
+    });
     print::next(rt, info.number);
     print::next(
         rt,

@@ -2,7 +2,7 @@
 // lifetimes.
 use super::questions::Questions;
 use super::{print, rooms};
-use lifetimes::{DefLifetime, Lifetime, MaybeStatic, MaybeStaticDef, set};
+use lifetimes::{DefLifetime, Lifetime, MaybeStatic, Numbered, set};
 use records::copy_words;
 
 // Kind 19: 0 for `set::members`, else `copy_words`; a record, a number, and how long the lent slice is. The set is that
@@ -30,19 +30,21 @@ pub(crate) fn list(rt: &impl Print, questions: &mut Questions<'_>) {
 pub(crate) fn word(rt: &impl Print, questions: &mut Questions<'_>) {
     let code = questions.number();
     let number = questions.number();
-    let (method, definition) = match code {
-        0 => (MaybeStatic::Static, MaybeStaticDef::Static),
-        _ => (
-            MaybeStatic::NonStatic(Lifetime::new(number)),
-            MaybeStaticDef::NonStatic(DefLifetime::new(number)),
-        ),
-    };
-    let (method, definition) = (method.word(), definition.word());
+    let method = lifetime::<Lifetime>(code, number).word();
+    let definition = lifetime::<DefLifetime>(code, number).word();
     print::first(rt, usize::from(method.is_none()));
     print::next(rt, method.unwrap_or(0));
     print::flag(rt, definition.is_none());
     print::next(rt, definition.unwrap_or(0));
     print::end(rt);
+}
+
+// A lifetime of a method or of a definition.
+fn lifetime<T: Numbered>(code: usize, number: usize) -> MaybeStatic<T> {
+    match code {
+        0 => MaybeStatic::Static,
+        _ => MaybeStatic::NonStatic(T::new(number)),
+    }
 }
 
 // The set of some lifetimes, those below 64.

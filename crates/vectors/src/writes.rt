@@ -5,31 +5,28 @@
 use super::questions::Questions;
 use super::{print, rooms};
 use exports::borrows_write_sheet;
-use sheet::sheet_shape;
+use sheet::{Records, sheet_shape};
 use sheet_writer::{write_laid, write_sheet};
 
 // Kind 33: the ten records of a sheet, and how long the lent slice is. `sheet_shape`: the refusal's number or 0. Then
 // `write_sheet`: the refusal's number or 0, the count, and all bytes of the slice.
 pub(crate) fn ten(rt: &impl Print, questions: &mut Questions<'_>) {
-    let names = questions.record();
-    let bounds = questions.record();
-    let types = questions.record();
-    let own = questions.record();
-    let steps = questions.record();
-    let returns = questions.record();
-    let structs = questions.record();
-    let params = questions.record();
-    let output = questions.record();
-    let force = questions.record();
+    let records = Records {
+        names: questions.record(),
+        bounds: questions.record(),
+        types: questions.record(),
+        own: questions.record(),
+        steps: questions.record(),
+        returns: questions.record(),
+        structs: questions.record(),
+        params: questions.record(),
+        output: questions.record(),
+        force: questions.record(),
+    };
     let mut out: [u8; rooms::BYTES] = rooms::bytes();
     let out = &mut out[..questions.number().min(rooms::BYTES)];
-    let shape = sheet_shape(
-        names, bounds, types, own, steps, returns, structs, params, output, force,
-    );
-    print::first(rt, print::number_of(&shape));
-    let written = write_sheet(
-        names, bounds, types, own, steps, returns, structs, params, output, force, out,
-    );
+    print::first(rt, print::number_of(&sheet_shape(records)));
+    let written = write_sheet(records, out);
     print::next(rt, print::number_of(&written));
     print::next(rt, written.unwrap_or(0));
     print::bytes(rt, out);
