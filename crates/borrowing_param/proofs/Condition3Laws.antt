@@ -31,12 +31,11 @@ use Rattle.methods.specs.Method.{types_in, type_checks, row_checks, param_checks
 use Rattle.methods.specs.Used.{used_set, output_numbers}
 use Rattle.borrowing_param.specs.declared.visitor.LifetimeEdge.{LifetimeEdge}
 use Rattle.borrowing_param.specs.declared.visitor.BorrowingParamVisitor.{BorrowingParamVisitor}
-use Rattle.borrowing_param.specs.declared.visitor.Created.{Created}
 use Rattle.borrowing_param.specs.Brings.{answer_of}
 use Rattle.borrowing_param.specs.Visit.{used_of, draws_of, bring_to, bring_all, holding, state, visit_with, visit}
 use Rattle.borrowing_param.specs.VisitParam.{type_at, visit_checks, visit_param}
 use Rattle.borrowing_param.specs.Visits.{unrefused_by, all_of}
-use Rattle.borrowing_param.specs.New.{draws_to, visitor_from, new_visitor, created}
+use Rattle.borrowing_param.specs.New.{draws_to, visitor_from, method_visitor, created}
 use Rattle.borrowing_param.specs.Condition3.{Above, Param}
 use Rattle.borrowing_param.specs.Theorems.{IsNew, answer_at, AllVisits}
 use Rattle.borrowing_param.proofs.JoinLaws.{Once, join_part}
@@ -164,31 +163,25 @@ module _ (env : LifetimeEnv) (structs params output force : List ℕ)
   used_given = due_given used none
 
   abbrev new : BorrowingParamVisitor
-  new = new_visitor used env
+  new = method_visitor env structs output
 
-  abbrev made : Created
-  made = record { verdict = Ok (tt {0}); visitor = new }
-
-  created_is : created env structs params output force ≡ made
+  pub created_is : created env structs params output force ≡ Ok new
   unfolding created
-  created_is = rw used_given
+  created_is = due_given new none
 
-  made_new : IsNew env structs params output force made
+  pub created_new : IsNew env structs params output force new
   unfolding visitor_from
-  made_new =
+  created_new =
       let valid = env_none env structs params output force none in
       let few = few_lifetimes env structs params output force none in
       let below = used_below env structs params output force none used used_given in
       record {
-        accepted = refl;
+        accepted = created_is;
         used = used_given;
         draws = λ l m b. draws_above env valid few used below l b m;
         draws_none = λ l out. draws_nothing env valid few used below l out;
         stored = refl;
       }
-
-  pub created_new : IsNew env structs params output force (created env structs params output force)
-  created_new = subst (λ (c : Created). IsNew env structs params output force c) (sym created_is) made_new
 
   abbrev type : ℕ → LoweredType
   type p = type_at (types_in structs params) p
@@ -214,31 +207,25 @@ module _ (env : LifetimeEnv) (structs params output force : List ℕ)
   brings l q = bring_to new (type q) q l
 
   -- which visits are unrefused, by their room
-  unrefused_made : (words ps : List ℕ) → Within ps
+  pub unrefused_new : (words ps : List ℕ) → Within ps
       → unrefused_by (visit_param structs params) (state new words) ps
       ≡ kept (λ p. length (all_of new brings p)) (length words) 0 ps
   unfolding visitor_from
-  unrefused_made words ps within =
+  unrefused_new words ps within =
       unrefused_kept (visit_param structs params) new brings (answer_at structs params new)
-      (length (types_in structs params)) agrees (λ p h. refl) words ps within
+      (length (types_in structs params)) agrees words ps within
 
   pub all_visits : (words ps : List ℕ) → Within ps
-      → AllVisits env structs params output force (created env structs params output force) words ps
-  all_visits words ps within =
-      subst (λ (c : Created). AllVisits env structs params output force c words ps) (sym created_is) (record {
-        new = made_new;
-        parameters = λ p h.
-            param_is env (env_none env structs params output force none)
-            (few_lifetimes env structs params output force none) used
-            (used_below env structs params output force none used used_given)
-            (type p) p (param_short structs params in_shape_lem.1 p h);
-        visits =
-            visits_all (visit_param structs params) new brings (answer_at structs params new)
-            (length (types_in structs params)) agrees (λ p h. refl)
-            (λ l q e m. (bring_formed (draws_of new l) l q (type q) e m).own) once_new new_empty words ps within;
-      })
-
-  pub unrefused_new : (words ps : List ℕ) → Within ps
-      → unrefused_by (visit_param structs params) (state (created env structs params output force).visitor words) ps
-      ≡ kept (λ p. length (bring_all (created env structs params output force).visitor (type p) p)) (length words) 0 ps
-  unrefused_new words ps within = rw created_is (unrefused_made words ps within)
+      → AllVisits env structs params output force new words ps
+  all_visits words ps within = record {
+    new = created_new;
+    parameters = λ p h.
+        param_is env (env_none env structs params output force none)
+        (few_lifetimes env structs params output force none) used
+        (used_below env structs params output force none used used_given)
+        (type p) p (param_short structs params in_shape_lem.1 p h);
+    visits =
+        visits_all (visit_param structs params) new brings (answer_at structs params new)
+        (length (types_in structs params)) agrees
+        (λ l q e m. (bring_formed (draws_of new l) l q (type q) e m).own) once_new new_empty words ps within;
+  }

@@ -3,15 +3,16 @@
 use Prim.Native.Nat.{ℕ, zero, suc, ◌+◌, ◌-◌, ◌*◌, ◌^◌, ◌≤◌, ◌<◌}
 use mathlib.Core.Bool.{Bool, true, false, cond}
 use mathlib.Core.Path.{◌≡◌, refl, sym, ap, ◌∙◌}
-use mathlib.Core.List.{List, [], ◌∷◌, ◌++◌, flat_map}
+use mathlib.Core.List.{List, [], ◌∷◌, ◌++◌, map, flat_map}
+use mir.Val.{bool_byte}
 use native.Mathlib.Nat.{add-zero, zero-add, pow-suc, pow-le-pow_right, div-eq_of_lt}
 use native.Mathlib.Numerals.{add-one}
 use native.Mathlib.Omega.{arith}
 use borrow.Author.Tests.{lt-ltb, eq-eqb, ne_eqb}
 use lib.Count.{count_leading_zeros, leading_length}
 use lib.Dec.{eqb, ltb}
-use lib.ListN.{length, get_or, set, length-append, length-set}
-use lib.Seq.{sets, length-sets}
+use lib.ListN.{length, get_or, drop, set, length-append, length-set, drop_of_length-le}
+use lib.Seq.{sets, length-sets, drop-cons}
 use Rattle.lifetimes.specs.declared.maybe_static.MaybeStatic.{MaybeStatic}
 use Rattle.lifetimes.specs.LoweredWords.{from_word}
 use Rattle.answers.specs.Lists.{range, filter, numbered}
@@ -20,11 +21,11 @@ use Rattle.hir_types.specs.declared.types.Kind.TheVariants.{Plain, Opaque, Struc
 use Rattle.hir_types.specs.LoweredTypes.{LoweredType, lifetimes_of}
 use Rattle.borrowing_param.specs.declared.visitor.LifetimeEdge.{LifetimeEdge}
 use Rattle.borrowing_param.specs.Edges.{edge, width, edge_words}
-use Rattle.borrowing_param.specs.Brings.{drawn, any_drawn, one_edge, struct_edges, bring, note, notes}
+use Rattle.borrowing_param.specs.Brings.{drawn, any_drawn, one_edge, struct_edges, option_of, bring, note, notes}
 use Rattle.borrowing_param.specs.Visit.{draws_in}
-use Rattle.borrowing_param.specs.Inner.{Inside, CountsFor, SetBelow, all_in, CountsAll, struct_of, StoresWords, Stores}
+use Rattle.borrowing_param.specs.Inner.{CountsFor, SetBelow, all_in, CountsAll, struct_of, StoresWords, Stores}
 use Rattle.borrowing_param.proofs.JoinLaws.{join_cons, join_append, sets_behind, words_many}
-use Rattle.borrowing_param.proofs.EdgesLaws.{left, all_path, left_all_lem, left_none, left_next, bring_few}
+use Rattle.borrowing_param.proofs.EdgesLaws.{bring_few}
 
 -- ---- some edges, and then others
 
@@ -133,31 +134,29 @@ module _ (draws : ℕ → Bool) (used param kind : ℕ) (ms : List MaybeStatic) 
 
 -- ---- a struct: the edges that are left
 
-abbrev pub left_edges : (ℕ → Bool) → ℕ → ℕ → ℕ → List ℕ → ℕ → ℕ → ℕ → List LifetimeEdge
-left_edges draws used param option words from count def = struct_edges draws used param option def (left words from count def)
+abbrev pub left_edges : (ℕ → Bool) → ℕ → ℕ → ℕ → List ℕ → ℕ → List LifetimeEdge
+left_edges draws used param option path def = struct_edges draws used param option def (map from_word (drop def path))
 
-module _ (draws : ℕ → Bool) (used param option : ℕ) (words : List ℕ) (from count : ℕ) where
-  pub edges_all : struct_edges draws used param option 0 (all_path words from count) ≡ left_edges draws used param option
-      words from count 0
-  edges_all = ap (struct_edges draws used param option 0) (sym (left_all_lem words from count))
-
-  pub edges_none : (def : ℕ) → count ≤ def → left_edges draws used param option words from count def ≡ []
+module _ (draws : ℕ → Bool) (used param option : ℕ) (path : List ℕ) where
+  pub edges_none : (def : ℕ) → length path ≤ def → left_edges draws used param option path def ≡ []
   unfolding numbered
-  edges_none def h = rw (left_none words from count def h)
+  edges_none def h = rw (drop_of_length-le path {i = def} h)
 
-  module _ (fits : Inside words from count) (def : ℕ) (h : def < count) {m : MaybeStatic}
-      (is : m ≡ from_word (get_or words (from + def) 0)) where
-    pub edges_one : true ≡ drawn draws m
-        → left_edges draws used param option words from count def ≡ (edge used param 3 def option ∷ [])
-        ++ left_edges draws used param option words from count (def + 1)
+  module _ (def : ℕ) (h : def < length path) where
+    pub edges_one : true ≡ drawn draws (from_word (get_or path def 0))
+        → left_edges draws used param option path def ≡ (edge used param 3 def option ∷ [])
+        ++ left_edges draws used param option path (def + 1)
     unfolding numbered
-    edges_one q = rw (left_next words from count fits def h, ← is, ← q, add-one def)
+    edges_one q = rw (drop-cons path def 0 h, ← q, add-one def)
 
-    pub edges_skip : false ≡ drawn draws m
-        → left_edges draws used param option words from count def ≡ left_edges draws used param option words from count
-        (def + 1)
+    pub edges_skip : false ≡ drawn draws (from_word (get_or path def 0))
+        → left_edges draws used param option path def ≡ left_edges draws used param option path (def + 1)
     unfolding numbered
-    edges_skip q = rw (left_next words from count fits def h, ← is, ← q, add-one def)
+    edges_skip q = rw (drop-cons path def 0 h, ← q, add-one def)
+
+pub option_byte : (t : Bool) → bool_byte t ≡ option_of t
+option_byte true = refl
+option_byte false = refl
 
 -- one of them, with its pair
 pub pair_stored : (e : LifetimeEdge) (at : ℕ) (pairs words : List ℕ) {words₁ : List ℕ} {put n : ℕ} → e.kind ≡ 3

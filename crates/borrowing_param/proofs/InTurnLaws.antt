@@ -1,5 +1,6 @@
 -- A visit to each parameter, one after another: with room for all edges none is refused, and they give the listing;
 -- without, one is refused.
+use Rattle.std.specs.Prelude.{Ok, Err}
 use Prim.Native.Nat.{ℕ, zero, suc, ◌+◌, ◌*◌, ◌≤◌, ◌<◌}
 use mathlib.Core.Bool.{Bool, true, false}
 use mathlib.Core.Path.{◌≡◌, refl, sym, ap, ◌∙◌}
@@ -13,7 +14,7 @@ use lib.ListN.{length, get_or, take}
 use lib.Seq.{take-length}
 use Rattle.answers.specs.declared.Refusal.TheVariants.{NoRoom}
 use Rattle.lifetimes.specs.declared.env.LifetimeEnv.{LifetimeEnv}
-use Rattle.answers.specs.Refusals.{NoneDue}
+use Rattle.answers.specs.Refusals.{NoneDue, Outcome, over}
 use Rattle.answers.specs.Lists.{range, numbered}
 use Rattle.lifetimes.specs.Sets.{member}
 use Rattle.answers.proofs.ListLaws.{length_range, get_d_range, range_has}
@@ -23,11 +24,10 @@ use Rattle.methods.specs.Method.{types_in, method_checks}
 use Rattle.borrowing_param.specs.declared.visitor.ParamBorrowInfo.{ParamBorrowInfo}
 use Rattle.borrowing_param.specs.declared.visitor.BorrowingParamVisitor.{BorrowingParamVisitor}
 use Rattle.borrowing_param.specs.Edges.{width, edges_in, edges_of}
-use Rattle.borrowing_param.specs.Brings.{refuse}
 use Rattle.borrowing_param.specs.Visit.{used_of, bring_to, bring_all, VisitOutcome, state}
 use Rattle.borrowing_param.specs.VisitParam.{type_at, visit_param}
 use Rattle.borrowing_param.specs.Visits.{unrefused_by, Visits}
-use Rattle.borrowing_param.specs.New.{created}
+use Rattle.borrowing_param.specs.New.{method_visitor}
 use Rattle.borrowing_param.specs.BorrowMap.{listed_to, listed_edges}
 use Rattle.borrowing_param.specs.Theorems.{answer_at, all_params, visit_of, after_all_visits, RoomForAll, AsVisited}
 use Rattle.borrowing_param.proofs.JoinLaws.{of_part, of_others}
@@ -143,20 +143,18 @@ module _ (structs params : List ℕ) (v : BorrowingParamVisitor) (words : List �
   fits room = omega (arith, total)
 
   info : RoomForAll structs params v words → (p : ℕ) → p < length types
-      → visit_of structs params v words p ≡ answer_at structs params v p
+      → visit_of structs params v words p ≡ Ok (answer_at structs params v p)
   info room p h =
       let k : p < length (all_params structs params) = omega (arith, size) in
       visits.answered p k (rw (stands p) (filled_part count (length words) 0 (all_params structs params) p (fits room) k))
-      ∙ ap (answer_at structs params v) (number p h)
+      ∙ ap (λ (q : ℕ). Ok (answer_at structs params v q)) (number p h)
 
   pub in_turn_lem : AsVisited structs params v words
   unfolding listed_edges
   in_turn_lem = record {
     answered =
-        λ room p h. (
-          ap (λ (x : ParamBorrowInfo). x.verdict) (info room p h),
-          ap (λ (x : ParamBorrowInfo). x.number) (info room p h) ∙ sym (answer_is v types p h),
-        );
+        λ room p h. ap (over (λ (x : ParamBorrowInfo). x.number)) (info room p h)
+        ∙ ap (λ (n : ℕ). Ok n) (sym (answer_is v types p h));
     edges = λ room used. by_used room used (dec_member used);
     refused = λ none. gone (dec_lt (length words) (width * length (listed_edges v types))) none;
     listed = listed_to_lem;
@@ -190,7 +188,7 @@ module _ (structs params : List ℕ) (v : BorrowingParamVisitor) (words : List �
           ∙ sym (of_others (listed_to v 0 types) (λ l e k. to_used v 0 types l e k) used (used_of v) n)
 
       gone : Dec (length words < width * length (listed_edges v types)) → (RoomForAll structs params v words → ⊥)
-          → (p : ℕ) × (p < length types) × (visit_of structs params v words p ≡ refuse NoRoom)
+          → (p : ℕ) × (p < length types) × (visit_of structs params v words p ≡ Err NoRoom)
       gone (no n) none = absurd (none (omega arith))
       gone (yes h) none =
           let past = first_past count (length words) 0 (all_params structs params) (omega arith) (omega (arith, total)) in (
@@ -202,9 +200,9 @@ module _ (structs params : List ℕ) (v : BorrowingParamVisitor) (words : List �
 
 pub as_visited : (env : LifetimeEnv) (structs params output force : List ℕ)
     → NoneDue (method_checks env structs params output force) → (words : List ℕ)
-    → AsVisited structs params (created env structs params output force).visitor words
+    → AsVisited structs params (method_visitor env structs output) words
 as_visited env structs params output force none words =
-    in_turn_lem structs params (created env structs params output force).visitor words
+    in_turn_lem structs params (method_visitor env structs output) words
     (all_visits env structs params output force none words turn within).visits
     (λ i. unrefused_new env structs params output force none words (take i turn) (λ p m. within p (take_member i turn p m)))
   where

@@ -1,6 +1,7 @@
--- Laws: joined lists and words of edges; a run of visits; what a parameter brings; which lifetimes draw; storing edges;
+-- Laws: joined lists and words of edges; outcomes; a run of visits; what a parameter brings; which lifetimes draw; storing edges;
 -- a visit; a new visitor; the numberings; the listing, its order, its size, and the visits that give it.
 pub mod JoinLaws
+pub mod OutcomeLaws
 pub mod VisitsLaws
 pub mod BringsLaws
 pub mod EdgesLaws

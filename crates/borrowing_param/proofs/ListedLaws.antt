@@ -34,7 +34,6 @@ use Rattle.hir_types.proofs.LocatedLaws.{type_located}
 use Rattle.hir_types.proofs.FoundLaws.{found_told, missing_told, path_inside}
 use Rattle.methods.specs.Method.{types_in, row_checks, param_checks, structs_and_params_checks, structs_and_params_verdict}
 use Rattle.borrowing_param.specs.declared.listed.BorrowMap.{BorrowMap}
-use Rattle.borrowing_param.specs.declared.listed.Counted.{Counted}
 use Rattle.borrowing_param.specs.declared.visitor.LifetimeEdge.{LifetimeEdge}
 use Rattle.borrowing_param.specs.declared.visitor.BorrowingParamVisitor.{BorrowingParamVisitor}
 use Rattle.borrowing_param.specs.Edges.{width, most_defs, edge_words}
@@ -42,7 +41,7 @@ use Rattle.borrowing_param.specs.Brings.{bring, answer_number}
 use Rattle.borrowing_param.specs.Visit.{used_of, draws_in, draws_of, bring_to, bring_all, holding}
 use Rattle.borrowing_param.specs.BorrowMap.{listed_to, listed_edges, answers_from, Mapping, mapping_of, borrow_map}
 use Rattle.borrowing_param.specs.BorrowMap.{map_answer, map_answers, map_edges, MapsTo}
-use Rattle.borrowing_param.specs.Inner.{Inside, type_in, number_by, SetBelow, CountsAll, StoresWords, Stores}
+use Rattle.borrowing_param.specs.Inner.{type_in, number_by, SetBelow, CountsAll, StoresWords, Stores}
 use Rattle.borrowing_param.specs.InnerMap.{ReadsTypes, done, more, param_types, Params, visitor_in, bring_from}
 use Rattle.borrowing_param.specs.InnerMap.{CountsParams, map_room_checks, map_of}
 use Rattle.borrowing_param.proofs.JoinLaws.{join_cons, words_many}
@@ -141,7 +140,6 @@ pub record Passed (words : List ℕ) (types left : List LoweredType) (at number 
   pub rest : List LoweredType
   pub split : left ≡ type_in words p ∷ rest
   pub passing : Passing words types rest p.next (number + 1)
-  pub inside : Inside words p.from p.count
   pub few : p.count ≤ 16
   pub short : length (type_in words p).path ≤ 16
   pub past : at < p.next
@@ -171,7 +169,6 @@ module _ {words : List ℕ} {types left : List LoweredType} {at number : ℕ} (i
           rest = n.types;
           split = n.split ∙ ap (λ (x : LoweredType). x ∷ n.types) (sym is);
           passing = record { reads = rw s.left n.lists; many = omega (arith, inv.many) };
-          inside = path_inside s;
           few = s.few;
           short = omega (arith, s.few, s.count, ap length s.path);
           past = s.past;
@@ -404,11 +401,11 @@ module _ {used : ℕ} {drawn words : List ℕ} {types : List LoweredType} {numbe
 
 -- ---- the answers of `map_params`
 
-maps_refused : {o : Outcome Mapping} {r : Refusal} {b : BorrowMap} {answers edges : Slice}
-    → o ≡ Err r → b ≡ map_answer (Err r) → Stays answers → Stays edges → MapsTo o b answers edges
+maps_refused : {o : Outcome Mapping} {r : Refusal} {b : Outcome BorrowMap} {answers edges : Slice}
+    → o ≡ Err r → b ≡ Err r → Stays answers → Stays edges → MapsTo o b answers edges
 maps_refused e q a w = record { counts = rw e q; answers_filled = rw e a; edges_filled = rw e w }
 
-module _ (v : BorrowingParamVisitor) (types : List LoweredType) {numbers₀ : List ℕ} {n : Counted} {numbers : List ℕ}
+module _ (v : BorrowingParamVisitor) (types : List LoweredType) {numbers₀ : List ℕ} {n : BorrowMap} {numbers : List ℕ}
     (c : CountsParams v.used v.draws types numbers₀ n numbers) where
   answers_size : length (answers_from v 0 types) ≡ n.params
   answers_size = answers_many v 0 types ∙ sym c.params
@@ -422,25 +419,24 @@ module _ (v : BorrowingParamVisitor) (types : List LoweredType) {numbers₀ : Li
   edges_size : length (flat_map edge_words (listed_edges v types)) ≡ width * n.edges
   edges_size = words_many (listed_edges v types) ∙ ap (λ (k : ℕ). width * k) (sym (c.edges ∙ ap length edges_are))
 
-  pub no_room_answers : {answers edges : Slice} → room answers < n.params → {b : BorrowMap} → b ≡ map_answer (Err NoRoom)
-      → Stays answers → Stays edges → MapsTo (map_of v types (room answers) (room edges)) b answers edges
-  no_room_answers {answers} {edges} h q a w =
+  pub no_room_answers : {answers edges : Slice} → room answers < n.params
+      → Stays answers → Stays edges → MapsTo (map_of v types (room answers) (room edges)) (Err NoRoom) answers edges
+  no_room_answers {answers} {edges} h a w =
       let due : FirstDue NoRoom (map_room_checks v types (room answers) (room edges)) =
       here (lt-ltb (room answers) (length (answers_from v 0 types)) (omega (arith, answers_size))) refl in
-      maps_refused (due_refused (mapping_of v types) due) q a w
+      maps_refused (due_refused (mapping_of v types) due) refl a w
 
   first_none : (a : ℕ) → n.params ≤ a → ltb a (length (answers_from v 0 types)) ≡ false
   first_none a h = le-ltb a (length (answers_from v 0 types)) (omega (arith, answers_size))
 
-  pub no_room_edges : {answers edges : Slice} → n.params ≤ room answers → room edges / 5 < n.edges → {b : BorrowMap}
-      → b ≡ map_answer (Err NoRoom) → Stays answers → Stays edges
-      → MapsTo (map_of v types (room answers) (room edges)) b answers edges
-  no_room_edges {answers} {edges} k h q a w =
+  pub no_room_edges : {answers edges : Slice} → n.params ≤ room answers → room edges / 5 < n.edges → Stays answers → Stays edges
+      → MapsTo (map_of v types (room answers) (room edges)) (Err NoRoom) answers edges
+  no_room_edges {answers} {edges} k h a w =
       let past : room edges < length (flat_map edge_words (listed_edges v types)) =
       omega (arith, edges_size, div-add-mod' (room edges) 5, mod-lt (room edges) {m = 5} (omega arith)) in
       let due : FirstDue NoRoom (map_room_checks v types (room answers) (room edges)) =
       later (first_none (room answers) k) (here (lt-ltb (room edges) (length (flat_map edge_words (listed_edges v types))) past) refl) in
-      maps_refused (due_refused (mapping_of v types) due) q a w
+      maps_refused (due_refused (mapping_of v types) due) refl a w
 
   pub listed_room : {e : ℕ} → n.edges ≤ e / 5 → width * length (listed_edges (visitor_in v.used v.draws) types) ≤ e
   listed_room {e} fits = omega (arith, c.edges, div-add-mod' e 5)
@@ -449,7 +445,7 @@ module _ (v : BorrowingParamVisitor) (types : List LoweredType) {numbers₀ : Li
       → {stored : ℕ} → Fills (copied numbers n.params (room answers)) answers
       → length types ≤ 16 → StoresWords (listed_edges (visitor_in v.used v.draws) types) 0 (held edges) stored (left edges)
       → MapsTo (map_of v types (room answers) (room edges))
-      (record { verdict = Ok (tt {0}); params = n.params; edges = stored }) answers edges
+      (Ok n) answers edges
   mapped {answers} {edges} k fits size {stored} a few s =
       let past : length (flat_map edge_words (listed_edges v types)) ≤ room edges =
       omega (arith, edges_size, div-add-mod' (room edges) 5) in
@@ -470,12 +466,12 @@ module _ (v : BorrowingParamVisitor) (types : List LoweredType) {numbers₀ : Li
       ++ drop (length (flat_map edge_words (listed_edges v types))) (held edges) =
       s.stored ∙ ap (λ (l : List LifetimeEdge). sets (held edges) 0 (flat_map edge_words l)) edges_are
       ∙ sets_front (held edges) (flat_map edge_words (listed_edges v types)) past in
-      let count : stored ≡ length (listed_edges v types) = s.count ∙ zero-add _ ∙ ap length edges_are in
-      record { counts = rw (given, ← answers_size, ← count); answers_filled = rw given stands; edges_filled = rw given stored_words }
+      let count : n.edges ≡ length (listed_edges v types) = c.edges ∙ ap length edges_are in
+      record { counts = rw (given, answers_size, ← count); answers_filled = rw given stands; edges_filled = rw given stored_words }
 
 -- ---- the answers of `borrow_map`
 
-maps_same : {o p : Outcome Mapping} {answers edges : Slice} {b : BorrowMap} → p ≡ o → b ≡ map_answer o
+maps_same : {o p : Outcome Mapping} {answers edges : Slice} {b : Outcome BorrowMap} → p ≡ o → b ≡ map_answer o
     → Fills (map_answers o) answers → Fills (map_edges o) edges → MapsTo p b answers edges
 maps_same e q a w = record { counts = rw e q; answers_filled = rw e a; edges_filled = rw e w }
 
@@ -490,7 +486,7 @@ module _ (v : BorrowingParamVisitor) (structs params : List ℕ) {verdict : Verd
   pub map_none : verdict ≡ Ok (tt {0}) → NoneDue (structs_and_params_checks structs params)
   map_none e = accepted_none (tt {0}) (structs_and_params_checks structs params) (sym judged ∙ e)
 
-  pub map_torn : {r : Refusal} {b : BorrowMap} {answers edges : Slice} → verdict ≡ Err r → b ≡ map_answer (Err r)
+  pub map_torn : {r : Refusal} {b : Outcome BorrowMap} {answers edges : Slice} → verdict ≡ Err r → b ≡ Err r
       → Stays answers → Stays edges → MapsTo (borrow_map v structs params (room answers) (room edges)) b answers edges
   unfolding borrow_map
   map_torn {r} {b} {answers} {edges} e q =
@@ -499,7 +495,7 @@ module _ (v : BorrowingParamVisitor) (structs params : List ℕ) {verdict : Verd
       (due_refused (mapping_of v (types_in structs params))
       (first_more (map_room_checks v (types_in structs params) (room answers) (room edges)) due)) q
 
-  pub map_listed : {b : BorrowMap} {answers edges : Slice} → verdict ≡ Ok (tt {0})
+  pub map_listed : {b : Outcome BorrowMap} {answers edges : Slice} → verdict ≡ Ok (tt {0})
       → b ≡ map_answer (map_of v (param_types params) (room answers) (room edges))
       → Fills (map_answers (map_of v (param_types params) (room answers) (room edges))) answers
       → Fills (map_edges (map_of v (param_types params) (room answers) (room edges))) edges

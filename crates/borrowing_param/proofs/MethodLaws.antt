@@ -10,10 +10,9 @@ use borrow.Author.Tests.{le-ltb, not-false}
 use lib.ListN.{length, take, drop}
 use Rattle.answers.specs.declared.Refusal.{Refusal}
 use Rattle.answers.specs.declared.Refusal.TheVariants.{OutOfRange}
-use Rattle.lifetimes.specs.declared.env.Made.{Made}
 use Rattle.answers.specs.Refusals.{Check, check, Outcome, FirstDue, here, later, NoneDue, next, end, Verdict}
 use Rattle.answers.specs.Lent.{verdict_of, result_or}
-use Rattle.lifetimes.specs.Env.{env_checks, env_of, made}
+use Rattle.lifetimes.specs.Env.{env_checks}
 use Rattle.answers.proofs.RefusalLaws.{due_given, due_refused, none_first, none_rest, none_split, none_more}
 use Rattle.answers.proofs.RefusalLaws.{first_more, first_after, first_behind, refused_first, accepted_none}
 use Rattle.ast_lifetimes.specs.declared.env.LifetimeEnv as ast-env
@@ -98,10 +97,9 @@ module _ (r : Records) where
     of_method = next (ap not shapes.2) (none_rest first)
 
     -- refused somewhere
-    refuses : {k : Refusal} {m : Made} → FirstDue k (lowering_checks r) → m ≡ made (env_of 0 0 []) (Err k)
-        → m ≡ made (env_of 0 0 []) (lowered_env r)
+    refuses : {k : Refusal} → FirstDue k (lowering_checks r) → Err k ≡ lowered_env r
     unfolding lowered_env
-    refuses f h = rw (due_refused (env_of_sheet r) f) h
+    refuses f = sym (due_refused (env_of_sheet r) f)
 
     -- names, bounds and types
     module _ {a : ast-made.Made} (is : a ≡ ast.made (ast.named_env [] []) (ast.from_method_item r.names r.bounds r.types)) where
@@ -113,9 +111,8 @@ module _ (r : Records) where
           let s : not (names_in_shape r.names && (bounds_in_shape r.bounds && types_in_shape r.types)) ≡ false = rw shapes.0 in
           first_more _ (first_behind (next s end) d)
 
-      pub names_refused : {k : Refusal} {m : Made} → a.verdict ≡ Err k
-          → m ≡ made (env_of 0 0 []) (Err k) → m ≡ made (env_of 0 0 []) (lowered_env r)
-      names_refused v h = refuses (names_first v) h
+      pub names_refused : {k : Refusal} → a.verdict ≡ Err k → Err k ≡ lowered_env r
+      names_refused v = refuses (names_first v)
 
       module _ (fine : a.verdict ≡ Ok (tt {0})) where
         ast_none : NoneDue (ast.item_checks r.names r.bounds r.types)
@@ -160,9 +157,8 @@ module _ (r : Records) where
               let g : FirstDue k elision_checks = rw names_are at f in
               first_after placed (first_more _ g)
 
-          pub steps_refused : {k : Refusal} {m : Made} → l.verdict ≡ Err k
-              → m ≡ made (env_of 0 0 []) (Err k) → m ≡ made (env_of 0 0 []) (lowered_env r)
-          steps_refused v h = refuses (steps_first v) h
+          pub steps_refused : {k : Refusal} → l.verdict ≡ Err k → Err k ≡ lowered_env r
+          steps_refused v = refuses (steps_first v)
 
           module _ (given : l.verdict ≡ Ok (tt {0})) where
             pub measure_none : NoneDue (measure_checks (ast_env_of r) r.self r.steps r.returns)
@@ -206,16 +202,14 @@ module _ (r : Records) where
                 none_more placed (none_more elided (none_more q.0 s.1))
 
             module _ {v : Verdict} (judges : v ≡ method_verdict l.env r.structs r.params r.output r.force) where
-              pub method_refused : {k : Refusal} {m : Made} → v ≡ Err k
-                  → m ≡ made (env_of 0 0 []) (Err k) → m ≡ made (env_of 0 0 []) (lowered_env r)
-              method_refused {k} w h =
+              pub method_refused : {k : Refusal} → v ≡ Err k → Err k ≡ lowered_env r
+              method_refused {k} w =
                   refuses
                   (method_first
                   (refused_first (tt {0}) k (method_checks l.env r.structs r.params r.output r.force)
-                  (sym judges ∙ w))) h
+                  (sym judges ∙ w)))
 
-              pub method_given : v ≡ Ok (tt {0})
-                  → record { verdict = Ok (tt {0}); env = l.env } ≡ made (env_of 0 0 []) (lowered_env r)
+              pub method_given : v ≡ Ok (tt {0}) → Ok l.env ≡ lowered_env r
               unfolding lowered_env
               method_given w =
                   let due =

@@ -22,18 +22,18 @@ use Rattle.lifetimes.specs.declared.reach.ReachSets.{ReachSets}
 use Rattle.lifetimes.specs.Numbers.{lifetime}
 use Rattle.answers.specs.Lists.{range, any}
 use Rattle.answers.specs.Refusals.{Check, check, Outcome, FirstDue, NoneDue}
-use Rattle.lifetimes.specs.Sets.{member, empty}
+use Rattle.lifetimes.specs.Sets.{member, empty, set_of}
 use Rattle.lifetimes.specs.Env.{env_checks}
 use Rattle.lifetimes.specs.Reach.{all_sets, no_sets, reach_sets, reach_set}
-use Rattle.answers.proofs.RefusalLaws.{due_given, given_due, refused_due, none_first, none_rest, none_split}
+use Rattle.answers.proofs.RefusalLaws.{due_given, due_refused, given_due, refused_due, none_first, none_rest, none_split}
 use Rattle.answers.proofs.RefusalLaws.{none_more}
 use Rattle.answers.proofs.ListLaws.{length_range}
 use Rattle.lifetimes.proofs.IndexLaws.{zeros}
 use Rattle.methods.specs.Method.{output_lifetimes, is_past, any_past, place_checks, method_checks}
-use Rattle.methods.specs.Used.{used_set, used_answer}
+use Rattle.methods.specs.Used.{used_set, used_answer, output_numbers}
 use Rattle.methods.proofs.Theorems.{used_lifetimes_are}
 use Rattle.borrowing_param.specs.declared.visitor.BorrowingParamVisitor.{BorrowingParamVisitor}
-use Rattle.borrowing_param.specs.New.{draws_to, visitor_from, no_visitor, created}
+use Rattle.borrowing_param.specs.New.{draws_to, visitor_from, method_visitor, created}
 use Rattle.borrowing_param.specs.Inner.{SetBelow}
 use Rattle.borrowing_param.proofs.EdgesLoops.{past_limit}
 
@@ -155,10 +155,10 @@ set_there env i below =
     ∙ at_place (reach_set true env) 0 env.count i below
     ∙ ap (reach_set true env) (zero-add i)
 
-set_same : {u v : ℕ} → Ok u ≡ Ok v → u ≡ v
+set_same : {u v : ℕ} → ◌≡◌ {A = Outcome ℕ} (Ok u) (Ok v) → u ≡ v
 set_same e = cc
 
-set_refused : {r : Refusal} {v : ℕ} {A : Type 0} → Err r ≡ Ok v → A
+set_refused : {r : Refusal} {v : ℕ} {A : Type 0} → ◌≡◌ {A = Outcome ℕ} (Err r) (Ok v) → A
 set_refused e = let z : ◌≡◌ {A = ℕ} 0 1 = cc in absurd (omega arith)
 
 module _ (env : LifetimeEnv) (structs params output force : List ℕ) {a : Outcome ℕ}
@@ -174,10 +174,9 @@ module _ (env : LifetimeEnv) (structs params output force : List ℕ) {a : Outco
   unfolding used_set
   used_refused {r} e = refused_due _ r (method_checks env structs params output force) (refuses e)
 
-  pub new_refused : {r : Refusal} → a ≡ Err r → {v : BorrowingParamVisitor} → v ≡ no_visitor
-      → record { verdict = Err r; visitor = v } ≡ created env structs params output force
+  pub new_refused : {r : Refusal} → a ≡ Err r → Err r ≡ created env structs params output force
   unfolding created
-  new_refused e {v} is = rw (refuses e, is)
+  new_refused e = sym (due_refused (method_visitor env structs output) (used_refused e))
 
   module _ {used : ℕ} (e : a ≡ Ok used) where
     pub gives : used_set env structs params output force ≡ Ok used
@@ -191,11 +190,15 @@ module _ (env : LifetimeEnv) (structs params output force : List ℕ) {a : Outco
     unfolding used_set
     accepted = (given_due _ used (method_checks env structs params output force) gives).0
 
+    used_is : set_of (output_numbers structs output) ≡ used
+    unfolding used_set
+    used_is = (given_due _ used (method_checks env structs params output force) gives).1
+
     pub new_given : {r : ReachSets} → r ≡ reach_sets true env → {v : BorrowingParamVisitor} → v ≡ visitor_from used r.sets
-        → record { verdict = Ok (tt {0}); visitor = v } ≡ created env structs params output force
+        → Ok v ≡ created env structs params output force
     unfolding created reach_sets
     new_given {r} q {v} is =
         let all : r.sets ≡ all_sets true env =
         ap (λ (x : ReachSets). x.sets) q
         ∙ rw (due_given (all_sets true env) (env_none env structs params output force accepted)) in
-        rw (gives, is, all)
+        sym (due_given (method_visitor env structs output) accepted ∙ rw (used_is, is, all))

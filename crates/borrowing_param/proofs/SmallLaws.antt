@@ -12,7 +12,7 @@ use Rattle.methods.specs.Used.{most_used}
 use Rattle.methods.proofs.Theorems.{used_lifetimes_are}
 use Rattle.borrowing_param.specs.declared.visitor.BorrowingParamVisitor.{BorrowingParamVisitor}
 use Rattle.borrowing_param.specs.Visit.{used_of}
-use Rattle.borrowing_param.specs.New.{created}
+use Rattle.borrowing_param.specs.New.{method_visitor}
 use Rattle.borrowing_param.specs.Borrows.{borrows_of}
 use Rattle.borrowing_param.specs.Theorems.{Small}
 use Rattle.borrowing_param.proofs.VisitorLaws.{param_short}
@@ -23,7 +23,7 @@ use Rattle.borrowing_param.proofs.Condition3Laws.{params_none, created_new}
 module _ (env : LifetimeEnv) (structs params output force : List ℕ)
     (none : NoneDue (method_checks env structs params output force)) where
   abbrev v : BorrowingParamVisitor
-  v = (created env structs params output force).visitor
+  v = method_visitor env structs output
 
   used_few : length (used_of v) ≤ most_used
   unfolding cardinality
@@ -31,7 +31,7 @@ module _ (env : LifetimeEnv) (structs params output force : List ℕ)
       (used_lifetimes_are env structs params output force v.used
       (created_new env structs params output force none).used).few
 
-  pub method_small : Small (borrows_of env structs params output force)
+  pub method_small : Small (borrows_of env structs params output)
   method_small =
       let alone = params_none env structs params output force none in
       let short = param_short structs params (alone_shape structs params alone).1 in

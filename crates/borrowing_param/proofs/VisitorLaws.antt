@@ -16,9 +16,6 @@ use lib.Dec.{eqb, leb}
 use lib.ListN.{length, drop}
 use Rattle.answers.specs.declared.Refusal.{Refusal}
 use Rattle.answers.specs.declared.Refusal.TheVariants.{Malformed, NoRoom}
-use Rattle.lifetimes.specs.declared.env.Made.{Made}
-use Rattle.answers.specs.Lent.{result_or}
-use Rattle.lifetimes.specs.Env.{env_of, bounds_of_pairs, new_env, made}
 use Rattle.answers.specs.Refusals as refusals
 use Rattle.answers.specs.Refusals.{check, unless, FirstDue, here, later, NoneDue, next, Verdict}
 use Rattle.answers.proofs.RefusalLaws.{due_given, due_refused, refused_first, accepted_none, none_first}
@@ -37,10 +34,10 @@ use Rattle.borrowing_param.specs.declared.visitor.LifetimeEdge.{LifetimeEdge}
 use Rattle.borrowing_param.specs.declared.visitor.BorrowingParamVisitor.{BorrowingParamVisitor}
 use Rattle.borrowing_param.specs.declared.visitor.ParamBorrowInfo.{ParamBorrowInfo}
 use Rattle.borrowing_param.specs.Edges.{width}
-use Rattle.borrowing_param.specs.Brings.{answer_number, notes, empty_pairs, answer_of, refuse}
-use Rattle.borrowing_param.specs.Visit.{bring_all, holding, State, state, outcome, visit_with, visit}
+use Rattle.borrowing_param.specs.Brings.{answer_number, notes, empty_pairs, answer_of}
+use Rattle.borrowing_param.specs.Visit.{bring_all, holding, State, state, VisitOutcome, outcome, visit_with, visit}
 use Rattle.borrowing_param.specs.VisitParam.{type_at, visit_checks, visit_param}
-use Rattle.borrowing_param.specs.Inner.{Inside, type_in, nth_type, FoundAt, number_by, all_in, CountsAll, Stores}
+use Rattle.borrowing_param.specs.Inner.{type_in, nth_type, FoundAt, number_by, all_in, CountsAll, Stores}
 use Rattle.borrowing_param.proofs.VisitsLaws.{visit_stores}
 
 -- ---- the type with a number
@@ -207,10 +204,10 @@ parts_type s = rw (s.option, s.kind, s.path, s.own)
 
 -- the parameter that was found: its path words are there and not many, and so is its code
 pub parts_there : {n : ℕ} {words : List ℕ} {r : Option Parts} {p : Parts} → FoundAt words n r → r ≡ Some p
-    → Inside words p.from p.count × (p.count ≤ 16) × Coded words p
+    → (p.count ≤ 16) × Coded words p
 parts_there f e =
     let s = (found_told f.found e).stands in
-    (path_inside s, s.few, code_told f.coded e)
+    (s.few, code_told f.coded e)
 
 -- ---- the answer's number
 
@@ -280,7 +277,7 @@ number_worked f g borrowed-slice borrowed-opaque false false = omega arith
 
 -- a visit that brings nothing leaves all as it was
 stays : (v : BorrowingParamVisitor) (words : List ℕ) (k : Kind) (l : List LifetimeEdge) → length l ≡ 0
-    → outcome (record { verdict = Ok (tt {0}); number = answer_number k l; pairs = empty_pairs }) (state v words)
+    → outcome (Ok (record { number = answer_number k l; pairs = empty_pairs })) (state v words)
     ≡ visit_with (state v words) (answer_of k l) l
 unfolding flat_map notes
 stays v words k [] e = rw (add-zero v.stored)
@@ -289,7 +286,7 @@ stays v words k (x ∷ l) e = absurd (omega arith)
 -- one that has no room goes back
 goes : (v : BorrowingParamVisitor) (words : List ℕ) (info : ParamBorrowInfo) (l : List LifetimeEdge)
     → (length l ≡ 0 → ⊥) → length words < width * (v.stored + length l)
-    → visit_with (state v words) info l ≡ outcome (refuse NoRoom) (state v words)
+    → visit_with (state v words) info l ≡ outcome (Err NoRoom) (state v words)
 goes v words info [] some h = absurd (some refl)
 goes v words info (x ∷ l) some h = rw (lt-leb (width * (v.stored + length (x ∷ l))) (length words) h)
 
@@ -314,39 +311,25 @@ module _ (v : BorrowingParamVisitor) (words : List ℕ) (t : LoweredType) (param
   named : number ≡ answer_number t.kind es
   named = q ∙ ap (number_by t.kind) many ∙ number_is t.kind es
 
-  pub visit_nothing : n ≡ 0 → outcome (record { verdict = Ok (tt {0}); number = number; pairs = empty_pairs }) (state v words)
+  pub visit_nothing : n ≡ 0 → outcome (Ok (record { number = number; pairs = empty_pairs })) (state v words)
       ≡ visit (state v words) t param
   unfolding visit
   visit_nothing z = rw named (stays v words t.kind es (sym many ∙ z))
 
   module _ (some : n ≡ 0 → ⊥) where
     pub visit_no_room : length words < width * (v.stored + n)
-        → outcome (refuse NoRoom) (state v words) ≡ visit (state v words) t param
+        → outcome (Err NoRoom) (state v words) ≡ visit (state v words) t param
     unfolding visit
     visit_no_room h = sym (goes v words (answer_of t.kind es) es (λ e. some (many ∙ e)) (rw (← many) h))
 
     pub visit_room : width * (v.stored + n) ≤ length words → {next : ℕ} {pairs words₁ : List ℕ}
         → Stores es v.stored empty_pairs words next pairs words₁
-        → outcome (record { verdict = Ok (tt {0}); number = number; pairs = pairs }) (state (holding v next) words₁)
+        → outcome (Ok (record { number = number; pairs = pairs })) (state (holding v next) words₁)
         ≡ visit (state v words) t param
     unfolding visit
     visit_room h s =
         sym (visit_stores (state v words) (answer_of t.kind es) es (rw (← many) h)
         ∙ rw (← s.stores.count, ← s.stores.stored, ← s.carries, ← named))
-
--- the environment without lifetimes
-either_way : {A : Type 0} (a : A) (checks : List refusals.Check) → result_or a (unless checks a) ≡ a
-unfolding unless
-either_way a [] = refl
-either_way a (c ∷ cs) = go c.due (either_way a cs)
-  where
-    go : (t : Bool) → result_or a (unless cs a) ≡ a → result_or a (cond t (Err c.refusal) (unless cs a)) ≡ a
-    go true h = refl
-    go false h = h
-
-pub no_lifetimes : {m : Made} → m ≡ made (env_of 0 0 []) (new_env 0 0 []) → m.env ≡ env_of 0 0 []
-unfolding new_env bounds_of_pairs
-no_lifetimes {m} e = ap (λ (x : Made). x.env) e ∙ either_way (env_of 0 0 []) _
 
 -- room for what is counted is room for what is brought
 pub brought_room : (v : BorrowingParamVisitor) (t : LoweredType) (param words : ℕ) {n : ℕ}
@@ -354,17 +337,28 @@ pub brought_room : (v : BorrowingParamVisitor) (t : LoweredType) (param words : 
     → width * (v.stored + length (all_in v.used v.draws t param)) ≤ words
 brought_room v t param words c h = rw (← c.counts param) h
 
--- `visit_param` where a check is due, and where none is
-pub visit_refuses : (structs params : List ℕ) (s : State) (param : ℕ) {r : Refusal}
-    → FirstDue r (visit_checks structs params param) → visit_param structs params s param ≡ outcome (refuse r) s
-unfolding visit_param
-visit_refuses structs params s param due = rw (due_refused (tt {0}) due)
+-- `visit_param`: no parameter there, records that are refused, a visit of the type that stands there
+module _ (structs params : List ℕ) (s : State) (param : ℕ) where
+  visit_due : {k : Refusal} → FirstDue k (visit_checks structs params param)
+      → outcome (Err k) s ≡ visit_param structs params s param
+  unfolding visit_param
+  visit_due due = rw (due_refused (tt {0}) due)
 
-pub visit_goes_on : (structs params : List ℕ) (s : State) (param : ℕ) {at : ℕ} {t : LoweredType} {rest : List ℕ}
-    {p : Parts} → Stands params at t rest p → NoneDue (visit_checks structs params param)
-    → t ≡ type_at (types_in structs params) param → visit_param structs params s param ≡ visit s (type_in params p) param
-unfolding visit_param
-visit_goes_on structs params s param stands none e = rw (due_given (tt {0}) none, parts_type stands, e)
+  module _ {r : Option Parts} (f : FoundAt params param r) where
+    pub visit_missing : r ≡ None → outcome (Err Malformed) s ≡ visit_param structs params s param
+    visit_missing e = visit_due (nowhere_refused structs params param (missing_told f.found e))
+
+    module _ {p : Parts} (e : r ≡ Some p) {v : Verdict} (judges : v ≡ structs_and_params_verdict structs params) where
+      pub visit_torn : {k : Refusal} → v ≡ Err k → outcome (Err k) s ≡ visit_param structs params s param
+      visit_torn w = visit_due (records_refused structs params param (found_told f.found e).reads judges w)
+
+      pub visit_there : v ≡ Ok (tt {0}) → {o : VisitOutcome} → o ≡ visit s (type_in params p) param
+          → o ≡ visit_param structs params s param
+      unfolding visit_param
+      visit_there w h =
+          let t = found_told f.found e in
+          let a = records_accepted structs params param t.reads judges w in
+          h ∙ rw (due_given (tt {0}) a.0, parts_type t.stands, a.1)
 
 -- the path of a parameter is short
 pub param_short : (structs params : List ℕ) → params_in_shape (length (rows_of structs)) params ≡ true → (n : ℕ)

@@ -1,6 +1,6 @@
 -- The edges in listing order (01: by used lifetime, parameter, def), and the answers by parameter: of a visitor and the
 -- types of the parameters.
-use Rattle.std.specs.Prelude.{ℕ, ◌≡◌, length, Ok, Err}
+use Rattle.std.specs.Prelude.{ℕ, ◌≡◌, length}
 use mathlib.Core.List.{List, [], ◌∷◌, ◌++◌, flat_map}
 use Rattle.answers.specs.Refusals.{Check, Outcome, unless, over}
 use Rattle.answers.specs.Lent.{Slice, Fills, room_check}
@@ -47,11 +47,9 @@ unfoldable pub borrow_map : BorrowingParamVisitor → List ℕ → List ℕ → 
 borrow_map v structs params answers edges =
     unless (map_checks v structs params answers edges) (mapping_of v (types_in structs params))
 
--- what the call answers: how many parameters and edges there are, beside a refusal none
-abbrev pub map_answer : Outcome Mapping → BorrowMap
-map_answer (Ok m) =
-    record { verdict = Ok (tt {0}); params = length m.answers; edges = length m.edges }
-map_answer (Err r) = record { verdict = Err r; params = 0; edges = 0 }
+-- what the call answers: how many parameters and edges there are
+abbrev pub map_answer : Outcome Mapping → Outcome BorrowMap
+map_answer o = over (λ m. record { params = length m.answers; edges = length m.edges }) o
 
 -- what it writes
 abbrev pub map_answers : Outcome Mapping → Outcome (List ℕ)
@@ -61,7 +59,7 @@ abbrev pub map_edges : Outcome Mapping → Outcome (List ℕ)
 map_edges o = over (λ m. flat_map edge_words m.edges) o
 
 -- both, of what the call gives
-pub record MapsTo (o : Outcome Mapping) (r : BorrowMap) (answers edges : Slice) : Type 0 where
+pub record MapsTo (o : Outcome Mapping) (r : Outcome BorrowMap) (answers edges : Slice) : Type 0 where
   pub counts : r ≡ map_answer o
   pub answers_filled : Fills (map_answers o) answers
   pub edges_filled : Fills (map_edges o) edges

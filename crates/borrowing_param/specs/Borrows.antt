@@ -1,5 +1,5 @@
 -- A whole method, and a whole sheet: the used lifetimes, the answers by parameter, and the edges in listing order.
-use Rattle.std.specs.Prelude.{ℕ, ◌*◌, ◌≡◌, length, Ok, Err}
+use Rattle.std.specs.Prelude.{ℕ, ◌*◌, ◌≡◌, length}
 use mathlib.Core.List.{List, [], ◌∷◌, ◌++◌, flat_map}
 use Rattle.lifetimes.specs.declared.env.LifetimeEnv.{LifetimeEnv}
 use Rattle.answers.specs.Refusals.{Check, Outcome, unless, over}
@@ -13,7 +13,7 @@ use Rattle.borrowing_param.specs.declared.visitor.LifetimeEdge.{LifetimeEdge}
 use Rattle.borrowing_param.specs.declared.visitor.BorrowingParamVisitor.{BorrowingParamVisitor}
 use Rattle.borrowing_param.specs.Edges.{most_defs, edge_words}
 use Rattle.borrowing_param.specs.Visit.{used_of}
-use Rattle.borrowing_param.specs.New.{created}
+use Rattle.borrowing_param.specs.New.{method_visitor}
 use Rattle.borrowing_param.specs.BorrowMap.{listed_edges, answers_from}
 use Rattle.borrowing_param.specs.SheetMethod.{env_of_sheet, sheet_refusals}
 
@@ -32,11 +32,11 @@ borrows_by v structs params =
       edges = listed_edges v (types_in structs params);
     }
 
-abbrev pub borrows_of : LifetimeEnv → List ℕ → List ℕ → List ℕ → List ℕ → Borrows
-borrows_of env structs params output force = borrows_by (created env structs params output force).visitor structs params
+abbrev pub borrows_of : LifetimeEnv → List ℕ → List ℕ → List ℕ → Borrows
+borrows_of env structs params output = borrows_by (method_visitor env structs output) structs params
 
 abbrev pub sheet_borrows : Records → Borrows
-sheet_borrows r = borrows_of (env_of_sheet r) r.structs r.params r.output r.force
+sheet_borrows r = borrows_of (env_of_sheet r) r.structs r.params r.output
 
 -- how many edges a method has at most: to each of its used lifetimes one from each path word of each parameter
 abbrev pub most_listed : ℕ
@@ -52,8 +52,8 @@ unfoldable pub borrow_method : LifetimeEnv → List ℕ → List ℕ → List �
 borrow_method env structs params output force used answers edges =
     unless
     (method_checks env structs params output force
-    ++ borrows_room_checks (borrows_of env structs params output force) used answers edges)
-    (borrows_of env structs params output force)
+    ++ borrows_room_checks (borrows_of env structs params output) used answers edges)
+    (borrows_of env structs params output)
 
 -- `borrow_sheet`: refused as the sheet is (10, 1, 13, then 2 to 7 by place, 8), then by 9
 unfoldable pub borrow_sheet : List ℕ → ℕ → ℕ → ℕ → Outcome Borrows
@@ -61,16 +61,10 @@ borrow_sheet bytes used answers edges =
     unless (sheet_refusals bytes ++ borrows_room_checks (sheet_borrows (sheet_of bytes)) used answers edges)
     (sheet_borrows (sheet_of bytes))
 
--- what the calls answer: how many of each there are, beside a refusal none
-abbrev pub borrows_answer : Outcome Borrows → answer.Borrows
-borrows_answer (Ok b) =
-    record {
-      verdict = Ok (tt {0});
-      used = length b.used;
-      params = length b.answers;
-      edges = length b.edges;
-    }
-borrows_answer (Err r) = record { verdict = Err r; used = 0; params = 0; edges = 0 }
+-- what the calls answer: how many of each there are
+abbrev pub borrows_answer : Outcome Borrows → Outcome answer.Borrows
+borrows_answer o =
+    over (λ b. record { used = length b.used; params = length b.answers; edges = length b.edges }) o
 
 -- what they write
 abbrev pub used_words : Outcome Borrows → Outcome (List ℕ)
@@ -83,7 +77,7 @@ abbrev pub edges_words : Outcome Borrows → Outcome (List ℕ)
 edges_words o = over (λ b. flat_map edge_words b.edges) o
 
 -- both, of what a call gives
-pub record BorrowsTo (o : Outcome Borrows) (r : answer.Borrows) (used answers edges : Slice) : Type 0 where
+pub record BorrowsTo (o : Outcome Borrows) (r : Outcome answer.Borrows) (used answers edges : Slice) : Type 0 where
   pub counts : r ≡ borrows_answer o
   pub used_filled : Fills (used_words o) used
   pub answers_filled : Fills (answer_words o) answers

@@ -1,6 +1,5 @@
 -- What a parameter brings, over any test of which lifetimes draw an edge to a used lifetime.
-use Rattle.std.specs.Prelude.{ℕ, Bool, true, false, cond, List, [], ◌∷◌, map, eqb, get_or, set, replicate, Ok, Err}
-use Rattle.answers.specs.declared.Refusal.{Refusal}
+use Rattle.std.specs.Prelude.{ℕ, Bool, true, false, cond, List, [], ◌∷◌, map, eqb, get_or, set, replicate}
 use Rattle.lifetimes.specs.declared.maybe_static.MaybeStatic.{MaybeStatic}
 use Rattle.lifetimes.specs.declared.maybe_static.MaybeStatic.TheVariants.{Static, NonStatic}
 use Rattle.lifetimes.specs.LoweredWords.{from_word}
@@ -68,8 +67,4 @@ abbrev pub empty_pairs : List ℕ
 empty_pairs = replicate most_defs 0
 
 abbrev pub answer_of : Kind → List LifetimeEdge → ParamBorrowInfo
-answer_of kind es = record { verdict = Ok (tt {0}); number = answer_number kind es; pairs = notes empty_pairs es }
-
--- "A refusal answers its number alone"
-abbrev pub refuse : Refusal → ParamBorrowInfo
-refuse r = record { verdict = Err r; number = 0; pairs = empty_pairs }
+answer_of kind es = record { number = answer_number kind es; pairs = notes empty_pairs es }

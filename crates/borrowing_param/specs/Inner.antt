@@ -1,7 +1,7 @@
 -- For private functions only: searching, counting and storing the edges of one parameter. No public contract cites this
 -- file.
-use Rattle.std.specs.Prelude.{ℕ, zero, suc, ◌+◌, ◌*◌, ◌^◌, ◌≤◌, ◌<◌, Bool, true, false, cond, ◌≡◌, eqb, Some, None, Option}
-use Rattle.std.specs.Prelude.{length, get_or, take, drop}
+use Rattle.std.specs.Prelude.{ℕ, zero, suc, ◌+◌, ◌*◌, ◌^◌, ◌≤◌, ◌<◌, Bool, true, false, cond, ◌≡◌, eqb}
+use Rattle.std.specs.Prelude.{Some, None, Option, length, get_or, take, drop}
 use mathlib.Core.List.{List, [], ◌∷◌, ◌++◌, map, flat_map}
 use Rattle.std.proofs.lemmas.List.Edits.{sets}
 use Rattle.lifetimes.specs.declared.maybe_static.MaybeStatic.{MaybeStatic}
@@ -20,31 +20,13 @@ use Rattle.borrowing_param.specs.Brings.{drawn, struct_edges, option_of, bring, 
 use Rattle.borrowing_param.specs.Visit.{draws_in}
 use Rattle.answers.specs.Lists.{count}
 
--- so many words from a place on are there; none are there anywhere
-abbrev pub Inside : List ℕ → ℕ → ℕ → Type 0
-Inside words from count = (i : ℕ) → i < count → from + i < length words
+-- a type by its parts and its path words
+abbrev pub typed : Parts → List ℕ → LoweredType
+typed p path = record { option = p.option; kind = p.kind; path = path; own = p.own }
 
 -- the type that stands in some words by its parts
 abbrev pub type_in : List ℕ → Parts → LoweredType
-type_in words p =
-    record { option = p.option; kind = p.kind; path = take p.count (drop p.from words); own = p.own }
-
--- the first lifetime that draws, counted from a number on
-unfoldable pub first_from : (ℕ → Bool) → ℕ → List MaybeStatic → Option ℕ
-first_from draws i [] = None
-first_from draws i (m ∷ ms) = cond (drawn draws m) (Some i) (first_from draws (suc i) ms)
-
-abbrev pub FirstDrawn : (ℕ → Bool) → List ℕ → Parts → Option ℕ → Type 0
-FirstDrawn draws words p r =
-    r ≡ first_from draws 0 (map from_word (take p.count (drop p.from words)) ++ own_lifetimes p.own)
-
--- how many draw
-abbrev pub count_drawn : (ℕ → Bool) → List MaybeStatic → ℕ
-count_drawn draws ms = count (drawn draws) ms
-
-abbrev pub one_if : Bool → ℕ
-one_if true = 1
-one_if false = 0
+type_in words p = typed p (take p.count (drop p.from words))
 
 -- how many edges a type brings to one used lifetime, and to all
 pub record CountsFor (draws : ℕ → Bool) (t : LoweredType) (n : ℕ) : Type 0 where

@@ -8,7 +8,7 @@ use Rattle.answers.specs.Lent.{room_check}
 use Rattle.records.specs.Reading.{Read, items_of}
 use Rattle.hir_types.specs.LoweredTypes.{LoweredType, read_lowered}
 use Rattle.methods.specs.Method.{most_params}
-use Rattle.borrowing_param.specs.declared.listed.Counted.{Counted}
+use Rattle.borrowing_param.specs.declared.listed.BorrowMap.{BorrowMap}
 use Rattle.borrowing_param.specs.declared.visitor.LifetimeEdge.{LifetimeEdge}
 use Rattle.borrowing_param.specs.declared.visitor.BorrowingParamVisitor.{BorrowingParamVisitor}
 use Rattle.borrowing_param.specs.Edges.{edge_words}
@@ -40,7 +40,7 @@ abbrev pub bring_from : (ℕ → Bool) → ℕ → ℕ → List LoweredType → 
 bring_from draws used param ts = numbered (λ p t. bring draws used p t) param ts
 
 -- how many parameters there are, how many edges, and the numbers of the answers
-pub record CountsParams (used : ℕ) (drawn : List ℕ) (types : List LoweredType) (numbers : List ℕ) (r : Counted)
+pub record CountsParams (used : ℕ) (drawn : List ℕ) (types : List LoweredType) (numbers : List ℕ) (r : BorrowMap)
     (numbers₁ : List ℕ) : Type 0 where
   pub params : r.params ≡ length types
   pub edges : r.edges ≡ length (listed_edges (visitor_in used drawn) types)

@@ -1,6 +1,6 @@
 -- For private functions only: a sheet judged in scratch, and what its parameters borrow. No public contract cites this
 -- file.
-use Rattle.std.specs.Prelude.{ℕ, ◌≡◌, List, ◌++◌, Ok}
+use Rattle.std.specs.Prelude.{ℕ, ◌≡◌, List, ◌++◌, IsOk}
 use Rattle.lifetimes.specs.declared.env.LifetimeEnv.{LifetimeEnv}
 use Rattle.answers.specs.Refusals.{Outcome, unless, NoneDue}
 use Rattle.methods.specs.Method.{structs_and_params_checks}
@@ -20,9 +20,9 @@ unfoldable pub lowered_env : Records → Outcome LifetimeEnv
 lowered_env r = unless (lowering_checks r) (env_of_sheet r)
 
 -- the answer is the method's or its refusal; with it the words of the records stand in front of the scratch
-pub record JudgesSheet (bytes : List ℕ) (m : SheetMethod) (scratch : List ℕ) : Type 0 where
+pub record JudgesSheet (bytes : List ℕ) (m : Outcome SheetMethod) (scratch : List ℕ) : Type 0 where
   pub answers : m ≡ method_answer (unless (sheet_refusals bytes) (sheet_of bytes))
-  pub leaves : m.verdict ≡ Ok (tt {0}) → (rest : List ℕ) × (scratch ≡ words_of (sheet_of bytes) ++ rest)
+  pub leaves : IsOk m → (rest : List ℕ) × (scratch ≡ words_of (sheet_of bytes) ++ rest)
 
 -- all parameters by a visitor of a method: 9 where a slice is too short
 unfoldable pub borrow_by : BorrowingParamVisitor → List ℕ → List ℕ → ℕ → ℕ → ℕ → Outcome Borrows

@@ -1,17 +1,16 @@
 -- A sheet's *method* (01's word): its environment beside the records structs, params, output and force; and the
 -- refusals of a sheet, one list in the papers' order.
-use Rattle.std.specs.Prelude.{ℕ, List, [], ◌∷◌, ◌++◌, replicate, Ok, Err}
+use Rattle.std.specs.Prelude.{ℕ, List, [], ◌∷◌, ◌++◌}
 use Rattle.answers.specs.declared.Refusal.TheVariants.{OutOfRange}
 use Rattle.lifetimes.specs.declared.env.LifetimeEnv.{LifetimeEnv}
 use Rattle.answers.specs.Refusals.{Check, check, Outcome, unless, over}
-use Rattle.lifetimes.specs.Env.{env_of}
 use Rattle.ast_lifetimes.specs.declared.env.LifetimeEnv as ast-env
 use Rattle.ast_lifetimes.specs.Env as ast
 use Rattle.elision.specs.Steps.{receiver_of, steps_of}
 use Rattle.elision.specs.Rfc as rfc
 use Rattle.elision.specs.Lowering.{finished}
 use Rattle.methods.specs.Method.{place_checks, output_lifetimes, any_past}
-use Rattle.sheet.specs.Text.{record_count, Records, lists, words_of}
+use Rattle.sheet.specs.Text.{Records, lists, words_of}
 use Rattle.sheet.specs.Reading.{sheet_of}
 use Rattle.answers.specs.Lists.{ends_from}
 use Rattle.sheet.specs.Answer.{with_room}
@@ -48,9 +47,8 @@ unfoldable pub lower_sheet : List ℕ → ℕ → Outcome Records
 lower_sheet bytes room = unless (with_room (sheet_refusals bytes) room (sheet_of bytes)) (sheet_of bytes)
 
 -- what the call answers, and what it writes
-abbrev pub method_answer : Outcome Records → SheetMethod
-method_answer (Ok r) = record { verdict = Ok (tt {0}); ends = ends_from 0 (lists r); env = env_of_sheet r }
-method_answer (Err k) = record { verdict = Err k; ends = replicate record_count 0; env = env_of 0 0 [] }
+abbrev pub method_answer : Outcome Records → Outcome SheetMethod
+method_answer o = over (λ r. record { ends = ends_from 0 (lists r); env = env_of_sheet r }) o
 
 abbrev pub method_words : Outcome Records → Outcome (List ℕ)
 method_words o = over words_of o

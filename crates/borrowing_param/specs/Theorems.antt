@@ -1,24 +1,23 @@
 -- The main theorems of this crate, stated. Each has its proof, a term of exactly this type and of the same name in
 -- small letters, in proofs/Theorems.antt.
-use Rattle.std.specs.Prelude.{ℕ, ◌*◌, ◌≤◌, ◌<◌, true, ◌≡◌, ◌↔◌, length, get_or, Ok, Some}
+use Rattle.std.specs.Prelude.{ℕ, ◌*◌, ◌≤◌, ◌<◌, true, ◌≡◌, ◌↔◌, length, get_or, Ok, Err, Some}
 use mathlib.Core.List.{List, Memᴰ}
 use Rattle.lifetimes.specs.declared.env.LifetimeEnv.{LifetimeEnv}
 use Rattle.answers.specs.declared.Refusal.TheVariants.{NoRoom}
 use Rattle.answers.specs.Lists.{range}
-use Rattle.answers.specs.Refusals.{NoneDue}
+use Rattle.answers.specs.Refusals.{NoneDue, Outcome, over}
 use Rattle.lifetimes.specs.Sets.{empty}
 use Rattle.methods.specs.Method.{types_in, structs_and_params_checks, method_checks}
 use Rattle.methods.specs.Used.{used_set, most_used}
 use Rattle.sheet.specs.Reading.{sheet_of}
 use Rattle.borrowing_param.specs.declared.visitor.ParamBorrowInfo.{ParamBorrowInfo}
 use Rattle.borrowing_param.specs.declared.visitor.BorrowingParamVisitor.{BorrowingParamVisitor}
-use Rattle.borrowing_param.specs.declared.visitor.Created.{Created}
 use Rattle.borrowing_param.specs.Edges.{edge, width, edges_in, edge_in, edges_of}
-use Rattle.borrowing_param.specs.Brings.{answer_of, refuse}
+use Rattle.borrowing_param.specs.Brings.{answer_of}
 use Rattle.borrowing_param.specs.Visit.{used_of, draws_of, bring_to, bring_all, State, state, after_visits, visit_at}
 use Rattle.borrowing_param.specs.VisitParam.{type_at, visit_param}
 use Rattle.borrowing_param.specs.Visits.{Visits}
-use Rattle.borrowing_param.specs.New.{created}
+use Rattle.borrowing_param.specs.New.{method_visitor, created}
 use Rattle.borrowing_param.specs.BorrowMap.{listed_to, listed_edges, answers_from}
 use Rattle.borrowing_param.specs.Borrows.{Borrows, borrows_of, most_listed}
 use Rattle.borrowing_param.specs.Consistent.{Consistent}
@@ -28,13 +27,12 @@ use Rattle.borrowing_param.specs.Examples.{starred, further, Right}
 
 -- The new visitor of a method on which no refusal is due: the used lifetimes; for each of them exactly the lifetimes
 -- that are forced above it draw, for a lifetime that is not used none; no edges
-pub record IsNew (env : LifetimeEnv) (structs params output force : List ℕ) (c : Created) : Type 0 where
-  pub accepted : c.verdict ≡ Ok (tt {0})
-  pub used : used_set env structs params output force ≡ Ok c.visitor.used
-  pub draws : (used : ℕ) → Memᴰ used (used_of c.visitor) → (b : ℕ) → (draws_of c.visitor used b ≡ true)
-      ↔ Above env b used
-  pub draws_none : (other : ℕ) → (Memᴰ other (used_of c.visitor) → ⊥) → get_or c.visitor.draws other 0 ≡ empty
-  pub stored : c.visitor.stored ≡ 0
+pub record IsNew (env : LifetimeEnv) (structs params output force : List ℕ) (v : BorrowingParamVisitor) : Type 0 where
+  pub accepted : created env structs params output force ≡ Ok v
+  pub used : used_set env structs params output force ≡ Ok v.used
+  pub draws : (used : ℕ) → Memᴰ used (used_of v) → (b : ℕ) → (draws_of v used b ≡ true) ↔ Above env b used
+  pub draws_none : (other : ℕ) → (Memᴰ other (used_of v) → ⊥) → get_or v.draws other 0 ≡ empty
+  pub stored : v.stored ≡ 0
 
 -- what a visit of a parameter answers when it is not refused, by the method and the parameter alone
 abbrev pub answer_at : List ℕ → List ℕ → BorrowingParamVisitor → ℕ → ParamBorrowInfo
@@ -45,15 +43,14 @@ answer_at structs params v p =
 -- lifetimes and no edges; what a parameter brings to a used lifetime goes by *forced above*; and every list of visits
 -- to its parameters by `visit_param`, repeated and refused ones included, on every slice, answers, stores and leaves
 -- what `Visits` says
-pub record AllVisits (env : LifetimeEnv) (structs params output force : List ℕ) (c : Created)
+pub record AllVisits (env : LifetimeEnv) (structs params output force : List ℕ) (v : BorrowingParamVisitor)
     (words ps : List ℕ) : Type 0 where
-  pub new : IsNew env structs params output force c
+  pub new : IsNew env structs params output force v
   pub parameters : (p : ℕ) → p < length (types_in structs params)
-      → Param env c.visitor (type_at (types_in structs params) p) p
-      (answer_at structs params c.visitor p)
-  pub visits : Visits (visit_param structs params) c.visitor
-      (λ used p. bring_to c.visitor (type_at (types_in structs params) p) p used)
-      (answer_at structs params c.visitor) words ps
+      → Param env v (type_at (types_in structs params) p) p (answer_at structs params v p)
+  pub visits : Visits (visit_param structs params) v
+      (λ used p. bring_to v (type_at (types_in structs params) p) p used)
+      (answer_at structs params v) words ps
 
 abbrev pub Condition3 : Type 0
 Condition3 =
@@ -61,7 +58,7 @@ Condition3 =
     → NoneDue (method_checks env structs params output force)
     → (words ps : List ℕ)
     → ((p : ℕ) → Memᴰ p ps → p < length (types_in structs params))
-    → AllVisits env structs params output force (created env structs params output force) words ps
+    → AllVisits env structs params output force (method_visitor env structs output) words ps
 
 -- The listing. Whatever the visitor, the used lifetimes, the answers by parameter and the edges that `borrow_map` gives
 -- are what `Consistent` says: in 01's order, each edge of one of the used lifetimes and of one of the parameters, its
@@ -79,7 +76,7 @@ pub record Small (b : Borrows) : Type 0 where
 
 abbrev pub MethodsAreSmall : Type 0
 MethodsAreSmall = (env : LifetimeEnv) (structs params output force : List ℕ)
-    → NoneDue (method_checks env structs params output force) → Small (borrows_of env structs params output force)
+    → NoneDue (method_checks env structs params output force) → Small (borrows_of env structs params output)
 
 -- The listing and the visits. For every method on which no refusal is due, with its new visitor v: a visit to each
 -- parameter, one after another, gives what `borrow_map` lists
@@ -88,7 +85,7 @@ abbrev pub all_params : List ℕ → List ℕ → List ℕ
 all_params structs params = range 0 (length (types_in structs params))
 
 -- what the visit of a parameter answers, and what all of them leave
-abbrev pub visit_of : List ℕ → List ℕ → BorrowingParamVisitor → List ℕ → ℕ → ParamBorrowInfo
+abbrev pub visit_of : List ℕ → List ℕ → BorrowingParamVisitor → List ℕ → ℕ → Outcome ParamBorrowInfo
 visit_of structs params v words p =
     (visit_at (visit_param structs params) (state v words) (all_params structs params) p).info
 
@@ -102,8 +99,8 @@ RoomForAll structs params v words = width * length (listed_edges v (types_in str
 pub record AsVisited (structs params : List ℕ) (v : BorrowingParamVisitor) (words : List ℕ) : Type 0 where
   -- with room for all edges no visit is refused, and each answers the number in the listing
   pub answered : RoomForAll structs params v words → (p : ℕ) → p < length (types_in structs params)
-      → ((visit_of structs params v words p).verdict ≡ Ok (tt {0}))
-      × ((visit_of structs params v words p).number ≡ get_or (answers_from v 0 (types_in structs params)) p 0)
+      → over (λ info. info.number) (visit_of structs params v words p)
+      ≡ Ok (get_or (answers_from v 0 (types_in structs params)) p 0)
   -- and each lifetime has the edges that it has in the listing, in the same order
   pub edges : RoomForAll structs params v words → (used : ℕ)
       → edges_of used (edges_in (after_all_visits structs params v words).visitor.stored
@@ -111,7 +108,7 @@ pub record AsVisited (structs params : List ℕ) (v : BorrowingParamVisitor) (wo
       ≡ edges_of used (listed_edges v (types_in structs params))
   -- without, a visit is refused by 9
   pub refused : (RoomForAll structs params v words → ⊥) → (p : ℕ) × (p < length (types_in structs params))
-      × (visit_of structs params v words p ≡ refuse NoRoom)
+      × (visit_of structs params v words p ≡ Err NoRoom)
   -- in the listing a used lifetime has what the parameters bring to it, in order
   pub listed : (used : ℕ) → Memᴰ used (used_of v)
       → edges_of used (listed_edges v (types_in structs params)) ≡ listed_to v 0 (types_in structs params) used
@@ -119,7 +116,7 @@ pub record AsVisited (structs params : List ℕ) (v : BorrowingParamVisitor) (wo
 abbrev pub ListingIsVisits : Type 0
 ListingIsVisits = (env : LifetimeEnv) (structs params output force : List ℕ)
     → NoneDue (method_checks env structs params output force) → (words : List ℕ)
-    → AsVisited structs params (created env structs params output force).visitor words
+    → AsVisited structs params (method_visitor env structs output) words
 
 -- An edge by its place (`edge_at`): of the edges that stand in a slice the one with that number
 abbrev pub EdgesByPlace : Type 0

@@ -1,8 +1,9 @@
 -- One visit, and a list of visits.
-use Rattle.std.specs.Prelude.{ℕ, ◌+◌, ◌*◌, Bool, true, cond, ◌&&◌, leb, ltb, length, get_or, take}
+use Rattle.std.specs.Prelude.{ℕ, ◌+◌, ◌*◌, Bool, true, cond, ◌&&◌, leb, ltb, length, get_or, take, Ok, Err}
 use mathlib.Core.List.{List, [], ◌∷◌, flat_map}
 use Rattle.std.proofs.lemmas.List.Edits.{sets}
 use Rattle.answers.specs.declared.Refusal.TheVariants.{NoRoom}
+use Rattle.answers.specs.Refusals.{Outcome}
 use Rattle.lifetimes.specs.Limits.{most_lifetimes}
 use Rattle.lifetimes.specs.Sets.{member, members}
 use Rattle.hir_types.specs.LoweredTypes.{LoweredType}
@@ -10,7 +11,7 @@ use Rattle.borrowing_param.specs.declared.visitor.LifetimeEdge.{LifetimeEdge}
 use Rattle.borrowing_param.specs.declared.visitor.ParamBorrowInfo.{ParamBorrowInfo}
 use Rattle.borrowing_param.specs.declared.visitor.BorrowingParamVisitor.{BorrowingParamVisitor}
 use Rattle.borrowing_param.specs.Edges.{width, edge_words}
-use Rattle.borrowing_param.specs.Brings.{bring, answer_of, refuse}
+use Rattle.borrowing_param.specs.Brings.{bring, answer_of}
 
 -- the used lifetimes of a visitor, ascending
 abbrev pub used_of : BorrowingParamVisitor → List ℕ
@@ -43,12 +44,12 @@ pub record State : Type 0 where
 abbrev pub state : BorrowingParamVisitor → List ℕ → State
 state v words = record { visitor = v; words = words }
 
--- what a visit answers and leaves
+-- what a visit answers and leaves; "a refusal answers its number alone"
 pub record VisitOutcome : Type 0 where
-  pub info : ParamBorrowInfo
+  pub info : Outcome ParamBorrowInfo
   pub left : State
 
-abbrev pub outcome : ParamBorrowInfo → State → VisitOutcome
+abbrev pub outcome : Outcome ParamBorrowInfo → State → VisitOutcome
 outcome info left = record { info = info; left = left }
 
 -- a visit with this answer that brings these edges: if there is room for them they are stored behind those that are
@@ -63,7 +64,7 @@ with_edges s es =
     (sets s.words (width * s.visitor.stored) (flat_map edge_words es))
 
 abbrev pub visit_with : State → ParamBorrowInfo → List LifetimeEdge → VisitOutcome
-visit_with s info es = cond (room_for s es) (outcome info (with_edges s es)) (outcome (refuse NoRoom) s)
+visit_with s info es = cond (room_for s es) (outcome (Ok info) (with_edges s es)) (outcome (Err NoRoom) s)
 
 -- one visit of a parameter of this type
 unfoldable pub visit : State → LoweredType → ℕ → VisitOutcome

@@ -6,7 +6,6 @@ use Rattle.hir_types.specs.declared.types.Kind.TheVariants.{Plain}
 use Rattle.hir_types.specs.declared.types.Own.TheVariants.{Absent}
 use Rattle.hir_types.specs.LoweredTypes.{LoweredType, lowered_type}
 use Rattle.methods.specs.Method.{types_in, structs_and_params_checks}
-use Rattle.borrowing_param.specs.Brings.{refuse}
 use Rattle.borrowing_param.specs.Visit.{State, VisitOutcome, outcome, visit}
 
 -- the parameter's type
@@ -22,7 +21,7 @@ visit_checks structs params param =
 -- refused by these the visit leaves all as it was; else it goes on
 abbrev pub visit_if : Outcome (Unit {0}) → State → LoweredType → ℕ → VisitOutcome
 visit_if (Ok u) s t param = visit s t param
-visit_if (Err r) s t param = outcome (refuse r) s
+visit_if (Err r) s t param = outcome (Err r) s
 
 unfoldable pub visit_param : List ℕ → List ℕ → State → ℕ → VisitOutcome
 visit_param structs params s param =

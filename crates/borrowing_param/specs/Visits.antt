@@ -1,22 +1,20 @@
 -- What any list of visits answers, stores and leaves. For condition 3 (specs/Condition3.antt): this part does not ask
 -- why an edge is drawn.
-use Rattle.std.specs.Prelude.{ℕ, ◌+◌, ◌*◌, ◌≤◌, ◌<◌, cond, ◌≡◌, length, get_or, take, drop, Ok}
+use Rattle.std.specs.Prelude.{ℕ, ◌+◌, ◌*◌, ◌≤◌, ◌<◌, cond, ◌≡◌, length, get_or, take, drop, Ok, Err, is_ok, IsOk}
 use mathlib.Core.List.{List, [], ◌∷◌, ◌++◌, flat_map, Memᴰ, Permᴰ}
 use Rattle.answers.specs.declared.Refusal.TheVariants.{NoRoom}
-use Rattle.answers.specs.Lent.{is_accepted}
 use Rattle.borrowing_param.specs.declared.visitor.LifetimeEdge.{LifetimeEdge}
 use Rattle.borrowing_param.specs.declared.visitor.ParamBorrowInfo.{ParamBorrowInfo}
 use Rattle.borrowing_param.specs.declared.visitor.BorrowingParamVisitor.{BorrowingParamVisitor}
 use Rattle.borrowing_param.specs.Edges.{width, edge_words, edges_in, edges_of}
-use Rattle.borrowing_param.specs.Brings.{refuse}
 use Rattle.borrowing_param.specs.Visit.{used_of, holding, State, state, VisitOutcome, outcome, after_visits}
 use Rattle.borrowing_param.specs.Visit.{visit_at}
 
--- the visits of a list that answer `Accepted`, in order, each from where the one before left the visitor and the words
+-- the visits of a list that are not refused, in order, each from where the one before left the visitor and the words
 unfoldable pub unrefused_by : (State → ℕ → VisitOutcome) → State → List ℕ → List ℕ
 unrefused_by visits s [] = []
 unrefused_by visits s (p ∷ ps) =
-    cond (is_accepted (visits s p).info.verdict)
+    cond (is_ok (visits s p).info)
     (p ∷ unrefused_by visits (visits s p).left ps)
     (unrefused_by visits (visits s p).left ps)
 
@@ -51,17 +49,16 @@ module _ (visits : State → ℕ → VisitOutcome) (v : BorrowingParamVisitor)
   edges_after words ps = edges_in (leaves words ps).visitor.stored (leaves words ps).words
 
   abbrev pub NoneRefused : List ℕ → List ℕ → Type 0
-  NoneRefused words ps = (i : ℕ) → i < length ps → (visit_number words ps i).info.verdict ≡ Ok (tt {0})
+  NoneRefused words ps = (i : ℕ) → i < length ps → IsOk (visit_number words ps i).info
 
   pub record Visits (words ps : List ℕ) : Type 0 where
     -- 1. A visit is refused if there is no room for its edges behind those before it; then it answers 9 alone, and
     -- leaves the visitor and the words as they were
     pub refused : (i : ℕ) → i < length ps → length words < wanted words ps i
-        → visit_number words ps i ≡ outcome (refuse NoRoom) (leaves words (take i ps))
+        → visit_number words ps i ≡ outcome (Err NoRoom) (leaves words (take i ps))
     -- 2. else it is not refused, and its answer depends on the parameter only
     pub answered : (i : ℕ) → i < length ps → wanted words ps i ≤ length words
-        → (visit_number words ps i).info ≡ answer (get_or ps i 0)
-    pub accepted : (i : ℕ) → i < length ps → (answer (get_or ps i 0)).verdict ≡ Ok (tt {0})
+        → (visit_number words ps i).info ≡ Ok (answer (get_or ps i 0))
     -- 3. Afterwards the words of all that the unrefused visits brought stand in front, in order; what follows is as it
     -- was; the visitor counts the edges and is else the same
     pub words_after : (leaves words ps).words

@@ -1,11 +1,11 @@
 // A whole method, and a whole sheet: the used lifetimes, the answers by parameter, and the edges in listing order, each
 // to a lent slice.
-ghost use Rattle.std.specs.Prelude.{◌≤◌, ◌≡◌, length, take, Ok, Err};
+ghost use Rattle.std.specs.Prelude.{◌≤◌, ◌≡◌, length, take, IfOk};
 ghost use Rattle.answers.specs.Lent.{held, room, left};
 ghost use Rattle.sheet.specs.Inner.{Roomy};
 ghost use Rattle.borrowing_param.specs.Edges.{edges_in};
 ghost use Rattle.methods.specs.Used.{most_used};
-ghost use Rattle.borrowing_param.specs.Borrows.{borrow_method, borrow_sheet, borrows_answer, BorrowsTo};
+ghost use Rattle.borrowing_param.specs.Borrows.{borrow_method, borrow_sheet, BorrowsTo};
 ghost use Rattle.borrowing_param.specs.Borrows.{most_listed};
 ghost use Rattle.borrowing_param.specs.Consistent.{Consistent};
 ghost use Rattle.borrowing_param.specs.InnerSheet.{OfMethod, small_bytes, borrow_by};
@@ -16,10 +16,9 @@ use answers::Refusal;
 use lifetimes::{LifetimeEnv, set};
 use sheet::{Text, record_words};
 
-// How many used lifetimes, parameters and edges there are, or why the call is refused; beside a refusal none.
+// How many used lifetimes, parameters and edges there are.
 #[derive(Clone, Copy)]
 pub struct Borrows {
-    pub verdict: Result<(), Refusal>,
     pub used: usize,
     pub params: usize,
     pub edges: usize,
@@ -34,12 +33,12 @@ pub fn borrow_sheet(
     used: &mut [usize],
     answers: &mut [usize],
     edges: &mut [usize],
-) -> Borrows
+) -> Result<Borrows, Refusal>
     ensures answer { BorrowsTo (borrow_sheet sheet.now (room used) (room answers) (room edges))
         result used answers edges }
-    ensures consistent { result.verdict ≡ Ok (tt {0}) → Consistent (take result.used (left used))
-        (take result.params (left answers)) (edges_in result.edges (left edges)) }
-    ensures few { (result.used ≤ most_used) × (result.edges ≤ most_listed) }
+    ensures consistent { IfOk result (λ b. Consistent (take b.used (left used)) (take b.params (left answers))
+        (edges_in b.edges (left edges))) }
+    ensures few { IfOk result (λ b. (b.used ≤ most_used) × (b.edges ≤ most_listed)) }
 {
     if sheet.len() <= Text::MIDDLE {
         return borrow_small(sheet, used, answers, edges);
@@ -53,7 +52,7 @@ fn borrow_small(
     used: &mut [usize],
     answers: &mut [usize],
     edges: &mut [usize],
-) -> Borrows
+) -> Result<Borrows, Refusal>
     requires { length sheet.now ≤ small_bytes }
     ensures { BorrowsTo (borrow_sheet sheet.now (room used) (room answers) (room edges))
         result used answers edges }
@@ -67,7 +66,7 @@ fn borrow_large(
     used: &mut [usize],
     answers: &mut [usize],
     edges: &mut [usize],
-) -> Borrows
+) -> Result<Borrows, Refusal>
     ensures { BorrowsTo (borrow_sheet sheet.now (room used) (room answers) (room edges))
         result used answers edges }
 {
@@ -82,16 +81,12 @@ fn borrow_within(
     used: &mut [usize],
     answers: &mut [usize],
     edges: &mut [usize],
-) -> Borrows
+) -> Result<Borrows, Refusal>
     requires { Roomy sheet.now (length scratch.old) }
     ensures { BorrowsTo (borrow_sheet sheet.now (room used) (room answers) (room edges))
         result used answers edges }
 {
-    let method = judge_sheet(sheet, scratch);
-    let verdict = method.verdict;
-    if let Err(refusal) = verdict {
-        return unborrowed(refusal);
-    }
+    let method = judge_sheet(sheet, scratch)?;
     let ends = method.ends;
     let env = method.env;
     borrow_method(
@@ -117,17 +112,12 @@ pub fn borrow_method(
     used: &mut [usize],
     answers: &mut [usize],
     edges: &mut [usize],
-) -> Borrows
+) -> Result<Borrows, Refusal>
     ensures answer { BorrowsTo
         (borrow_method env structs.now params.now output.now force.now
         (room used) (room answers) (room edges)) result used answers edges }
 {
-    let created = BorrowingParamVisitor::new(env, structs, params, output, force);
-    let verdict = created.verdict;
-    if let Err(refusal) = verdict {
-        return unborrowed(refusal);
-    }
-    let visitor = created.visitor;
+    let visitor = BorrowingParamVisitor::new(env, structs, params, output, force)?;
     borrow_by(visitor, structs, params, used, answers, edges)
 }
 
@@ -139,7 +129,7 @@ fn borrow_by(
     used: &mut [usize],
     answers: &mut [usize],
     edges: &mut [usize],
-) -> Borrows
+) -> Result<Borrows, Refusal>
     requires { OfMethod structs.now params.now }
     ensures { BorrowsTo (borrow_by visitor structs.now params.now (room used) (room answers) (room edges))
         result used answers edges }
@@ -147,30 +137,13 @@ fn borrow_by(
     let members = visitor.used;
     let count = set::count(members);
     if used.len() < count {
-        return unborrowed(Refusal::NoRoom);
+        return Err(Refusal::NoRoom);
     }
-    let map = visitor.borrow_map(structs, params, answers, edges);
-    let verdict = map.verdict;
-    if let Err(refusal) = verdict {
-        return unborrowed(refusal);
-    }
-    set::members(members, used);
-    Borrows {
-        verdict: Ok(()),
+    let map = visitor.borrow_map(structs, params, answers, edges)?;
+    let _ = set::members(members, used);
+    Ok(Borrows {
         used: count,
         params: map.params,
         edges: map.edges,
-    }
-}
-
-// A refusal alone.
-fn unborrowed(refusal: Refusal) -> Borrows
-    ensures { result ≡ borrows_answer (Err refusal) }
-{
-    Borrows {
-        verdict: Err(refusal),
-        used: 0,
-        params: 0,
-        edges: 0,
-    }
+    })
 }

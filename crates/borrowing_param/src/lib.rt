@@ -22,4 +22,4 @@ pub use borrows::{Borrows, borrow_method, borrow_sheet};
 pub use edges::edge_at;
 pub use listed::BorrowMap;
 pub use method::{SheetMethod, lower_sheet};
-pub use visitor::{BorrowingParamVisitor, Created, LifetimeEdge, ParamBorrowInfo, Visited};
+pub use visitor::{BorrowingParamVisitor, LifetimeEdge, ParamBorrowInfo, Visited};

@@ -1,35 +1,27 @@
 // Edges in listing order: by used lifetime, parameter, lifetime of the definition; and the answers by parameter.
-ghost use Rattle.std.specs.Prelude.{◌≡◌, ◌+◌, ◌*◌, ◌≤◌, ◌<◌, length, Err};
+ghost use Rattle.std.specs.Prelude.{◌≡◌, ◌+◌, ◌*◌, ◌≤◌, ◌<◌, length};
 ghost use Rattle.answers.specs.Lent.{held, room, left};
 ghost use Rattle.lifetimes.specs.Limits.{most_lifetimes};
 ghost use Rattle.methods.specs.Method.{most_params};
 ghost use Rattle.borrowing_param.specs.Edges.{width, most_defs};
 ghost use Rattle.borrowing_param.specs.Visit.{draws_in};
-ghost use Rattle.borrowing_param.specs.BorrowMap.{listed_edges, borrow_map, map_answer, MapsTo};
+ghost use Rattle.borrowing_param.specs.BorrowMap.{listed_edges, borrow_map, MapsTo};
 ghost use Rattle.borrowing_param.specs.Inner.{Stores, StoresWords};
 ghost use Rattle.borrowing_param.specs.InnerMap.{param_types, Params, visitor_in, bring_from, CountsParams, map_of};
 
-use super::edges::{count_all, past_last, store_for};
+use super::edges::{Param, past_last};
 use super::visitor::{BorrowingParamVisitor, ParamBorrowInfo, number_of};
 use answers::Refusal;
-use hir_types::type_at;
-use lifetimes::{Lifetime, LifetimeEnv, set};
+use hir_types::{path_words, type_at};
+use lifetimes::{Lifetime, set};
 use methods::{MAX_PARAMS, check_structs_and_params};
 use records::copy_words;
 
-// How many parameters and edges there are, or why the call is refused; beside a refusal none.
+// How many parameters and edges there are.
 #[derive(Clone, Copy)]
 pub struct BorrowMap {
-    pub verdict: Result<(), Refusal>,
     pub params: usize,
     pub edges: usize,
-}
-
-// How many parameters there are, and how many edges they bring.
-#[derive(Clone, Copy)]
-struct Counted {
-    params: usize,
-    edges: usize,
 }
 
 impl BorrowingParamVisitor {
@@ -44,121 +36,88 @@ impl BorrowingParamVisitor {
         params: &[usize],
         answers: &mut [usize],
         edges: &mut [usize],
-    ) -> BorrowMap
+    ) -> Result<BorrowMap, Refusal>
         ensures answer { MapsTo (borrow_map self structs.now params.now (room answers) (room edges))
             result answers edges }
     {
-        let verdict = check_structs_and_params(structs, params);
-        match verdict {
-            Err(refusal) => unmapped(refusal),
-            Ok(()) => map_params(self, params, answers, edges),
+        check_structs_and_params(structs, params)?;
+        self.map_params(params, answers, edges)
+    }
+
+    // All parameters of a record that is in shape. Refused by 9 where a slice is too short, before anything is written.
+    fn map_params(
+        &self,
+        params: &[usize],
+        answers: &mut [usize],
+        edges: &mut [usize],
+    ) -> Result<BorrowMap, Refusal>
+        requires { Params params.now }
+        ensures { MapsTo (map_of self.now (param_types params.now) (room answers) (room edges)) result answers edges }
+    {
+        let mut numbers = [0usize; MAX_PARAMS];
+        let counted = self.count_params(params, &mut numbers);
+        if answers.len() < counted.params {
+            return Err(Refusal::NoRoom);
         }
+        if edges.len() / BorrowingParamVisitor::EDGE_WORDS < counted.edges {
+            return Err(Refusal::NoRoom);
+        }
+        let _ = copy_words(&numbers, counted.params, answers);
+        let _ = self.store_listed(params, edges);
+        Ok(counted)
     }
-}
 
-// A refusal alone.
-fn unmapped(refusal: Refusal) -> BorrowMap
-    ensures { result ≡ map_answer (Err refusal) }
-{
-    BorrowMap {
-        verdict: Err(refusal),
-        params: 0,
-        edges: 0,
-    }
-}
-
-// All parameters of a record that is in shape. Refused by 9 where a slice is too short, before anything is written.
-fn map_params(
-    visitor: BorrowingParamVisitor,
-    params: &[usize],
-    answers: &mut [usize],
-    edges: &mut [usize],
-) -> BorrowMap
-    requires { Params params.now }
-    ensures { MapsTo (map_of visitor (param_types params.now) (room answers) (room edges)) result answers edges }
-{
-    let used = visitor.used;
-    let draws = visitor.draws;
-    let mut numbers = [0usize; MAX_PARAMS];
-    let counted = count_params(used, &draws, params, &mut numbers);
-    let count = counted.params;
-    let total = counted.edges;
-    if answers.len() < count {
-        return unmapped(Refusal::NoRoom);
-    }
-    if edges.len() / BorrowingParamVisitor::EDGE_WORDS < total {
-        return unmapped(Refusal::NoRoom);
-    }
-    copy_words(&numbers, count, answers);
-    let stored = store_listed(used, &draws, params, edges);
-    BorrowMap {
-        verdict: Ok(()),
-        params: count,
-        edges: stored,
-    }
-}
-
-// How many parameters there are, and how many edges they bring to all used lifetimes; and the numbers of their answers.
-fn count_params(
-    used: u64,
-    drawn: &[u64; LifetimeEnv::MAX_LIFETIMES],
-    params: &[usize],
-    numbers: &mut [usize; MAX_PARAMS],
-) -> Counted
-    requires { Params params.now × (length drawn.now ≡ most_lifetimes) × (length numbers.old ≡ most_params) }
-    ensures { CountsParams used drawn.now (param_types params.now) (held numbers) result (left numbers) }
-{
-    let mut total = 0;
-    let mut param = 0;
-    let mut at = 0;
-    while at < params.len() {
-        let found = type_at(params, at);
-        let Some(parts) = found else {
-            return Counted {
-                params: param,
-                edges: total,
-            };
+    // How many parameters there are, and how many edges they bring to all used lifetimes; and the numbers of their
+    // answers. It goes from place to place by what stands there, so the loop stays a `while`.
+    fn count_params(&self, params: &[usize], numbers: &mut [usize; MAX_PARAMS]) -> BorrowMap
+        requires { Params params.now × (length numbers.old ≡ most_params) }
+        ensures { CountsParams self.now.used self.now.draws (param_types params.now) (held numbers) result
+            (left numbers) }
+    {
+        let mut counted = BorrowMap {
+            params: 0,
+            edges: 0,
         };
-        let brought = count_all(used, drawn, params, parts);
-        numbers[param] = number_of(params, parts, brought);
-        total += brought;
-        param += 1;
-        at = parts.next;
-    }
-    Counted {
-        params: param,
-        edges: total,
-    }
-}
-
-// Store the edges of all parameters, by used lifetime. Answers how many there are.
-fn store_listed(
-    used: u64,
-    drawn: &[u64; LifetimeEnv::MAX_LIFETIMES],
-    params: &[usize],
-    edges: &mut [usize],
-) -> usize
-    requires { Params params.now × (length drawn.now ≡ most_lifetimes)
-        × (width * length (listed_edges (visitor_in used drawn.now) (param_types params.now)) ≤ length edges.old) }
-    ensures { StoresWords (listed_edges (visitor_in used drawn.now) (param_types params.now)) 0 (held edges) result
-        (left edges) }
-{
-    let limit = past_last(used);
-    let mut pairs = [set::EMPTY; ParamBorrowInfo::MAX_DEFS];
-    let mut next = 0;
-    let mut i = 0;
-    'used: while i < limit {
-        let l = i;
-        i += 1;
-        if !set::contains(used, Lifetime::new(l)) {
-            continue 'used;
+        let mut at = 0;
+        while at < params.len() {
+            let found = type_at(params, at);
+            let Some(parts) = found else {
+                return counted;
+            };
+            let path = path_words(params, parts.from, parts.count);
+            let brought = self.count(Param {
+                number: counted.params,
+                parts,
+                path,
+            });
+            numbers[counted.params] = number_of(params, parts, brought);
+            counted.edges += brought;
+            counted.params += 1;
+            at = parts.next;
         }
-        next = store_to(drawn[l], params, l, edges, next, &mut pairs);
+        counted
     }
-    next
+
+    // Store the edges of all parameters, by used lifetime. Answers how many there are.
+    fn store_listed(&self, params: &[usize], edges: &mut [usize]) -> usize
+        requires { Params params.now × (width * length (listed_edges (visitor_in self.now.used self.now.draws)
+            (param_types params.now)) ≤ length edges.old) }
+        ensures { StoresWords (listed_edges (visitor_in self.now.used self.now.draws) (param_types params.now)) 0
+            (held edges) result (left edges) }
+    {
+        let limit = past_last(self.used);
+        let mut pairs = [set::EMPTY; ParamBorrowInfo::MAX_DEFS];
+        let mut next = 0;
+        for l in 0..limit {
+            if set::contains(self.used, Lifetime::new(l)) {
+                next = store_to(self.draws[l], params, l, edges, next, &mut pairs);
+            }
+        }
+        next
+    }
 }
 
-// Store the edges of all parameters to one used lifetime behind so many. Answers how many there are then. `store_for`
+// Store the edges of all parameters to one used lifetime behind so many. Answers how many there are then. `Param::store`
 // notes the pairs of structs too; they are not used here.
 fn store_to(
     set: u64,
@@ -175,15 +134,21 @@ fn store_to(
         result (left pairs) (left edges) }
 {
     let mut next = stored;
-    let mut param = 0;
+    let mut number = 0;
     let mut place = 0;
     while place < params.len() {
         let found = type_at(params, place);
         let Some(parts) = found else {
             return next;
         };
-        next = store_for(set, params, parts, used, param, edges, next, pairs);
-        param += 1;
+        let path = path_words(params, parts.from, parts.count);
+        let param = Param {
+            number,
+            parts,
+            path,
+        };
+        next = param.store(set, used, edges, next, pairs);
+        number += 1;
         place = parts.next;
     }
     next

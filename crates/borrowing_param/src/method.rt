@@ -2,10 +2,9 @@
 //
 // A refused call writes nothing, so the words are judged in scratch. It has two sizes, so that a small sheet does not
 // pay for a large one.
-ghost use Rattle.std.specs.Prelude.{◌≤◌, ◌≡◌, [], length, Err};
+ghost use Rattle.std.specs.Prelude.{◌≤◌, ◌≡◌, length};
 ghost use Rattle.answers.specs.Refusals.{NoneDue};
 ghost use Rattle.answers.specs.Lent.{held, room, left, Fills};
-ghost use Rattle.lifetimes.specs.Env.{env_of, made};
 ghost use Rattle.sheet.specs.Text.{ten_records};
 ghost use Rattle.sheet.specs.Answer.{records_at};
 ghost use Rattle.sheet.specs.Shape.{records_checks};
@@ -15,16 +14,14 @@ ghost use Rattle.borrowing_param.specs.InnerSheet.{small_bytes, lowered_env, Jud
 
 use answers::Refusal;
 use elision::measure;
-use lifetimes::{LifetimeEnv, Made};
+use lifetimes::LifetimeEnv;
 use methods::check_method;
 use records::{MAX_WORDS, copy_words};
 use sheet::{Text, read_sheet, record_words};
 
-// A sheet's method: where each of its ten records ends in the words that were written, and its environment. Beside a
-// refusal all ends are 0, and the environment has no lifetimes.
+// A sheet's method: where each of its ten records ends in the words that were written, and its environment.
 #[derive(Clone, Copy)]
 pub struct SheetMethod {
-    pub verdict: Result<(), Refusal>,
     pub ends: [usize; Text::RECORDS],
     pub env: LifetimeEnv,
 }
@@ -32,7 +29,7 @@ pub struct SheetMethod {
 // Read a sheet, lower its lifetimes and judge its method. The words of its ten records are written to a slice, one
 // record after another (`sheet::record_words` finds each). Refused in the papers' order: 10; 1 over all records; 13 for
 // 1 in `force`; 2 to 7 at the first bad place; 8; then 9 where the slice is too short. 10,240 words are always enough.
-pub fn lower_sheet(sheet: &[u8], words: &mut [usize]) -> SheetMethod
+pub fn lower_sheet(sheet: &[u8], words: &mut [usize]) -> Result<SheetMethod, Refusal>
     ensures answer { result ≡ method_answer (lower_sheet sheet.now (room words)) }
     ensures stored { Fills (method_words (lower_sheet sheet.now (room words))) words }
 {
@@ -43,7 +40,7 @@ pub fn lower_sheet(sheet: &[u8], words: &mut [usize]) -> SheetMethod
 }
 
 // The same with scratch of one size.
-fn lower_small(sheet: &[u8], words: &mut [usize]) -> SheetMethod
+fn lower_small(sheet: &[u8], words: &mut [usize]) -> Result<SheetMethod, Refusal>
     requires { length sheet.now ≤ small_bytes }
     ensures value { result ≡ method_answer (lower_sheet sheet.now (room words)) }
     ensures fills { Fills (method_words (lower_sheet sheet.now (room words))) words }
@@ -52,7 +49,7 @@ fn lower_small(sheet: &[u8], words: &mut [usize]) -> SheetMethod
     lower_within(sheet, &mut scratch, words)
 }
 
-fn lower_large(sheet: &[u8], words: &mut [usize]) -> SheetMethod
+fn lower_large(sheet: &[u8], words: &mut [usize]) -> Result<SheetMethod, Refusal>
     ensures value { result ≡ method_answer (lower_sheet sheet.now (room words)) }
     ensures fills { Fills (method_words (lower_sheet sheet.now (room words))) words }
 {
@@ -61,52 +58,38 @@ fn lower_large(sheet: &[u8], words: &mut [usize]) -> SheetMethod
 }
 
 // The same with scratch that takes the words of any sheet of so many bytes.
-fn lower_within(sheet: &[u8], scratch: &mut [usize], words: &mut [usize]) -> SheetMethod
+fn lower_within(
+    sheet: &[u8],
+    scratch: &mut [usize],
+    words: &mut [usize],
+) -> Result<SheetMethod, Refusal>
     requires { Roomy sheet.now (length scratch.old) }
     ensures value { result ≡ method_answer (lower_sheet sheet.now (room words)) }
     ensures fills { Fills (method_words (lower_sheet sheet.now (room words))) words }
 {
-    let method = judge_sheet(sheet, scratch);
-    let verdict = method.verdict;
-    if let Err(_) = verdict {
-        return method;
-    }
+    let method = judge_sheet(sheet, scratch)?;
     let ends = method.ends;
-    let Ok(_) = copy_words(scratch, ends[9], words) else {
-        return refused_method(Refusal::NoRoom);
-    };
-    method
+    copy_words(scratch, ends[Text::FORCE], words)?;
+    Ok(method)
 }
 
 // A sheet's method, its words left in scratch.
-pub(crate) fn judge_sheet(sheet: &[u8], scratch: &mut [usize]) -> SheetMethod
+pub(crate) fn judge_sheet(sheet: &[u8], scratch: &mut [usize]) -> Result<SheetMethod, Refusal>
     requires { Roomy sheet.now (length scratch.old) }
     ensures { JudgesSheet sheet.now result (left scratch) }
 {
     let text = read_sheet(sheet, scratch);
-    let verdict = text.verdict;
-    if let Err(refusal) = verdict {
-        return refused_method(refusal);
-    }
+    text.verdict?;
     let ends = text.ends;
-    let made = lower_laid(scratch, ends);
-    let judged = made.verdict;
-    if let Err(refusal) = judged {
-        return refused_method(refusal);
-    }
-    let env = made.env;
-    SheetMethod {
-        verdict: Ok(()),
-        ends,
-        env,
-    }
+    let env = lower_laid(scratch, ends)?;
+    Ok(SheetMethod { ends, env })
 }
 
 // The environment of records that were read, whose words stand one record after another, or the first refusal due on
 // them.
-fn lower_laid(words: &[usize], ends: [usize; Text::RECORDS]) -> Made
+fn lower_laid(words: &[usize], ends: [usize; Text::RECORDS]) -> Result<LifetimeEnv, Refusal>
     requires { NoneDue (records_checks (records_at words.now ends)) }
-    ensures { result ≡ made (env_of 0 0 []) (lowered_env (records_at words.now ends)) }
+    ensures { result ≡ lowered_env (records_at words.now ends) }
 {
     lower_records(
         record_words(words, ends, Text::NAMES),
@@ -134,59 +117,20 @@ fn lower_records(
     params: &[usize],
     output: &[usize],
     force: &[usize],
-) -> Made
+) -> Result<LifetimeEnv, Refusal>
     requires { NoneDue (records_checks
         (ten_records names.now bounds.now types.now receiver.now steps.now returns.now structs.now
         params.now output.now force.now)) }
     ensures { result
-        ≡ made (env_of 0 0 [])
-        (lowered_env
+        ≡ lowered_env
         (ten_records names.now bounds.now types.now receiver.now steps.now returns.now structs.now
-        params.now output.now force.now)) }
+        params.now output.now force.now) }
 {
     let ast = ast_lifetimes::LifetimeEnv::from_method_item(names, bounds, types);
-    let declared = ast.verdict;
-    if let Err(refusal) = declared {
-        return refused_env(refusal);
-    }
+    ast.verdict?;
     let lowered = measure(ast.env, receiver, steps, returns);
-    let elided = lowered.verdict;
-    if let Err(refusal) = elided {
-        return refused_env(refusal);
-    }
+    lowered.verdict?;
     let env = lowered.env;
-    let verdict = check_method(env, structs, params, output, force);
-    if let Err(refusal) = verdict {
-        return refused_env(refusal);
-    }
-    Made {
-        verdict: Ok(()),
-        env,
-    }
-}
-
-// A refusal, beside an environment without lifetimes.
-fn refused_env(refusal: Refusal) -> Made
-    ensures { result ≡ made (env_of 0 0 []) (Err refusal) }
-{
-    let none = [0usize; 0];
-    let made = LifetimeEnv::new(0, 0, &none);
-    let env = made.env;
-    Made {
-        verdict: Err(refusal),
-        env,
-    }
-}
-
-// A refusal, beside no records and an environment without lifetimes.
-fn refused_method(refusal: Refusal) -> SheetMethod
-    ensures { result ≡ method_answer (Err refusal) }
-{
-    let made = refused_env(refusal);
-    let env = made.env;
-    SheetMethod {
-        verdict: Err(refusal),
-        ends: [0; Text::RECORDS],
-        env,
-    }
+    check_method(env, structs, params, output, force)?;
+    Ok(env)
 }

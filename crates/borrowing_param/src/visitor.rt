@@ -1,17 +1,16 @@
 // The visitor: which parameters a method's used lifetimes borrow from.
 ghost use Rattle.std.specs.Prelude.{◌≡◌, cond, eqb, ◌≤◌};
 ghost use Rattle.borrowing_param.specs.Edges.{most_defs};
-ghost use Rattle.borrowing_param.specs.Brings.{refuse};
 ghost use Rattle.borrowing_param.specs.Visit.{state, outcome, visit};
 ghost use Rattle.borrowing_param.specs.VisitParam.{visit_param};
 ghost use Rattle.borrowing_param.specs.New.{created, visitor_from};
-ghost use Rattle.borrowing_param.specs.Inner.{Inside, type_in, FoundAt, number_by};
+ghost use Rattle.borrowing_param.specs.Inner.{type_in, FoundAt, number_by};
 ghost use Rattle.hir_types.specs.Places.{Coded};
 ghost use Rattle.answers.specs.Lent.{held, left};
 
-use super::edges::{count_all, past_last, store_all};
+use super::edges::{Param, past_last};
 use answers::Refusal;
-use hir_types::{Kind, Parts, type_at};
+use hir_types::{Kind, Parts, path_words, type_at};
 use lifetimes::{Lifetime, LifetimeEnv, set};
 use methods::{check_structs_and_params, used_method_lifetimes};
 use records::MAX_LIST;
@@ -27,11 +26,12 @@ pub struct LifetimeEdge {
     pub option: usize,
 }
 
-// What a visit answers: whether it is refused; 01's number of the answer, 0 to 4; and for each lifetime of a struct's
-// definition the set of the used lifetimes that it has an edge to (the map in the Rust's `StructBorrowInfo`).
+// What a visit answers: 01's number of the answer, 0 to 4; and for each lifetime of a struct's definition the set of
+// the used lifetimes that it has an edge to (the map in the Rust's `StructBorrowInfo`).
+// The number stays a number and is no enum, for speed: it is worked out without a branch (`number_of`), which an enum
+// has at each use.
 #[derive(Clone, Copy)]
 pub struct ParamBorrowInfo {
-    pub verdict: Result<(), Refusal>,
     pub number: usize,
     pub pairs: [u64; ParamBorrowInfo::MAX_DEFS],
 }
@@ -45,17 +45,10 @@ pub struct BorrowingParamVisitor {
     pub stored: usize,
 }
 
-// A new visitor, or why there is none; beside a refusal a visitor that uses nothing.
-#[derive(Clone, Copy)]
-pub struct Created {
-    pub verdict: Result<(), Refusal>,
-    pub visitor: BorrowingParamVisitor,
-}
-
-// What a visit answers, and the visitor afterwards.
+// What a visit answers, or why it is refused; and the visitor afterwards.
 #[derive(Clone, Copy)]
 pub struct Visited {
-    pub info: ParamBorrowInfo,
+    pub info: Result<ParamBorrowInfo, Refusal>,
     pub visitor: BorrowingParamVisitor,
 }
 
@@ -76,26 +69,12 @@ impl BorrowingParamVisitor {
         params: &[usize],
         output: &[usize],
         force: &[usize],
-    ) -> Created
+    ) -> Result<BorrowingParamVisitor, Refusal>
         ensures answer { result ≡ created env structs.now params.now output.now force.now }
     {
-        let lifetimes = used_method_lifetimes(env, structs, params, output, force);
-        match lifetimes {
-            Err(refusal) => {
-                let none = [set::EMPTY; LifetimeEnv::MAX_LIFETIMES];
-                Created {
-                    verdict: Err(refusal),
-                    visitor: BorrowingParamVisitor::from_sets(set::EMPTY, &none),
-                }
-            }
-            Ok(used) => {
-                let reach = env.reach_sets(true);
-                Created {
-                    verdict: Ok(()),
-                    visitor: BorrowingParamVisitor::from_sets(used, &reach.sets),
-                }
-            }
-        }
+        let used = used_method_lifetimes(env, structs, params, output, force)?;
+        let reach = env.reach_sets(true);
+        Ok(BorrowingParamVisitor::from_sets(used, &reach.sets))
     }
 
     // A visitor without edges, from the used lifetimes and, for each lifetime, the set of those that outlive it
@@ -105,14 +84,10 @@ impl BorrowingParamVisitor {
     {
         let limit = past_last(used);
         let mut draws = [set::EMPTY; LifetimeEnv::MAX_LIFETIMES];
-        let mut i = 0;
-        'lifetimes: while i < limit {
-            let l = i;
-            i += 1;
-            if !set::contains(used, Lifetime::new(l)) {
-                continue 'lifetimes;
+        for l in 0..limit {
+            if set::contains(used, Lifetime::new(l)) {
+                draws[l] = sets[l];
             }
-            draws[l] = sets[l];
         }
         BorrowingParamVisitor {
             used,
@@ -125,7 +100,7 @@ impl BorrowingParamVisitor {
     // is no such parameter; by 1, 4 and 7 as the records of a method are; by 9 where the slice takes no more. Refused,
     // the visitor and the slice stay as they were.
     pub fn visit_param(
-        self,
+        mut self,
         structs: &[usize],
         params: &[usize],
         param: usize,
@@ -134,30 +109,64 @@ impl BorrowingParamVisitor {
         ensures answer { outcome result.info (state result.visitor (left edges))
             ≡ visit_param structs.now params.now (state self (held edges)) param }
     {
-        let found = param_at(params, param);
-        let Some(parts) = found else {
-            return refused(self, Refusal::Malformed);
-        };
-        let verdict = check_structs_and_params(structs, params);
-        match verdict {
-            Err(refusal) => refused(self, refusal),
-            Ok(()) => visit_parts(self, params, parts, param, edges),
+        let info = self.visit(structs, params, param, edges);
+        Visited {
+            info,
+            visitor: self,
         }
     }
-}
 
-// A refusal alone, and the visitor as it was.
-fn refused(visitor: BorrowingParamVisitor, refusal: Refusal) -> Visited
-    ensures { result ≡ record { info = refuse refusal; visitor = visitor } }
-{
-    let pairs = [set::EMPTY; ParamBorrowInfo::MAX_DEFS];
-    Visited {
-        info: ParamBorrowInfo {
-            verdict: Err(refusal),
-            number: 0,
-            pairs,
-        },
-        visitor,
+    // The same of a visitor where it stands.
+    fn visit(
+        &mut self,
+        structs: &[usize],
+        params: &[usize],
+        param: usize,
+        edges: &mut [usize],
+    ) -> Result<ParamBorrowInfo, Refusal>
+        ensures { outcome result (state self.new (left edges))
+            ≡ visit_param structs.now params.now (state self.old (held edges)) param }
+    {
+        let Some(parts) = param_at(params, param) else {
+            return Err(Refusal::Malformed);
+        };
+        check_structs_and_params(structs, params)?;
+        self.visit_parts(params, parts, param, edges)
+    }
+
+    // Visit a parameter that stands there: refused by 9 if it brings edges and there is no room for them.
+    fn visit_parts(
+        &mut self,
+        params: &[usize],
+        parts: Parts,
+        param: usize,
+        edges: &mut [usize],
+    ) -> Result<ParamBorrowInfo, Refusal>
+        requires { (parts.count ≤ most_defs) × Coded params.now parts }
+        ensures { outcome result (state self.new (left edges))
+            ≡ visit (state self.old (held edges)) (type_in params.now parts) param }
+    {
+        let path = path_words(params, parts.from, parts.count);
+        let visited = Param {
+            number: param,
+            parts,
+            path,
+        };
+        let brought = self.count(visited);
+        let number = number_of(params, parts, brought);
+        let mut pairs = [set::EMPTY; ParamBorrowInfo::MAX_DEFS];
+        if brought == 0 {
+            return Ok(ParamBorrowInfo { number, pairs });
+        }
+        let room = edges.len() / BorrowingParamVisitor::EDGE_WORDS;
+        if room < brought {
+            return Err(Refusal::NoRoom);
+        }
+        if room - brought < self.stored {
+            return Err(Refusal::NoRoom);
+        }
+        self.stored = self.store(visited, edges, self.stored, &mut pairs);
+        Ok(ParamBorrowInfo { number, pairs })
     }
 }
 
@@ -166,69 +175,10 @@ fn param_at(params: &[usize], param: usize) -> Option<Parts>
     ensures { FoundAt params.now param result }
 {
     let mut at = 0;
-    let mut i = 0;
-    while i < param {
-        let found = type_at(params, at);
-        let Some(parts) = found else {
-            return None;
-        };
-        at = parts.next;
-        i += 1;
+    for _passed in 0..param {
+        at = type_at(params, at)?.next;
     }
     type_at(params, at)
-}
-
-// Visit a parameter that stands there: refused by 9 if it brings edges and there is no room for them.
-fn visit_parts(
-    visitor: BorrowingParamVisitor,
-    params: &[usize],
-    parts: Parts,
-    param: usize,
-    edges: &mut [usize],
-) -> Visited
-    requires { Inside params.now parts.from parts.count × (parts.count ≤ most_defs)
-        × Coded params.now parts }
-    ensures { outcome result.info (state result.visitor (left edges))
-        ≡ visit (state visitor (held edges)) (type_in params.now parts) param }
-{
-    let used = visitor.used;
-    let draws = visitor.draws;
-    let stored = visitor.stored;
-    let brought = count_all(used, &draws, params, parts);
-    let number = number_of(params, parts, brought);
-    let mut pairs = [set::EMPTY; ParamBorrowInfo::MAX_DEFS];
-    if brought == 0 {
-        return Visited {
-            info: ParamBorrowInfo {
-                verdict: Ok(()),
-                number,
-                pairs,
-            },
-            visitor,
-        };
-    }
-    let room = edges.len() / BorrowingParamVisitor::EDGE_WORDS;
-    if room < brought {
-        return refused(visitor, Refusal::NoRoom);
-    }
-    if room - brought < stored {
-        return refused(visitor, Refusal::NoRoom);
-    }
-    let next = store_all(
-        used, &draws, params, parts, param, edges, stored, &mut pairs,
-    );
-    Visited {
-        info: ParamBorrowInfo {
-            verdict: Ok(()),
-            number,
-            pairs,
-        },
-        visitor: BorrowingParamVisitor {
-            used,
-            draws,
-            stored: next,
-        },
-    }
 }
 
 // The answer's number for the type that `parts` found in `words`, by its kind and by how many edges it has `brought`: 0

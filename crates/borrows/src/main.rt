@@ -10,21 +10,12 @@ ghost use Rattle.std.specs.Prelude.{◌≡◌, ℕ, List, length, false, IfSome,
 ghost use Rattle.std.specs.Io.KnownBytes.{Appends, Consumes};
 ghost use Rattle.listing.specs.Listing.{response};
 
-use input::read_input;
+use input::{read_input, room, status};
 use listing::respond;
+use sheet::Text;
 use std::io;
-use std::io::{ErrorKind, Read, Write};
+use std::io::{Read, Write};
 use std::process::ExitCode;
-
-// The status where the answer's reader has gone: 128 and the number of SIGPIPE.
-const READER_GONE: u8 = 141;
-
-// Room for a sheet, and for the byte that tells that it is too long.
-fn room_for_sheet() -> [u8; 65537]
-    ensures { 65537 ≡ length result }
-{
-    [0; 65537]
-}
 
 // A line to standard error, where something failed. Where that fails too, nobody is told.
 fn report(rt: &impl Eprint, failed: bool, line: &str) {
@@ -33,7 +24,8 @@ fn report(rt: &impl Eprint, failed: bool, line: &str) {
     }
 }
 
-// Whether reading the sheet failed, and what came of writing the answer.
+// Whether reading the sheet failed, and what came of writing the answer. No Result of the two: a read that fails stops no
+// writing.
 #[derive(Clone, Copy)]
 struct Answered {
     unread: bool,
@@ -50,7 +42,8 @@ fn answer<R: Read, W: Write>(rt: &impl Eprint, input: &mut R, output: &mut W) ->
     ensures whole { result.unread ≡ false → OnOk result.written (IfSome (R.remaining input.old)
         (λ sheet. Appends (W.contents output.old) (W.contents output.new) (response sheet))) }
 {
-    let mut sheet = room_for_sheet();
+    // Behind the longest sheet, room for the byte that tells that it is too long.
+    let mut sheet: [u8; Text::MAX_BYTES + 1] = room(0);
     let got = read_input(input, &mut sheet);
     let read = got.count;
     report(
@@ -58,7 +51,7 @@ fn answer<R: Read, W: Write>(rt: &impl Eprint, input: &mut R, output: &mut W) ->
         got.failed,
         "borrows: standard input could not be read to its end",
     );
-    let mut out = [0u8; listing::ROOM];
+    let mut out: [u8; listing::ROOM] = room(0);
     let count = respond(&sheet[..read], &mut out);
     let written = output.write_all(&out[..count]);
     Answered {
@@ -67,25 +60,15 @@ fn answer<R: Read, W: Write>(rt: &impl Eprint, input: &mut R, output: &mut W) ->
     }
 }
 
-// What the program ends with, once the answer was written or could not be.
-fn status(rt: &impl Eprint, written: Result<(), io::Error>) -> ExitCode {
-    let Err(error) = written else {
-        return ExitCode::SUCCESS;
-    };
-    if error.kind() == ErrorKind::BrokenPipe {
-        return ExitCode::from(READER_GONE);
-    }
-    report(
-        rt,
-        true,
-        "borrows: the answer could not be written whole to standard output",
-    );
-    ExitCode::SUCCESS
-}
-
 fn main(rt: HostRuntime) -> ExitCode {
     let mut stdin = rt.stdin();
     let mut stdout = io::writer(&rt);
     let answered = answer(&rt, &mut stdin, &mut stdout);
-    status(&rt, answered.written)
+    let status = status(&answered.written);
+    report(
+        &rt,
+        answered.written.is_err() && status == ExitCode::SUCCESS,
+        "borrows: the answer could not be written whole to standard output",
+    );
+    status
 }

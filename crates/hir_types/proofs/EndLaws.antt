@@ -2,10 +2,11 @@
 use Rattle.std.specs.Prelude.{Some, None, Option}
 use Prim.Native.Nat.{ℕ, suc, ◌+◌, ◌-◌, ◌≤◌, ◌<◌}
 use mathlib.Core.Bool.{true, false}
+use mathlib.Core.Logic.{◌⊎◌, ⊎_elim}
 use mathlib.Core.Path.{◌≡◌, refl}
 use mathlib.Core.List.{List, ◌∷◌}
 use native.Mathlib.Omega.{arith}
-use lib.ListN.{length, get_or, drop, drop_of_length-le}
+use lib.ListN.{length, drop, drop_of_length-le}
 use borrow.Author.Tests.{le-leb, lt-leb}
 use Rattle.records.specs.Reading.{Reading, Read, Fails, onward}
 use Rattle.records.specs.Ends.{EndsAt}
@@ -15,7 +16,7 @@ use Rattle.hir_types.specs.declared.types.Parts.{Parts}
 use Rattle.hir_types.specs.LoweredTypes.{LoweredType, read_lowered, knows}
 use Rattle.hir_types.specs.Rows.{read_known, read_types, read_row, row_with}
 use Rattle.hir_types.specs.Inner.{EndsFrom, ends, missing}
-use Rattle.hir_types.proofs.PathLaws.{word_here, word_behind, missing_fails}
+use Rattle.hir_types.proofs.PathLaws.{WordAt, word_here, word_behind, missing_fails}
 use Rattle.hir_types.proofs.FoundLaws.{Found}
 
 -- ---- `type_end`
@@ -95,40 +96,30 @@ module _ (words : List ℕ) (place number : ℕ) where
   unfolding read_row
   row_none h = rw (drop_of_length-le words {i = place} h) at.missing
 
-  module _ (h : place < length words) where
+  module _ {declared : ℕ} (w : WordAt words place declared) where
     pub row_short : length words ≤ place + 1 → EndsAt words place (read_row number (drop place words)) None
     unfolding read_row
-    row_short k = rw (word_here words place h, drop_of_length-le words {i = place + 1} k) at.missing
+    row_short k = rw (word_here words place w, drop_of_length-le words {i = place + 1} k) at.missing
 
-    module _ (k : place + 1 < length words) where
-      pub row_wide : 16 < get_or words place 0 → EndsAt words place (read_row number (drop place words)) None
+    module _ {fields : ℕ} (v : WordAt words (place + 1) fields) where
+      pub row_large : (16 < declared) ⊎ ((declared ≤ 16) × (16 < fields))
+          → EndsAt words place (read_row number (drop place words)) None
       unfolding read_row
-      row_wide b = rw (word_here words place h, word_behind words place k, lt-leb (get_or words place 0) 16 b) at.missing
+      row_large h =
+          rw (word_here words place w, word_behind words place v)
+          (⊎_elim (λ a. rw (lt-leb declared 16 a) at.missing)
+          (λ b. rw (le-leb declared 16 b.0, lt-leb fields 16 b.1) at.missing)
+          h)
 
-      module _ (d : get_or words place 0 ≤ 16) where
-        pub row_many : 16 < get_or words (place + 1) 0 → EndsAt words place (read_row number (drop place words)) None
-        unfolding read_row
-        row_many b =
-            rw (
-              word_here words place h,
-              word_behind words place k,
-              le-leb (get_or words place 0) 16 d,
-              lt-leb (get_or words (place + 1) 0) 16 b,
-            ) at.missing
-
-        pub row_ends : get_or words (place + 1) 0 ≤ 16 → {r : Option ℕ}
-            → EndsFrom words (place + 2) (read_types number (get_or words (place + 1) 0) (drop (place + 2) words)) r
+      module _ (d : declared ≤ 16) where
+        pub row_ends : fields ≤ 16 → {r : Option ℕ}
+            → EndsFrom words (place + 2) (read_types number fields (drop (place + 2) words)) r
             → EndsAt words place (read_row number (drop place words)) r
         unfolding read_row
         row_ends b m =
-            rw (
-              word_here words place h,
-              word_behind words place k,
-              le-leb (get_or words place 0) 16 d,
-              le-leb (get_or words (place + 1) 0) 16 b,
-            ) (go m)
+            rw (word_here words place w, word_behind words place v, le-leb declared 16 d, le-leb fields 16 b) (go m)
           where
             go : {reading : Reading (List LoweredType)} {r : Option ℕ} → EndsFrom words (place + 2) reading r
-                → EndsAt words place (onward reading (λ fields end. Read (row_with (get_or words place 0) fields) end)) r
+                → EndsAt words place (onward reading (λ fields end. Read (row_with declared fields) end)) r
             go (ends {next = last} d b e) = at.ends {next = last} d (omega arith) e
             go missing = at.missing

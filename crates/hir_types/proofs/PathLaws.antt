@@ -2,13 +2,13 @@
 use Rattle.std.specs.Prelude.{Some, None, Option}
 use Prim.Native.Nat.{ℕ, zero, suc, ◌+◌, ◌-◌, ◌≤◌, ◌<◌}
 use mathlib.Core.Bool.{Bool, true, false, cond, ◌&&◌}
-use mathlib.Core.Path.{◌≡◌, refl, sym, ap, ◌∙◌}
+use mathlib.Core.Path.{◌≡◌, refl, ap, ◌∙◌}
 use mathlib.Core.List.{List, [], ◌∷◌, ◌++◌}
 use native.Mathlib.Numerals.{add-one}
 use native.Mathlib.Omega.{arith}
 use lib.Dec.{leb}
-use lib.ListN.{length, get_or, take, drop, length-drop, length-append, drop_of_length-le}
-use lib.Seq.{drop-cons, take_at, take_all, take-nil}
+use lib.ListN.{length, get_or, take, drop, length-drop, length-append}
+use lib.Seq.{drop-cons, take_at}
 use borrow.Author.Tests.{ne_eqb, leb-true}
 use Rattle.records.specs.Reading.{Reading, Read, Fails, read_lifetimes, end_of}
 use Rattle.records.specs.Ends.{EndsAt, ends, missing}
@@ -21,25 +21,16 @@ use Rattle.hir_types.specs.Places.{Stands}
 
 -- ---- the word at a place, and those behind it
 
-pub word_here : (words : List ℕ) (at : ℕ) → at < length words → drop at words ≡ get_or words at 0 ∷ drop (at + 1) words
-word_here words at h = rw add-one (drop-cons words at 0 h)
+-- what `get` tells of a place that holds a word
+abbrev pub WordAt : List ℕ → ℕ → ℕ → Type 0
+WordAt words at word = (at < length words) × ((d : ℕ) → word ≡ get_or words at d)
 
-pub word_behind : (words : List ℕ) (at : ℕ) → at + 1 < length words
-    → drop (at + 1) words ≡ get_or words (at + 1) 0 ∷ drop (at + 2) words
-word_behind words at h = let e : at + 2 ≡ suc (at + 1) = omega arith in rw e (drop-cons words (at + 1) 0 h)
+pub word_here : (words : List ℕ) (at : ℕ) {word : ℕ} → WordAt words at word → drop at words ≡ word ∷ drop (at + 1) words
+word_here words at w = rw (w.1 0, add-one) (drop-cons words at 0 w.0)
 
--- ---- some words in a row, as `path_words` lends them
-
-module _ (words : List ℕ) (from count : ℕ) where
-  pub lent_none : length words ≤ from → take (0 - 0) (drop 0 words) ≡ take count (drop from words)
-  lent_none h = rw (drop_of_length-le words {i = from} h, take-nil count)
-
-  pub lent_fewer : length words - from < count → take (length words - from) (drop from words) ≡ take count (drop from words)
-  lent_fewer h = take_all (length words - from) (drop from words) (simp length-drop (omega arith))
-      ∙ sym (take_all count (drop from words) (simp length-drop (omega arith)))
-
-  pub lent_all : take (from + count - from) (drop from words) ≡ take count (drop from words)
-  lent_all = let e : from + count - from ≡ count = omega arith in rw e
+pub word_behind : (words : List ℕ) (at : ℕ) {word : ℕ} → WordAt words (at + 1) word
+    → drop (at + 1) words ≡ word ∷ drop (at + 2) words
+word_behind words at w = let e : at + 2 ≡ suc (at + 1) = omega arith in rw (w.1 0, e) (drop-cons words (at + 1) 0 w.0)
 
 -- ---- what a reading leaves
 
@@ -78,7 +69,7 @@ path_there words at behind path e past within =
     let sizes : suc (length path + (length words - behind)) ≡ length words - at =
     simp (length-append, length-drop) at (ap length here) in
     let cell : length path ∷ (path ++ drop behind words) ≡ get_or words at 0 ∷ drop (at + 1) words =
-    here ∙ word_here words at (omega arith) in
+    here ∙ rw add-one (drop-cons words at 0 (omega arith)) in
     let rest : path ++ drop behind words ≡ drop (at + 1) words = cc in
     record {
       reads = e;

@@ -14,7 +14,7 @@ use Rattle.records.specs.Ends.{EndsAt, ends}
 use Rattle.records.proofs.EndLaws.{ends_past, ends_within}
 use Rattle.hir_types.specs.Rows.{how_many}
 use Rattle.hir_types.proofs.PathLaws.{missing_fails}
-use Rattle.answers.specs.Refusals.{Outcome}
+use Rattle.answers.specs.Refusals.{Outcome, unless}
 
 -- how many there are in all, so many before those that were read
 abbrev tally : {A : Type 0} → ℕ → Reading (List A) → Outcome ℕ
@@ -40,7 +40,7 @@ module _ {A : Type 0} (item : ℕ → List ℕ → Reading A) where
 
   tally_all : (words : List ℕ) → length words ≤ 1024
       → tally 0 (read_all item 0 (length words) words) ≡ how_many (in_shape item words) (items_of item words)
-  unfolding in_shape items_of
+  unfolding in_shape items_of unless
   tally_all words h = rw (le-leb (length words) 1024 h) (go (read_all item 0 (length words) words))
     where
       go : (r : Reading (List A)) → tally 0 r ≡ how_many (is_read r) (read_or [] r)
@@ -79,7 +79,7 @@ module _ {A : Type 0} (item : ℕ → List ℕ → Reading A) where
       }
 
   pub counting_long : (words : List ℕ) → 1024 < length words → Err Malformed ≡ how_many (in_shape item words) (items_of item words)
-  unfolding in_shape
+  unfolding in_shape unless
   counting_long words h = rw (lt-leb (length words) 1024 h)
 
 module _ {A : Type 0} {item : ℕ → List ℕ → Reading A} {words : List ℕ} {number at : ℕ} (inv : Counting item words number at) where

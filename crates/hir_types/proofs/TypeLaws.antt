@@ -5,7 +5,7 @@ use mathlib.Core.Bool.{Bool, true, false, cond}
 use mathlib.Core.Path.{◌≡◌, refl, ap, ◌∙◌}
 use mathlib.Core.List.{List, []}
 use native.Mathlib.Omega.{arith}
-use lib.ListN.{length, get_or, drop, length-drop, drop_of_length-le}
+use lib.ListN.{length, drop, length-drop, drop_of_length-le}
 use borrow.Author.Tests.{ne_eqb}
 use Rattle.records.specs.Reading.{Reading, Read, Fails, onward, read_lifetimes}
 use Rattle.hir_types.specs.declared.types.Kind.TheVariants.{Plain, Opaque, Struct, Slice}
@@ -15,7 +15,7 @@ use Rattle.hir_types.specs.LoweredTypes.{LoweredType, lowered_type, read_flag, r
 use Rattle.hir_types.specs.LoweredTypes.{read_slice, read_bare, read_lowered, located}
 use Rattle.hir_types.specs.Places.{Stands, Locates, locates, nowhere}
 use Rattle.hir_types.specs.Inner.{starts_at, LocatesBare}
-use Rattle.hir_types.proofs.PathLaws.{word_here, word_behind, PathAt, flag_read, flag_fails, stands_none}
+use Rattle.hir_types.proofs.PathLaws.{WordAt, word_here, word_behind, PathAt, flag_read, flag_fails, stands_none}
 use Rattle.hir_types.proofs.PathLaws.{stands_path}
 
 -- a reading that fails, and one that does not
@@ -38,17 +38,17 @@ module _ (words : List ℕ) (at : ℕ) (option : Bool) where
   unfolding read_struct
   struct_short h = fails_bare (rw (none_behind words at h))
 
-  module _ (h : at + 1 < length words) where
+  module _ {row : ℕ} (w : WordAt words (at + 1) row) where
     pub struct_missing : read_lifetimes (drop (at + 2) words) ≡ Fails
         → LocatesBare words at option (read_struct option (drop (at + 1) words)) None
     unfolding read_struct
-    struct_missing e = fails_bare (rw (word_behind words at h, e))
+    struct_missing e = fails_bare (rw (word_behind words at w, e))
 
     pub struct_whole : {path : List ℕ} {next : ℕ} → PathAt words (at + 2) next path
         → LocatesBare words at option (read_struct option (drop (at + 1) words))
         (Some (record {
           option = option;
-          kind = Struct (get_or words (at + 1) 0);
+          kind = Struct row;
           from = at + 3;
           count = next - (at + 3);
           own = Absent;
@@ -56,9 +56,8 @@ module _ (words : List ℕ) (at : ℕ) (option : Bool) where
         }))
     unfolding read_struct
     struct_whole {path} {next} there =
-        reads_bare (rw (word_behind words at h, there.reads))
-        (stands_path there option (Struct (get_or words (at + 1) 0)) Absent next (omega arith) there.within) refl
-        refl
+        reads_bare (rw (word_behind words at w, there.reads))
+        (stands_path there option (Struct row) Absent next (omega arith) there.within) refl refl
 
 -- ---- an opaque
 
@@ -67,19 +66,19 @@ module _ (words : List ℕ) (at : ℕ) (option : Bool) where
   unfolding read_opaque
   opaque_short h = fails_bare (rw (none_behind words at h))
 
-  module _ (h : at + 1 < length words) where
-    pub opaque_no_flag : 1 < get_or words (at + 1) 0 → LocatesBare words at option (read_opaque option (drop (at + 1) words)) None
+  module _ {optional : ℕ} (w : WordAt words (at + 1) optional) where
+    pub opaque_no_flag : 1 < optional → LocatesBare words at option (read_opaque option (drop (at + 1) words)) None
     unfolding read_opaque
-    opaque_no_flag b = fails_bare (rw (word_behind words at h, flag_fails (get_or words (at + 1) 0) (drop (at + 2) words) b))
+    opaque_no_flag b = fails_bare (rw (word_behind words at w, flag_fails optional (drop (at + 2) words) b))
 
-    module _ (flag : get_or words (at + 1) 0 ≤ 1) where
+    module _ (flag : optional ≤ 1) where
       -- past the flag
       opaque_path : read_opaque option (drop (at + 1) words)
           ≡ onward (read_lifetimes (drop (at + 2) words)) (λ path behind.
           onward (read_flag behind) (λ borrowed rest.
           onward (read_owner borrowed rest) (λ own end. Read (lowered_type option Opaque path own) end)))
       unfolding read_opaque
-      opaque_path = let f = flag_read (get_or words (at + 1) 0) (drop (at + 2) words) flag in rw (word_behind words at h, f.1)
+      opaque_path = let f = flag_read optional (drop (at + 2) words) flag in rw (word_behind words at w, f.1)
 
       pub opaque_missing : read_lifetimes (drop (at + 2) words) ≡ Fails
           → LocatesBare words at option (read_opaque option (drop (at + 1) words)) None
@@ -89,8 +88,8 @@ module _ (words : List ℕ) (at : ℕ) (option : Bool) where
         pub opaque_unowned : length words ≤ owner → LocatesBare words at option (read_opaque option (drop (at + 1) words)) None
         opaque_unowned k = fails_bare (rw (opaque_path, there.reads, drop_of_length-le words {i = owner} k))
 
-        module _ (k : owner < length words) where
-          pub opaque_owned : get_or words owner 0 ≡ 0
+        module _ {borrowed : ℕ} (k : WordAt words owner borrowed) where
+          pub opaque_owned : borrowed ≡ 0
               → LocatesBare words at option (read_opaque option (drop (at + 1) words))
               (Some (record {
                 option = option;
@@ -102,38 +101,30 @@ module _ (words : List ℕ) (at : ℕ) (option : Bool) where
               }))
           opaque_owned e =
               reads_bare (rw (opaque_path, there.reads, word_here words owner k, e))
-              (stands_path there option Opaque Absent (owner + 1) (omega arith) (omega arith)) refl refl
+              (stands_path there option Opaque Absent (owner + 1) (omega arith) (omega (arith, k.0))) refl refl
 
-          pub opaque_no_owner : 1 < get_or words owner 0 → LocatesBare words at option (read_opaque option (drop (at + 1) words)) None
+          pub opaque_lost : borrowed ≡ 1 → length words ≤ owner + 1
+              → LocatesBare words at option (read_opaque option (drop (at + 1) words)) None
+          opaque_lost e b = fails_bare (rw (opaque_path, there.reads, word_here words owner k, e, none_behind words owner b))
+
+          pub opaque_borrowed : borrowed ≡ 1 → {word : ℕ} → WordAt words (owner + 1) word
+              → LocatesBare words at option (read_opaque option (drop (at + 1) words))
+              (Some (record {
+                option = option;
+                kind = Opaque;
+                from = at + 3;
+                count = owner - (at + 3);
+                own = Word word;
+                next = owner + 2;
+              }))
+          opaque_borrowed e {word} b =
+              reads_bare (rw (opaque_path, there.reads, word_here words owner k, e, word_behind words owner b))
+              (stands_path there option Opaque (Word word) (owner + 2) (omega arith) (omega (arith, b.0))) refl refl
+
+          pub opaque_no_owner : 1 < borrowed → LocatesBare words at option (read_opaque option (drop (at + 1) words)) None
           opaque_no_owner b =
               fails_bare
-              (rw (
-                opaque_path,
-                there.reads,
-                word_here words owner k,
-                flag_fails (get_or words owner 0) (drop (owner + 1) words) b,
-              ))
-
-          module _ (some : get_or words owner 0 ≡ 0 → ⊥) (few : get_or words owner 0 ≤ 1) where
-            borrowed : get_or words owner 0 ≡ 1
-            borrowed = omega (arith, some)
-
-            pub opaque_lost : length words ≤ owner + 1 → LocatesBare words at option (read_opaque option (drop (at + 1) words)) None
-            opaque_lost b = fails_bare (rw (opaque_path, there.reads, word_here words owner k, borrowed, none_behind words owner b))
-
-            pub opaque_borrowed : owner + 1 < length words
-                → LocatesBare words at option (read_opaque option (drop (at + 1) words))
-                (Some (record {
-                  option = option;
-                  kind = Opaque;
-                  from = at + 3;
-                  count = owner - (at + 3);
-                  own = Word (get_or words (owner + 1) 0);
-                  next = owner + 2;
-                }))
-            opaque_borrowed b =
-                reads_bare (rw (opaque_path, there.reads, word_here words owner k, borrowed, word_behind words owner b))
-                (stands_path there option Opaque (Word (get_or words (owner + 1) 0)) (owner + 2) (omega arith) (omega arith)) refl refl
+              (rw (opaque_path, there.reads, word_here words owner k, flag_fails borrowed (drop (owner + 1) words) b))
 
 -- ---- a slice
 
@@ -142,68 +133,73 @@ module _ (words : List ℕ) (at : ℕ) (option : Bool) where
   unfolding read_slice
   slice_short h = fails_bare (rw (none_behind words at h))
 
-  module _ (h : at + 1 < length words) where
-    pub slice_bare : get_or words (at + 1) 0 ≡ 0
+  module _ {code : ℕ} (w : WordAt words (at + 1) code) where
+    pub slice_bare : code ≡ 0
         → LocatesBare words at option (read_slice option (drop (at + 1) words))
         (Some (record { option = option; kind = Slice; from = at + 3; count = 0; own = Absent; next = at + 2 }))
     unfolding read_slice
     slice_bare e =
-        reads_bare (rw (word_behind words at h, e))
-        (stands_none option Slice Absent (at + 3) (at + 2) (omega arith) (omega arith)) refl refl
+        reads_bare (rw (word_behind words at w, e))
+        (stands_none option Slice Absent (at + 3) (at + 2) (omega arith) (omega (arith, w.0))) refl refl
 
-    pub slice_strs : get_or words (at + 1) 0 ≡ 2
+    pub slice_strs : code ≡ 2
         → LocatesBare words at option (read_slice option (drop (at + 1) words))
         (Some (record { option = option; kind = Slice; from = at + 3; count = 0; own = Strs; next = at + 2 }))
     unfolding read_slice
     slice_strs e =
-        reads_bare (rw (word_behind words at h, e))
-        (stands_none option Slice Strs (at + 3) (at + 2) (omega arith) (omega arith)) refl refl
+        reads_bare (rw (word_behind words at w, e))
+        (stands_none option Slice Strs (at + 3) (at + 2) (omega arith) (omega (arith, w.0))) refl refl
 
-    pub slice_lost : get_or words (at + 1) 0 ≡ 1 → length words ≤ at + 2
+    pub slice_lost : code ≡ 1 → length words ≤ at + 2
         → LocatesBare words at option (read_slice option (drop (at + 1) words)) None
     unfolding read_slice
-    slice_lost e k = fails_bare (rw (word_behind words at h, e, drop_of_length-le words {i = at + 2} k))
+    slice_lost e k = fails_bare (rw (word_behind words at w, e, drop_of_length-le words {i = at + 2} k))
 
-    pub slice_own : get_or words (at + 1) 0 ≡ 1 → at + 2 < length words
+    pub slice_own : code ≡ 1 → {word : ℕ} → WordAt words (at + 2) word
         → LocatesBare words at option (read_slice option (drop (at + 1) words))
-        (Some (record { option = option; kind = Slice; from = at + 3; count = 0; own = Word (get_or words (at + 2) 0); next = at + 3 }))
+        (Some (record { option = option; kind = Slice; from = at + 3; count = 0; own = Word word; next = at + 3 }))
     unfolding read_slice
-    slice_own e k =
+    slice_own e {word} k =
         let f : at + 3 ≡ at + 2 + 1 = omega arith in
-        reads_bare (rw (word_behind words at h, e, f, word_here words (at + 2) k))
-        (stands_none option Slice (Word (get_or words (at + 2) 0)) (at + 3) (at + 3) (omega arith) (omega arith)) refl
+        reads_bare (rw (word_behind words at w, e, f, word_here words (at + 2) k))
+        (stands_none option Slice (Word word) (at + 3) (at + 3) (omega arith) (omega (arith, k.0))) refl
         refl
 
-    pub slice_missing : get_or words (at + 1) 0 ≡ 3 → read_lifetimes (drop (at + 2) words) ≡ Fails
+    pub slice_missing : code ≡ 3 → read_lifetimes (drop (at + 2) words) ≡ Fails
         → LocatesBare words at option (read_slice option (drop (at + 1) words)) None
     unfolding read_slice
-    slice_missing e k = fails_bare (rw (word_behind words at h, e, k))
+    slice_missing e k = fails_bare (rw (word_behind words at w, e, k))
 
-    module _ (e : get_or words (at + 1) 0 ≡ 3) {path : List ℕ} {own : ℕ} (there : PathAt words (at + 2) own path) where
-      pub slice_unowned : length words ≤ own → LocatesBare words at option (read_slice option (drop (at + 1) words)) None
+    module _ (e : code ≡ 3) {path : List ℕ} {owner : ℕ} (there : PathAt words (at + 2) owner path) where
+      pub slice_unowned : length words ≤ owner → LocatesBare words at option (read_slice option (drop (at + 1) words)) None
       unfolding read_slice
-      slice_unowned k = fails_bare (rw (word_behind words at h, e, there.reads, drop_of_length-le words {i = own} k))
+      slice_unowned k = fails_bare (rw (word_behind words at w, e, there.reads, drop_of_length-le words {i = owner} k))
 
-      pub slice_opaques : own < length words
+      pub slice_opaques : {word : ℕ} → WordAt words owner word
           → LocatesBare words at option (read_slice option (drop (at + 1) words))
           (Some (record {
             option = option;
             kind = Slice;
             from = at + 3;
-            count = own - (at + 3);
-            own = Word (get_or words own 0);
-            next = own + 1;
+            count = owner - (at + 3);
+            own = Word word;
+            next = owner + 1;
           }))
       unfolding read_slice
-      slice_opaques k =
-          reads_bare (rw (word_behind words at h, e, there.reads, word_here words own k))
-          (stands_path there option Slice (Word (get_or words own 0)) (own + 1) (omega arith) (omega arith)) refl refl
+      slice_opaques {word} k =
+          reads_bare (rw (word_behind words at w, e, there.reads, word_here words owner k))
+          (stands_path there option Slice (Word word) (owner + 1) (omega arith) (omega (arith, k.0))) refl refl
 
-    pub slice_no_code : (get_or words (at + 1) 0 ≡ 0 → ⊥) → (get_or words (at + 1) 0 ≡ 1 → ⊥)
-        → (get_or words (at + 1) 0 ≡ 2 → ⊥) → (get_or words (at + 1) 0 ≡ 3 → ⊥)
-        → LocatesBare words at option (read_slice option (drop (at + 1) words)) None
+    pub slice_no_code : 3 < code → LocatesBare words at option (read_slice option (drop (at + 1) words)) None
     unfolding read_slice
-    slice_no_code e₀ e₁ e₂ e₃ = fails_bare (rw (word_behind words at h, ne_eqb _ _ e₀, ne_eqb _ _ e₁, ne_eqb _ _ e₂, ne_eqb _ _ e₃))
+    slice_no_code b = fails_bare
+        (rw (
+          word_behind words at w,
+          ne_eqb code 0 (λ e. omega arith),
+          ne_eqb code 1 (λ e. omega arith),
+          ne_eqb code 2 (λ e. omega arith),
+          ne_eqb code 3 (λ e. omega arith),
+        ))
 
 -- ---- a type that is no option
 
@@ -212,35 +208,41 @@ module _ (words : List ℕ) (at : ℕ) (option : Bool) where
   unfolding read_bare
   bare_none h = fails_bare (rw (drop_of_length-le words {i = at} h))
 
-  module _ (h : at < length words) where
-    pub bare_plain : get_or words at 0 ≡ 0
+  module _ {code : ℕ} (w : WordAt words at code) where
+    pub bare_plain : code ≡ 0
         → LocatesBare words at option (read_bare option (drop at words))
         (Some (record { option = option; kind = Plain; from = at + 3; count = 0; own = Absent; next = at + 1 }))
     unfolding read_bare
     bare_plain e =
-        reads_bare (rw (word_here words at h, e))
-        (stands_none option Plain Absent (at + 3) (at + 1) (omega arith) (omega arith)) refl refl
+        reads_bare (rw (word_here words at w, e))
+        (stands_none option Plain Absent (at + 3) (at + 1) (omega arith) (omega (arith, w.0))) refl refl
 
     module _ {r : Option Parts} where
-      pub bare_opaque : get_or words at 0 ≡ 1 → LocatesBare words at option (read_opaque option (drop (at + 1) words)) r
+      pub bare_opaque : code ≡ 1 → LocatesBare words at option (read_opaque option (drop (at + 1) words)) r
           → LocatesBare words at option (read_bare option (drop at words)) r
       unfolding read_bare
-      bare_opaque e k = rw (word_here words at h, e) k
+      bare_opaque e k = rw (word_here words at w, e) k
 
-      pub bare_struct : get_or words at 0 ≡ 2 → LocatesBare words at option (read_struct option (drop (at + 1) words)) r
+      pub bare_struct : code ≡ 2 → LocatesBare words at option (read_struct option (drop (at + 1) words)) r
           → LocatesBare words at option (read_bare option (drop at words)) r
       unfolding read_bare
-      bare_struct e k = rw (word_here words at h, e) k
+      bare_struct e k = rw (word_here words at w, e) k
 
-      pub bare_slice : get_or words at 0 ≡ 3 → LocatesBare words at option (read_slice option (drop (at + 1) words)) r
+      pub bare_slice : code ≡ 3 → LocatesBare words at option (read_slice option (drop (at + 1) words)) r
           → LocatesBare words at option (read_bare option (drop at words)) r
       unfolding read_bare
-      bare_slice e k = rw (word_here words at h, e) k
+      bare_slice e k = rw (word_here words at w, e) k
 
-    pub bare_no_code : (get_or words at 0 ≡ 0 → ⊥) → (get_or words at 0 ≡ 1 → ⊥) → (get_or words at 0 ≡ 2 → ⊥) → (get_or words at 0 ≡ 3 → ⊥)
-        → LocatesBare words at option (read_bare option (drop at words)) None
+    pub bare_no_code : 3 < code → LocatesBare words at option (read_bare option (drop at words)) None
     unfolding read_bare
-    bare_no_code e₀ e₁ e₂ e₃ = fails_bare (rw (word_here words at h, ne_eqb _ _ e₀, ne_eqb _ _ e₁, ne_eqb _ _ e₂, ne_eqb _ _ e₃))
+    bare_no_code b = fails_bare
+        (rw (
+          word_here words at w,
+          ne_eqb code 0 (λ e. omega arith),
+          ne_eqb code 1 (λ e. omega arith),
+          ne_eqb code 2 (λ e. omega arith),
+          ne_eqb code 3 (λ e. omega arith),
+        ))
 
 -- ---- any type
 
@@ -272,11 +274,11 @@ module _ (words : List ℕ) (at : ℕ) where
       go nowhere s = refl
       go (locates {t} {rest} {p} k) s = same_parts at k (s.1 ∙ rw s.0 e)
 
-  module _ (h : at < length words) {r : Option Parts} where
-    pub type_option : get_or words at 0 ≡ 4 → LocatesBare words (at + 1) true (read_bare true (drop (at + 1) words)) r → Told words at r
+  module _ {code : ℕ} (w : WordAt words at code) {r : Option Parts} where
+    pub type_option : code ≡ 4 → LocatesBare words (at + 1) true (read_bare true (drop (at + 1) words)) r → Told words at r
     unfolding read_lowered
-    type_option e k = rw (word_here words at h, e) (told (at + 1) true (omega arith) k)
+    type_option e k = rw (word_here words at w, e) (told (at + 1) true (omega arith) k)
 
-    pub type_bare : (get_or words at 0 ≡ 4 → ⊥) → LocatesBare words at false (read_bare false (drop at words)) r → Told words at r
+    pub type_bare : (code ≡ 4 → ⊥) → LocatesBare words at false (read_bare false (drop at words)) r → Told words at r
     unfolding read_lowered
-    type_bare e k = rw (word_here words at h, ne_eqb _ _ e, ← word_here words at h) (told at false refl k)
+    type_bare e k = rw (word_here words at w, ne_eqb _ _ e, ← word_here words at w) (told at false refl k)

@@ -1,8 +1,9 @@
 -- Lowered types (in a struct's fields, in `params`, in `output`): what stands in front of some words, where its parts
 -- are, and its lifetimes.
-use Rattle.std.specs.Prelude.{ℕ, zero, suc, ◌+◌, ◌-◌, ◌^◌, Bool, true, false, cond, List, [], ◌∷◌, ◌++◌, map, Ok, Err, Some, None, Option}
-use Rattle.std.specs.Prelude.{eqb, ltb, length}
+use Rattle.std.specs.Prelude.{ℕ, ◌+◌, ◌-◌, ◌^◌, Bool, true, false, cond, List, [], ◌∷◌, ◌++◌, map, eqb, ltb, length}
+use Rattle.std.specs.Prelude.{Ok, Err, Some, None, Option}
 use Rattle.answers.specs.declared.Refusal.TheVariants.{Malformed}
+use Rattle.lifetimes.specs.declared.lifetime.Lifetime.{Lifetime}
 use Rattle.lifetimes.specs.declared.maybe_static.MaybeStatic.{MaybeStatic}
 use Rattle.lifetimes.specs.declared.maybe_static.MaybeStatic.TheVariants.{NonStatic}
 use Rattle.lifetimes.specs.Numbers.{lifetime}
@@ -13,8 +14,6 @@ use Rattle.hir_types.specs.declared.types.Kind.{Kind}
 use Rattle.hir_types.specs.declared.types.Kind.TheVariants.{Plain, Opaque, Struct, Slice}
 use Rattle.hir_types.specs.declared.types.Own.{Own}
 use Rattle.hir_types.specs.declared.types.Own.TheVariants.{Absent, Word, Strs}
-use Rattle.hir_types.specs.declared.types.LifetimeAt.{LifetimeAt}
-use Rattle.hir_types.specs.declared.types.LifetimeAt.TheVariants as entry
 use Rattle.hir_types.specs.declared.types.Parts.{Parts}
 
 -- A type: whether it is under an option (01's code 4), its kind (codes 0 to 3), its path words, and the lifetime behind
@@ -104,36 +103,26 @@ located at n Fails = None
 -- Its lifetimes (`Type::lifetimes`): the path words, then the borrow. That of `Strs` is numbered 2^64 - 1, outside
 -- every environment
 
-abbrev pub own_lifetime : Own → Option MaybeStatic
+abbrev pub own_lifetime : Own → Option (MaybeStatic Lifetime)
 own_lifetime Absent = None
 own_lifetime (Word word) = Some (from_word word)
 own_lifetime Strs = Some (NonStatic (lifetime (2 ^ 64 - 1)))
 
-abbrev pub one_or_none : Option MaybeStatic → List MaybeStatic
+abbrev pub one_or_none : Option (MaybeStatic Lifetime) → List (MaybeStatic Lifetime)
 one_or_none (Some m) = m ∷ []
 one_or_none None = []
 
-abbrev pub own_lifetimes : Own → List MaybeStatic
+abbrev pub own_lifetimes : Own → List (MaybeStatic Lifetime)
 own_lifetimes own = one_or_none (own_lifetime own)
 
-abbrev pub lifetimes_of : LoweredType → List MaybeStatic
+abbrev pub lifetimes_of : LoweredType → List (MaybeStatic Lifetime)
 lifetimes_of t = map from_word t.path ++ own_lifetimes t.own
 
--- the entry at an index, if there is one
-unfoldable pub entry_at : List MaybeStatic → ℕ → LifetimeAt
-entry_at [] index = entry.Absent
-entry_at (m ∷ ms) zero = entry.Lifetime m
-entry_at (m ∷ ms) (suc index) = entry_at ms index
-
 -- the lifetimes of the one type that some words are; 1 where they are none, or more
-abbrev pub only_type : Reading LoweredType → Outcome (List MaybeStatic)
+abbrev pub only_type : Reading LoweredType → Outcome (List (MaybeStatic Lifetime))
 only_type (Read t []) = Ok (lifetimes_of t)
 only_type (Read t (word ∷ words)) = Err Malformed
 only_type Fails = Err Malformed
 
-unfoldable pub type_lifetimes : List ℕ → Outcome (List MaybeStatic)
+unfoldable pub type_lifetimes : List ℕ → Outcome (List (MaybeStatic Lifetime))
 type_lifetimes words = only_type (read_lowered words)
-
-abbrev pub lifetime_answer : Outcome (List MaybeStatic) → ℕ → LifetimeAt
-lifetime_answer (Ok l) index = entry_at l index
-lifetime_answer (Err r) index = entry.Refused r

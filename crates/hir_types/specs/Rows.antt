@@ -1,7 +1,6 @@
 -- The records `structs`, `params`, `output` and `force`: their shape (refusal 1, 01's "torn"), the value of `force`
 -- that is no longer taken (refusal 13, 02's "retired"), and what a record in shape says.
-use Rattle.std.specs.Prelude.{ℕ, zero, suc, Bool, true, false, cond, not, ◌&&◌, List, [], ◌∷◌, eqb, leb, length, Ok, Err}
-use Rattle.answers.specs.declared.Refusal.{Refusal}
+use Rattle.std.specs.Prelude.{ℕ, zero, suc, Bool, false, cond, not, ◌&&◌, List, [], ◌∷◌, eqb, leb, length}
 use Rattle.answers.specs.declared.Refusal.TheVariants.{Malformed, Retired}
 use Rattle.answers.specs.Refusals.{Check, check, Outcome, unless, Verdict}
 use Rattle.answers.specs.Lent.{verdict_of}
@@ -85,24 +84,14 @@ checks_verdict in_shape force = verdict_of (unless (shape_checks in_shape force)
 
 -- what a call answers on the shape of a record of items: how many they are, or 1
 abbrev pub how_many : {A : Type 0} → Bool → List A → Outcome ℕ
-how_many true items = Ok (length items)
-how_many false items = Err Malformed
+how_many in_shape items = unless (check (not in_shape) Malformed ∷ []) (length items)
 
--- what it answers on a method's records: how much stands in them; or why they are refused, and 0 for each
-abbrev pub no_shape : Refusal → Shape
-no_shape r = record { verdict = Err r; rows = 0; params = 0; outputs = 0 }
-
-abbrev pub shape_of : Outcome Shape → Shape
-shape_of (Ok shape) = shape
-shape_of (Err r) = no_shape r
-
-unfoldable pub method_shape : List ℕ → List ℕ → List ℕ → List ℕ → Shape
+-- what it answers on a method's records: how much stands in them, or why they are refused
+unfoldable pub method_shape : List ℕ → List ℕ → List ℕ → List ℕ → Outcome Shape
 method_shape structs params output force =
-    shape_of
-    (unless (shape_checks (method_in_shape structs params output force) force)
+    unless (shape_checks (method_in_shape structs params output force) force)
     (record {
-      verdict = Ok (tt {0});
       rows = length (rows_of structs);
       params = length (types_of (length (rows_of structs)) params);
       outputs = length (types_of (length (rows_of structs)) output);
-    }))
+    })

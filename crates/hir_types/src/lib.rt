@@ -12,6 +12,4 @@ mod shapes;
 mod types;
 
 pub use shapes::{Shape, force_shape, method_shape, output_shape, params_shape, structs_shape};
-pub use types::{
-    Kind, LifetimeAt, Own, Parts, path_words, type_at, type_lifetimes,
-};
+pub use types::{Kind, Own, Parts, path_words, type_at, type_lifetimes};

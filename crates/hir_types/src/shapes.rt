@@ -1,24 +1,23 @@
 // The records `structs`, `params`, `output` and `force` of a method: their shape.
 ghost use Rattle.std.specs.Prelude.{◌≡◌, ◌≤◌, length, drop};
-ghost use Rattle.answers.specs.Lent.{held};
 ghost use Rattle.records.specs.Ends.{EndsAt};
 ghost use Rattle.hir_types.specs.Rows.{read_known, read_types, read_row, structs_in_shape, rows_of, params_in_shape};
 ghost use Rattle.hir_types.specs.Rows.{types_of, output_in_shape, force_in_shape, checks_verdict, method_shape};
-ghost use Rattle.hir_types.specs.Rows.{no_shape, how_many};
+ghost use Rattle.hir_types.specs.Rows.{how_many};
 ghost use Rattle.hir_types.specs.Inner.{EndsFrom};
 
 use super::types::type_at;
 use answers::Refusal;
-use records::MAX_WORDS;
-
-// How many fields a struct may have, and how many lifetimes.
-const MAX_FIELDS: usize = 16;
+use records::{MAX_LIST, MAX_WORDS};
 
 // The value of `force` that is retired; a larger one never was a value.
 const RETIRED: usize = 1;
 
 // Whether `structs` is in shape, and how many rows it has: all that stand there, also past the 32nd. Refused by 1.
 // Reads each type once.
+//
+// One loop over any items, by a closure that says where an item ends, would be no plainer than this one and that of
+// `params_shape`: what either is proved to count is read by another definition, of items of another type.
 pub fn structs_shape(structs: &[usize]) -> Result<usize, Refusal>
     ensures answer { result ≡ how_many (structs_in_shape structs.now) (rows_of structs.now) }
 {
@@ -28,11 +27,7 @@ pub fn structs_shape(structs: &[usize]) -> Result<usize, Refusal>
     let mut at = 0;
     let mut rows = 0;
     while at < structs.len() {
-        let end = row_end(structs, at, rows);
-        let Some(next) = end else {
-            return Err(Refusal::Malformed);
-        };
-        at = next;
+        at = row_end(structs, at, rows).ok_or(Refusal::Malformed)?;
         rows += 1;
     }
     Ok(rows)
@@ -49,11 +44,7 @@ pub fn params_shape(params: &[usize], rows: usize) -> Result<usize, Refusal>
     let mut at = 0;
     let mut count = 0;
     while at < params.len() {
-        let end = type_end(params, at, rows);
-        let Some(next) = end else {
-            return Err(Refusal::Malformed);
-        };
-        at = next;
+        at = type_end(params, at, rows).ok_or(Refusal::Malformed)?;
         count += 1;
     }
     Ok(count)
@@ -63,10 +54,7 @@ pub fn params_shape(params: &[usize], rows: usize) -> Result<usize, Refusal>
 pub fn output_shape(output: &[usize], rows: usize) -> Result<usize, Refusal>
     ensures answer { result ≡ how_many (output_in_shape rows output.now) (types_of rows output.now) }
 {
-    let types = params_shape(output, rows);
-    let Ok(count) = types else {
-        return Err(Refusal::Malformed);
-    };
+    let count = params_shape(output, rows)?;
     if 2 < count {
         return Err(Refusal::Malformed);
     }
@@ -80,20 +68,16 @@ pub fn force_shape(force: &[usize]) -> Result<(), Refusal>
     if force.len() != 1 {
         return Err(Refusal::Malformed);
     }
-    if RETIRED < force[0] {
-        return Err(Refusal::Malformed);
+    match force[0] {
+        0 => Ok(()),
+        RETIRED => Err(Refusal::Retired),
+        _ => Err(Refusal::Malformed),
     }
-    if force[0] == RETIRED {
-        return Err(Refusal::Retired);
-    }
-    Ok(())
 }
 
-// The shape of a method's four records: accepted, and how many rows, parameters and output types there are; or refused,
-// and 0 for each.
+// What stands in a method's four records: how many rows, parameters and output types there are.
 #[derive(Clone, Copy)]
 pub struct Shape {
-    pub verdict: Result<(), Refusal>,
     pub rows: usize,
     pub params: usize,
     pub outputs: usize,
@@ -101,61 +85,32 @@ pub struct Shape {
 
 // Whether the four records of a method are in shape, and how much stands in them. Refused by 1 over all four, then by
 // 13 for 1 in `force`.
-pub fn method_shape(structs: &[usize], params: &[usize], output: &[usize], force: &[usize]) -> Shape
+pub fn method_shape(
+    structs: &[usize],
+    params: &[usize],
+    output: &[usize],
+    force: &[usize],
+) -> Result<Shape, Refusal>
     ensures answer { result ≡ method_shape structs.now params.now output.now force.now }
 {
-    let first = structs_shape(structs);
-    let Ok(rows) = first else {
-        return no_shape(Refusal::Malformed);
-    };
-    let second = params_shape(params, rows);
-    let Ok(inputs) = second else {
-        return no_shape(Refusal::Malformed);
-    };
-    let third = output_shape(output, rows);
-    let Ok(outputs) = third else {
-        return no_shape(Refusal::Malformed);
-    };
-    let last = force_shape(force);
-    if let Err(refusal) = last {
-        return no_shape(refusal);
-    }
-    Shape {
-        verdict: Ok(()),
+    let rows = structs_shape(structs)?;
+    let inputs = params_shape(params, rows)?;
+    let outputs = output_shape(output, rows)?;
+    force_shape(force)?;
+    Ok(Shape {
         rows,
         params: inputs,
         outputs,
-    }
-}
-
-// A refusal, and 0 for each.
-fn no_shape(refusal: Refusal) -> Shape
-    ensures { result ≡ no_shape refusal }
-{
-    Shape {
-        verdict: Err(refusal),
-        rows: 0,
-        params: 0,
-        outputs: 0,
-    }
+    })
 }
 
 // Where the row ends that stands at a place and has a number: its fields name earlier rows only.
 fn row_end(structs: &[usize], at: usize, number: usize) -> Option<usize>
     ensures { EndsAt structs.now at (read_row number (drop at structs.now)) result }
 {
-    let n = structs.len();
-    if n <= at {
-        return None;
-    }
-    if n <= at + 1 {
-        return None;
-    }
-    if MAX_FIELDS < structs[at] {
-        return None;
-    }
-    let fields = structs[at + 1];
-    if MAX_FIELDS < fields {
+    let declared = *structs.get(at)?;
+    let fields = *structs.get(at + 1)?;
+    if MAX_LIST < declared || MAX_LIST < fields {
         return None;
     }
     types_end(structs, at + 2, fields, number)
@@ -167,14 +122,8 @@ fn types_end(words: &[usize], from: usize, count: usize, rows: usize) -> Option<
     ensures { EndsFrom words.now from (read_types rows count (drop from words.now)) result }
 {
     let mut at = from;
-    let mut i = 0;
-    while i < count {
-        let end = type_end(words, at, rows);
-        let Some(next) = end else {
-            return None;
-        };
-        at = next;
-        i += 1;
+    for _i in 0..count {
+        at = type_end(words, at, rows)?;
     }
     Some(at)
 }
@@ -183,14 +132,9 @@ fn types_end(words: &[usize], from: usize, count: usize, rows: usize) -> Option<
 fn type_end(words: &[usize], at: usize, rows: usize) -> Option<usize>
     ensures { EndsAt words.now at (read_known rows (drop at words.now)) result }
 {
-    let found = type_at(words, at);
-    let Some(parts) = found else {
-        return None;
-    };
-    let kind = parts.kind;
-    let next = parts.next;
-    if !kind.known(rows) {
+    let parts = type_at(words, at)?;
+    if !parts.kind.known(rows) {
         return None;
     }
-    Some(next)
+    Some(parts.next)
 }

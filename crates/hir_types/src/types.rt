@@ -1,10 +1,8 @@
 // One lowered type: where its parts stand, and its lifetimes.
-ghost use Rattle.std.specs.Prelude.{◌≡◌, ◌+◌, ◌<◌, length, take, drop};
-ghost use Rattle.answers.specs.Lent.{held};
+ghost use Rattle.std.specs.Prelude.{◌≡◌, ◌+◌, ◌<◌, length, take, drop, slice_get};
+ghost use Rattle.answers.specs.Refusals.{over};
 ghost use Rattle.hir_types.specs.LoweredTypes.{read_opaque, read_struct, read_slice, read_bare, read_lowered};
-ghost use Rattle.hir_types.specs.LoweredTypes.{own_lifetime};
-ghost use Rattle.hir_types.specs.LoweredTypes.{located, knows, entry_at, own_lifetimes, type_lifetimes};
-ghost use Rattle.hir_types.specs.LoweredTypes.{lifetime_answer};
+ghost use Rattle.hir_types.specs.LoweredTypes.{own_lifetime, located, knows, type_lifetimes};
 ghost use Rattle.hir_types.specs.Inner.{LocatesBare};
 
 use answers::Refusal;
@@ -20,6 +18,7 @@ pub enum Kind {
     Slice,
 }
 
+// The codes stay numbers: they are the words of the record, and at any other word no type begins.
 impl Kind {
     // The code with which a type without lifetimes begins.
     pub const PLAIN: usize = 0;
@@ -38,16 +37,15 @@ impl Kind {
         ensures { result ≡ knows rows self }
     {
         match self {
-            Kind::Plain => true,
-            Kind::Opaque => true,
             Kind::Struct(row) => row < rows,
-            Kind::Slice => true,
+            Kind::Plain | Kind::Opaque | Kind::Slice => true,
         }
     }
 }
 
 // The lifetime behind a type's path words: an opaque's borrow, or a slice's own lifetime. `Strs` has one that no word
-// stands for.
+// stands for. An option of an enum of two would be no plainer: these are the three ways in which 01 ends a type, and
+// `lifetime` gives the option.
 #[derive(Clone, Copy)]
 pub enum Own {
     Absent,
@@ -57,15 +55,13 @@ pub enum Own {
 
 impl Own {
     // The lifetime, if there is one.
-    pub fn lifetime(self) -> Option<MaybeStatic>
+    pub fn lifetime(self) -> Option<MaybeStatic<Lifetime>>
         ensures answer { result ≡ own_lifetime self }
     {
         match self {
             Own::Absent => None,
             Own::Word(word) => Some(MaybeStatic::from_word(word)),
-            Own::Strs => Some(MaybeStatic::NonStatic(Lifetime::new(
-                18446744073709551615,
-            ))),
+            Own::Strs => Some(MaybeStatic::NonStatic(Lifetime::new(usize::MAX))),
         }
     }
 }
@@ -87,50 +83,27 @@ impl Parts {
     pub const PATH_PLACE: usize = 3;
 }
 
-// One of a type's lifetimes: it, none past the last, or why the call is refused.
-#[derive(Clone, Copy)]
-pub enum LifetimeAt {
-    Lifetime(MaybeStatic),
-    Absent,
-    Refused(Refusal),
-}
-
-// The lifetime at an index among those of the type that some words are (the Rust's `Type::lifetimes`): the path words
-// in order, then the borrow; an option has its inner type's. Refused by 1 where the words are no lowered type, or more
-// than one. The row of a struct is not looked up.
-pub fn type_lifetimes(words: &[usize], index: usize) -> LifetimeAt
-    ensures answer { result ≡ lifetime_answer (type_lifetimes words.now) index }
+// The lifetime at an index among those of the type that some words are (the Rust's `Type::lifetimes`), if there is one:
+// the path words in order, then the borrow; an option has its inner type's. Refused by 1 where the words are no lowered
+// type, or more than one. The row of a struct is not looked up.
+pub fn type_lifetimes(
+    words: &[usize],
+    index: usize,
+) -> Result<Option<MaybeStatic<Lifetime>>, Refusal>
+    ensures answer { result ≡ over (λ l. slice_get l index) (type_lifetimes words.now) }
 {
-    let found = type_at(words, 0);
-    let Some(parts) = found else {
-        return LifetimeAt::Refused(Refusal::Malformed);
-    };
-    let next = parts.next;
-    if next != words.len() {
-        return LifetimeAt::Refused(Refusal::Malformed);
+    let parts = type_at(words, 0).ok_or(Refusal::Malformed)?;
+    if parts.next != words.len() {
+        return Err(Refusal::Malformed);
     }
-    let from = parts.from;
-    let count = parts.count;
-    if index < count {
-        let word = words[from + index];
-        return LifetimeAt::Lifetime(MaybeStatic::from_word(word));
+    if index < parts.count {
+        let word = words[parts.from + index];
+        return Ok(Some(MaybeStatic::from_word(word)));
     }
-    if index == count {
-        let own = parts.own;
-        return own_at(own);
+    if index == parts.count {
+        return Ok(parts.own.lifetime());
     }
-    LifetimeAt::Absent
-}
-
-// The lifetime behind the path words as an answer of `type_lifetimes`.
-fn own_at(own: Own) -> LifetimeAt
-    ensures { result ≡ entry_at (own_lifetimes own) 0 }
-{
-    let lifetime = own.lifetime();
-    match lifetime {
-        Some(one) => LifetimeAt::Lifetime(one),
-        None => LifetimeAt::Absent,
-    }
+    Ok(None)
 }
 
 // Some words in a row, lent on: those of a type's path, by where they start and how many they are. A type without path
@@ -138,60 +111,40 @@ fn own_at(own: Own) -> LifetimeAt
 pub fn path_words(words: &[usize], from: usize, count: usize) -> &[usize]
     ensures answer { result.now ≡ take count (drop from words.now) }
 {
-    let n = words.len();
-    if n <= from {
-        return &words[0..0];
-    }
-    let left = n - from;
-    if left < count {
-        return &words[from..n];
-    }
-    &words[from..from + count]
+    let rest = &words[from.min(words.len())..];
+    &rest[..count.min(rest.len())]
 }
 
 // The type that stands at a place, its row not looked up. Reads only the words that say where its parts are.
 pub fn type_at(words: &[usize], at: usize) -> Option<Parts>
     ensures answer { result ≡ located at (length words.now) (read_lowered (drop at words.now)) }
 {
-    if words.len() <= at {
-        return None;
+    let code = *words.get(at)?;
+    match code {
+        4 => bare_at(words, at + 1, true),
+        _ => bare_at(words, at, false),
     }
-    if words[at] == 4 {
-        return bare_at(words, at + 1, true);
-    }
-    bare_at(words, at, false)
 }
 
 // The type that stands at a place and is no option; whether it is under one is handed on.
 fn bare_at(words: &[usize], at: usize, option: bool) -> Option<Parts>
     ensures { LocatesBare words.now at option (read_bare option (drop at words.now)) result }
 {
-    if words.len() <= at {
-        return None;
-    }
-    let code = words[at];
-    if code == Kind::PLAIN {
-        let from = at + Parts::PATH_PLACE;
-        let next = at + 1;
-        return Some(Parts {
+    let code = *words.get(at)?;
+    match code {
+        Kind::PLAIN => Some(Parts {
             option,
             kind: Kind::Plain,
-            from,
+            from: at + Parts::PATH_PLACE,
             count: 0,
             own: Own::Absent,
-            next,
-        });
+            next: at + 1,
+        }),
+        Kind::OPAQUE => opaque_at(words, at, option),
+        Kind::STRUCT => struct_at(words, at, option),
+        Kind::SLICE => slice_at(words, at, option),
+        _ => None,
     }
-    if code == Kind::OPAQUE {
-        return opaque_at(words, at, option);
-    }
-    if code == Kind::STRUCT {
-        return struct_at(words, at, option);
-    }
-    if code == Kind::SLICE {
-        return slice_at(words, at, option);
-    }
-    None
 }
 
 // The opaque whose code stands at a place.
@@ -199,49 +152,28 @@ fn opaque_at(words: &[usize], at: usize, option: bool) -> Option<Parts>
     requires { at < length words.now }
     ensures { LocatesBare words.now at option (read_opaque option (drop (at + 1) words.now)) result }
 {
-    let n = words.len();
-    if n <= at + 1 {
-        return None;
-    }
-    if 1 < words[at + 1] {
-        return None;
-    }
     let from = at + Parts::PATH_PLACE;
-    let path = lifetimes_end(words, at + 2);
-    let Some(owner) = path else {
+    let optional = *words.get(at + 1)?;
+    if 1 < optional {
         return None;
+    }
+    let owner = lifetimes_end(words, at + 2)?;
+    let borrowed = *words.get(owner)?;
+    let (own, next) = match borrowed {
+        0 => (Own::Absent, owner + 1),
+        1 => {
+            let word = *words.get(owner + 1)?;
+            (Own::Word(word), owner + 2)
+        }
+        _ => return None,
     };
-    if n <= owner {
-        return None;
-    }
-    let count = owner - from;
-    let borrowed = words[owner];
-    if borrowed == 0 {
-        let next = owner + 1;
-        return Some(Parts {
-            option,
-            kind: Kind::Opaque,
-            from,
-            count,
-            own: Own::Absent,
-            next,
-        });
-    }
-    if 1 < borrowed {
-        return None;
-    }
-    if n <= owner + 1 {
-        return None;
-    }
-    let word = words[owner + 1];
-    let end = owner + 2;
     Some(Parts {
         option,
         kind: Kind::Opaque,
         from,
-        count,
-        own: Own::Word(word),
-        next: end,
+        count: owner - from,
+        own,
+        next,
     })
 }
 
@@ -250,22 +182,14 @@ fn struct_at(words: &[usize], at: usize, option: bool) -> Option<Parts>
     requires { at < length words.now }
     ensures { LocatesBare words.now at option (read_struct option (drop (at + 1) words.now)) result }
 {
-    let n = words.len();
-    if n <= at + 1 {
-        return None;
-    }
     let from = at + Parts::PATH_PLACE;
-    let path = lifetimes_end(words, at + 2);
-    let Some(next) = path else {
-        return None;
-    };
-    let row = words[at + 1];
-    let count = next - from;
+    let row = *words.get(at + 1)?;
+    let next = lifetimes_end(words, at + 2)?;
     Some(Parts {
         option,
         kind: Kind::Struct(row),
         from,
-        count,
+        count: next - from,
         own: Own::Absent,
         next,
     })
@@ -276,66 +200,29 @@ fn slice_at(words: &[usize], at: usize, option: bool) -> Option<Parts>
     requires { at < length words.now }
     ensures { LocatesBare words.now at option (read_slice option (drop (at + 1) words.now)) result }
 {
-    let n = words.len();
-    if n <= at + 1 {
-        return None;
-    }
     let from = at + Parts::PATH_PLACE;
     let inner = at + 2;
-    let code = words[at + 1];
-    if code == 0 {
-        return Some(Parts {
-            option,
-            kind: Kind::Slice,
-            from,
-            count: 0,
-            own: Own::Absent,
-            next: inner,
-        });
-    }
-    if code == 1 {
-        if n <= inner {
-            return None;
+    let code = *words.get(at + 1)?;
+    let (count, own, next) = match code {
+        0 => (0, Own::Absent, inner),
+        1 => {
+            let word = *words.get(inner)?;
+            (0, Own::Word(word), from)
         }
-        let word = words[inner];
-        return Some(Parts {
-            option,
-            kind: Kind::Slice,
-            from,
-            count: 0,
-            own: Own::Word(word),
-            next: from,
-        });
-    }
-    if code == 2 {
-        return Some(Parts {
-            option,
-            kind: Kind::Slice,
-            from,
-            count: 0,
-            own: Own::Strs,
-            next: inner,
-        });
-    }
-    if code == 3 {
-        let path = lifetimes_end(words, inner);
-        let Some(own) = path else {
-            return None;
-        };
-        if n <= own {
-            return None;
+        2 => (0, Own::Strs, inner),
+        3 => {
+            let owner = lifetimes_end(words, inner)?;
+            let word = *words.get(owner)?;
+            (owner - from, Own::Word(word), owner + 1)
         }
-        let count = own - from;
-        let last = words[own];
-        let next = own + 1;
-        return Some(Parts {
-            option,
-            kind: Kind::Slice,
-            from,
-            count,
-            own: Own::Word(last),
-            next,
-        });
-    }
-    None
+        _ => return None,
+    };
+    Some(Parts {
+        option,
+        kind: Kind::Slice,
+        from,
+        count,
+        own,
+        next,
+    })
 }

@@ -1,12 +1,18 @@
-// Reading what a program is given: to the front of a slice, however many pieces it comes in. For the four programs.
+// What the four programs share: reading what a program is given, to the front of a slice, however many pieces it comes
+// in; room for it; and what a program ends with.
 #![tactic(auto)]
 
-ghost use Rattle.std.specs.Prelude.{◌≡◌, ◌≤◌, ◌<◌, length, take, true, false};
+ghost use Rattle.std.specs.Prelude.{◌≡◌, ◌≤◌, ◌<◌, length, take, replicate, true, false, MatchResult, ◌≢◌};
 ghost use Rattle.std.specs.Io.KnownBytes.{Consumes, IsAtEnd};
+ghost use Rattle.std.specs.Process.{exit_status};
+ghost use Rattle.std.specs.IoError.{error_kind};
 
-use std::io::Read;
+use std::io;
+use std::io::{ErrorKind, Read};
+use std::process::ExitCode;
 
-// How many bytes were read, and whether the read behind them failed.
+// How many bytes were read, and whether the read behind them failed. No Result: the bytes before a read that fails count
+// like any others, and every program works on them.
 #[derive(Clone, Copy)]
 pub struct Input {
     pub count: usize,
@@ -45,5 +51,30 @@ pub fn read_input<R: Read>(reader: &mut R, bytes: &mut [u8]) -> Input
     Input {
         count,
         failed: false,
+    }
+}
+
+// Room for N values, each this one before any is written. The prover does not count a great many places one by one, but
+// those of any number.
+pub fn room<T: Copy, const N: usize>(value: T) -> [T; N]
+    ensures size { N ≡ length result }
+    ensures held { result ≡ replicate N value }
+{
+    [value; N]
+}
+
+// The status where the answer's reader has gone: 128 and the number of SIGPIPE.
+const READER_GONE: u8 = 141;
+
+// What a program ends with, once its answer was written or could not be. Where the answer's reader has gone, the status
+// is what a shell gives for a program that SIGPIPE ended; else it is 0.
+pub fn status(written: &Result<(), io::Error>) -> ExitCode
+    ensures { MatchResult written.now (λ _. exit_status result ≡ 0) (λ e.
+        (error_kind e ≡ ErrorKind.BrokenPipe → exit_status result ≡ 141)
+        × (error_kind e ≢ ErrorKind.BrokenPipe → exit_status result ≡ 0)) }
+{
+    match written {
+        Err(error) if error.kind() == ErrorKind::BrokenPipe => ExitCode::from(READER_GONE),
+        _ => ExitCode::SUCCESS,
     }
 }

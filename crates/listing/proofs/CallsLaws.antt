@@ -1,5 +1,5 @@
 -- A sheet listed in scratch: what reading it says, and what the calls answer and write.
-use Rattle.std.specs.Prelude.{Ok, Err, Some, None, Option}
+use Rattle.std.specs.Prelude.{Ok, Err, Some, None, Option, MatchOption}
 use Prim.Native.Nat.{ℕ, ◌+◌, ◌≤◌, ◌<◌, ◌^◌}
 use mathlib.Core.Path.{◌≡◌, refl, sym, ap, subst, ◌∙◌}
 use mathlib.Core.List.{List, [], ◌∷◌, ◌++◌, append_assoc}
@@ -67,38 +67,10 @@ module _ (bytes : List ℕ) where
           ∙ ap (λ (cs : List Check). unless cs (listing_of sheet))
           (sym (append_assoc (shape.sheet_checks bytes) (lowering_checks sheet) (edges_check sheet ∷ [])))
 
-      pub text_listed : (A : Type 0) (w : Option (Outcome ℕ)) (out out₁ : List ℕ)
+      pub text_listed : (A : Type 0) (w : Outcome (Option ℕ)) (out out₁ : List ℕ)
           → ListsWithin (listed_records (records_at scratch₁ t.ends)) A out w out₁
           → ListsWithin (listed_sheet bytes) A out w out₁
-      text_listed A (Some x) out out₁ h = subst (λ (o : Outcome (List ℕ)). ListsTo o out x out₁) records_same h
-      text_listed A None out out₁ h = h
-
-  -- ---- in ample scratch, or in smaller scratch first
-
-  pub never_short : {B : Type 0} (w : Option (Outcome ℕ)) (out out₁ : List ℕ)
-      → ListsWithin (listed_sheet bytes) (Ample lowered_room lowered_room lists_room edges_room) out w out₁ → w ≡ None → B
-  never_short w out out₁ h e =
-      absurd
-      ((subst (λ (y : Option (Outcome ℕ)). ListsWithin (listed_sheet bytes) (Ample lowered_room lowered_room lists_room edges_room) out y out₁) e h).0
-      (omega arith, omega arith, omega arith, omega arith))
-
-  -- small scratch may be too short for some sheet
-  pub tried : (A : Type 0) (w : Option (Outcome ℕ)) (out out₁ : List ℕ) → ListsWithin (listed_sheet bytes) A out w out₁
-      → ListsWithin (listed_sheet bytes) ⊥ out w out₁
-  tried A (Some x) out out₁ h = h
-  tried A None out out₁ h = (λ none. none, h.1)
-
-  -- what was found in some scratch is found
-  pub tried_done : (A : Type 0) (w : Option (Outcome ℕ)) (x : Outcome ℕ) (out out₁ : List ℕ)
-      → ListsWithin (listed_sheet bytes) A out w out₁ → w ≡ Some x → ListsTo (listed_sheet bytes) out x out₁
-  tried_done A w x out out₁ h e = subst (λ (y : Option (Outcome ℕ)). ListsWithin (listed_sheet bytes) A out y out₁) e h
-
-  pub tried_again : (A : Type 0) (w : Option (Outcome ℕ)) (r : Outcome ℕ) (out out₁ out₂ : List ℕ)
-      → ListsWithin (listed_sheet bytes) A out w out₁ → w ≡ None → ListsTo (listed_sheet bytes) out₁ r out₂
-      → ListsTo (listed_sheet bytes) out r out₂
-  tried_again A w r out out₁ out₂ h e l =
-      let same = (subst (λ (y : Option (Outcome ℕ)). ListsWithin (listed_sheet bytes) A out y out₁) e h).1 in
-      subst (λ (o : List ℕ). ListsTo (listed_sheet bytes) o r out₂) same l
+      text_listed A w out out₁ = subst (λ (o : Outcome (List ℕ)). ListsWithin o A out w out₁) records_same
 
   -- ---- `listing`
 
@@ -133,20 +105,12 @@ module _ (bytes : List ℕ) where
     refused_so {k} e = listing_refused (first_more (room_check (length out) whole ∷ []) (refused_due whole k (listing_checks bytes) e))
 
     -- measured, and too long
-    pub too_long : {n : ℕ} (m : Outcome ℕ) (none none₁ : List ℕ) → ListsTo (listed_sheet bytes) none m none₁
-        → m ≡ Ok n → length out < n → Answers (Err NoRoom) out
-    too_long {n} m none none₁ l counts h = go (subst (λ (x : Outcome ℕ). ListsTo (listed_sheet bytes) none x none₁) counts l)
-      where
-        go : ListsTo (listed_sheet bytes) none (Ok n) none₁ → Answers (Err NoRoom) out
-        go (text, e, p) =
-            let g = given_none e in
-            let size : length whole ≡ length text = ap length g.1 in
-            listing_refused (first_after g.0 (here (lt-ltb (length out) (length whole) (omega (arith, size, p.size, h))) refl))
-
-    pub measured_refused : {k : Refusal} (m : Outcome ℕ) (none none₁ : List ℕ) → ListsTo (listed_sheet bytes) none m none₁
-        → m ≡ Err k → Answers m out
-    measured_refused {k} m none none₁ l refuses =
-        rw refuses (refused_so (subst (λ (x : Outcome ℕ). ListsTo (listed_sheet bytes) none x none₁) refuses l).0)
+    pub too_long : {n : ℕ} (none none₁ : List ℕ) → ListsTo (listed_sheet bytes) none (Ok n) none₁ → length out < n
+        → Answers (Err NoRoom) out
+    too_long none none₁ (text, e, p) h =
+        let g = given_none e in
+        let size : length whole ≡ length text = ap length g.1 in
+        listing_refused (first_after g.0 (here (lt-ltb (length out) (length whole) (omega (arith, size, p.size, h))) refl))
 
     listing_written : {text : List ℕ} {n : ℕ} {out₁ : List ℕ} → listed_sheet bytes ≡ Ok text
         → StandsInFront text out n out₁ → length whole ≤ length out → Answers (Ok n) out₁
@@ -169,12 +133,9 @@ module _ (bytes : List ℕ) where
     pub wide_enough : room_bytes ≤ length out → NoneDue (listing_checks bytes) → length whole ≤ length out
     wide_enough h n = omega (arith, h, fits_room n)
 
-    pub measured_enough : {n : ℕ} (m : Outcome ℕ) (none none₁ : List ℕ) → ListsTo (listed_sheet bytes) none m none₁
-        → m ≡ Ok n → n ≤ length out → NoneDue (listing_checks bytes) → length whole ≤ length out
-    measured_enough {n} m none none₁ l counts h due = go (subst (λ (x : Outcome ℕ). ListsTo (listed_sheet bytes) none x none₁) counts l)
-      where
-        go : ListsTo (listed_sheet bytes) none (Ok n) none₁ → length whole ≤ length out
-        go (text, e, p) = omega (arith, h, p.size, ap length (given_none e).1)
+    pub measured_enough : {n : ℕ} (none none₁ : List ℕ) → ListsTo (listed_sheet bytes) none (Ok n) none₁ → n ≤ length out
+        → NoneDue (listing_checks bytes) → length whole ≤ length out
+    measured_enough none none₁ (text, e, p) h due = omega (arith, h, p.size, ap length (given_none e).1)
 
     -- ---- `respond`
 
@@ -188,15 +149,12 @@ module _ (bytes : List ℕ) where
       p.stored ∙ sets_front out text fits ∙ ap (λ (t : List ℕ). t ++ drop (length t) out) (sym e),
     )
 
-    pub respond_listed : {n : ℕ} (m : Outcome ℕ) (out₁ : List ℕ) → length out ≡ room_bytes
-        → ListsTo (listed_sheet bytes) out m out₁ → m ≡ Ok n → Responds n out₁
+    pub respond_listed : {n : ℕ} (out₁ : List ℕ) → length out ≡ room_bytes
+        → ListsTo (listed_sheet bytes) out (Ok n) out₁ → Responds n out₁
     unfolding response
-    respond_listed {n} m out₁ h l counts = go (subst (λ (x : Outcome ℕ). ListsTo (listed_sheet bytes) out x out₁) counts l)
-      where
-        go : ListsTo (listed_sheet bytes) out (Ok n) out₁ → Responds n out₁
-        go (text, e, p) =
-            let g = given_none e in
-            responds n text out₁ (ap said e) (omega (arith, h, fits_room g.0, ap length g.1)) p
+    respond_listed out₁ h (text, e, p) =
+        let g = given_none e in
+        responds _ text out₁ (ap said e) (omega (arith, h, fits_room g.0, ap length g.1)) p
 
 pub refusal_short : (k : Refusal) → length (refusal_heading ++ line (number_of k ∷ [])) ≤ length refusal_heading + line_bytes (2 ∷ [])
 refusal_short k = omega (arith, length-append refusal_heading (line (number_of k ∷ [])), line_short (2 ∷ []) (number_of k ∷ []) (two_digits (below k), tt))
@@ -218,15 +176,11 @@ module _ (k : Refusal) {number : ℕ} (is : number ≡ number_of k) where
   refusal_fits : 0 + length (refusal_heading ++ line (number ∷ [])) < 2 ^ 64
   refusal_fits = rw is (omega (arith, refusal_short k))
 
-  pub respond_refused : (bytes out : List ℕ) {n : ℕ} (m : Outcome ℕ) (out₁ : List ℕ) {out₂ : List ℕ} → length out ≡ room_bytes
-      → ListsTo (listed_sheet bytes) out m out₁ → m ≡ Err k
+  pub respond_refused : (bytes out : List ℕ) {n : ℕ} (out₁ : List ℕ) {out₂ : List ℕ} → length out ≡ room_bytes
+      → ListsTo (listed_sheet bytes) out (Err k) out₁
       → Prints (refusal_heading ++ line (number ∷ [])) 0 out₁ n out₂ → Responds bytes out n out₂
   unfolding response
-  respond_refused bytes out {n} m out₁ {out₂} h l refuses p =
-      go (subst (λ (x : Outcome ℕ). ListsTo (listed_sheet bytes) out x out₁) refuses l)
-    where
-      go : ListsTo (listed_sheet bytes) out (Err k) out₁ → Responds bytes out n out₂
-      go (e, same) =
-          responds bytes out n (refusal_heading ++ line (number ∷ [])) out₂ (ap said e ∙ rw is)
-          (rw is (omega (arith, h, refusal_short k)))
-          (record { size = prints_length p refusal_fits ∙ zero-add _; stored = rw same at p.stored })
+  respond_refused bytes out out₁ {out₂} h (e, same) p =
+      responds bytes out _ (refusal_heading ++ line (number ∷ [])) out₂ (ap said e ∙ rw is)
+      (rw is (omega (arith, h, refusal_short k)))
+      (record { size = prints_length p refusal_fits ∙ zero-add _; stored = rw same at p.stored })

@@ -37,7 +37,7 @@ use Rattle.borrowing_param.specs.Edges.{edge_words}
 use Rattle.borrowing_param.specs.Consistent.{Consistent}
 use Rattle.borrowing_param.specs.SheetMethod.{lowered_of, env_of_sheet, lowering_checks}
 use Rattle.borrowing_param.specs.Borrows.{Borrows, sheet_borrows}
-use Rattle.borrowing_param.specs.New.{created}
+use Rattle.borrowing_param.specs.New.{method_visitor}
 use Rattle.borrowing_param.proofs.Condition3Laws.{params_none}
 use Rattle.borrowing_param.proofs.MethodLaws.{env_valid, accepted_method}
 use Rattle.borrowing_param.proofs.ConsistentLaws.{listing_consistent}
@@ -239,7 +239,7 @@ module _ (r : Records) (first : NoneDue (records_checks r)) (none : NoneDue (low
 
   pub consistent : Consistent (sheet_borrows r).used (sheet_borrows r).answers (sheet_borrows r).edges
   consistent =
-      listing_consistent (created (env_of_sheet r) r.structs r.params r.output r.force).visitor r.structs r.params
+      listing_consistent (method_visitor (env_of_sheet r) r.structs r.output) r.structs r.params
       (params_none (env_of_sheet r) r.structs r.params r.output r.force (accepted_method r first none))
 
   listing_bytes_lem : length (sheet_borrows r).edges ≤ most_edges → length (listing_of r) ≤ listing_bytes

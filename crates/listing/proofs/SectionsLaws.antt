@@ -1,12 +1,13 @@
 -- The sections of a listing: what is left of each after its first parts.
-use Prim.Native.Nat.{ℕ, zero, suc, ◌+◌, ◌*◌, ◌-◌, ◌≤◌, ◌<◌, ◌^◌}
-use mathlib.Core.Path.{◌≡◌, refl, ap, ◌∙◌}
+use Prim.Native.Nat.{ℕ, zero, suc, ◌+◌, ◌*◌, ◌-◌, ◌/◌, ◌≤◌, ◌<◌, ◌^◌}
+use mathlib.Core.Path.{◌≡◌, refl, sym, ap, subst, ◌∙◌}
 use mathlib.Core.List.{List, [], ◌∷◌, ◌++◌, flat_map, append_assoc}
 use native.Mathlib.Nat.{sub-zero}
 use native.Mathlib.Omega.{arith}
 use native.Mathlib.Numerals.{add-one}
-use lib.ListN.{length, get_or, take, drop, length-drop, drop_of_length-le}
-use lib.Seq.{drop-cons, drop-drop}
+use lib.ListN.{length, get_or, take, drop, length-append, drop_of_length-le}
+use lib.Seq.{drop-cons, take-append_seam, drop-append_seam}
+use Rattle.std.proofs.lemmas.List.{length-take, take-append-drop}
 use Rattle.text.specs.Decimal.{digits, following, line}
 use Rattle.text.specs.Printing.{Prints}
 use Rattle.text.proofs.PrintLaws.{Leaves, leaves_all, leaves_rest, leaves_nothing, leaves_size}
@@ -118,42 +119,50 @@ module _ {answers : List ℕ} {at : ℕ} {out : List ℕ} {next : ℕ} {out₁ :
       leaves_nothing (rw none at inv.left)
 
   module _ (h : i < length answers) where
-    -- the answer, as a part of the slice
-    abbrev one : List ℕ
-    one = take (i + 1 - i) (drop i answers)
-
     answer_on : drop i answers ≡ get_or answers i 0 ∷ drop (suc i) answers
     answer_on = drop-cons answers i 0 h
 
-    one_is : one ≡ get_or answers i 0 ∷ []
-    one_is = let e : i + 1 - i ≡ 1 = omega arith in rw (e, answer_on)
+    on_answer : answer_lines_from i (drop i answers)
+        ≡ line (i ∷ get_or answers i 0 ∷ []) ++ answer_lines_from (suc i) (drop (suc i) answers)
+    unfolding numbered
+    on_answer = rw answer_on
 
-    on_answer : answer_lines_from i (drop i answers) ≡ digits i ++ (following one ++ answer_lines_from (suc i) (drop (suc i) answers))
-    unfolding numbered line
-    on_answer = rw (one_is, answer_on) (append_assoc (digits i) (following (get_or answers i 0 ∷ [])) _)
+    left_answer : Leaves (answer_lines_from 0 answers) at out
+        (line (i ∷ get_or answers i 0 ∷ []) ++ answer_lines_from (suc i) (drop (suc i) answers)) next out₁
+    left_answer = rw on_answer at inv.left
 
-    left_param : Leaves (answer_lines_from 0 answers) at out
-        (digits i ++ (following one ++ answer_lines_from (suc i) (drop (suc i) answers))) next out₁
-    left_param = rw on_answer at inv.left
-
-    module _ {start : ℕ} {out₂ : List ℕ} (first : Prints (digits i) next out₁ start out₂) where
-      left_answer : Leaves (answer_lines_from 0 answers) at out (following one ++ answer_lines_from (suc i) (drop (suc i) answers)) start out₂
-      left_answer = leaves_rest _ left_param first
-
-      pub answering_more : {next₁ : ℕ} {out₃ : List ℕ} → Prints (following one) start out₂ next₁ out₃
-          → Answering answers at out next₁ out₃ (i + 1)
-      answering_more second = rw (add-one i) (record { here = omega (arith, h); left = leaves_rest _ left_answer second })
+    pub answering_more : {next₁ : ℕ} {out₂ : List ℕ} → Prints (line (i ∷ get_or answers i 0 ∷ [])) next out₁ next₁ out₂
+        → Answering answers at out next₁ out₂ (i + 1)
+    answering_more first = rw (add-one i) (record { here = omega (arith, h); left = leaves_rest _ left_answer first })
 
 -- ---- `put_each_edge`
 
-pub record Edging (edges : List ℕ) (count at : ℕ) (out : List ℕ) (next : ℕ) (out₁ : List ℕ) (i : ℕ) : Type 0 where
-  pub here : i ≤ count
+-- what is left are the edges of the words that are left
+pub record Edging (edges : List ℕ) (count at : ℕ) (out : List ℕ) (next : ℕ) (out₁ rest : List ℕ) : Type 0 where
   pub left : Leaves (flat_map edge_line (edges_in count edges)) at out
-      (flat_map edge_line (edges_in (count - i) (drop (i * width) edges))) next out₁
+      (flat_map edge_line (edges_in (length rest / width) rest)) next out₁
 
-pub edging_start : (edges : List ℕ) (count at : ℕ) (out : List ℕ) → length out < 2 ^ 64 → at < 2 ^ 64
-    → Edging edges count at out at out 0
-edging_start edges count at out h k = record { here = omega arith; left = rw sub-zero (leaves_all _ at out h k) }
+-- edges stand in their words alone
+edges_front : (count : ℕ) (front back : List ℕ) → length front ≡ width * count
+    → edges_in count (front ++ back) ≡ edges_in count front
+unfolding edges_in
+edges_front zero front back h = refl
+edges_front (suc count) [] back h = absurd (omega (arith, h))
+edges_front (suc count) (a ∷ []) back h = absurd (omega (arith, h))
+edges_front (suc count) (a ∷ b ∷ []) back h = absurd (omega (arith, h))
+edges_front (suc count) (a ∷ b ∷ c ∷ []) back h = absurd (omega (arith, h))
+edges_front (suc count) (a ∷ b ∷ c ∷ d ∷ []) back h = absurd (omega (arith, h))
+edges_front (suc count) (a ∷ b ∷ c ∷ d ∷ e ∷ front) back h = rw (edges_front count front back (omega (arith, h)))
+
+pub edging_start : (edges : List ℕ) (count at : ℕ) (out : List ℕ) → width * count ≤ length edges → length out < 2 ^ 64
+    → at < 2 ^ 64 → Edging edges count at out at out (take (count * width) edges)
+edging_start edges count at out room h k =
+    let size : length (take (count * width) edges) ≡ width * count = length-take (count * width) edges ∙ omega (arith, room) in
+    let many : length (take (count * width) edges) / width ≡ count = omega (arith, size) in
+    let same : edges_in count (take (count * width) edges) ≡ edges_in count edges =
+    sym (edges_front count (take (count * width) edges) (drop (count * width) edges) size)
+    ∙ ap (edges_in count) (take-append-drop (count * width) edges) in
+    record { left = rw (many, same) (leaves_all _ at out h k) }
 
 -- the words of the first edge
 first_words : (ws : List ℕ) → width ≤ length ws → edge_words (edge_at ws) ≡ take width ws
@@ -164,38 +173,28 @@ first_words (a ∷ b ∷ c ∷ []) h = absurd (omega arith)
 first_words (a ∷ b ∷ c ∷ d ∷ []) h = absurd (omega arith)
 first_words (a ∷ b ∷ c ∷ d ∷ e ∷ ws) h = refl
 
-module _ {edges : List ℕ} {count at : ℕ} {out : List ℕ} {next : ℕ} {out₁ : List ℕ} {i : ℕ}
-    (inv : Edging edges count at out next out₁ i) where
+module _ {edges : List ℕ} {count at : ℕ} {out : List ℕ} {next : ℕ} {out₁ rest : List ℕ}
+    (inv : Edging edges count at out next out₁ rest) where
   pub edging_size : length out₁ ≡ length out
   edging_size = leaves_size inv.left
 
-  pub edging_end : count ≤ i → Prints (flat_map edge_line (edges_in count edges)) at out next out₁
+  pub edging_end : length rest < width → Prints (flat_map edge_line (edges_in count edges)) at out next out₁
   unfolding edges_in flat_map
   edging_end h =
-      let none : count - i ≡ 0 = omega (arith, h, inv.here) in
+      let none : length rest / width ≡ 0 = omega (arith, h) in
       leaves_nothing (rw none at inv.left)
 
-  module _ (room : width * count ≤ length edges) (h : i < count) where
-    -- the edge's words, as a part of the slice
-    abbrev five : List ℕ
-    five = take (i * width + width - i * width) (drop (i * width) edges)
-
-    abbrev later : List ℕ
-    later = flat_map edge_line (edges_in (count - suc i) (drop (suc i * width) edges))
-
-    on_edge : flat_map edge_line (edges_in (count - i) (drop (i * width) edges)) ≡ line five ++ later
-    unfolding edges_in flat_map
-    on_edge =
-        let many : width ≤ length (drop (i * width) edges) = omega (arith, room, h, length-drop (i * width) edges) in
-        let is : i * width + width - i * width ≡ width = omega arith in
-        let sum : i * width + width ≡ suc i * width = omega arith in
-        let behind : drop width (drop (i * width) edges) ≡ drop (suc i * width) edges =
-        drop-drop width (i * width) edges ∙ ap (λ (k : ℕ). drop k edges) sum in
-        rw (left_suc h, is, ← first_words (drop (i * width) edges) many, behind)
-
-    left_edge : Leaves (flat_map edge_line (edges_in count edges)) at out (line five ++ later) next out₁
-    left_edge = rw on_edge at inv.left
-
-    pub edging_more : {next₁ : ℕ} {out₂ : List ℕ} → Prints (line five) next out₁ next₁ out₂
-        → Edging edges count at out next₁ out₂ (i + 1)
-    edging_more first = rw (add-one i) (record { here = omega (arith, h); left = leaves_rest _ left_edge first })
+  pub edging_more : (item rest₁ : List ℕ) {next₁ : ℕ} {out₂ : List ℕ} → rest ≡ item ++ rest₁ → length item ≡ width
+      → Prints (line item) next out₁ next₁ out₂ → Edging edges count at out next₁ out₂ rest₁
+  unfolding edges_in flat_map
+  edging_more item rest₁ split five first =
+      let size : length rest ≡ width + length rest₁ = ap length split ∙ length-append item rest₁ ∙ omega (arith, five) in
+      let one : length rest / width ≡ suc (length rest₁ / width) = omega (arith, size) in
+      let front : take width rest ≡ item =
+      rw split (subst (λ (n : ℕ). take n (item ++ rest₁) ≡ item) five (take-append_seam item rest₁)) in
+      let behind : drop width rest ≡ rest₁ =
+      rw split (subst (λ (n : ℕ). drop n (item ++ rest₁) ≡ rest₁) five (drop-append_seam item rest₁)) in
+      let on : flat_map edge_line (edges_in (length rest / width) rest)
+      ≡ line item ++ flat_map edge_line (edges_in (length rest₁ / width) rest₁) =
+      rw (one, first_words rest (omega (arith, size)), front, behind) in
+      record { left = leaves_rest _ (rw on at inv.left) first }

@@ -39,6 +39,7 @@ use Rattle.borrowing_param.specs.BorrowMap as spec
 use Rattle.borrowing_param.specs.BorrowMap.{Mapping, mapping_of, map_checks, borrow_map, map_answer, map_answers}
 use Rattle.borrowing_param.specs.BorrowMap.{answers_from, listed_edges}
 use Rattle.borrowing_param.specs.Borrows.{Borrows}
+use Rattle.borrowing_param.proofs.OutcomeLaws.{over_refused, over_given}
 use Rattle.borrowing_param.proofs.JoinLaws.{words_many, words_read}
 use Rattle.borrowing_param.proofs.ConsistentLaws.{listing_consistent}
 use Rattle.listing.specs.Listing.{count_heading, lowered_heading, longer_heading, longer_lines, answer_lines}
@@ -70,7 +71,7 @@ pub record AllListed (env : LifetimeEnv) (lists ends : List ℕ) (l : reach.List
   pub ended : ends₁ ≡ written (list_ends true env (length lists) (length ends)) ends
 
 -- what `borrow_map` leaves there
-pub record Mapped (v : BorrowingParamVisitor) (structs params answers edges : List ℕ) (m : BorrowMap)
+pub record Mapped (v : BorrowingParamVisitor) (structs params answers edges : List ℕ) (m : Outcome BorrowMap)
     (answers₁ edges₁ : List ℕ) : Type 0 where
   pub sixteen : length answers ≡ 16
   pub most : length edges ≤ edges_room
@@ -118,7 +119,7 @@ module _ {env : LifetimeEnv} {used : ℕ} {structs params own given taken : List
   lists_many = rw length-map (length_range 0 env.count)
 
   pub lists_short : (lists : List ℕ) {edges : ℕ} {out : List ℕ} → length lists < env.count * env.count
-      → ListsWithin listing ((lists_room ≤ length lists) × (edges_room ≤ edges)) out None out
+      → ListsWithin listing ((lists_room ≤ length lists) × (edges_room ≤ edges)) out (Ok None) out
   lists_short lists h = (λ a. omega (arith, h, mul-le-mul few few, a.0), refl)
 
   module _ {lists ends : List ℕ} {l : reach.Lists} {lists₁ ends₁ : List ℕ} (all : AllListed env lists ends l lists₁ ends₁) where
@@ -185,7 +186,7 @@ module _ {env : LifetimeEnv} {used : ℕ} {structs params own given taken : List
       few_answers : length (answers_from visitor 0 types) ≤ 16
       few_answers = (listing_consistent visitor structs params can.of).few_params
 
-      module _ {answers edges : List ℕ} {m : BorrowMap} {answers₁ edges₁ : List ℕ}
+      module _ {answers edges : List ℕ} {m : Outcome BorrowMap} {answers₁ edges₁ : List ℕ}
           (map : Mapped visitor structs params answers edges m answers₁ edges₁) where
         open map use {sixteen, most, maps, noted, stored}
 
@@ -198,12 +199,9 @@ module _ {env : LifetimeEnv} {used : ℕ} {structs params own given taken : List
         abbrev edges_ask : Check
         edges_ask = room_check (length edges) (flat_map edge_words (listed_edges visitor types))
 
-        verdict_is : m.verdict ≡ verdict_of mapped
-        verdict_is = ap (λ (x : BorrowMap). x.verdict) maps ∙ go mapped
-          where
-            go : (o : Outcome Mapping) → (map_answer o).verdict ≡ verdict_of o
-            go (Ok x) = refl
-            go (Err k) = refl
+        refused_so : {k : Refusal} → m ≡ Err k → FirstDue k (map_checks visitor structs params (length answers) (length edges))
+        unfolding borrow_map
+        refused_so e = over_refused _ (mapping_of visitor types) _ (sym e ∙ maps)
 
         answers_fit : answers_ask.due ≡ false
         answers_fit = le-ltb (length answers) (length (answers_from visitor 0 types)) (omega (arith, few_answers, sixteen))
@@ -212,35 +210,30 @@ module _ {env : LifetimeEnv} {used : ℕ} {structs params own given taken : List
         words_are = words_many (listed_edges visitor types) ∙ ap (λ (es : List LifetimeEdge). width * length es) edges_are
 
         -- more than so many words of edges
-        edges_many : {k : Refusal} → m.verdict ≡ Err k → length edges < width * length borrows.edges
+        edges_many : {k : Refusal} → m ≡ Err k → length edges < width * length borrows.edges
         unfolding borrow_map
         edges_many {k} v =
             go (first_behind (next answers_fit end)
-            (first_behind can.of
-            (refused_first (mapping_of visitor types) k
-            (map_checks visitor structs params (length answers) (length edges)) (sym verdict_is ∙ v))))
+            (first_behind can.of (refused_so v)))
           where
             go : FirstDue k (edges_ask ∷ []) → length edges < width * length borrows.edges
             go (here d e) = omega (arith, ltb-true (length edges) (length (flat_map edge_words (listed_edges visitor types))) d, words_are)
             go (later _ x6) = elim x6 [ ]
 
-        pub map_refused : {k : Refusal} (w : Option (Outcome ℕ)) (out : List ℕ) → m.verdict ≡ Err k → w ≡ edges_overflow (length edges₁)
+        pub map_refused : {k : Refusal} (w : Outcome (Option ℕ)) (out : List ℕ) → m ≡ Err k → w ≡ edges_overflow (length edges₁)
             → ListsWithin listing ((lists_room ≤ length lists) × (edges_room ≤ length edges)) out w out
         unfolding listed_method borrow_map
         map_refused {k} w out v e = rw (e, same) (go (ltb (length edges) edges_room) refl)
           where
             refuses : mapped ≡ Err k
-            refuses =
-                due_refused (mapping_of visitor types)
-                (refused_first (mapping_of visitor types) k
-                (map_checks visitor structs params (length answers) (length edges)) (sym verdict_is ∙ v))
+            refuses = due_refused (mapping_of visitor types) (refused_so v)
 
             same : edges₁ ≡ edges
             same = stored ∙ ap (λ (o : Outcome Mapping). written (spec.map_edges o) edges) refuses
 
             go : (t : Bool) → ltb (length edges) edges_room ≡ t
                 → ListsWithin listing ((lists_room ≤ length lists) × (edges_room ≤ length edges)) out
-                (cond t None (Some (Err NoRoom))) out
+                (cond t (Ok None) (Err NoRoom)) out
             go true s = (λ a. omega (arith, ltb-true (length edges) edges_room s, a.1), refl)
             go false s =
                 let many : most_edges < length borrows.edges = omega (arith, ltb-false (length edges) edges_room s, edges_many v) in (
@@ -249,12 +242,14 @@ module _ {env : LifetimeEnv} {used : ℕ} {structs params own given taken : List
                   refl,
                 )
 
-        module _ (fine : m.verdict ≡ Ok (tt {0})) where
-          map_none : NoneDue (map_checks visitor structs params (length answers) (length edges))
+        module _ {b : BorrowMap} (fine : m ≡ Ok b) where
+          was_given : NoneDue (map_checks visitor structs params (length answers) (length edges))
+              × (b ≡ record { params = length (answers_from visitor 0 types); edges = length (listed_edges visitor types) })
           unfolding borrow_map
-          map_none =
-              accepted_none (mapping_of visitor types) (map_checks visitor structs params (length answers) (length edges))
-              (sym verdict_is ∙ fine)
+          was_given = over_given _ (mapping_of visitor types) _ (sym fine ∙ maps)
+
+          map_none : NoneDue (map_checks visitor structs params (length answers) (length edges))
+          map_none = was_given.0
 
           map_given : mapped ≡ Ok (record { answers = borrows.answers; edges = borrows.edges })
           unfolding borrow_map
@@ -270,8 +265,10 @@ module _ {env : LifetimeEnv} {used : ℕ} {structs params own given taken : List
                 words_are,
               )
 
-          map_is : m ≡ map_answer (Ok (record { answers = borrows.answers; edges = borrows.edges }))
-          map_is = maps ∙ ap map_answer map_given
+          map_is : b ≡ record { params = length borrows.answers; edges = length borrows.edges }
+          map_is =
+              was_given.1
+              ∙ ap (λ (x : Mapping). record { params = length x.answers; edges = length x.edges }) mapping_is
 
           answers_stand : answers₁ ≡ borrows.answers ++ drop (length borrows.answers) answers
           answers_stand = noted ∙ ap (λ (o : Outcome Mapping). written (map_answers o) answers) map_given
@@ -279,24 +276,24 @@ module _ {env : LifetimeEnv} {used : ℕ} {structs params own given taken : List
           edges_stand : edges₁ ≡ flat_map edge_words borrows.edges ++ drop (length (flat_map edge_words borrows.edges)) edges
           edges_stand = stored ∙ ap (λ (o : Outcome Mapping). written (spec.map_edges o) edges) map_given
 
-          pub params_inside : m.params ≤ length answers₁
+          pub params_inside : b.params ≤ length answers₁
           params_inside = rw (map_is, answers_stand, length-append) (omega arith)
 
-          pub edges_inside : width * m.edges ≤ length edges₁
+          pub edges_inside : width * b.edges ≤ length edges₁
           edges_inside = rw (map_is, edges_stand, length-append, words_many borrows.edges) (omega arith)
 
           -- ---- the whole
 
           abbrev counts : ℕ → List ℕ
-          counts many = env.count ∷ many ∷ m.params ∷ m.edges ∷ []
+          counts many = env.count ∷ many ∷ b.params ∷ b.edges ∷ []
 
           abbrev answers₂ : List ℕ
-          answers₂ = take (m.params - 0) (drop 0 answers₁)
+          answers₂ = take (b.params - 0) (drop 0 answers₁)
 
           answers₂_are : answers₂ ≡ borrows.answers
           answers₂_are = rw (sub-zero, map_is, answers_stand) (take-append_seam borrows.answers _)
 
-          edges₂_are : edges_in m.edges edges₁ ≡ borrows.edges
+          edges₂_are : edges_in b.edges edges₁ ≡ borrows.edges
           edges₂_are = rw (map_is, edges_stand) (words_read borrows.edges _)
 
           few_edges : length borrows.edges ≤ most_edges
@@ -316,7 +313,7 @@ module _ {env : LifetimeEnv} {used : ℕ} {structs params own given taken : List
 
             pub method_listed : {n : ℕ} {out out₁ : List ℕ}
                 → Prints (sections (counts many) own given taken lists₁ ends₁ answers₂ edges₁) 0 out n out₁
-                → ListsWithin listing ((lists_room ≤ length lists) × (edges_room ≤ length edges)) out (Some (Ok n)) out₁
+                → ListsWithin listing ((lists_room ≤ length lists) × (edges_room ≤ length edges)) out (Ok (Some n)) out₁
             unfolding listed_method
             method_listed p = (
               method_listing env used structs params own given taken,

@@ -18,7 +18,7 @@ use Rattle.lifetimes.specs.declared.env.LifetimeEnv.{LifetimeEnv}
 use Rattle.answers.specs.Refusals.{Check, check, Outcome, unless, FirstDue, NoneDue, next, end}
 use Rattle.answers.specs.Lent.{written}
 use Rattle.lifetimes.specs.LoweredWords.{word_of}
-use Rattle.answers.proofs.RefusalLaws.{due_given, due_refused, first_more, none_first}
+use Rattle.answers.proofs.RefusalLaws.{due_given, given_due, due_refused, first_more, none_first}
 use Rattle.answers.proofs.VerdictLaws.{unless_after}
 use Rattle.ast_lifetimes.specs.declared.env.LifetimeEnv as ast-env
 use Rattle.ast_lifetimes.specs.declared.env.Made as ast-made
@@ -29,13 +29,14 @@ use Rattle.elision.specs.Rfc as rfc
 use Rattle.elision.specs.Lowering.{words, lowered_records, measure_checks, lowering_room_checks, measure_records, lower_records, answered}
 use Rattle.elision.specs.Lowering.{own_words, step_words, return_words}
 use Rattle.elision.proofs.SizeLaws.{lowered_self_lem, lowered_steps_lem, lowered_returns_lem}
-use Rattle.methods.specs.Used.{used_set, used_answer}
+use Rattle.methods.specs.Used.{used_set, used_answer, output_numbers}
+use Rattle.methods.specs.Method.{method_checks}
+use Rattle.lifetimes.specs.Sets.{set_of}
 use Rattle.text.specs.Decimal.{line}
 use Rattle.records.specs.Reading.{most_words}
 use Rattle.sheet.specs.Text.{Records}
 use Rattle.sheet.specs.Shape.{sheet_in_shape, records_checks}
 use Rattle.sheet.proofs.Theorems.{shapes_are_short}
-use Rattle.borrowing_param.specs.New.{created}
 use Rattle.borrowing_param.specs.SheetMethod.{lowered_of, ast_env_of, env_of_sheet, lowering_checks}
 use Rattle.borrowing_param.specs.Borrows.{Borrows, sheet_borrows}
 use Rattle.borrowing_param.proofs.NewLaws.{used_refused, gives, accepted, used_below, env_none}
@@ -86,11 +87,11 @@ module _ (r : Records) (first : NoneDue (records_checks r)) (given taken : ℕ) 
   eighth {room} {n} h k a = omega (arith, h, k, a, div-add-mod' room per_word, mod-lt room {m = per_word} (omega arith))
 
   pub steps_short : {lists edges : ℕ} {out : List ℕ} → given / per_word < length r.steps
-      → ListsWithin (listed_records r) (Ample given taken lists edges) out None out
+      → ListsWithin (listed_records r) (Ample given taken lists edges) out (Ok None) out
   steps_short h = (λ a. eighth h steps_long a.0, refl)
 
   pub returns_short : {lists edges : ℕ} {out : List ℕ} → taken / per_word < length r.returns
-      → ListsWithin (listed_records r) (Ample given taken lists edges) out None out
+      → ListsWithin (listed_records r) (Ample given taken lists edges) out (Ok None) out
   returns_short h = (λ a. eighth h returns_long a.1, refl)
 
   module _ (steps_room : length r.steps ≤ given / per_word) (returns_room : length r.returns ≤ taken / per_word)
@@ -218,12 +219,15 @@ module _ {r : Records} {own given taken : List ℕ} {a : ast-made.Made} {l : Low
       the_env : l.env ≡ env_of_sheet r
       the_env = env_is r h.first h.names h.fine measured h.elides
 
+      gave : used_set l.env r.structs r.params r.output r.force ≡ Ok used
+      gave = gives l.env r.structs r.params r.output r.force uses e
+
+      used_is : set_of (output_numbers r.structs r.output) ≡ used
+      unfolding used_set
+      used_is = (given_due _ used (method_checks l.env r.structs r.params r.output r.force) gave).1
+
       borrows_are : sheet_borrows r ≡ method_borrows l.env used r.structs r.params
-      unfolding created
-      borrows_are =
-          let g : used_set (env_of_sheet r) r.structs r.params r.output r.force ≡ Ok used =
-          rw (← the_env) (gives l.env r.structs r.params r.output r.force uses e) in
-          rw (g, the_env)
+      borrows_are = rw (used_is, the_env)
 
       -- the lowered words, as the parts of the scratch that are handed on
       abbrev selves : List ℕ
@@ -247,17 +251,16 @@ module _ {r : Records} {own given taken : List ℕ} {a : ast-made.Made} {l : Low
       pub listable : Listable l.env used r.structs r.params selves inputs outputs
       listable =
           let n = accepted l.env r.structs r.params r.output r.force uses e in
-          let g = gives l.env r.structs r.params r.output r.force uses e in
           record {
             valid = env_none l.env r.structs r.params r.output r.force n;
             of = params_none l.env r.structs r.params r.output r.force n;
-            below = used_below l.env r.structs r.params r.output r.force n used g;
+            below = used_below l.env r.structs r.params r.output r.force n used gave;
             short = λ few. subst (λ (t : List ℕ). length t ≤ room_bytes) text_is
                 (listing_short r h.first none
                 (subst (λ (b : Borrows). length b.edges ≤ most_edges) (sym borrows_are) few));
           }
 
-      pub records_listed : (lists edges : ℕ) (w : Option (Outcome ℕ)) (out out₁ : List ℕ)
+      pub records_listed : (lists edges : ℕ) (w : Outcome (Option ℕ)) (out out₁ : List ℕ)
           → ListsWithin (listed_method l.env used r.structs r.params selves inputs outputs)
           ((lists_room ≤ lists) × (edges_room ≤ edges)) out w out₁
           → ListsWithin (listed_records r) (Ample (length given) (length taken) lists edges) out w out₁
@@ -271,9 +274,10 @@ module _ {r : Records} {own given taken : List ℕ} {a : ast-made.Made} {l : Low
               ∙ ap (λ (t : List ℕ). unless (edges_check r ∷ []) t) (sym text_is)
               ∙ sym (unless_after (listing_of r) (edges_check r ∷ []) none)
 
-          go : (w : Option (Outcome ℕ))
+          go : (w : Outcome (Option ℕ))
               → ListsWithin (listed_method l.env used r.structs r.params selves inputs outputs)
               ((lists_room ≤ lists) × (edges_room ≤ edges)) out w out₁
               → ListsWithin (listed_records r) (Ample (length given) (length taken) lists edges) out w out₁
-          go (Some x) h = subst (λ (o : Outcome (List ℕ)). ListsTo o out x out₁) same h
-          go None h = (λ a. h.0 (a.2, a.3), h.1)
+          go (Ok (Some n)) h = subst (λ (o : Outcome (List ℕ)). ListsTo o out (Ok n) out₁) same h
+          go (Ok None) h = (λ a. h.0 (a.2, a.3), h.1)
+          go (Err k) h = subst (λ (o : Outcome (List ℕ)). ListsTo o out (Err k) out₁) same h

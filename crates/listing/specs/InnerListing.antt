@@ -8,7 +8,7 @@ use Rattle.lifetimes.specs.Limits.{most_lifetimes}
 use Rattle.lifetimes.specs.Sets.{member}
 use Rattle.lifetimes.specs.Env.{env_checks}
 use Rattle.records.specs.Reading.{most_words}
-use Rattle.sheet.specs.Text.{Records}
+use Rattle.sheet.specs.Text.{Records, record_count}
 use Rattle.text.specs.Decimal.{line}
 use Rattle.sheet.specs.Reading.{sheet_of}
 use Rattle.borrowing_param.specs.Edges.{width, edges_in}
@@ -16,6 +16,7 @@ use Rattle.borrowing_param.specs.New.{new_visitor}
 use Rattle.borrowing_param.specs.SheetMethod.{lowering_checks}
 use Rattle.borrowing_param.specs.Borrows.{Borrows, borrows_by}
 use Rattle.borrowing_param.specs.InnerSheet.{OfMethod}
+use Rattle.listing.specs.declared.within.Scratch.{Scratch}
 use Rattle.listing.specs.Listing.{count_heading, count_lines, lowered_heading, longer_heading, longer_lines}
 use Rattle.listing.specs.Listing.{answer_lines, edge_lines, most_edges, edges_check, listing_of, listing_checks}
 use Rattle.listing.specs.Listing.{room_bytes}
@@ -58,10 +59,20 @@ abbrev pub Ample : ℕ → ℕ → ℕ → ℕ → Type 0
 Ample given taken lists edges =
     (lowered_room ≤ given) × (lowered_room ≤ taken) × (lists_room ≤ lists) × (edges_room ≤ edges)
 
--- the same in scratch that may be too short; only where it is not ample
-abbrev pub ListsWithin : Outcome (List ℕ) → Type 0 → List ℕ → Option (Outcome ℕ) → List ℕ → Type 0
-ListsWithin o ample out (Some answer) out₁ = ListsTo o out answer out₁
-ListsWithin o ample out None out₁ = (ample → ⊥) × (out₁ ≡ out)
+-- and no more than that is lent
+abbrev pub NoWider : ℕ → ℕ → ℕ → ℕ → ℕ → Type 0
+NoWider words given taken lists edges =
+    (words ≤ record_count * most_words)
+    × (given ≤ lowered_room) × (taken ≤ lowered_room) × (lists ≤ lists_room) × (edges ≤ edges_room)
+
+abbrev pub Suffices : Scratch → Type 0
+Suffices s = Ample (length s.given.now) (length s.taken.now) (length s.lists.now) (length s.edges.now)
+
+-- the same in scratch that may be too short, when there is no length; only where it is not ample
+abbrev pub ListsWithin : Outcome (List ℕ) → Type 0 → List ℕ → Outcome (Option ℕ) → List ℕ → Type 0
+ListsWithin o ample out (Ok (Some n)) out₁ = ListsTo o out (Ok n) out₁
+ListsWithin o ample out (Ok None) out₁ = (ample → ⊥) × (out₁ ≡ out)
+ListsWithin o ample out (Err k) out₁ = ListsTo o out (Err k) out₁
 
 -- an accepted method: its environment, used lifetimes, structs and params, and the lowered words of its records
 abbrev pub method_borrows : LifetimeEnv → ℕ → List ℕ → List ℕ → Borrows
@@ -98,5 +109,5 @@ sections counts own given taken lists ends answers edges =
     ++ edge_lines (edges_in (get_or counts 3 0) edges))))
 
 -- the edges do not fit so many words
-abbrev pub edges_overflow : ℕ → Option (Outcome ℕ)
-edges_overflow room = cond (ltb room edges_room) None (Some (Err NoRoom))
+abbrev pub edges_overflow : ℕ → Outcome (Option ℕ)
+edges_overflow room = cond (ltb room edges_room) (Ok None) (Err NoRoom)

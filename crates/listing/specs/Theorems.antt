@@ -1,17 +1,16 @@
 -- The main theorems, stated. Their proofs are the terms of these types in proofs/Theorems.antt.
-use Rattle.std.specs.Prelude.{ℕ, ◌*◌, ◌≤◌, ◌<◌, ◌≡◌, ◌⊎◌, ◌↔◌, List, length, get_or, Ok}
+use Rattle.std.specs.Prelude.{ℕ, ◌*◌, ◌≤◌, ◌<◌, ◌≡◌, ◌⊎◌, ◌↔◌, List, length, get_or, Ok, Err}
 use Rattle.answers.specs.declared.Refusal.{Refusal}
 use Rattle.answers.specs.declared.Refusal.TheVariants.{NoRoom}
-use Rattle.answers.specs.Refusals.{FirstDue, NoneDue}
+use Rattle.answers.specs.Refusals.{FirstDue, NoneDue, Outcome, over}
 use Rattle.sheet.specs.Text.{Records}
 use Rattle.sheet.specs.Reading.{sheet_of}
 use Rattle.methods.specs.Method.{types_in}
 use Rattle.borrowing_param.specs.declared.visitor.BorrowingParamVisitor.{BorrowingParamVisitor}
 use Rattle.borrowing_param.specs.declared.visitor.ParamBorrowInfo.{ParamBorrowInfo}
 use Rattle.borrowing_param.specs.Edges.{width, edges_in, edges_of}
-use Rattle.borrowing_param.specs.Brings.{refuse}
 use Rattle.borrowing_param.specs.Visit.{State}
-use Rattle.borrowing_param.specs.New.{created}
+use Rattle.borrowing_param.specs.New.{method_visitor}
 use Rattle.borrowing_param.specs.SheetMethod.{env_of_sheet, sheet_refusals}
 use Rattle.borrowing_param.specs.Borrows.{sheet_borrows}
 use Rattle.borrowing_param.specs.Theorems.{visit_of, after_all_visits}
@@ -37,13 +36,12 @@ ProgramAnswers = (bytes : List ℕ) → Answered bytes
 -- another, by its method's new visitor with 4,096 edges lent
 abbrev pub visitor_of : List ℕ → BorrowingParamVisitor
 visitor_of bytes =
-    (created (env_of_sheet (sheet_of bytes)) (sheet_of bytes).structs (sheet_of bytes).params (sheet_of bytes).output
-    (sheet_of bytes).force).visitor
+    method_visitor (env_of_sheet (sheet_of bytes)) (sheet_of bytes).structs (sheet_of bytes).output
 
 abbrev pub params_of : List ℕ → ℕ
 params_of bytes = length (types_in (sheet_of bytes).structs (sheet_of bytes).params)
 
-abbrev pub visit_to : List ℕ → List ℕ → ℕ → ParamBorrowInfo
+abbrev pub visit_to : List ℕ → List ℕ → ℕ → Outcome ParamBorrowInfo
 visit_to bytes edges p = visit_of (sheet_of bytes).structs (sheet_of bytes).params (visitor_of bytes) edges p
 
 abbrev pub left_by_visits : List ℕ → List ℕ → State
@@ -52,12 +50,12 @@ left_by_visits bytes edges = after_all_visits (sheet_of bytes).structs (sheet_of
 pub record AsListed (bytes edges : List ℕ) : Type 0 where
   -- a visit is refused by 9 exactly where the program answers 9
   pub nine : (response bytes ≡ refusal_text NoRoom)
-      ↔ ((p : ℕ) × (p < params_of bytes) × (visit_to bytes edges p ≡ refuse NoRoom))
+      ↔ ((p : ℕ) × (p < params_of bytes) × (visit_to bytes edges p ≡ Err NoRoom))
   -- else each visit answers the number that is listed, and each lifetime has the edges that are listed, in the same
   -- order
   pub answers : NoneDue (listing_checks bytes) → (p : ℕ) → p < params_of bytes
-      → ((visit_to bytes edges p).verdict ≡ Ok (tt {0}))
-      × ((visit_to bytes edges p).number ≡ get_or (sheet_borrows (sheet_of bytes)).answers p 0)
+      → over (λ info. info.number) (visit_to bytes edges p)
+      ≡ Ok (get_or (sheet_borrows (sheet_of bytes)).answers p 0)
   pub brings : NoneDue (listing_checks bytes) → (used : ℕ)
       → edges_of used (edges_in (left_by_visits bytes edges).visitor.stored (left_by_visits bytes edges).words)
       ≡ edges_of used (sheet_borrows (sheet_of bytes)).edges

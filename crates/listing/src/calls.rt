@@ -3,16 +3,49 @@
 // A sheet is judged and its answers are made in scratch that is lent (`list_within`), of one of four sizes, so that a
 // small sheet does not pay for a large one. Printing into no room at all measures, so nothing is written before it is
 // known that all fits.
-ghost use Rattle.std.specs.Prelude.{◌≡◌, length, Ok};
+ghost use Rattle.std.specs.Prelude.{◌≤◌, ◌≡◌, length, Ok};
 ghost use Rattle.answers.specs.Lent.{counted, held, room, left, Fills};
+ghost use Rattle.sheet.specs.Inner.{Roomy};
 ghost use Rattle.listing.specs.Listing as spec;
-ghost use Rattle.listing.specs.InnerListing.{listed_sheet, ListsTo, ListsWithin};
+ghost use Rattle.listing.specs.InnerListing.{listed_sheet, ListsTo, ListsWithin, Ample, NoWider};
 
-use super::sections::put_refusal;
-use super::within::{EDGES_ROOM, LISTS_ROOM, LOWERED_ROOM, PER_WORD, list_within};
+use super::sections::put_headed;
+use super::within::{EDGES_ROOM, LISTS_ROOM, LOWERED_ROOM, PER_WORD, Scratch, list_within};
 use answers::Refusal;
 use borrowing_param::BorrowingParamVisitor;
 use sheet::Text;
+
+// Scratch for sheets of at most `Text::SMALL` bytes: a word takes two of them; for what 24 words of steps and 12 of
+// returns give; for 12 lifetimes; for 20 edges.
+const SMALL_WORDS: usize = Text::SMALL / 2;
+
+const SMALL_GIVEN: usize = 24 * PER_WORD;
+
+const SMALL_TAKEN: usize = 12 * PER_WORD;
+
+const SMALL_LISTS: usize = 12 * 12;
+
+const SMALL_EDGES: usize = 20 * BorrowingParamVisitor::EDGE_WORDS;
+
+// The same of at most `Text::MIDDLE`: 64 words of steps, 32 of returns, 32 lifetimes, 128 edges.
+const MIDDLE_WORDS: usize = Text::MIDDLE / 2;
+
+const MIDDLE_GIVEN: usize = 64 * PER_WORD;
+
+const MIDDLE_TAKEN: usize = 32 * PER_WORD;
+
+const MIDDLE_LISTS: usize = 32 * 32;
+
+const MIDDLE_EDGES: usize = 128 * BorrowingParamVisitor::EDGE_WORDS;
+
+// The same of at most `Text::LARGE`: 128 words of steps, 64 of returns, 64 lifetimes, 512 edges.
+const LARGE_WORDS: usize = Text::LARGE / 2;
+
+const LARGE_GIVEN: usize = 128 * PER_WORD;
+
+const LARGE_TAKEN: usize = 64 * PER_WORD;
+
+const LARGE_EDGES: usize = 512 * BorrowingParamVisitor::EDGE_WORDS;
 
 // So many bytes take any answer of the program: twice as many as a sheet may have.
 pub const ROOM: usize = 2 * Text::MAX_BYTES;
@@ -35,10 +68,7 @@ fn list_tight(sheet: &[u8], out: &mut [u8]) -> Result<usize, Refusal>
     ensures fills { Fills (spec.listing sheet.now (room out)) out }
 {
     let mut none = [0u8; 0];
-    let measured = list_sheet(sheet, &mut none);
-    let Ok(count) = measured else {
-        return measured;
-    };
+    let count = list_sheet(sheet, &mut none)?;
     if out.len() < count {
         return Err(Refusal::NoRoom);
     }
@@ -51,13 +81,9 @@ pub fn respond(sheet: &[u8], out: &mut [u8; ROOM]) -> usize
     ensures answer { result ≡ length (spec.response sheet.now) }
     ensures stored { Fills (Ok (spec.response sheet.now)) out }
 {
-    let answer = list_sheet(sheet, out);
-    match answer {
+    match list_sheet(sheet, out) {
         Ok(count) => count,
-        Err(refusal) => {
-            let number = [refusal.number(); 1];
-            put_refusal(out, 0, &number)
-        }
+        Err(refusal) => put_headed(out, 0, b"refusal\n", &[refusal.number()]),
     }
 }
 
@@ -65,104 +91,72 @@ pub fn respond(sheet: &[u8], out: &mut [u8; ROOM]) -> usize
 fn list_sheet(sheet: &[u8], out: &mut [u8]) -> Result<usize, Refusal>
     ensures { ListsTo (listed_sheet sheet.now) (held out) result (left out) }
 {
-    list_sized(sheet, out, Text::SMALL)
+    list_sized(sheet, out, sheet.len())
 }
 
 // The same in scratch for sheets of so many bytes, and where that is too short, in the next larger. That it calls
 // itself keeps the arrays of the larger sizes out of the frame of the smaller ones.
 fn list_sized(sheet: &[u8], out: &mut [u8], bytes: usize) -> Result<usize, Refusal>
+    requires { length sheet.now ≤ bytes }
     ensures { ListsTo (listed_sheet sheet.now) (held out) result (left out) }
 {
     if bytes <= Text::SMALL {
-        let tried = list_256(sheet, out);
-        let Some(answer) = tried else {
-            return list_sized(sheet, out, Text::MIDDLE);
+        return match list_in::<SMALL_WORDS, SMALL_GIVEN, SMALL_TAKEN, SMALL_LISTS, SMALL_EDGES>(
+            sheet, out,
+        )? {
+            Some(count) => Ok(count),
+            None => list_sized(sheet, out, Text::MIDDLE),
         };
-        return answer;
     }
     if bytes <= Text::MIDDLE {
-        let tried = list_1024(sheet, out);
-        let Some(answer) = tried else {
-            return list_sized(sheet, out, Text::LARGE);
+        return match list_in::<
+            MIDDLE_WORDS,
+            MIDDLE_GIVEN,
+            MIDDLE_TAKEN,
+            MIDDLE_LISTS,
+            MIDDLE_EDGES,
+        >(sheet, out)?
+        {
+            Some(count) => Ok(count),
+            None => list_sized(sheet, out, Text::LARGE),
         };
-        return answer;
     }
     if bytes <= Text::LARGE {
-        let tried = list_4096(sheet, out);
-        let Some(answer) = tried else {
-            return list_sized(sheet, out, Text::MAX_BYTES);
+        return match list_in::<LARGE_WORDS, LARGE_GIVEN, LARGE_TAKEN, LISTS_ROOM, LARGE_EDGES>(
+            sheet, out,
+        )? {
+            Some(count) => Ok(count),
+            None => list_sized(sheet, out, Text::MAX_BYTES),
         };
-        return answer;
     }
-    list_any(sheet, out)
+    // That much is enough for any sheet, so that there is always an answer.
+    list_in::<{ Text::MAX_WORDS }, LOWERED_ROOM, LOWERED_ROOM, LISTS_ROOM, EDGES_ROOM>(
+        sheet, out,
+    )?.ok_or(Refusal::NoRoom)
 }
 
-// In scratch of one size: for the words of any sheet of at most so many bytes, a word to two bytes; for what 24 words
-// of steps and 12 of returns give; for 12 lifetimes; for 20 edges.
-fn list_256(sheet: &[u8], out: &mut [u8]) -> Option<Result<usize, Refusal>>
-    ensures { ListsWithin (listed_sheet sheet.now) ⊥ (held out) result (left out) }
+// In scratch of one size: so many words for the words of the sheet, for the lowered words of steps and of returns, for
+// the longer lists and for the edges.
+fn list_in<
+    const WORDS: usize,
+    const GIVEN: usize,
+    const TAKEN: usize,
+    const LISTS: usize,
+    const EDGES: usize,
+>(sheet: &[u8], out: &mut [u8]) -> Result<Option<usize>, Refusal>
+    requires { Roomy sheet.now WORDS × NoWider WORDS GIVEN TAKEN LISTS EDGES }
+    ensures { ListsWithin (listed_sheet sheet.now) (Ample GIVEN TAKEN LISTS EDGES) (held out) result (left out) }
 {
-    if Text::SMALL < sheet.len() {
-        return None;
-    }
-    let mut words = [0usize; Text::SMALL / 2];
-    let mut given = [0usize; 24 * PER_WORD];
-    let mut taken = [0usize; 12 * PER_WORD];
-    let mut lists = [0usize; 12 * 12];
-    let mut edges = [0usize; 20 * BorrowingParamVisitor::EDGE_WORDS];
-    list_within(
-        sheet, &mut words, &mut given, &mut taken, &mut lists, &mut edges, out,
-    )
-}
-
-// The same for 64 words of steps, 32 of returns, 32 lifetimes, 128 edges.
-fn list_1024(sheet: &[u8], out: &mut [u8]) -> Option<Result<usize, Refusal>>
-    ensures { ListsWithin (listed_sheet sheet.now) ⊥ (held out) result (left out) }
-{
-    if Text::MIDDLE < sheet.len() {
-        return None;
-    }
-    let mut words = [0usize; Text::MIDDLE / 2];
-    let mut given = [0usize; 64 * PER_WORD];
-    let mut taken = [0usize; 32 * PER_WORD];
-    let mut lists = [0usize; 32 * 32];
-    let mut edges = [0usize; 128 * BorrowingParamVisitor::EDGE_WORDS];
-    list_within(
-        sheet, &mut words, &mut given, &mut taken, &mut lists, &mut edges, out,
-    )
-}
-
-// The same for 128 words of steps, 64 of returns, 64 lifetimes, 512 edges.
-fn list_4096(sheet: &[u8], out: &mut [u8]) -> Option<Result<usize, Refusal>>
-    ensures { ListsWithin (listed_sheet sheet.now) ⊥ (held out) result (left out) }
-{
-    if Text::LARGE < sheet.len() {
-        return None;
-    }
-    let mut words = [0usize; Text::LARGE / 2];
-    let mut given = [0usize; 128 * PER_WORD];
-    let mut taken = [0usize; 64 * PER_WORD];
-    let mut lists = [0usize; LISTS_ROOM];
-    let mut edges = [0usize; 512 * BorrowingParamVisitor::EDGE_WORDS];
-    list_within(
-        sheet, &mut words, &mut given, &mut taken, &mut lists, &mut edges, out,
-    )
-}
-
-// In scratch for any sheet.
-fn list_any(sheet: &[u8], out: &mut [u8]) -> Result<usize, Refusal>
-    ensures { ListsTo (listed_sheet sheet.now) (held out) result (left out) }
-{
-    let mut words = [0usize; Text::MAX_WORDS];
-    let mut given = [0usize; LOWERED_ROOM];
-    let mut taken = [0usize; LOWERED_ROOM];
-    let mut lists = [0usize; LISTS_ROOM];
-    let mut edges = [0usize; EDGES_ROOM];
-    let listed = list_within(
-        sheet, &mut words, &mut given, &mut taken, &mut lists, &mut edges, out,
-    );
-    let Some(answer) = listed else {
-        return Err(Refusal::NoRoom);
+    let mut words = [0usize; WORDS];
+    let mut given = [0usize; GIVEN];
+    let mut taken = [0usize; TAKEN];
+    let mut lists = [0usize; LISTS];
+    let mut edges = [0usize; EDGES];
+    let scratch = Scratch {
+        given: &mut given,
+        taken: &mut taken,
+        lists: &mut lists,
+        edges: &mut edges,
     };
-    answer
+    list_within(sheet, &mut words, scratch, out)
 }

@@ -6,7 +6,7 @@ ghost use Rattle.text.specs.Printing.{Prints};
 ghost use Rattle.listing.specs.InnerSections.{Ascend};
 ghost use Rattle.listing.specs.InnerListing.{sections};
 
-use super::sections::{put_answers, put_counts, put_edges, put_longer, put_lowered};
+use super::sections::{put_answers, put_edges, put_headed, put_longer, put_lowered};
 use lifetimes::LifetimeEnv;
 
 // All sections, one after another, from the front of a slice: how many lifetimes, used lifetimes, parameters and edges
@@ -29,7 +29,7 @@ pub(crate) fn put_listing(
         (sections counts.now own.now given.now taken.now lists.now ends.now answers.now
         edges.now) 0 (held out) result (left out) }
 {
-    let lowered = put_counts(out, 0, counts);
+    let lowered = put_headed(out, 0, b"lifetimes used params edges\n", counts);
     let longer = put_lowered(out, lowered, own, given, taken);
     let answered = put_longer(out, longer, lists, ends, counts[0]);
     let edged = put_answers(out, answered, answers);

@@ -6,7 +6,7 @@ ghost use Rattle.sheet.specs.Text.{ten_records};
 ghost use Rattle.sheet.specs.Answer.{records_at};
 ghost use Rattle.sheet.specs.Shape.{records_checks};
 ghost use Rattle.sheet.specs.Inner.{Roomy};
-ghost use Rattle.listing.specs.InnerListing.{listed_sheet, listed_records, Ample, ListsWithin, listed_method};
+ghost use Rattle.listing.specs.InnerListing.{listed_sheet, listed_records, Suffices, ListsWithin, listed_method};
 ghost use Rattle.listing.specs.InnerListing.{Listable, edges_overflow, lists_room, edges_room};
 
 use super::whole::put_listing;
@@ -33,43 +33,40 @@ const MAX_EDGES: usize = 4096;
 // So many words take them.
 pub(crate) const EDGES_ROOM: usize = BorrowingParamVisitor::EDGE_WORDS * MAX_EDGES;
 
-// List a sheet. `words` takes the words of any sheet of so many bytes; `given` and `taken` are for the lowered words of
-// steps and returns, `lists` for the longer lists, `edges` for the edges.
+// Scratch, lent: for the lowered words of steps and of returns, for the longer lists, for the edges.
+#[derive(Drop)]
+pub(crate) struct Scratch<'a> {
+    pub(crate) given: &'a mut [usize],
+    pub(crate) taken: &'a mut [usize],
+    pub(crate) lists: &'a mut [usize],
+    pub(crate) edges: &'a mut [usize],
+}
+
+// List a sheet. `words` takes the words of any sheet of so many bytes. None: the scratch is too short.
 pub(crate) fn list_within(
     sheet: &[u8],
     words: &mut [usize],
-    given: &mut [usize],
-    taken: &mut [usize],
-    lists: &mut [usize],
-    edges: &mut [usize],
+    scratch: Scratch,
     out: &mut [u8],
-) -> Option<Result<usize, Refusal>>
-    requires { Roomy sheet.now (length words.old) × (length edges.old ≤ edges_room) }
-    ensures { ListsWithin (listed_sheet sheet.now) (Ample (room given) (room taken) (room lists) (room edges))
-        (held out) result (left out) }
+) -> Result<Option<usize>, Refusal>
+    requires { Roomy sheet.now (length words.old) × (length scratch.edges.now ≤ edges_room) }
+    ensures { ListsWithin (listed_sheet sheet.now) (Suffices scratch.entry) (held out) result (left out) }
 {
     let text = read_sheet(sheet, words);
-    let verdict = text.verdict;
-    if let Err(refusal) = verdict {
-        return Some(Err(refusal));
-    }
-    let ends = text.ends;
-    list_laid(words, ends, given, taken, lists, edges, out)
+    text.verdict?;
+    list_laid(words, text.ends, scratch, out)
 }
 
 // List records that were read, whose words stand one record after another.
 fn list_laid(
     words: &[usize],
     ends: [usize; Text::RECORDS],
-    given: &mut [usize],
-    taken: &mut [usize],
-    lists: &mut [usize],
-    edges: &mut [usize],
+    scratch: Scratch,
     out: &mut [u8],
-) -> Option<Result<usize, Refusal>>
-    requires { NoneDue (records_checks (records_at words.now ends)) × (length edges.old ≤ edges_room) }
-    ensures { ListsWithin (listed_records (records_at words.now ends))
-        (Ample (room given) (room taken) (room lists) (room edges)) (held out) result (left out) }
+) -> Result<Option<usize>, Refusal>
+    requires { NoneDue (records_checks (records_at words.now ends)) × (length scratch.edges.now ≤ edges_room) }
+    ensures { ListsWithin (listed_records (records_at words.now ends)) (Suffices scratch.entry)
+        (held out) result (left out) }
 {
     list_records(
         record_words(words, ends, Text::NAMES),
@@ -82,10 +79,7 @@ fn list_laid(
         record_words(words, ends, Text::PARAMS),
         record_words(words, ends, Text::OUTPUT),
         record_words(words, ends, Text::FORCE),
-        given,
-        taken,
-        lists,
-        edges,
+        scratch,
         out,
     )
 }
@@ -102,57 +96,50 @@ fn list_records(
     params: &[usize],
     output: &[usize],
     force: &[usize],
-    given: &mut [usize],
-    taken: &mut [usize],
-    lists: &mut [usize],
-    edges: &mut [usize],
+    scratch: Scratch,
     out: &mut [u8],
-) -> Option<Result<usize, Refusal>>
+) -> Result<Option<usize>, Refusal>
     requires { NoneDue (records_checks
         (ten_records names.now bounds.now types.now receiver.now steps.now returns.now structs.now
-        params.now output.now force.now)) × (length edges.old ≤ edges_room) }
+        params.now output.now force.now)) × (length scratch.edges.now ≤ edges_room) }
     ensures { ListsWithin
         (listed_records
         (ten_records names.now bounds.now types.now receiver.now steps.now returns.now structs.now
-        params.now output.now force.now)) (Ample (room given) (room taken) (room lists) (room edges))
-        (held out) result (left out) }
+        params.now output.now force.now)) (Suffices scratch.entry) (held out) result (left out) }
 {
+    let Scratch {
+        given,
+        taken,
+        lists,
+        edges,
+    } = scratch;
     if given.len() / PER_WORD < steps.len() {
-        return None;
+        return Ok(None);
     }
     if taken.len() / PER_WORD < returns.len() {
-        return None;
+        return Ok(None);
     }
     let ast = ast_lifetimes::LifetimeEnv::from_method_item(names, bounds, types);
-    let declared = ast.verdict;
-    if let Err(refusal) = declared {
-        return Some(Err(refusal));
-    }
+    ast.verdict?;
     let mut own = [0usize; 1];
     let lowered = lower(ast.env, receiver, steps, returns, &mut own, given, taken);
-    let elided = lowered.verdict;
-    if let Err(refusal) = elided {
-        return Some(Err(refusal));
-    }
+    lowered.verdict?;
     let selves = lowered.selves;
     let stepped = lowered.steps;
     let returned = lowered.returns;
-    let used = used_method_lifetimes(lowered.env, structs, params, output, force);
-    match used {
-        Err(refusal) => Some(Err(refusal)),
-        Ok(members) => list_method(
-            lowered.env,
-            members,
-            structs,
-            params,
-            &own[0..selves],
-            &given[0..stepped],
-            &taken[0..returned],
-            lists,
-            edges,
-            out,
-        ),
-    }
+    let used = used_method_lifetimes(lowered.env, structs, params, output, force)?;
+    list_method(
+        lowered.env,
+        used,
+        structs,
+        params,
+        &own[0..selves],
+        &given[0..stepped],
+        &taken[0..returned],
+        lists,
+        edges,
+        out,
+    )
 }
 
 // List an accepted method.
@@ -167,7 +154,7 @@ fn list_method(
     lists: &mut [usize],
     edges: &mut [usize],
     out: &mut [u8],
-) -> Option<Result<usize, Refusal>>
+) -> Result<Option<usize>, Refusal>
     requires { Listable env used structs.now params.now own.now given.now taken.now
         × (length edges.old ≤ edges_room) }
     ensures { ListsWithin
@@ -176,19 +163,16 @@ fn list_method(
 {
     let count = env.count;
     if lists.len() < count * count {
-        return None;
+        return Ok(None);
     }
     let mut ends = [0usize; LifetimeEnv::MAX_LIFETIMES];
     let longer = env.all_lists(true, lists, &mut ends);
     let visitor = BorrowingParamVisitor::from_sets(used, &longer.sets);
     let mut answers = [0usize; MAX_PARAMS];
-    let map = visitor.borrow_map(structs, params, &mut answers, edges);
-    let verdict = map.verdict;
-    if let Err(_) = verdict {
+    let Ok(map) = visitor.borrow_map(structs, params, &mut answers, edges) else {
         return too_many(edges.len());
-    }
-    let params = map.params;
-    let counts = [count, set::count(used), params, map.edges];
+    };
+    let counts = [count, set::count(used), map.params, map.edges];
     let length = put_listing(
         out,
         &counts,
@@ -197,18 +181,18 @@ fn list_method(
         taken,
         lists,
         &ends,
-        &answers[0..params],
+        &answers[0..map.params],
         edges,
     );
-    Some(Ok(length))
+    Ok(Some(length))
 }
 
 // More edges than so many words take: the scratch is too short, or they are more than a listing has.
-fn too_many(room: usize) -> Option<Result<usize, Refusal>>
+fn too_many(room: usize) -> Result<Option<usize>, Refusal>
     ensures { result ≡ edges_overflow room }
 {
     if room < EDGES_ROOM {
-        return None;
+        return Ok(None);
     }
-    Some(Err(Refusal::NoRoom))
+    Err(Refusal::NoRoom)
 }

@@ -12,8 +12,9 @@ use native.Mathlib.Omega.{arith}
 use lib.Dec.{ltb}
 use lib.ListN.{length, get_or}
 use borrow.Author.Tests.{ltb-true, lt-ltb}
-use Rattle.lifetimes.specs.declared.maybe_static.MaybeStaticDef.{MaybeStaticDef}
-use Rattle.lifetimes.specs.declared.maybe_static.MaybeStaticDef.TheVariants.{Static, NonStatic}
+use Rattle.lifetimes.specs.declared.def_lifetime.DefLifetime.{DefLifetime}
+use Rattle.lifetimes.specs.declared.maybe_static.MaybeStatic.{MaybeStatic}
+use Rattle.lifetimes.specs.declared.maybe_static.MaybeStatic.TheVariants.{Static, NonStatic}
 use Rattle.lifetimes.specs.Numbers.{def_lifetime}
 use Rattle.lifetimes.specs.LoweredWords.{def_from_word}
 use Rattle.answers.proofs.RefusalLaws.{given_due}
@@ -27,7 +28,7 @@ use Rattle.answers.specs.Lists.{numbered}
 module _ (declared : ℕ) where
   -- one word
 
-  filled_from : (at j k : ℕ) (m : MaybeStaticDef) → Memᴰ (field_pair j k) (filled_by declared at m)
+  filled_from : (at j k : ℕ) (m : MaybeStatic DefLifetime) → Memᴰ (field_pair j k) (filled_by declared at m)
       → (j ≡ at) × (m ≡ NonStatic (def_lifetime k)) × (k < declared)
   filled_from at j k Static m = absurd (Memᴰ.not-nil m)
   filled_from at j k (NonStatic l) m = go (ltb l.0 declared) refl m
@@ -44,7 +45,7 @@ module _ (declared : ℕ) where
           (λ r. absurd (Memᴰ.not-nil r))
           (Memᴰ.cases_cons m)
 
-  filled_to : (at k : ℕ) (m : MaybeStaticDef) → m ≡ NonStatic (def_lifetime k) → k < declared
+  filled_to : (at k : ℕ) (m : MaybeStatic DefLifetime) → m ≡ NonStatic (def_lifetime k) → k < declared
       → Memᴰ (field_pair at k) (filled_by declared at m)
   filled_to at k m e h = rw (e, lt-ltb k declared h) (Memᴰ.head refl)
 
@@ -90,7 +91,7 @@ module _ (declared : ℕ) where
           r
       two false k r = r
 
-      go : (m : MaybeStaticDef) → Pairwise PairsByDef more → Pairwise PairsByDef (filled_by declared at m ++ more)
+      go : (m : MaybeStatic DefLifetime) → Pairwise PairsByDef more → Pairwise PairsByDef (filled_by declared at m ++ more)
       go Static r = r
       go (NonStatic l) r = two (ltb l.0 declared) l.0 r
 

@@ -1,12 +1,13 @@
 -- Struct types that fit their rows: one type, the loop over types, the parameters.
 use Rattle.std.specs.Prelude.{Ok, Err, Some, None, Option}
-use Prim.Native.Nat.{ℕ, zero, suc, ◌+◌, ◌-◌, ◌≤◌, ◌<◌}
+use Prim.Native.Nat.{ℕ, zero, suc, ◌+◌, ◌-◌, ◌≤◌, ◌<◌, min}
 use mathlib.Core.Bool.{Bool, true, false, cond}
 use mathlib.Core.Path.{◌≡◌, refl, sym, subst, ◌∙◌}
 use mathlib.Core.List.{List, [], ◌∷◌, ◌++◌}
 use native.Mathlib.Omega.{arith}
+use lib.Dec.{ltb}
 use lib.ListN.{length, take, drop}
-use borrow.Author.Tests.{ltb-true, le-leb, lt-leb}
+use borrow.Author.Tests.{ltb-true, ltb-false, le-leb, lt-leb}
 use Rattle.answers.specs.declared.Refusal.TheVariants.{Full, Mismatch}
 use Rattle.answers.specs.Refusals.{check, unless, Verdict}
 use Rattle.records.specs.Reading.{Read, Fails}
@@ -195,14 +196,14 @@ module _ (params : List ℕ) (count : ℕ) (lifetimes : List ℕ) where
     many : (n : ℕ) (types : List LoweredType) (rest : List ℕ) → read_types n count params ≡ Read types rest → 16 < length types
     many n types rest e = rw (types_length n count params e) h
 
-    pub params_unfit : r ≡ None → ParamsFit params count lifetimes (Err Mismatch)
+    params_unfit : r ≡ None → ParamsFit params count lifetimes (Err Mismatch)
     params_unfit e rows n types rest few k reads =
         let x = first_read n types rest reads in
         let s = fit_stops (f rows n (take 16 types) x.0 few k x.1) e in
         sym (params_many rows 0 16 types refl (many n types rest reads)
         ∙ judged_stays (type_checks rows (take 16 types)) (check true Full ∷ []) s)
 
-    pub params_full : {next : ℕ} → r ≡ Some next → ParamsFit params count lifetimes (Err Full)
+    params_full : {next : ℕ} → r ≡ Some next → ParamsFit params count lifetimes (Err Full)
     unfolding unless
     params_full e rows n types rest few k reads =
         let x = first_read n types rest reads in
@@ -211,12 +212,34 @@ module _ (params : List ℕ) (count : ℕ) (lifetimes : List ℕ) where
         ∙ judged_after (type_checks rows (take 16 types)) (check true Full ∷ []) g.accepted)
 
   module _ (h : count ≤ 16) {r : Option ℕ} (f : TypesFit params 0 count lifetimes r) where
-    pub params_misfit : r ≡ None → ParamsFit params count lifetimes (Err Mismatch)
+    params_misfit : r ≡ None → ParamsFit params count lifetimes (Err Mismatch)
     params_misfit e rows n types rest few k reads =
         sym (params_few rows 0 types (omega (arith, types_length n count params reads))
         ∙ fit_stops (f rows n types rest few k reads) e)
 
-    pub params_fit : {next : ℕ} → r ≡ Some next → ParamsFit params count lifetimes (Ok (tt {0}))
+    params_fit : {next : ℕ} → r ≡ Some next → ParamsFit params count lifetimes (Ok (tt {0}))
     params_fit e rows n types rest few k reads =
         sym (params_few rows 0 types (omega (arith, types_length n count params reads))
         ∙ (fit_goes (f rows n types rest few k reads) e).accepted)
+
+  -- the first sixteen, or all if they are fewer
+  module _ {some : ℕ} (k : some ≡ min count 16) {r : Option ℕ} (f : TypesFit params 0 some lifetimes r) where
+    pub params_stop : r ≡ None → ParamsFit params count lifetimes (Err Mismatch)
+    params_stop e = go (ltb 16 count) refl
+      where
+        go : (b : Bool) → ltb 16 count ≡ b → ParamsFit params count lifetimes (Err Mismatch)
+        go true b =
+            let h : 16 < count = ltb-true 16 count b in
+            let z : some ≡ 16 = omega arith in
+            params_unfit h (rw z at f) e
+        go false b =
+            let h : count ≤ 16 = ltb-false 16 count b in
+            let z : some ≡ count = omega arith in
+            params_misfit h (rw z at f) e
+
+    module _ {next : ℕ} (e : r ≡ Some next) where
+      pub params_over : 16 < count → ParamsFit params count lifetimes (Err Full)
+      params_over h = let z : some ≡ 16 = omega arith in params_full h (rw z at f) e
+
+      pub params_all : count ≤ 16 → ParamsFit params count lifetimes (Ok (tt {0}))
+      params_all h = let z : some ≡ count = omega arith in params_fit h (rw z at f) e

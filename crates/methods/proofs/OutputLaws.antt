@@ -2,13 +2,13 @@
 use Rattle.std.specs.Prelude.{Some, None, Option}
 use Prim.Native.Nat.{ℕ, suc, ◌+◌, ◌-◌, ◌≤◌, ◌<◌}
 use mathlib.Core.Bool.{cond}
-use mathlib.Core.Path.{◌≡◌, refl, sym, subst, ◌∙◌}
+use mathlib.Core.Path.{◌≡◌, refl, sym, ◌∙◌}
 use mathlib.Core.List.{List, [], ◌∷◌, ◌++◌, map, flat_map, filter_map, filter_map-append}
 use native.Mathlib.Numerals.{add-one}
 use native.Mathlib.Omega.{arith}
 use lib.Dec.{ltb}
-use lib.ListN.{length, get_or, take, drop, length-take, length-drop, drop_of_length-le}
-use lib.Seq.{drop-cons, get_or-take, get_or-drop}
+use lib.ListN.{length, get_or, take, drop, drop_of_length-le}
+use lib.Seq.{drop-cons}
 use borrow.Author.Tests.{le-leb, lt-leb, lt-ltb}
 use Rattle.lifetimes.specs.declared.lifetime.Lifetime.{Lifetime}
 use Rattle.lifetimes.specs.declared.maybe_static.MaybeStatic.{MaybeStatic}
@@ -22,10 +22,10 @@ use Rattle.hir_types.specs.declared.types.Parts.{Parts}
 use Rattle.hir_types.specs.LoweredTypes.{LoweredType, read_lowered, own_lifetimes, lifetimes_of, own_lifetime}
 use Rattle.hir_types.proofs.LifetimeLaws.{own_one, own_none}
 use Rattle.hir_types.specs.Rows.{read_known, read_types}
-use Rattle.hir_types.proofs.FoundLaws.{Found, path_inside}
+use Rattle.hir_types.proofs.FoundLaws.{Found}
 use Rattle.methods.specs.Method.{is_past}
 use Rattle.methods.specs.Used.{number}
-use Rattle.methods.specs.Inner.{CollectIs, within, past, PathThere, TypesCollect}
+use Rattle.methods.specs.Inner.{CollectIs, within, past, TypesCollect}
 use Rattle.records.proofs.ReadingLaws.{fails_read}
 use Rattle.methods.proofs.PassLaws.{known_read, same_found, Next, types_next, types_none}
 use Rattle.answers.specs.Lists.{any}
@@ -33,18 +33,15 @@ use Rattle.answers.proofs.ListLaws.{any_append}
 
 -- ---- one list after another
 
-pub collect_then : {count s t : ℕ} {l m : List MaybeStatic} {r : Option ℕ} → CollectIs count s l (Some t)
+pub collect_then : {count s t : ℕ} {l m : List (MaybeStatic Lifetime)} {r : Option ℕ} → CollectIs count s l (Some t)
     → CollectIs count t m r → CollectIs count s (l ++ m) r
 collect_then {count} {s} {t} {l} {m} (within h e) (within {more = all} k f) =
     within {more = all} (rw (any_append (is_past count) l m, h) k) (rw (filter_map-append number l m, insert_all_append, ← e) f)
 collect_then {count} {s} {t} {l} {m} (within h e) (past k) = past (rw (any_append (is_past count) l m, h) k)
 
-pub collect_stops : {count s : ℕ} {l : List MaybeStatic} (m : List MaybeStatic) → CollectIs count s l None
+pub collect_stops : {count s : ℕ} {l : List (MaybeStatic Lifetime)} (m : List (MaybeStatic Lifetime)) → CollectIs count s l None
     → CollectIs count s (l ++ m) None
 collect_stops {count} {s} {l} m (past h) = past (rw (any_append (is_past count) l m, h))
-
-pub collect_told : {count s : ℕ} {l : List MaybeStatic} {r q : Option ℕ} → CollectIs count s l r → r ≡ q → CollectIs count s l q
-collect_told {count} {s} {l} h e = subst (CollectIs count s l) e h
 
 pub collect_none : (count s : ℕ) → CollectIs count s [] (Some s)
 unfolding filter_map insert_all any
@@ -53,11 +50,11 @@ collect_none count s = within refl refl
 -- ---- one lifetime
 
 module _ (count s : ℕ) where
-  pub collect_static : {m : MaybeStatic} → m ≡ Static → CollectIs count s (m ∷ []) (Some s)
+  pub collect_static : {m : MaybeStatic Lifetime} → m ≡ Static → CollectIs count s (m ∷ []) (Some s)
   unfolding filter_map insert_all any
   collect_static e = rw e (within refl refl)
 
-  module _ {m : MaybeStatic} {l : Lifetime} (e : m ≡ NonStatic l) where
+  module _ {m : MaybeStatic Lifetime} {l : Lifetime} (e : m ≡ NonStatic l) where
     pub collect_past : count ≤ l.0 → CollectIs count s (m ∷ []) None
     unfolding any
     collect_past h = rw e (past (rw (le-leb count l.0 h)))
@@ -69,8 +66,8 @@ module _ (count s : ℕ) where
 
 -- ---- a type's own lifetime
 
-module _ (count s : ℕ) (o : Own) {e : Option MaybeStatic} (q : e ≡ own_lifetime o) where
-  pub own_collected : {m : MaybeStatic} → e ≡ Some m → {r : Option ℕ} → CollectIs count s (m ∷ []) r
+module _ (count s : ℕ) (o : Own) {e : Option (MaybeStatic Lifetime)} (q : e ≡ own_lifetime o) where
+  pub own_collected : {m : MaybeStatic Lifetime} → e ≡ Some m → {r : Option ℕ} → CollectIs count s (m ∷ []) r
       → CollectIs count s (own_lifetimes o) r
   own_collected k h = rw (own_one o q k) h
 
@@ -79,46 +76,26 @@ module _ (count s : ℕ) (o : Own) {e : Option MaybeStatic} (q : e ≡ own_lifet
 
 -- ---- path words: what is left to put in, put in from here, gives what all gives
 
-abbrev path_of : List ℕ → ℕ → ℕ → List ℕ
-path_of words from n = take n (drop from words)
+pub record Pathing (path : List ℕ) (count before used i : ℕ) : Type 0 where
+  pub onto : (r : Option ℕ) → CollectIs count used (map from_word (drop i path)) r
+      → CollectIs count before (map from_word path) r
 
-pub record Pathing (words : List ℕ) (from n count before used i : ℕ) : Type 0 where
-  pub counted : i ≤ n
-  pub onto : (r : Option ℕ) → CollectIs count used (map from_word (drop i (path_of words from n))) r
-      → CollectIs count before (map from_word (path_of words from n)) r
+pub pathing_start : (path : List ℕ) (count before : ℕ) → Pathing path count before before 0
+pathing_start path count before = record { onto = λ r h. h }
 
-pub pathing_start : (words : List ℕ) (from n count before : ℕ) → Pathing words from n count before before 0
-pathing_start words from n count before = record { counted = omega arith; onto = λ r h. h }
+module _ {path : List ℕ} {count before used i : ℕ} (inv : Pathing path count before used i) where
+  module _ (h : i < length path) {m : MaybeStatic Lifetime} (e : m ≡ from_word (get_or path i 0)) where
+    path_next : map from_word (drop i path) ≡ m ∷ map from_word (drop (i + 1) path)
+    path_next = rw (drop-cons path i 0 h, add-one, e)
 
-module _ {words : List ℕ} {from n count before used i : ℕ} (inv : Pathing words from n count before used i) where
-  module _ (there : PathThere (length words) from n) (h : i < n) where
-    path_next : drop i (path_of words from n) ≡ get_or words (from + i) 0 ∷ drop (i + 1) (path_of words from n)
-    path_next =
-        let last : from + (n - 1) < length words = there (n - 1) (omega arith) in
-        drop-cons (path_of words from n) i 0 (simp (length-take, length-drop) (omega arith))
-        ∙ rw (add-one, get_or-take n (drop from words) i 0 h, get_or-drop from words i 0)
+    pub pathing_stops : CollectIs count used (m ∷ []) None → CollectIs count before (map from_word path) None
+    pathing_stops k = inv.onto None (rw path_next (collect_stops (map from_word (drop (i + 1) path)) k))
 
-    module _ {m : MaybeStatic} (e : m ≡ from_word (get_or words (from + i) 0)) {r : Option ℕ}
-        (k : CollectIs count used (m ∷ []) r) where
-      one : CollectIs count used (from_word (get_or words (from + i) 0) ∷ []) r
-      one = rw (← e) k
+    pub pathing_more : {next : ℕ} → CollectIs count used (m ∷ []) (Some next) → Pathing path count before next (i + 1)
+    pathing_more k = record { onto = λ r l. inv.onto r (rw path_next (collect_then k l)) }
 
-      pub pathing_stops : r ≡ None → CollectIs count before (map from_word (path_of words from n)) None
-      pathing_stops q =
-          inv.onto None
-          (rw path_next (collect_stops (map from_word (drop (i + 1) (path_of words from n))) (collect_told one q)))
-
-      pub pathing_more : {next : ℕ} → r ≡ Some next → Pathing words from n count before next (i + 1)
-      pathing_more q = record {
-        counted = omega arith;
-        onto = λ s l. inv.onto s (rw path_next (collect_then (collect_told one q) l));
-      }
-
-  pub pathing_end : n ≤ i → CollectIs count before (map from_word (path_of words from n)) (Some used)
-  pathing_end h =
-      inv.onto (Some used)
-      (rw (drop_of_length-le (path_of words from n) {i = i} (simp (length-take, length-drop) (omega arith)))
-      (collect_none count used))
+  pub pathing_end : length path ≤ i → CollectIs count before (map from_word path) (Some used)
+  pathing_end h = inv.onto (Some used) (rw (drop_of_length-le path {i = i} h) (collect_none count used))
 
 -- ---- types
 
@@ -164,47 +141,49 @@ pub record Reading (words : List ℕ) (types count at used i : ℕ) (p : Parts) 
   pub left : i < types
   pub found : Found words at (read_lowered (drop at words)) p
 
-module _ {words : List ℕ} {types count at used i : ℕ} {p : Parts} (t : Reading words types count at used i p) where
-  pub path_there : PathThere (length words) p.from p.count
-  path_there i k = path_inside t.found.stands i k
+pub reading : {words : List ℕ} {types count at used i : ℕ} {p : Parts} → Collecting words types count at used i → i < types
+    → Found words at (read_lowered (drop at words)) p → Reading words types count at used i p
+reading inv h f = record { collecting = inv; left = h; found = f }
 
-  module _ {r : Option ℕ} (path : CollectIs count used (map from_word (path_of words p.from p.count)) r) where
-    pub collecting_past : r ≡ None → TypesCollect words 0 types count 0 None
+module _ {words : List ℕ} {types count at used i : ℕ} {p : Parts} (t : Reading words types count at used i p)
+    {path : List ℕ} (lent : path ≡ take p.count (drop p.from words)) where
+  pub collecting_past : CollectIs count used (map from_word path) None → TypesCollect words 0 types count 0 None
+  unfolding flat_map
+  collecting_past k n ts rest e =
+      let l = t.collecting.each n ts rest e in
+      let x = next_type t.collecting t.left l in
+      let s = (same_found t.found n x.first).stands in
+      let here : CollectIs count used (map from_word x.type.path) None = rw (lent, s.path) at k in
+      let type : CollectIs count used (lifetimes_of x.type) None = collect_stops (own_lifetimes x.type.own) here in
+      l.onto None (rw x.all (collect_stops (flat_map lifetimes_of x.more) type))
+
+  module _ {more : ℕ} (k : CollectIs count used (map from_word path) (Some more)) where
+    whole : (n : ℕ) {t₁ : LoweredType} {behind : List ℕ} {r : Option ℕ} → CollectIs count more (own_lifetimes p.own) r
+        → read_known n (drop at words) ≡ Read t₁ behind → CollectIs count used (lifetimes_of t₁) r
+    whole n {t₁} {behind} {r} own e =
+        let s = (same_found t.found n e).stands in
+        let here : CollectIs count used (map from_word t₁.path) (Some more) = rw (lent, s.path) at k in
+        let mine : CollectIs count more (own_lifetimes t₁.own) r = rw s.own at own in
+        collect_then here mine
+
+    pub collecting_own : CollectIs count more (own_lifetimes p.own) None → TypesCollect words 0 types count 0 None
     unfolding flat_map
-    collecting_past q n ts rest e =
+    collecting_own own n ts rest e =
         let l = t.collecting.each n ts rest e in
         let x = next_type t.collecting t.left l in
-        let s = (same_found t.found n x.first).stands in
-        let here : CollectIs count used (map from_word x.type.path) None = rw s.path at (collect_told path q) in
-        let type : CollectIs count used (lifetimes_of x.type) None = collect_stops (own_lifetimes x.type.own) here in
-        l.onto None (rw x.all (collect_stops (flat_map lifetimes_of x.more) type))
+        l.onto None (rw x.all (collect_stops (flat_map lifetimes_of x.more) (whole n own x.first)))
 
-    module _ {more : ℕ} (q : r ≡ Some more) {r₂ : Option ℕ} (own : CollectIs count more (own_lifetimes p.own) r₂) where
-      whole : (n : ℕ) {t₁ : LoweredType} {behind : List ℕ} {r₃ : Option ℕ}
-          → read_known n (drop at words) ≡ Read t₁ behind → r₂ ≡ r₃ → CollectIs count used (lifetimes_of t₁) r₃
-      whole n {t₁} {behind} {r₃} e k =
-          let s = (same_found t.found n e).stands in
-          let here : CollectIs count used (map from_word t₁.path) (Some more) = rw s.path at (collect_told path q) in
-          let mine : CollectIs count more (own_lifetimes t₁.own) r₃ = rw s.own at (collect_told own k) in
-          collect_then here mine
-
-      pub collecting_own : r₂ ≡ None → TypesCollect words 0 types count 0 None
-      unfolding flat_map
-      collecting_own k n ts rest e =
+    pub collecting_more : {all : ℕ} → CollectIs count more (own_lifetimes p.own) (Some all)
+        → Collecting words types count p.next all (i + 1)
+    unfolding flat_map
+    collecting_more own = record {
+      each = λ n ts rest e.
           let l = t.collecting.each n ts rest e in
           let x = next_type t.collecting t.left l in
-          l.onto None (rw x.all (collect_stops (flat_map lifetimes_of x.more) (whole n x.first k)))
-
-      pub collecting_more : {all : ℕ} → r₂ ≡ Some all → Collecting words types count p.next all (i + 1)
-      unfolding flat_map
-      collecting_more k = record {
-        each = λ n ts rest e.
-            let l = t.collecting.each n ts rest e in
-            let x = next_type t.collecting t.left l in
-            let s = (same_found t.found n x.first).stands in
-            record {
-              left = x.more;
-              reads = rw s.left x.others;
-              onto = λ r m. l.onto r (rw x.all (collect_then (whole n x.first k) m));
-            };
-      }
+          let s = (same_found t.found n x.first).stands in
+          record {
+            left = x.more;
+            reads = rw s.left x.others;
+            onto = λ r m. l.onto r (rw x.all (collect_then (whole n own x.first) m));
+          };
+    }

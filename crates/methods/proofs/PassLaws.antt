@@ -3,17 +3,17 @@ use Prim.Native.Nat.{ℕ, zero, suc, ◌+◌, ◌-◌, ◌≤◌, ◌<◌}
 use mathlib.Core.Bool.{Bool, true, false, cond, ◌&&◌, and-eq-true_iff}
 use mathlib.Core.Path.{◌≡◌, refl, sym, ap, ◌∙◌}
 use mathlib.Core.List.{List, [], ◌∷◌}
-use native.Mathlib.Numerals.{sub-one}
+use native.Mathlib.Numerals.{sub-one, add-one}
 use native.Mathlib.Omega.{arith}
 use lib.Dec.{leb}
 use lib.ListN.{length, get_or, take, drop, length-drop}
+use lib.Seq.{drop-cons}
 use borrow.Author.Tests.{leb-true}
 use Rattle.records.specs.Reading.{Reading, Read, Fails, onward, is_read, read_or, read_word, read_all, in_shape, items_of}
 use Rattle.records.specs.Reading.{few_words}
 use Rattle.hir_types.specs.declared.types.Parts.{Parts}
 use Rattle.hir_types.specs.LoweredTypes.{LoweredType, read_lowered, knows}
 use Rattle.hir_types.specs.Rows.{Row, row_with, read_known, read_types, read_row}
-use Rattle.hir_types.proofs.PathLaws.{word_here, word_behind}
 use Rattle.hir_types.proofs.FoundLaws.{Found}
 use Rattle.records.proofs.ReadingLaws.{passed, fails_read}
 use Rattle.hir_types.specs.Places.{Stands}
@@ -201,11 +201,12 @@ row_parts number structs place {row} {rest} e =
     let w₂ : b.behind ≡ c.one ∷ c.behind = word_read b.behind c.first in
     let size : length structs - place ≡ suc (suc (length c.behind)) =
     let w : drop place structs ≡ b.one ∷ c.one ∷ c.behind = rw (← w₂) w₁ in rw length-drop at (ap length w) in
-    let k₁ : drop place structs ≡ get_or structs place 0 ∷ drop (place + 1) structs = word_here structs place (omega arith) in
+    let k₁ : drop place structs ≡ get_or structs place 0 ∷ drop (place + 1) structs =
+    rw add-one (drop-cons structs place 0 (omega arith)) in
     let q₁ : b.one ∷ b.behind ≡ get_or structs place 0 ∷ drop (place + 1) structs = sym w₁ ∙ k₁ in
     let m : b.behind ≡ drop (place + 1) structs = cc in
     let k₂ : drop (place + 1) structs ≡ get_or structs (place + 1) 0 ∷ drop (place + 2) structs =
-    word_behind structs place (omega arith) in
+    let two : place + 2 ≡ suc (place + 1) = omega arith in rw two (drop-cons structs (place + 1) 0 (omega arith)) in
     let q₂ : c.one ∷ c.behind ≡ get_or structs (place + 1) 0 ∷ drop (place + 2) structs = sym w₂ ∙ m ∙ k₂ in
     let e₁ : b.one ≡ get_or structs place 0 = cc in
     let e₂ : c.one ≡ get_or structs (place + 1) 0 = cc in

@@ -62,7 +62,10 @@ refused_index structs lifetimes s e n =
     record { verdict = e; size = s; few = λ k. absurd (n k); holding = λ k. absurd (n k) }
 
 module _ {structs lifetimes : List ℕ} {at number : ℕ} (inv : Indexing structs lifetimes at number) where
-  module _ (h : number < length (rows_of structs)) where
+  module _ {rows : ℕ} (all : length (rows_of structs) ≡ rows) (left : number < rows) where
+    h : number < length (rows_of structs)
+    h = omega arith
+
     rows_next : drop number (rows_of structs) ≡ row_at (rows_of structs) number ∷ drop (number + 1) (rows_of structs)
     rows_next = rw add-one (drop-cons (rows_of structs) number (row_with 0 []) h)
 
@@ -130,9 +133,10 @@ module _ {structs lifetimes : List ℕ} {at number : ℕ} (inv : Indexing struct
               holding = holding₁;
             }
 
-  pub indexing_end : length (rows_of structs) ≤ number → Indexes structs lifetimes (Ok (tt {0}))
+  pub indexing_end : {rows : ℕ} → length (rows_of structs) ≡ rows → rows ≤ number → Indexes structs lifetimes (Ok (tt {0}))
   unfolding numbered unless
-  indexing_end h =
+  indexing_end all past =
+      let h : length (rows_of structs) ≤ number = omega arith in
       let z : number ≡ length (rows_of structs) = omega (arith, inv.before) in
       record {
         verdict = sym (inv.same ∙ rw (drop_of_length-le (rows_of structs) {i = number} h));

@@ -9,6 +9,7 @@ use native.Mathlib.Omega.{arith}
 use lib.ListN.{length, length-append, length-map}
 use borrow.Author.Tests.{not-false}
 use Rattle.answers.specs.declared.Refusal.TheVariants.{Malformed, Retired}
+use Rattle.lifetimes.specs.declared.lifetime.Lifetime.{Lifetime}
 use Rattle.lifetimes.specs.declared.maybe_static.MaybeStatic.{MaybeStatic}
 use Rattle.lifetimes.specs.declared.maybe_static.MaybeStatic.TheVariants.{Static, NonStatic}
 use Rattle.lifetimes.specs.Numbers.{lifetime}
@@ -35,14 +36,14 @@ use mathlib.Core.List.{filter_map}
 
 -- ---- the numbers of those that are not static
 
-numbers_from : (l : List MaybeStatic) (k : ℕ) → Memᴰ k (numbers_of l) → Memᴰ (NonStatic (lifetime k)) l
+numbers_from : (l : List (MaybeStatic Lifetime)) (k : ℕ) → Memᴰ k (numbers_of l) → Memᴰ (NonStatic (lifetime k)) l
 unfolding filter_map
 numbers_from [] k m = absurd (Memᴰ.not-nil m)
 numbers_from (Static ∷ l) k m = Memᴰ.tail (numbers_from l k m)
 numbers_from (NonStatic x ∷ l) k m =
     ⊎_elim (λ e. Memᴰ.head (rw e)) (λ r. Memᴰ.tail (numbers_from l k r)) (Memᴰ.cases_cons m)
 
-numbers_to : (l : List MaybeStatic) (k : ℕ) → Memᴰ (NonStatic (lifetime k)) l → Memᴰ k (numbers_of l)
+numbers_to : (l : List (MaybeStatic Lifetime)) (k : ℕ) → Memᴰ (NonStatic (lifetime k)) l → Memᴰ k (numbers_of l)
 unfolding filter_map
 numbers_to [] k m = absurd (Memᴰ.not-nil m)
 numbers_to (Static ∷ l) k m =
@@ -51,7 +52,7 @@ numbers_to (NonStatic x ∷ l) k m =
     ⊎_elim (λ e. let q : lifetime k ≡ x = cc in Memᴰ.head (ap (λ y. y.0) q))
     (λ r. Memᴰ.tail (numbers_to l k r)) (Memᴰ.cases_cons m)
 
-numbers_few : (l : List MaybeStatic) → length (numbers_of l) ≤ length l
+numbers_few : (l : List (MaybeStatic Lifetime)) → length (numbers_of l) ≤ length l
 unfolding filter_map
 numbers_few [] = omega arith
 numbers_few (Static ∷ l) = omega (arith, numbers_few l)

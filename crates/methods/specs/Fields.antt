@@ -1,10 +1,11 @@
 -- `compute_for_struct_field`: for one struct-typed field of a row, each lifetime of the field's definition with the
 -- outer row's lifetime that fills it.
-use Rattle.std.specs.Prelude.{ℕ, ◌-◌, Bool, true, false, cond, not, ◌&&◌, List, [], ◌∷◌, ◌++◌, ltb, length, Ok, Err}
-use Rattle.std.specs.Prelude.{get_or, replicate}
+use Rattle.std.specs.Prelude.{ℕ, ◌-◌, Bool, true, false, cond, not, ◌&&◌, List, [], ◌∷◌, ◌++◌, ltb, length}
+use Rattle.std.specs.Prelude.{get_or, replicate, Some, None, Option}
 use Rattle.answers.specs.declared.Refusal.TheVariants.{Malformed}
-use Rattle.lifetimes.specs.declared.maybe_static.MaybeStaticDef.{MaybeStaticDef}
-use Rattle.lifetimes.specs.declared.maybe_static.MaybeStaticDef.TheVariants.{Static, NonStatic}
+use Rattle.lifetimes.specs.declared.def_lifetime.DefLifetime.{DefLifetime}
+use Rattle.lifetimes.specs.declared.maybe_static.MaybeStatic.{MaybeStatic}
+use Rattle.lifetimes.specs.declared.maybe_static.MaybeStatic.TheVariants.{Static, NonStatic}
 use Rattle.lifetimes.specs.Numbers.{def_lifetime}
 use Rattle.lifetimes.specs.LoweredWords.{def_from_word}
 use Rattle.answers.specs.Lists.{numbered}
@@ -16,7 +17,6 @@ use Rattle.hir_types.specs.LoweredTypes.{LoweredType, lowered_type}
 use Rattle.hir_types.specs.Rows.{Row, rows_of, structs_in_shape}
 use Rattle.methods.specs.declared.fields.FieldPair.{FieldPair}
 use Rattle.methods.specs.declared.fields.FieldLifetimes.{FieldLifetimes}
-use Rattle.methods.specs.declared.fields.FieldAnswer.TheVariants as answer
 use Rattle.methods.specs.Method.{row_at, row_checks}
 use Rattle.records.specs.Reading.{most_list}
 
@@ -38,7 +38,7 @@ abbrev pub field_pair : ℕ → ℕ → FieldPair
 field_pair j k = record { def = def_lifetime j; outer = def_lifetime k }
 
 -- static and numbers past the outer row's lifetimes are left out
-abbrev pub filled_by : ℕ → ℕ → MaybeStaticDef → List FieldPair
+abbrev pub filled_by : ℕ → ℕ → MaybeStatic DefLifetime → List FieldPair
 filled_by declared j Static = []
 filled_by declared j (NonStatic l) = cond (ltb l.0 declared) (field_pair j l.0 ∷ []) []
 
@@ -57,15 +57,11 @@ field_pairs structs row field =
     unless (field_checks structs row field)
     (pairs_from (row_at (rows_of structs) row).lifetimes 0 (field_at (rows_of structs) row field).path)
 
--- What the call answers: how many pairs stand in the first places, none if there is no pair, or a refusal. Other places
--- hold pairs of 0
+-- What the call answers, where it is not refused: none if there is no pair; else how many there are, which stand in the
+-- first places. Other places hold pairs of 0
 abbrev pub placed : List FieldPair → List FieldPair
 placed pairs = pairs ++ replicate (most_list - length pairs) (field_pair 0 0)
 
-abbrev pub given_pairs : List FieldPair → FieldLifetimes
-given_pairs [] = record { answer = answer.Absent; pairs = placed [] }
-given_pairs (p ∷ ps) = record { answer = answer.Pairs (length (p ∷ ps)); pairs = placed (p ∷ ps) }
-
-abbrev pub field_answer : Outcome (List FieldPair) → FieldLifetimes
-field_answer (Ok pairs) = given_pairs pairs
-field_answer (Err r) = record { answer = answer.Refused r; pairs = placed [] }
+abbrev pub given_pairs : List FieldPair → Option FieldLifetimes
+given_pairs [] = None
+given_pairs (p ∷ ps) = Some (record { count = length (p ∷ ps); pairs = placed (p ∷ ps) })

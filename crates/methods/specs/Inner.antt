@@ -1,24 +1,23 @@
 -- For private functions only: what a pass over types says, and what is held of the rows. No public contract cites this
 -- file.
-use Rattle.std.specs.Prelude.{ℕ, ◌+◌, ◌≤◌, ◌<◌, Bool, true, false, not, ◌≡◌, eqb, length, get_or, take, drop, Ok, Err, Some, None, Option}
+use Rattle.std.specs.Prelude.{ℕ, ◌+◌, ◌≤◌, ◌<◌, Bool, true, false, not, ◌≡◌, eqb, length, get_or, take, drop}
+use Rattle.std.specs.Prelude.{Ok, Err, Some, None, Option}
 use mathlib.Core.List.{List, [], ◌∷◌, flat_map}
 use Rattle.answers.specs.declared.Refusal.TheVariants.{Mismatch}
 use Rattle.records.specs.Reading.{Read, most_list}
 use Rattle.answers.specs.Lent.{judged}
+use Rattle.hir_types.specs.declared.shapes.Shape.{Shape}
+use Rattle.hir_types.specs.declared.types.Parts.{Parts}
 use Rattle.hir_types.specs.declared.types.Kind.{Kind}
 use Rattle.hir_types.specs.declared.types.Kind.TheVariants.{Plain, Opaque, Struct, Slice}
 use Rattle.hir_types.specs.LoweredTypes.{LoweredType, lifetimes_of}
 use Rattle.hir_types.specs.Rows.{Row, read_known, read_types, read_row, rows_of, structs_in_shape, params_in_shape}
+use Rattle.lifetimes.specs.declared.lifetime.Lifetime.{Lifetime}
 use Rattle.lifetimes.specs.declared.maybe_static.MaybeStatic.{MaybeStatic}
-use Rattle.lifetimes.specs.declared.env.LifetimeEnv.{LifetimeEnv}
-use Rattle.lifetimes.specs.Sets.{insert_all, set_of}
-use Rattle.methods.specs.declared.method.Judged.{Judged}
+use Rattle.lifetimes.specs.Sets.{insert_all}
 use Rattle.methods.specs.Method.{row_at, type_checks, row_checks, param_checks, types_in, any_past, most_rows}
-use Rattle.methods.specs.Method.{method_checks}
 use Rattle.methods.specs.Fields.{field_at, is_struct}
-use Rattle.methods.specs.Used.{numbers_of, output_numbers}
-use Rattle.methods.specs.declared.fields.Field.{Field}
-use Rattle.methods.specs.declared.fields.Field.TheVariants as a_field
+use Rattle.methods.specs.Used.{numbers_of}
 use Rattle.answers.specs.Refusals.{Verdict}
 
 -- the lifetimes of the first rows, by number
@@ -69,14 +68,10 @@ pub record Indexes (structs lifetimes : List ℕ) (r : Verdict) : Type 0 where
   pub holding : r ≡ Ok (tt {0}) → Holding (rows_of structs) (length (rows_of structs)) lifetimes
 
 -- the set with the numbers of some lifetimes put in, if none is past the count
-pub data CollectIs (count set : ℕ) (l : List MaybeStatic) : Option ℕ → Type 0 where
+pub data CollectIs (count set : ℕ) (l : List (MaybeStatic Lifetime)) : Option ℕ → Type 0 where
   within : {more : ℕ} → any_past count l ≡ false → more ≡ insert_all set (numbers_of l)
       → CollectIs count set l (Some more)
   past : any_past count l ≡ true → CollectIs count set l None
-
--- so many words from a place on are there, if any
-abbrev pub PathThere : ℕ → ℕ → ℕ → Type 0
-PathThere size from n = (i : ℕ) → i < n → from + i < size
 
 -- the lifetimes of so many types from a place on
 abbrev pub TypesCollect : List ℕ → ℕ → ℕ → ℕ → ℕ → Option ℕ → Type 0
@@ -92,31 +87,32 @@ ParamsFit params count lifetimes r =
     → r ≡ judged (param_checks rows 0 types)
 
 -- records in shape, and how much stands in them
-pub record InShape (structs params output : List ℕ) (rows inputs outputs : ℕ) : Type 0 where
+pub record InShape (structs params output : List ℕ) (shape : Shape) : Type 0 where
   pub structs_shape : structs_in_shape structs ≡ true
   pub params_shape : params_in_shape (length (rows_of structs)) params ≡ true
   pub output_shape : params_in_shape (length (rows_of structs)) output ≡ true
-  pub row_count : rows ≡ length (rows_of structs)
-  pub input_count : inputs ≡ length (types_in structs params)
-  pub output_count : outputs ≡ length (types_in structs output)
-
--- a method that was judged: the verdict; accepted, the lifetimes of its output
-pub record JudgesMethod (env : LifetimeEnv) (structs params output force : List ℕ) (r : Judged) : Type 0 where
-  pub verdict : r.verdict ≡ judged (method_checks env structs params output force)
-  pub used : r.verdict ≡ Ok (tt {0}) → r.used ≡ set_of (output_numbers structs output)
+  pub row_count : shape.rows ≡ length (rows_of structs)
+  pub input_count : shape.params ≡ length (types_in structs params)
+  pub output_count : shape.outputs ≡ length (types_in structs output)
 
 -- `compute_for_struct_field`
 
--- the place behind so many types that stand from a place on
-abbrev pub TypesSkip : List ℕ → ℕ → ℕ → ℕ → Type 0
-TypesSkip words from count r = (n : ℕ) (types : List LoweredType) (rest : List ℕ)
-    → read_types n count (drop from words) ≡ Read types rest → drop r words ≡ rest
+-- where a row stands that is there
+pub data RowIs (structs : List ℕ) (row : ℕ) : Option ℕ → Type 0 where
+  row_is : {place : ℕ} → RowStands structs row place → RowIs structs row (Some place)
 
--- the field asked for: it is a struct, its row stands before the row asked for, and its words stand there; or it is
--- none
-pub data FieldIs (structs : List ℕ) (row field : ℕ) : Field → Type 0 where
-  struct : {inner from count : ℕ} → (field_at (rows_of structs) row field).kind ≡ Struct inner → inner < row
+-- the place behind so many types that stand from a place on
+pub data SkipTo (words rest : List ℕ) : Option ℕ → Type 0 where
+  skip_to : {place : ℕ} → drop place words ≡ rest → SkipTo words rest (Some place)
+
+abbrev pub TypesSkip : List ℕ → ℕ → ℕ → Option ℕ → Type 0
+TypesSkip words from count r = (n : ℕ) (types : List LoweredType) (rest : List ℕ)
+    → read_types n count (drop from words) ≡ Read types rest → SkipTo words rest r
+
+-- the field asked for: it is a struct, and its words stand there; or it is none
+pub data FieldIs (structs : List ℕ) (row field : ℕ) : Option Parts → Type 0 where
+  struct : {p : Parts} → is_struct (field_at (rows_of structs) row field).kind ≡ true
       → length (field_at (rows_of structs) row field).path ≤ most_list
-      → take count (drop from structs) ≡ (field_at (rows_of structs) row field).path
-      → FieldIs structs row field (a_field.Struct inner from count)
-  other : is_struct (field_at (rows_of structs) row field).kind ≡ false → FieldIs structs row field a_field.Missing
+      → take p.count (drop p.from structs) ≡ (field_at (rows_of structs) row field).path
+      → FieldIs structs row field (Some p)
+  other : is_struct (field_at (rows_of structs) row field).kind ≡ false → FieldIs structs row field None

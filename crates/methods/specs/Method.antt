@@ -3,6 +3,7 @@
 use Rattle.std.specs.Prelude.{ℕ, Bool, false, not, ◌&&◌, eqb, leb, length, get_or}
 use mathlib.Core.List.{List, [], ◌∷◌, ◌++◌, map, flat_map}
 use Rattle.answers.specs.declared.Refusal.TheVariants.{Malformed, Full, Mismatch, OutOfRange}
+use Rattle.lifetimes.specs.declared.lifetime.Lifetime.{Lifetime}
 use Rattle.lifetimes.specs.declared.maybe_static.MaybeStatic.{MaybeStatic}
 use Rattle.lifetimes.specs.declared.maybe_static.MaybeStatic.TheVariants.{Static, NonStatic}
 use Rattle.lifetimes.specs.declared.env.LifetimeEnv.{LifetimeEnv}
@@ -76,14 +77,14 @@ structs_and_params_verdict structs params = judged (structs_and_params_checks st
 
 -- The output's lifetimes: none is past the count (8)
 
-abbrev pub output_lifetimes : List ℕ → List ℕ → List MaybeStatic
+abbrev pub output_lifetimes : List ℕ → List ℕ → List (MaybeStatic Lifetime)
 output_lifetimes structs output = flat_map lifetimes_of (types_in structs output)
 
-abbrev pub is_past : ℕ → MaybeStatic → Bool
+abbrev pub is_past : ℕ → MaybeStatic Lifetime → Bool
 is_past count Static = false
 is_past count (NonStatic l) = leb count l.0
 
-abbrev pub any_past : ℕ → List MaybeStatic → Bool
+abbrev pub any_past : ℕ → List (MaybeStatic Lifetime) → Bool
 any_past count ms = any (is_past count) ms
 
 -- First 1 over the four records, then 13. The limits of the environment (4) stand where its records would; its ranges

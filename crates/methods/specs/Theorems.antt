@@ -4,7 +4,6 @@ use Rattle.std.specs.Prelude.{ℕ, ◌≤◌, ◌<◌, true, false, ◌≡◌, �
 use mathlib.Core.List.{List, Memᴰ, Pairwise}
 use Rattle.answers.specs.declared.Refusal.TheVariants.{Malformed, Retired}
 use Rattle.lifetimes.specs.declared.maybe_static.MaybeStatic.TheVariants.{NonStatic}
-use Rattle.lifetimes.specs.declared.maybe_static.MaybeStaticDef.TheVariants as definition
 use Rattle.lifetimes.specs.declared.env.LifetimeEnv.{LifetimeEnv}
 use Rattle.lifetimes.specs.Numbers.{lifetime, def_lifetime}
 use Rattle.lifetimes.specs.LoweredWords.{def_from_word}
@@ -42,7 +41,7 @@ PairsByDef p q = p.def.0 < q.def.0
 -- the pairs of a field with these path words in a row with so many lifetimes
 pub record FieldFilled (declared : ℕ) (path : List ℕ) (pairs : List FieldPair) : Type 0 where
   pub members : (j k : ℕ) → Memᴰ (field_pair j k) pairs
-      ↔ ((j < length path) × (def_from_word (get_or path j 0) ≡ definition.NonStatic (def_lifetime k)) × (k < declared))
+      ↔ ((j < length path) × (def_from_word (get_or path j 0) ≡ NonStatic (def_lifetime k)) × (k < declared))
   pub ascending : Pairwise PairsByDef pairs
 
 -- `compute_for_struct_field` (01: "for one struct-typed field, under code 4 or not, ascending, each lifetime of the

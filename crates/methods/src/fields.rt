@@ -1,15 +1,15 @@
 // The lifetimes of a struct-typed field: which of the outer definition's fills which of the field's.
-ghost use Rattle.std.specs.Prelude.{◌≡◌, true, [], ◌≤◌, ◌<◌, length};
-ghost use Rattle.answers.specs.Lent.{held};
-ghost use Rattle.hir_types.specs.Rows.{rows_of, structs_in_shape};
-ghost use Rattle.methods.specs.Fields.{pairs_from, placed, given_pairs, field_pairs, field_answer};
-ghost use Rattle.methods.specs.Inner.{RowStands, TypesSkip, FieldIs};
+ghost use Rattle.std.specs.Prelude.{◌≡◌, true, ◌≤◌, ◌<◌, length};
+ghost use Rattle.answers.specs.Refusals.{over};
 ghost use Rattle.records.specs.Reading.{most_list};
+ghost use Rattle.hir_types.specs.Rows.{rows_of, structs_in_shape};
+ghost use Rattle.methods.specs.Fields.{pairs_from, given_pairs, field_pairs};
+ghost use Rattle.methods.specs.Inner.{RowIs, TypesSkip, FieldIs};
 
 use super::fits::{MAX_ROWS, index_rows};
 use answers::Refusal;
-use hir_types::{Kind, path_words, structs_shape, type_at};
-use lifetimes::{DefLifetime, LinkedPair, MaybeStaticDef, linked_pair};
+use hir_types::{Kind, Parts, path_words, structs_shape, type_at};
+use lifetimes::{DefLifetime, MaybeStatic};
 use records::MAX_LIST;
 
 // A lifetime of a field's definition, and the lifetime of the outer definition that fills it.
@@ -19,68 +19,36 @@ pub struct FieldPair {
     pub outer: DefLifetime,
 }
 
-// How many pairs there are, that there is none, or why the call is refused.
-#[derive(Clone, Copy)]
-pub enum FieldAnswer {
-    Pairs(usize),
-    Absent,
-    Refused(Refusal),
-}
-
-// The answer, and the pairs in the first places, ascending by the field's lifetime.
+// How many pairs there are, and the pairs in the first places, ascending by the field's lifetime; the other places hold
+// pairs of 0. An array of fixed length beside a count, since there is no heap here.
 #[derive(Clone, Copy)]
 pub struct FieldLifetimes {
-    pub answer: FieldAnswer,
+    pub count: usize,
     pub pairs: [FieldPair; MAX_LIST],
 }
 
-// A struct-typed field: the row that it names, and where its path words start and how many they are. Missing where
-// there is no such field.
-#[derive(Clone, Copy)]
-enum Field {
-    Struct {
-        row: usize,
-        from: usize,
-        count: usize,
-    },
-    Missing,
-}
-
-// The pairs of one struct-typed field of a row, under an option or not. Refused by 1 over the record, for a row or
-// field that is not there and for a field of another type; then by 4 and 7 as the rows are. Reads the record three
-// times. In the Rust it is of `StructBorrowInfo`, in methods/borrowing_param.rs.
-pub fn compute_for_struct_field(structs: &[usize], row: usize, field: usize) -> FieldLifetimes
-    ensures answer { result ≡ field_answer (field_pairs structs.now row field) }
+// The pairs of one struct-typed field of a row, under an option or not; none if there is no pair. Refused by 1 over the
+// record, for a row or field that is not there and for a field of another type; then by 4 and 7 as the rows are. Reads
+// the record three times. In the Rust it is of `StructBorrowInfo`, in methods/borrowing_param.rs.
+pub fn compute_for_struct_field(
+    structs: &[usize],
+    row: usize,
+    field: usize,
+) -> Result<Option<FieldLifetimes>, Refusal>
+    ensures answer { result ≡ over given_pairs (field_pairs structs.now row field) }
 {
-    let shape = structs_shape(structs);
-    let Ok(rows) = shape else {
-        return refused(Refusal::Malformed);
-    };
-    let found = field_at(structs, rows, row, field);
-    let Field::Struct {
-        row: inner,
-        from,
-        count,
-    } = found
-    else {
-        return refused(Refusal::Malformed);
-    };
+    let rows = structs_shape(structs)?;
+    let parts = field_at(structs, rows, row, field).ok_or(Refusal::Malformed)?;
     let mut lifetimes = [0usize; MAX_ROWS];
-    let verdict = index_rows(structs, rows, &mut lifetimes);
-    match verdict {
-        Err(refusal) => refused(refusal),
-        Ok(()) => {
-            let declared = lifetimes[row];
-            let linked = lifetimes[inner];
-            let path = path_words(structs, from, count);
-            pairs_of(path, linked, declared)
-        }
-    }
+    index_rows(structs, rows, &mut lifetimes)?;
+    let path = path_words(structs, parts.from, parts.count);
+    Ok(pairs_of(path, lifetimes[row]))
 }
 
-// The pairs of a field's path words, which are as many as the lifetimes of the field's own definition: so they link.
-fn pairs_of(path: &[usize], count: usize, declared: usize) -> FieldLifetimes
-    requires { (length path.now ≡ count) × (count ≤ most_list) }
+// The pairs of a field's path words: the word at a place fills the lifetime of the field's own definition with that
+// number. They are as many as its lifetimes, so that each place has one.
+fn pairs_of(path: &[usize], declared: usize) -> Option<FieldLifetimes>
+    requires { length path.now ≤ most_list }
     ensures { result ≡ given_pairs (pairs_from declared 0 path.now) }
 {
     let none = FieldPair {
@@ -88,111 +56,64 @@ fn pairs_of(path: &[usize], count: usize, declared: usize) -> FieldLifetimes
         outer: DefLifetime::new(0),
     };
     let mut pairs = [none; MAX_LIST];
-    let mut n = 0;
-    let mut i = 0;
-    while i < count {
-        let at = i;
-        i += 1;
-        let linked = linked_pair(path, count, at);
-        let LinkedPair::Pair(word, def) = linked else {
+    let mut count = 0;
+    for (i, word) in path.iter().enumerate() {
+        let lifetime = MaybeStatic::<DefLifetime>::from_word(*word);
+        let MaybeStatic::NonStatic(outer) = lifetime else {
             continue;
         };
-        let lifetime = MaybeStaticDef::from_word(word);
-        let MaybeStaticDef::NonStatic(outer) = lifetime else {
-            continue;
-        };
-        if declared <= outer.index() {
-            continue;
+        if outer.index() < declared {
+            let def = DefLifetime::new(i);
+            pairs[count] = FieldPair { def, outer };
+            count += 1;
         }
-        pairs[n] = FieldPair { def, outer };
-        n += 1;
     }
-    if n == 0 {
-        return FieldLifetimes {
-            answer: FieldAnswer::Absent,
-            pairs,
-        };
+    if count == 0 {
+        return None;
     }
-    FieldLifetimes {
-        answer: FieldAnswer::Pairs(n),
-        pairs,
-    }
-}
-
-// A refusal, beside pairs of 0.
-fn refused(refusal: Refusal) -> FieldLifetimes
-    ensures { result ≡ record { answer = FieldAnswer.Refused refusal; pairs = placed [] } }
-{
-    let none = FieldPair {
-        def: DefLifetime::new(0),
-        outer: DefLifetime::new(0),
-    };
-    let pairs = [none; MAX_LIST];
-    FieldLifetimes {
-        answer: FieldAnswer::Refused(refusal),
-        pairs,
-    }
+    Some(FieldLifetimes { count, pairs })
 }
 
 // The field with a number of the row with a number, if it is there and is a struct.
-fn field_at(structs: &[usize], rows: usize, row: usize, field: usize) -> Field
+fn field_at(structs: &[usize], rows: usize, row: usize, field: usize) -> Option<Parts>
     requires { (structs_in_shape structs.now ≡ true) × (length (rows_of structs.now) ≡ rows) }
     ensures { FieldIs structs.now row field result }
 {
     if rows <= row {
-        return Field::Missing;
+        return None;
     }
-    let place = row_place(structs, row);
-    let count = structs[place + 1];
-    if count <= field {
-        return Field::Missing;
+    let place = row_place(structs, row)?;
+    if structs[place + 1] <= field {
+        return None;
     }
-    let at = skip_types(structs, place + 2, field);
-    let found = type_at(structs, at);
-    let Some(parts) = found else {
-        return Field::Missing;
-    };
-    let kind = parts.kind;
-    match kind {
-        Kind::Struct(inner) => Field::Struct {
-            row: inner,
-            from: parts.from,
-            count: parts.count,
-        },
-        Kind::Plain => Field::Missing,
-        Kind::Opaque => Field::Missing,
-        Kind::Slice => Field::Missing,
+    let at = skip_types(structs, place + 2, field)?;
+    let parts = type_at(structs, at)?;
+    match parts.kind {
+        Kind::Struct(_) => Some(parts),
+        Kind::Plain | Kind::Opaque | Kind::Slice => None,
     }
 }
 
 // Where the row with a number stands.
-fn row_place(structs: &[usize], row: usize) -> usize
+fn row_place(structs: &[usize], row: usize) -> Option<usize>
     requires { (structs_in_shape structs.now ≡ true) × (row < length (rows_of structs.now)) }
-    ensures { RowStands structs.now row result }
+    ensures { RowIs structs.now row result }
 {
     let mut at = 0;
-    let mut number = 0;
-    while number < row {
-        let fields = structs[at + 1];
-        at = skip_types(structs, at + 2, fields);
-        number += 1;
+    for _number in 0..row {
+        at = skip_types(structs, at + 2, structs[at + 1])?;
     }
-    at
+    Some(at)
 }
 
 // The place behind so many types.
-fn skip_types(words: &[usize], from: usize, count: usize) -> usize
+fn skip_types(words: &[usize], from: usize, count: usize) -> Option<usize>
     ensures { TypesSkip words.now from count result }
 {
     let mut at = from;
-    let mut i = 0;
-    while i < count {
-        let found = type_at(words, at);
-        let Some(parts) = found else {
-            return at;
-        };
+    for _i in 0..count {
+        let parts = type_at(words, at)?;
         at = parts.next;
-        i += 1;
     }
-    at
+    Some(at)
 }

@@ -1,11 +1,12 @@
 // The lifetimes that a method uses.
 ghost use Rattle.std.specs.Prelude.{◌≡◌};
-ghost use Rattle.methods.specs.Used.{used_set, used_answer};
-ghost use Rattle.answers.specs.Lent.{held};
+ghost use Rattle.methods.specs.Used.{used_set};
 
-use super::method::judge;
+use super::fits::judge_places;
+use super::output::collect_types;
 use answers::Refusal;
-use lifetimes::LifetimeEnv;
+use hir_types::method_shape;
+use lifetimes::{Bounds, LifetimeEnv};
 
 // The lifetimes that a method uses: those of its output that are not static, at most 34. Refused as the method is (1,
 // 13, 4, 7, 8): `force` is one of its records. Reads each row once.
@@ -16,12 +17,15 @@ pub fn used_method_lifetimes(
     output: &[usize],
     force: &[usize],
 ) -> Result<u64, Refusal>
-    ensures answer { result ≡ used_answer (used_set env structs.now params.now output.now force.now) }
+    ensures answer { result ≡ used_set env structs.now params.now output.now force.now }
 {
-    let judged = judge(env, structs, params, output, force);
-    let verdict = judged.verdict;
-    match verdict {
-        Err(refusal) => Err(refusal),
-        Ok(()) => Ok(judged.used),
+    let shape = method_shape(structs, params, output, force)?;
+    let count = env.count;
+    let pushed = env.bounds.pushed;
+    if LifetimeEnv::MAX_LIFETIMES < count || Bounds::MAX < pushed {
+        return Err(Refusal::Full);
     }
+    judge_places(structs, params, output, shape)?;
+    env.check()?;
+    collect_types(output, shape.outputs, count).ok_or(Refusal::OutOfRange)
 }

@@ -3,7 +3,7 @@ use Prim.Native.Nat.{ℕ, ◌+◌, ◌≤◌, ◌<◌}
 use mathlib.Core.Bool.{Bool, true, false, cond, ◌&&◌}
 use mathlib.Core.Path.{◌≡◌, refl, sym, ◌∙◌}
 use mathlib.Core.List.{List, [], ◌∷◌}
-use mathlib.Core.Option.{none, some}
+use Rattle.std.specs.Prelude.{None, Some}
 use native.Mathlib.Numerals.{add-one}
 use native.Mathlib.Omega.{arith}
 use borrow.Author.Tests.{eq-eqb, ne_eqb, eqb-true, eqb-false}
@@ -13,13 +13,13 @@ use lib.Seq.{drop-cons}
 use Rattle.sheet.specs.Reading.{strip_prefix}
 
 -- too few bytes
-pub behind_short : (prefix bytes : List ℕ) → length bytes < length prefix → strip_prefix prefix bytes ≡ none
+pub behind_short : (prefix bytes : List ℕ) → length bytes < length prefix → strip_prefix prefix bytes ≡ None
 unfolding strip_prefix
 behind_short [] bytes h = absurd (omega arith)
 behind_short (p ∷ prefix) [] h = refl
 behind_short (p ∷ prefix) (b ∷ bytes) h = go (eqb p b) (behind_short prefix bytes (omega arith))
   where
-    go : (t : Bool) → strip_prefix prefix bytes ≡ none → cond t (strip_prefix prefix bytes) none ≡ none
+    go : (t : Bool) → strip_prefix prefix bytes ≡ None → cond t (strip_prefix prefix bytes) None ≡ None
     go true e = e
     go false e = refl
 
@@ -33,12 +33,12 @@ pub matching_start : (prefix bytes : List ℕ) → length prefix ≤ length byte
 matching_start prefix bytes h = record { rest = refl; here = omega arith; long = h }
 
 module _ {prefix bytes : List ℕ} {i : ℕ} (inv : Matching prefix bytes i) where
-  pub matching_end : length prefix ≤ i → strip_prefix prefix bytes ≡ some (drop i bytes)
+  pub matching_end : length prefix ≤ i → strip_prefix prefix bytes ≡ Some (drop i bytes)
   unfolding strip_prefix
   matching_end h = inv.rest ∙ rw (drop_of_length-le prefix {i = i} h)
 
   module _ (h : i < length prefix) where
-    pub matching_not : (get_or bytes i 0 ≡ get_or prefix i 0 → ⊥) → strip_prefix prefix bytes ≡ none
+    pub matching_not : (get_or bytes i 0 ≡ get_or prefix i 0 → ⊥) → strip_prefix prefix bytes ≡ None
     unfolding strip_prefix
     matching_not n =
         inv.rest
@@ -65,7 +65,7 @@ module _ {prefix bytes : List ℕ} {i : ℕ} (inv : Matching prefix bytes i) whe
 -- and what a comparison of all bytes knows: so far they are the same, and then what is left decides; or one differed
 abbrev pub Comparing : Bool → List ℕ → List ℕ → ℕ → Type 0
 Comparing true prefix bytes i = Matching prefix bytes i
-Comparing false prefix bytes i = (strip_prefix prefix bytes ≡ none) × (i ≤ length prefix) × (length prefix ≤ length bytes)
+Comparing false prefix bytes i = (strip_prefix prefix bytes ≡ None) × (i ≤ length prefix) × (length prefix ≤ length bytes)
 
 module _ (prefix bytes : List ℕ) (i : ℕ) where
   pub comparing_here : (same : Bool) → Comparing same prefix bytes i → (i ≤ length prefix) × (length prefix ≤ length bytes)
@@ -82,6 +82,6 @@ module _ (prefix bytes : List ℕ) (i : ℕ) where
       go false q = rw (e, q) (matching_not inv h (eqb-false (get_or bytes i 0) (get_or prefix i 0) q), omega arith, inv.long)
 
   pub comparing_end : (same : Bool) → Comparing same prefix bytes i → length prefix ≤ i
-      → strip_prefix prefix bytes ≡ cond same (some (drop i bytes)) none
+      → strip_prefix prefix bytes ≡ cond same (Some (drop i bytes)) None
   comparing_end true inv h = matching_end inv h
   comparing_end false inv h = inv.0

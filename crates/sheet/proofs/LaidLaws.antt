@@ -9,14 +9,16 @@ use native.Mathlib.Omega.{arith}
 use borrow.Author.Tests.{lt-ltb, le-ltb, le-leb, lt-leb}
 use lib.Dec.{leb}
 use lib.ListN.{length, get_or, take, drop, length-append}
-use lib.Seq.{sets, slice, take-append_seam}
+use lib.Seq.{sets, slice, take-append_seam, length-take-le}
 use Rattle.answers.specs.declared.Refusal.{Refusal}
 use Rattle.answers.specs.declared.Refusal.TheVariants.{Malformed, NoRoom}
 use Rattle.answers.specs.Lent as lent
-use Rattle.answers.specs.Lent.{written, is_accepted}
+use Rattle.answers.specs.Lent.{written, verdict_of}
+use Rattle.answers.proofs.LentLaws.{no_room}
+use Rattle.std.specs.Result.{is_ok}
 use Rattle.answers.proofs.Copying.{sets_front}
 use Rattle.answers.specs.Refusals.{unless, NoneDue, Outcome, Verdict}
-use Rattle.answers.proofs.RefusalLaws.{due_given}
+use Rattle.answers.proofs.RefusalLaws.{due_given, due_refused}
 use Rattle.records.specs.Reading.{shape_verdict}
 use Rattle.records.specs.Copied.{copied}
 use Rattle.records.proofs.CopyLaws.{copied_stores, copied_all, copied_none}
@@ -26,11 +28,11 @@ use Rattle.elision.specs.Steps.{self_in_shape, steps_in_shape}
 use Rattle.hir_types.specs.declared.shapes.Shape.{Shape}
 use Rattle.hir_types.specs.Rows.{method_in_shape, method_shape, checks_verdict}
 use Rattle.hir_types.proofs.ShapeLaws.{shape_verdict_lem}
-use Rattle.sheet.specs.Text.{Records, ten_records, lists, words_of}
+use Rattle.sheet.specs.Text.{Records, lists, words_of}
 use Rattle.sheet.specs.declared.reading.Text.{Text}
 use Rattle.sheet.specs.Reading.{sheet_of, text_checks, read_text}
 use Rattle.answers.specs.Lists.{ends_from}
-use Rattle.sheet.specs.Answer.{text_answer, start_of, record_words, records_at, measured}
+use Rattle.sheet.specs.Answer.{start_of, record_words, records_at, measured}
 use Rattle.sheet.specs.Shape.{sheet_in_shape, records_verdict, sheet_answer, sheet_words}
 use Rattle.sheet.specs.Inner.{Counted, Roomy}
 use Rattle.sheet.proofs.ReadingLaws.{last_end, list_between, none_due, counted, sheet_short, sheet_wrote}
@@ -132,15 +134,6 @@ module _ {words ends : List ℕ} (l : Laid words ends) where
         laid_record 9 (omega arith),
       )
 
--- ten records, found one by one
-pub ten_found : (words ends : List ℕ) {a b c d e f g h i j : List ℕ}
-    → a ≡ record_words words ends 0 → b ≡ record_words words ends 1 → c ≡ record_words words ends 2
-    → d ≡ record_words words ends 3 → e ≡ record_words words ends 4
-    → f ≡ record_words words ends 5 → g ≡ record_words words ends 6 → h ≡ record_words words ends 7
-    → i ≡ record_words words ends 8 → j ≡ record_words words ends 9
-    → ten_records a b c d e f g h i j ≡ records_at words ends
-ten_found words ends pa pb pc pd pe pf pg ph pi pj = rw (pa, pb, pc, pd, pe, pf, pg, ph, pi, pj)
-
 -- an accepted text in scratch
 module _ {bytes ends : List ℕ} (c : Counted bytes ends) where
   pub counted_end : get_or ends 9 0 ≡ length (words_of (sheet_of bytes))
@@ -176,58 +169,64 @@ roomy_fits bytes roomy n =
 
 -- an accepted text that `scan` left in such scratch: its records stand there, their verdict is the sheet's, and what is
 -- copied from the front are its words
-module _ (bytes scratch : List ℕ) (roomy : Roomy bytes (length scratch)) {j : Text} (m : j ≡ measured bytes)
-    (e : j.verdict ≡ Ok (tt {0}))
+module _ (bytes scratch : List ℕ) (roomy : Roomy bytes (length scratch)) {t : Text} (m : Ok t ≡ measured bytes)
     {scratch₁ : List ℕ} (w : NoneDue (text_checks bytes) → scratch₁ ≡ sets scratch 0 (words_of (sheet_of bytes))) where
-  ends_counted : Counted bytes j.ends
-  ends_counted = counted bytes j m e
+  ends_counted : Counted bytes t.ends
+  ends_counted = counted bytes m
 
-  words_fit : get_or j.ends 9 0 ≤ length scratch
-  words_fit = omega (arith, counted_end ends_counted, roomy_fits bytes roomy (none_due bytes j m e))
+  words_fit : get_or t.ends 9 0 ≤ length scratch
+  words_fit = omega (arith, counted_end ends_counted, roomy_fits bytes roomy (none_due bytes m))
 
-  pub scanned_laid : Laid scratch₁ j.ends
-  scanned_laid = counted_laid ends_counted scratch words_fit (w (none_due bytes j m e))
+  pub scanned_laid : Laid scratch₁ t.ends
+  scanned_laid = counted_laid ends_counted scratch words_fit (w (none_due bytes m))
 
-  pub scanned_shape : {v : Verdict} → v ≡ records_verdict (records_at scratch₁ j.ends) → v ≡ records_verdict (sheet_of bytes)
-  scanned_shape = counted_shape ends_counted scratch words_fit (w (none_due bytes j m e))
+  pub scanned_shape : {v : Verdict} → v ≡ records_verdict (records_at scratch₁ t.ends) → v ≡ records_verdict (sheet_of bytes)
+  scanned_shape = counted_shape ends_counted scratch words_fit (w (none_due bytes m))
 
-  first_words : take (get_or j.ends 9 0) scratch₁ ≡ words_of (sheet_of bytes)
+  first_words : take (get_or t.ends 9 0) scratch₁ ≡ words_of (sheet_of bytes)
   unfolding counted_laid scanned_laid sheet_of
   first_words = rw (counted_end ends_counted, scanned_laid.stored) (take-append_seam (words_of (sheet_of bytes)) _)
 
-  inside : get_or j.ends 9 0 ≤ length scratch₁
+  inside : get_or t.ends 9 0 ≤ length scratch₁
   unfolding counted_laid scanned_laid sheet_of
   inside = rw (scanned_laid.stored, length-append) (omega (arith, counted_end ends_counted))
 
-  module _ {v : Verdict} (shape : v ≡ records_verdict (records_at scratch₁ j.ends)) (right : v ≡ Ok (tt {0}))
-      (words : List ℕ) {words' : List ℕ}
-      (left : words' ≡ written (copied scratch₁ (get_or j.ends 9 0) (length words)) words) {r : Outcome ℕ}
-      (told : r ≡ lent.counted (copied scratch₁ (get_or j.ends 9 0) (length words))) where
-    pub scanned_short : {k : Refusal} → r ≡ Err k → (text_answer (Err NoRoom) ≡ sheet_answer bytes (length words))
-        × (words' ≡ written (sheet_words bytes (length words)) words)
-    scanned_short c =
-        let none = copied_none scratch₁ (get_or j.ends 9 0) words inside left told c in
-        sheet_short bytes words j m e (scanned_shape shape) right {fits = false} (sym (lt-leb _ _ none.0)) none.1 refl
+  -- a copy that is refused is refused by 9
+  short_by : {k : Refusal} (room : ℕ) → Err k ≡ lent.counted (copied scratch₁ (get_or t.ends 9 0) room)
+      → room < get_or t.ends 9 0 → k ≡ NoRoom
+  unfolding copied
+  short_by {k} room told h =
+      let size = length-take-le (get_or t.ends 9 0) scratch₁ inside in
+      let due = due_refused (take (get_or t.ends 9 0) scratch₁)
+      (no_room room (take (get_or t.ends 9 0) scratch₁) {cs = []} (omega (arith, size))) in
+      let same : ◌≡◌ {A = Outcome ℕ} (Err k) (Err NoRoom) = told ∙ ap lent.counted due in
+      cc
 
-    pub scanned_wrote : {n : ℕ} → r ≡ Ok n → (j ≡ sheet_answer bytes (length words))
-        × (words' ≡ written (sheet_words bytes (length words)) words)
-    scanned_wrote c =
-        let fits = copied_all scratch₁ (get_or j.ends 9 0) words inside left told c in
-        sheet_wrote bytes words j m e (scanned_shape shape) right {fits = true} (sym (le-leb _ _ fits))
-        (copied_stores scratch₁ (get_or j.ends 9 0) words inside left fits ∙ ap (λ (l : List ℕ). sets words 0 l) first_words) refl
+  module _ (shape : Ok (tt {0}) ≡ records_verdict (records_at scratch₁ t.ends))
+      (words : List ℕ) {words' : List ℕ}
+      (left : words' ≡ written (copied scratch₁ (get_or t.ends 9 0) (length words)) words) where
+    pub scanned_short : {k : Refusal} → Err k ≡ lent.counted (copied scratch₁ (get_or t.ends 9 0) (length words))
+        → (Err k ≡ sheet_answer bytes (length words)) × (words' ≡ written (sheet_words bytes (length words)) words)
+    scanned_short told =
+        let none = copied_none scratch₁ (get_or t.ends 9 0) words inside left told refl in
+        let a = sheet_short bytes words m (scanned_shape shape) {fits = false} (sym (lt-leb _ _ none.0)) none.1 refl in
+        (ap (λ (r : Refusal). Err r) (short_by (length words) told none.0) ∙ a.0, a.1)
+
+    pub scanned_wrote : {n : ℕ} → Ok n ≡ lent.counted (copied scratch₁ (get_or t.ends 9 0) (length words))
+        → (Ok t ≡ sheet_answer bytes (length words)) × (words' ≡ written (sheet_words bytes (length words)) words)
+    scanned_wrote told =
+        let fits = copied_all scratch₁ (get_or t.ends 9 0) words inside left told refl in
+        sheet_wrote bytes words m (scanned_shape shape) {fits = true} (sym (le-leb _ _ fits))
+        (copied_stores scratch₁ (get_or t.ends 9 0) words inside left fits ∙ ap (λ (l : List ℕ). sets words 0 l) first_words) refl
 
 -- a verdict on a record's shape
-accepted_shape : (t : Bool) → is_accepted (shape_verdict t) ≡ t
-accepted_shape true = refl
-accepted_shape false = refl
-
 pub shape_is : (shape : List ℕ → Bool) (l : List ℕ) {v : Verdict} {t : Bool} → v ≡ shape_verdict (shape l)
-    → t ≡ is_accepted v → t ≡ shape l
-shape_is shape l f g = g ∙ ap is_accepted f ∙ accepted_shape (shape l)
-
--- all of three
-pub all_three : {a b c t u w r s : Bool} → t ≡ a → u ≡ b → w ≡ c → s ≡ u && w → r ≡ t && s → r ≡ a && (b && c)
-all_three e f g h k = k ∙ rw (h, e, f, g)
+    → t ≡ is_ok v → t ≡ shape l
+shape_is shape l f g = g ∙ ap is_ok f ∙ go (shape l)
+  where
+    go : (t : Bool) → is_ok (shape_verdict t) ≡ t
+    go true = refl
+    go false = refl
 
 -- the first refusals of all ten, from those of a method's four
 module _ (r : Records) {t u x : Bool}
@@ -249,10 +248,9 @@ module _ (r : Records) {t u x : Bool}
       go true false k = refl
       go false b k = refl
 
-  pub sheet_judged : x ≡ true → {s : Shape} → s ≡ method_shape r.structs r.params r.output r.force
-      → s.verdict ≡ records_verdict r
-  sheet_judged h k =
-      ap (λ (y : Shape). y.verdict) k ∙ shape_verdict_lem r.structs r.params r.output r.force
+  pub sheet_judged : x ≡ true → verdict_of (method_shape r.structs r.params r.output r.force) ≡ records_verdict r
+  sheet_judged h =
+      shape_verdict_lem r.structs r.params r.output r.force
       ∙ ap (λ (b : Bool). checks_verdict b r.force) (sym (of_parts ∙ go t u (sym g ∙ h)))
     where
       go : (a b : Bool) → (a && b) ≡ true → (a && (b && method)) ≡ method

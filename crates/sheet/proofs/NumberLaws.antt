@@ -4,13 +4,12 @@ use Prim.Native.Nat.{ℕ, ◌+◌, ◌*◌, ◌-◌, ◌≤◌, ◌<◌}
 use mathlib.Core.Bool.{Bool, true, false, cond, ◌&&◌}
 use mathlib.Core.Path.{◌≡◌, refl, sym, ap, ◌∙◌}
 use mathlib.Core.List.{List, [], ◌∷◌}
-use mathlib.Core.Option.{none, some}
+use Rattle.std.specs.Prelude.{None, Option, Some}
 use native.Mathlib.Omega.{arith}
 use borrow.Author.Tests.{ltb-true, ltb-false, leb-true, leb-false, ne_eqb}
 use lib.Dec.{ltb, leb}
 use lib.ListN.{length, get_or, drop, drop_of_length-le}
 use Rattle.text.specs.declared.number.Found.{Found}
-use Rattle.text.specs.declared.number.Found.TheVariants as found
 use Rattle.text.specs.Decimal.{newline, space}
 use Rattle.text.specs.Number.{is_digit, digits_in, behind_digits, value_behind, number_in, found_at}
 use Rattle.text.proofs.NumberLaws.{digit_range, digits_in_lem, no_digits_in, goes_on, goes_no_further, nought_leads}
@@ -23,7 +22,7 @@ use Rattle.sheet.specs.Inner.{read_from}
 
 -- at the end of the bytes
 pub at_end : (bytes : List ℕ) (i : ℕ) → length bytes ≤ i
-    → (read_from WordStart bytes i ≡ none) × ((n : ℕ) → read_from (Behind n) bytes i ≡ none)
+    → (read_from WordStart bytes i ≡ None) × ((n : ℕ) → read_from (Behind n) bytes i ≡ None)
 unfolding read_lines
 at_end bytes i h = (rw (drop_of_length-le bytes {i = i} h), λ n. rw (drop_of_length-le bytes {i = i} h))
 
@@ -31,7 +30,7 @@ at_end bytes i h = (rw (drop_of_length-le bytes {i = i} h), λ n. rw (drop_of_le
 digit_behind : (value b : ℕ) (bytes : List ℕ) → is_digit b ≡ true
     → read_lines most_word (Behind value) (b ∷ bytes)
     ≡ cond (ltb 0 value && leb (value * 10 + (b - 48)) most_word)
-    (read_lines most_word (Behind (value * 10 + (b - 48))) bytes) none
+    (read_lines most_word (Behind (value * 10 + (b - 48))) bytes) None
 unfolding read_lines
 digit_behind value b bytes e =
     let r = digit_range b e in
@@ -42,7 +41,7 @@ pub record ReadsOn (value : ℕ) (bytes : List ℕ) : Type 0 where
   pub goes : goes_on most_word value (digits_in bytes) ≡ true
       → read_lines most_word (Behind value) bytes
       ≡ read_lines most_word (Behind (value_behind value (digits_in bytes))) (behind_digits bytes)
-  pub ends : goes_on most_word value (digits_in bytes) ≡ false → read_lines most_word (Behind value) bytes ≡ none
+  pub ends : goes_on most_word value (digits_in bytes) ≡ false → read_lines most_word (Behind value) bytes ≡ None
 
 no_digit_left : (value : ℕ) (bytes : List ℕ) → value ≤ most_word → digits_in bytes ≡ [] → ReadsOn value bytes
 no_digit_left value bytes h e =
@@ -57,7 +56,7 @@ module _ (value b : ℕ) (bytes : List ℕ) (d : is_digit b ≡ true) where
   abbrev rest : List ℕ
   rest = digits_in bytes
 
-  never : goes_on most_word value (b ∷ rest) ≡ false → read_lines most_word (Behind value) (b ∷ bytes) ≡ none
+  never : goes_on most_word value (b ∷ rest) ≡ false → read_lines most_word (Behind value) (b ∷ bytes) ≡ None
       → ReadsOn value (b ∷ bytes)
   never f e =
       record {
@@ -102,8 +101,8 @@ reads_on value (b ∷ bytes) h = go (is_digit b) refl (reads_on (value * 10 + (b
 
 -- from the start of a word
 number : (b : ℕ) (bytes : List ℕ) → is_digit b ≡ true
-    → (number_in most_word (b ∷ bytes) ≡ none → read_lines most_word (Behind (b - 48)) bytes ≡ none)
-    × ((n : ℕ) → number_in most_word (b ∷ bytes) ≡ some n
+    → (number_in most_word (b ∷ bytes) ≡ None → read_lines most_word (Behind (b - 48)) bytes ≡ None)
+    × ((n : ℕ) → number_in most_word (b ∷ bytes) ≡ Some n
     → read_lines most_word (Behind (b - 48)) bytes ≡ read_lines most_word (Behind n) (behind_digits (b ∷ bytes)))
 number b bytes d = go (goes_on most_word (b - 48) (digits_in bytes)) refl
   where
@@ -113,24 +112,24 @@ number b bytes d = go (goes_on most_word (b - 48) (digits_in bytes)) refl
     on : ReadsOn (b - 48) bytes
     on = reads_on (b - 48) bytes (omega (arith, r.1))
 
-    is : number_in most_word (b ∷ bytes) ≡ cond (goes_on most_word (b - 48) (digits_in bytes)) (some (value_behind (b - 48) (digits_in bytes))) none
+    is : number_in most_word (b ∷ bytes) ≡ cond (goes_on most_word (b - 48) (digits_in bytes)) (Some (value_behind (b - 48) (digits_in bytes))) None
     is = number_in_lem most_word (b ∷ bytes) b (digits_in bytes) (digits_in_lem b bytes d) r.0
 
     go : (t : Bool) → goes_on most_word (b - 48) (digits_in bytes) ≡ t
-        → (number_in most_word (b ∷ bytes) ≡ none → read_lines most_word (Behind (b - 48)) bytes ≡ none)
-        × ((n : ℕ) → number_in most_word (b ∷ bytes) ≡ some n
+        → (number_in most_word (b ∷ bytes) ≡ None → read_lines most_word (Behind (b - 48)) bytes ≡ None)
+        × ((n : ℕ) → number_in most_word (b ∷ bytes) ≡ Some n
         → read_lines most_word (Behind (b - 48)) bytes ≡ read_lines most_word (Behind n) (behind_digits (b ∷ bytes)))
     go true g =
-        let k : number_in most_word (b ∷ bytes) ≡ some (value_behind (b - 48) (digits_in bytes)) = is ∙ rw g in (
+        let k : number_in most_word (b ∷ bytes) ≡ Some (value_behind (b - 48) (digits_in bytes)) = is ∙ rw g in (
           λ e. let z : ◌≡◌ {A = ℕ} 0 1 = cc in absurd (omega arith),
           λ n e. let v : value_behind (b - 48) (digits_in bytes) ≡ n = cc in on.goes g ∙ rw (digits_in_lem b bytes d, v),
         )
     go false g =
-        let k : number_in most_word (b ∷ bytes) ≡ none = is ∙ rw g in
+        let k : number_in most_word (b ∷ bytes) ≡ None = is ∙ rw g in
         (λ e. on.ends g, λ n e. let z : ◌≡◌ {A = ℕ} 0 1 = cc in absurd (omega arith))
 
-starts : (bytes : List ℕ) → (number_in most_word bytes ≡ none → read_lines most_word WordStart bytes ≡ none)
-    × ((n : ℕ) → number_in most_word bytes ≡ some n
+starts : (bytes : List ℕ) → (number_in most_word bytes ≡ None → read_lines most_word WordStart bytes ≡ None)
+    × ((n : ℕ) → number_in most_word bytes ≡ Some n
     → read_lines most_word WordStart bytes ≡ read_lines most_word (Behind n) (behind_digits bytes))
 unfolding read_lines digits_in
 starts [] =
@@ -139,9 +138,9 @@ starts [] =
 starts (b ∷ bytes) = go (is_digit b) refl
   where
     go : (t : Bool) → is_digit b ≡ t
-        → (number_in most_word (b ∷ bytes) ≡ none → cond t (read_lines most_word (Behind (b - 48)) bytes) none ≡ none)
-        × ((n : ℕ) → number_in most_word (b ∷ bytes) ≡ some n
-        → cond t (read_lines most_word (Behind (b - 48)) bytes) none
+        → (number_in most_word (b ∷ bytes) ≡ None → cond t (read_lines most_word (Behind (b - 48)) bytes) None ≡ None)
+        × ((n : ℕ) → number_in most_word (b ∷ bytes) ≡ Some n
+        → cond t (read_lines most_word (Behind (b - 48)) bytes) None
         ≡ read_lines most_word (Behind n) (behind_digits (b ∷ bytes)))
     go true d = number b bytes d
     go false d =
@@ -156,16 +155,16 @@ pub record NumberAt (bytes : List ℕ) (from value at : ℕ) : Type 0 where
   pub stops : at < length bytes → continues most_word value (get_or bytes at 0) ≡ false
 
 -- what `read_number` answers, by its answer
-module _ (bytes : List ℕ) (i : ℕ) {r : Found} (is : r ≡ found_at most_word bytes i) where
-  pub found_number : {value at : ℕ} → r ≡ found.Number value at → NumberAt bytes i value at
-  found_number {value} {at} e =
-      let s = found_stands most_word bytes i (sym is ∙ e) in
+module _ (bytes : List ℕ) (i : ℕ) where
+  pub found_number : {f : Found} → Some f ≡ found_at most_word bytes i → NumberAt bytes i f.value f.at
+  found_number {f} e =
+      let s = found_stands most_word bytes i (sym e) in
       record {
-        reads = (starts (drop i bytes)).1 value s.number ∙ ap (read_lines most_word (Behind value)) s.rest;
+        reads = (starts (drop i bytes)).1 f.value s.number ∙ ap (read_lines most_word (Behind f.value)) s.rest;
         after = s.after;
         inside = s.inside;
         stops = λ h. rw (s.stops h);
       }
 
-  pub found_nothing : r ≡ found.Nothing → read_from WordStart bytes i ≡ none
-  found_nothing e = (starts (drop i bytes)).0 (text.found_nothing most_word bytes i (sym is ∙ e))
+  pub found_nothing : ◌≡◌ {A = Option Found} None (found_at most_word bytes i) → read_from WordStart bytes i ≡ None
+  found_nothing e = (starts (drop i bytes)).0 (text.found_nothing most_word bytes i (sym e))

@@ -6,7 +6,7 @@ use mathlib.Core.Logic.{⊎_elim}
 use mathlib.Core.Path.{◌≡◌, refl, sym, ap, ◌∙◌}
 use mathlib.Core.List.Memᴰ
 use mathlib.Core.List.{List, [], ◌∷◌, ◌++◌, flat_map, flatten, Memᴰ}
-use mathlib.Core.Option.{Option, none, some}
+use Rattle.std.specs.Prelude.{None, Option, Some}
 use native.Mathlib.Omega.{arith}
 use borrow.Author.Tests.{leb-true, leb-false, le-leb, eqb-true}
 use lib.Dec.{leb, eqb}
@@ -45,7 +45,7 @@ lists_of_ten ls h =
     )
 
 -- the bytes that are a sheet are read as it
-pub sheet_in_lem : {bytes : List ℕ} {r : Records} → IsSheet bytes r → sheet_in bytes ≡ some r
+pub sheet_in_lem : {bytes : List ℕ} {r : Records} → IsSheet bytes r → sheet_in bytes ≡ Some r
 unfolding sheet_in lines_behind ten text
 sheet_in_lem {bytes} {r} s =
     rw (
@@ -56,13 +56,13 @@ sheet_in_lem {bytes} {r} s =
     )
 
 -- and what is read is what the bytes are
-pub in_sheet : (bytes : List ℕ) (r : Records) → sheet_in bytes ≡ some r → IsSheet bytes r
+pub in_sheet : (bytes : List ℕ) (r : Records) → sheet_in bytes ≡ Some r → IsSheet bytes r
 unfolding sheet_in lines_behind ten text
 in_sheet bytes r e = size (leb (length bytes) most_bytes) refl e
   where
-    counted : (ls : List (List ℕ)) (rest : List ℕ) → strip_prefix heading bytes ≡ some rest
-        → read_lines most_word LineStart rest ≡ some ls → length bytes ≤ most_bytes
-        → (t : Bool) → eqb (length ls) 10 ≡ t → cond t (some (records_of ls)) none ≡ some r → IsSheet bytes r
+    counted : (ls : List (List ℕ)) (rest : List ℕ) → strip_prefix heading bytes ≡ Some rest
+        → read_lines most_word LineStart rest ≡ Some ls → length bytes ≤ most_bytes
+        → (t : Bool) → eqb (length ls) 10 ≡ t → cond t (Some (records_of ls)) None ≡ Some r → IsSheet bytes r
     counted ls rest b l z true q e =
         let v = lists_of_ten ls (eqb-true (length ls) 10 q) in
         let f : records_of ls ≡ r = cc in
@@ -71,18 +71,18 @@ in_sheet bytes r e = size (leb (length bytes) most_bytes) refl e
         record { spelt = behind_splits heading bytes rest b ∙ rw (s.spells, g); words = λ w m. s.within w (rw g at m); size = z }
     counted ls rest b l z false q e = let z : ◌≡◌ {A = ℕ} 0 1 = cc in absurd (omega arith)
 
-    lined : (rest : List ℕ) (o : Option (List (List ℕ))) → strip_prefix heading bytes ≡ some rest
-        → read_lines most_word LineStart rest ≡ o → length bytes ≤ most_bytes → ten o ≡ some r → IsSheet bytes r
-    lined rest none b l z e = let z : ◌≡◌ {A = ℕ} 0 1 = cc in absurd (omega arith)
-    lined rest (some ls) b l z e = counted ls rest b l z (eqb (length ls) 10) refl e
+    lined : (rest : List ℕ) (o : Option (List (List ℕ))) → strip_prefix heading bytes ≡ Some rest
+        → read_lines most_word LineStart rest ≡ o → length bytes ≤ most_bytes → ten o ≡ Some r → IsSheet bytes r
+    lined rest None b l z e = let z : ◌≡◌ {A = ℕ} 0 1 = cc in absurd (omega arith)
+    lined rest (Some ls) b l z e = counted ls rest b l z (eqb (length ls) 10) refl e
 
-    headed : (o : Option (List ℕ)) → strip_prefix heading bytes ≡ o → length bytes ≤ most_bytes → ten (lines_behind o) ≡ some r
+    headed : (o : Option (List ℕ)) → strip_prefix heading bytes ≡ o → length bytes ≤ most_bytes → ten (lines_behind o) ≡ Some r
         → IsSheet bytes r
-    headed none b z e = let z : ◌≡◌ {A = ℕ} 0 1 = cc in absurd (omega arith)
-    headed (some rest) b z e = lined rest (read_lines most_word LineStart rest) b refl z e
+    headed None b z e = let z : ◌≡◌ {A = ℕ} 0 1 = cc in absurd (omega arith)
+    headed (Some rest) b z e = lined rest (read_lines most_word LineStart rest) b refl z e
 
     size : (t : Bool) → leb (length bytes) most_bytes ≡ t
-        → cond t (ten (lines_behind (strip_prefix heading bytes))) none ≡ some r → IsSheet bytes r
+        → cond t (ten (lines_behind (strip_prefix heading bytes))) None ≡ Some r → IsSheet bytes r
     size true q e = headed (strip_prefix heading bytes) refl (leb-true (length bytes) most_bytes q) e
     size false q e = let z : ◌≡◌ {A = ℕ} 0 1 = cc in absurd (omega arith)
 
@@ -111,13 +111,13 @@ pub read_cases : (bytes : List ℕ) → Read bytes
 unfolding read_text text_checks sheet_of unless
 read_cases bytes = go (sheet_in bytes) refl
   where
-    words : (r : Records) → sheet_in bytes ≡ some r → (t : Bool) → all_short (lists r) ≡ t → Read bytes
+    words : (r : Records) → sheet_in bytes ≡ Some r → (t : Bool) → all_short (lists r) ≡ t → Read bytes
     words r e true f = Few r (rw (e, f)) (in_sheet bytes r e) f
     words r e false f = Many r (rw (e, f)) (in_sheet bytes r e) f
 
     go : (o : Option Records) → sheet_in bytes ≡ o → Read bytes
-    go none e = NoSheet (rw e) (λ r s. let f = sheet_in_lem s in let z : ◌≡◌ {A = ℕ} 0 1 = cc in omega arith)
-    go (some r) e = words r e (all_short (lists r)) refl
+    go None e = NoSheet (rw e) (λ r s. let f = sheet_in_lem s in let z : ◌≡◌ {A = ℕ} 0 1 = cc in omega arith)
+    go (Some r) e = words r e (all_short (lists r)) refl
 
 -- the bytes are one sheet only
 pub one_sheet : {bytes : List ℕ} {r s : Records} → IsSheet bytes r → IsSheet bytes s → r ≡ s

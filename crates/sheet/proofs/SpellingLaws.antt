@@ -6,7 +6,7 @@ use mathlib.Core.Logic.{⊎_elim}
 use mathlib.Core.Path.{◌≡◌, refl, sym, ap, subst, ◌∙◌}
 use mathlib.Core.List.Memᴰ
 use mathlib.Core.List.{List, [], ◌∷◌, ◌++◌, append_assoc, flat_map, flatten, Memᴰ}
-use mathlib.Core.Option.{Option, none, some}
+use Rattle.std.specs.Prelude.{None, Option, Some}
 use native.Mathlib.Omega.{arith}
 use borrow.Author.Tests.{ltb-true, leb-true, eqb-true}
 use lib.Dec.{ltb, leb, eqb}
@@ -98,16 +98,16 @@ module _ {limit : ℕ} {bytes : List ℕ} {ls : List (List ℕ)} where
   }
 
 -- what stands behind a line or a word that was read
-line_before_lem : (l : List ℕ) (o : Option (List (List ℕ))) (ls : List (List ℕ)) → line_before l o ≡ some ls
-    → (r : List (List ℕ)) × (o ≡ some r) × (l ∷ r ≡ ls)
-line_before_lem l none ls e = let z : ◌≡◌ {A = ℕ} 0 1 = cc in absurd (omega arith)
-line_before_lem l (some r) ls e = (r, refl, (cc))
+line_before_lem : (l : List ℕ) (o : Option (List (List ℕ))) (ls : List (List ℕ)) → line_before l o ≡ Some ls
+    → (r : List (List ℕ)) × (o ≡ Some r) × (l ∷ r ≡ ls)
+line_before_lem l None ls e = let z : ◌≡◌ {A = ℕ} 0 1 = cc in absurd (omega arith)
+line_before_lem l (Some r) ls e = (r, refl, (cc))
 
-word_before_lem : (w : ℕ) (o : Option (List (List ℕ))) (ls : List (List ℕ)) → word_before w o ≡ some ls
-    → (l : List ℕ) × (r : List (List ℕ)) × (o ≡ some (l ∷ r)) × ((w ∷ l) ∷ r ≡ ls)
-word_before_lem w none ls e = let z : ◌≡◌ {A = ℕ} 0 1 = cc in absurd (omega arith)
-word_before_lem w (some []) ls e = let z : ◌≡◌ {A = ℕ} 0 1 = cc in absurd (omega arith)
-word_before_lem w (some (l ∷ r)) ls e = (l, r, refl, (cc))
+word_before_lem : (w : ℕ) (o : Option (List (List ℕ))) (ls : List (List ℕ)) → word_before w o ≡ Some ls
+    → (l : List ℕ) × (r : List (List ℕ)) × (o ≡ Some (l ∷ r)) × ((w ∷ l) ∷ r ≡ ls)
+word_before_lem w None ls e = let z : ◌≡◌ {A = ℕ} 0 1 = cc in absurd (omega arith)
+word_before_lem w (Some []) ls e = let z : ◌≡◌ {A = ℕ} 0 1 = cc in absurd (omega arith)
+word_before_lem w (Some (l ∷ r)) ls e = (l, r, refl, (cc))
 
 -- a digit's byte
 digit_of : (b : ℕ) → is_digit b ≡ true → (48 + (b - 48) ≡ b) × (b - 48 < 10)
@@ -121,11 +121,11 @@ digit_of b e =
 module _ {limit : ℕ} (nine : 9 ≤ limit) where
   -- a number starts here
   starts : (t : Bool) (b : ℕ) (bytes : List ℕ) (ls : List (List ℕ))
-      → (b - 48 ≤ limit → read_lines limit (Behind (b - 48)) bytes ≡ some ls → Spelt limit (Behind (b - 48)) bytes ls)
-      → cond (is_digit b) (read_lines limit (Behind (b - 48)) bytes) none ≡ some ls → Spelt limit (start_of t) (b ∷ bytes) ls
+      → (b - 48 ≤ limit → read_lines limit (Behind (b - 48)) bytes ≡ Some ls → Spelt limit (Behind (b - 48)) bytes ls)
+      → cond (is_digit b) (read_lines limit (Behind (b - 48)) bytes) None ≡ Some ls → Spelt limit (start_of t) (b ∷ bytes) ls
   starts t b bytes ls ih e = go (is_digit b) refl e
     where
-      go : (s : Bool) → is_digit b ≡ s → cond s (read_lines limit (Behind (b - 48)) bytes) none ≡ some ls
+      go : (s : Bool) → is_digit b ≡ s → cond s (read_lines limit (Behind (b - 48)) bytes) None ≡ Some ls
           → Spelt limit (start_of t) (b ∷ bytes) ls
       go true d e =
           let v = digit_of b d in
@@ -134,14 +134,14 @@ module _ {limit : ℕ} (nine : 9 ≤ limit) where
 
   -- a number goes on
   goes_on : (n b : ℕ) (bytes : List ℕ) (ls : List (List ℕ))
-      → (n * 10 + (b - 48) ≤ limit → read_lines limit (Behind (n * 10 + (b - 48))) bytes ≡ some ls
+      → (n * 10 + (b - 48) ≤ limit → read_lines limit (Behind (n * 10 + (b - 48))) bytes ≡ Some ls
       → Spelt limit (Behind (n * 10 + (b - 48))) bytes ls)
-      → cond (continues limit n b) (read_lines limit (Behind (n * 10 + (b - 48))) bytes) none ≡ some ls
+      → cond (continues limit n b) (read_lines limit (Behind (n * 10 + (b - 48))) bytes) None ≡ Some ls
       → Spelt limit (Behind n) (b ∷ bytes) ls
   goes_on n b bytes ls ih e = go (continues limit n b) refl e
     where
-      go : (s : Bool) → continues limit n b ≡ s → cond s (read_lines limit (Behind (n * 10 + (b - 48))) bytes) none
-          ≡ some ls → Spelt limit (Behind n) (b ∷ bytes) ls
+      go : (s : Bool) → continues limit n b ≡ s → cond s (read_lines limit (Behind (n * 10 + (b - 48))) bytes) None
+          ≡ Some ls → Spelt limit (Behind n) (b ∷ bytes) ls
       go true c e =
           let p = (and-eq-true_iff (is_digit b) (ltb 0 n && leb (n * 10 + (b - 48)) limit)).0 c in
           let q = (and-eq-true_iff (ltb 0 n) (leb (n * 10 + (b - 48)) limit)).0 p.1 in
@@ -152,29 +152,29 @@ module _ {limit : ℕ} (nine : 9 ≤ limit) where
 
   -- a word ends, and its line
   ends_line : (n : ℕ) (bytes : List ℕ) (ls : List (List ℕ)) → n ≤ limit
-      → ((r : List (List ℕ)) → read_lines limit LineStart bytes ≡ some r → Spelt limit LineStart bytes r)
-      → line_before (n ∷ []) (read_lines limit LineStart bytes) ≡ some ls → Spelt limit (Behind n) (newline ∷ bytes) ls
+      → ((r : List (List ℕ)) → read_lines limit LineStart bytes ≡ Some r → Spelt limit LineStart bytes r)
+      → line_before (n ∷ []) (read_lines limit LineStart bytes) ≡ Some ls → Spelt limit (Behind n) (newline ∷ bytes) ls
   ends_line n bytes ls h ih e =
       let k = line_before_lem (n ∷ []) (read_lines limit LineStart bytes) ls e in
       subst (λ (x : List (List ℕ)). Spelt limit (Behind n) (newline ∷ bytes) x) k.2 (spelt_last h (ih k.0 k.1))
 
   -- a word ends, and another comes
   ends_word : (n : ℕ) (bytes : List ℕ) (ls : List (List ℕ)) → n ≤ limit
-      → ((r : List (List ℕ)) → read_lines limit WordStart bytes ≡ some r → Spelt limit WordStart bytes r)
-      → word_before n (read_lines limit WordStart bytes) ≡ some ls → Spelt limit (Behind n) (space ∷ bytes) ls
+      → ((r : List (List ℕ)) → read_lines limit WordStart bytes ≡ Some r → Spelt limit WordStart bytes r)
+      → word_before n (read_lines limit WordStart bytes) ≡ Some ls → Spelt limit (Behind n) (space ∷ bytes) ls
   ends_word n bytes ls h ih e =
       let k = word_before_lem n (read_lines limit WordStart bytes) ls e in
       subst (λ (x : List (List ℕ)). Spelt limit (Behind n) (space ∷ bytes) x) k.3 (spelt_next k.0 h (ih (k.0 ∷ k.1) k.2))
 
   -- a line is empty
   empty_line : (bytes : List ℕ) (ls : List (List ℕ))
-      → ((r : List (List ℕ)) → read_lines limit LineStart bytes ≡ some r → Spelt limit LineStart bytes r)
-      → line_before [] (read_lines limit LineStart bytes) ≡ some ls → Spelt limit LineStart (newline ∷ bytes) ls
+      → ((r : List (List ℕ)) → read_lines limit LineStart bytes ≡ Some r → Spelt limit LineStart bytes r)
+      → line_before [] (read_lines limit LineStart bytes) ≡ Some ls → Spelt limit LineStart (newline ∷ bytes) ls
   empty_line bytes ls ih e =
       let k = line_before_lem [] (read_lines limit LineStart bytes) ls e in
       subst (λ (x : List (List ℕ)). Spelt limit LineStart (newline ∷ bytes) x) k.2 (spelt_empty (ih k.0 k.1))
 
-  pub read_spelt : (p : Place) (bytes : List ℕ) (ls : List (List ℕ)) → Kept limit p → read_lines limit p bytes ≡ some ls
+  pub read_spelt : (p : Place) (bytes : List ℕ) (ls : List (List ℕ)) → Kept limit p → read_lines limit p bytes ≡ Some ls
       → Spelt limit p bytes ls
   unfolding read_lines
   read_spelt LineStart [] ls h e = let q : [] ≡ ls = cc in
@@ -185,10 +185,10 @@ module _ {limit : ℕ} (nine : 9 ≤ limit) where
       go (eqb b newline) refl (λ r. read_spelt LineStart bytes r tt) (read_spelt (Behind (b - 48)) bytes ls) e
     where
       go : (t : Bool) → eqb b newline ≡ t
-          → ((r : List (List ℕ)) → read_lines limit LineStart bytes ≡ some r → Spelt limit LineStart bytes r)
-          → (b - 48 ≤ limit → read_lines limit (Behind (b - 48)) bytes ≡ some ls → Spelt limit (Behind (b - 48)) bytes ls)
+          → ((r : List (List ℕ)) → read_lines limit LineStart bytes ≡ Some r → Spelt limit LineStart bytes r)
+          → (b - 48 ≤ limit → read_lines limit (Behind (b - 48)) bytes ≡ Some ls → Spelt limit (Behind (b - 48)) bytes ls)
           → cond t (line_before [] (read_lines limit LineStart bytes))
-          (cond (is_digit b) (read_lines limit (Behind (b - 48)) bytes) none) ≡ some ls
+          (cond (is_digit b) (read_lines limit (Behind (b - 48)) bytes) None) ≡ Some ls
           → Spelt limit LineStart (b ∷ bytes) ls
       go true q i j e = rw (eqb-true b newline q) (empty_line bytes ls i e)
       go false q i j e = starts true b bytes ls j e
@@ -198,24 +198,24 @@ module _ {limit : ℕ} (nine : 9 ≤ limit) where
       (read_spelt (Behind (n * 10 + (b - 48))) bytes ls) e
     where
       at_space : (t : Bool) → eqb b space ≡ t
-          → ((r : List (List ℕ)) → read_lines limit WordStart bytes ≡ some r → Spelt limit WordStart bytes r)
-          → (n * 10 + (b - 48) ≤ limit → read_lines limit (Behind (n * 10 + (b - 48))) bytes ≡ some ls
+          → ((r : List (List ℕ)) → read_lines limit WordStart bytes ≡ Some r → Spelt limit WordStart bytes r)
+          → (n * 10 + (b - 48) ≤ limit → read_lines limit (Behind (n * 10 + (b - 48))) bytes ≡ Some ls
           → Spelt limit (Behind (n * 10 + (b - 48))) bytes ls)
           → cond t (word_before n (read_lines limit WordStart bytes))
-          (cond (continues limit n b) (read_lines limit (Behind (n * 10 + (b - 48))) bytes) none) ≡ some ls
+          (cond (continues limit n b) (read_lines limit (Behind (n * 10 + (b - 48))) bytes) None) ≡ Some ls
           → Spelt limit (Behind n) (b ∷ bytes) ls
       at_space true q i j e = rw (eqb-true b space q) (ends_word n bytes ls h i e)
       at_space false q i j e = goes_on n b bytes ls j e
 
       go : (t : Bool) → eqb b newline ≡ t
-          → ((r : List (List ℕ)) → read_lines limit LineStart bytes ≡ some r → Spelt limit LineStart bytes r)
-          → ((r : List (List ℕ)) → read_lines limit WordStart bytes ≡ some r → Spelt limit WordStart bytes r)
-          → (n * 10 + (b - 48) ≤ limit → read_lines limit (Behind (n * 10 + (b - 48))) bytes ≡ some ls
+          → ((r : List (List ℕ)) → read_lines limit LineStart bytes ≡ Some r → Spelt limit LineStart bytes r)
+          → ((r : List (List ℕ)) → read_lines limit WordStart bytes ≡ Some r → Spelt limit WordStart bytes r)
+          → (n * 10 + (b - 48) ≤ limit → read_lines limit (Behind (n * 10 + (b - 48))) bytes ≡ Some ls
           → Spelt limit (Behind (n * 10 + (b - 48))) bytes ls)
           → cond t (line_before (n ∷ []) (read_lines limit LineStart bytes))
           (cond (eqb b space) (word_before n (read_lines limit WordStart bytes))
-          (cond (continues limit n b) (read_lines limit (Behind (n * 10 + (b - 48))) bytes) none))
-          ≡ some ls
+          (cond (continues limit n b) (read_lines limit (Behind (n * 10 + (b - 48))) bytes) None))
+          ≡ Some ls
           → Spelt limit (Behind n) (b ∷ bytes) ls
       go true q i j k e = rw (eqb-true b newline q) (ends_line n bytes ls h i e)
       go false q i j k e = at_space (eqb b space) refl j k e

@@ -4,7 +4,7 @@ use mathlib.Core.Bool.{Bool, true, false, cond}
 use mathlib.Core.Path.{◌≡◌, refl, ap, ◌∙◌}
 use mathlib.Core.List.Memᴰ
 use mathlib.Core.List.{List, [], ◌∷◌, ◌++◌, append_assoc, flat_map, flatten, Memᴰ}
-use mathlib.Core.Option.{Option, none, some}
+use Rattle.std.specs.Prelude.{None, Option, Some}
 use native.Mathlib.Nat.{div-add-mod', mod-lt}
 use native.Mathlib.Omega.{arith}
 use borrow.Author.Tests.{ltb-true, ltb-false, lt-ltb, le-leb, eq-eqb, ne_eqb, eqb-true}
@@ -26,8 +26,8 @@ start_of false = WordStart
 
 -- a word before the words of a line
 pub word_line : (n : ℕ) (l : List ℕ) (o : Option (List (List ℕ))) → word_before n (line_before l o) ≡ line_before (n ∷ l) o
-word_line n l none = refl
-word_line n l (some ls) = refl
+word_line n l None = refl
+word_line n l (Some ls) = refl
 
 module _ (limit : ℕ) where
   -- a first digit, and one more
@@ -105,7 +105,7 @@ module _ (limit : ℕ) where
       ∙ read_following w words bytes (λ v m. h v (Memᴰ.tail m)))
 
   pub read_lines_lem : (ls : List (List ℕ)) → ((w : ℕ) → Memᴰ w (flatten ls) → w ≤ limit)
-      → read_lines limit LineStart (flat_map line ls) ≡ some ls
+      → read_lines limit LineStart (flat_map line ls) ≡ Some ls
   unfolding read_lines flat_map flatten
   read_lines_lem [] h = refl
   read_lines_lem (l ∷ ls) h =
@@ -113,18 +113,18 @@ module _ (limit : ℕ) where
       ∙ rw (read_lines_lem ls (λ w m. h w (Memᴰ.append_right l m)))
 
 -- what stands behind a prefix
-pub behind_append : (prefix bytes : List ℕ) → strip_prefix prefix (prefix ++ bytes) ≡ some bytes
+pub behind_append : (prefix bytes : List ℕ) → strip_prefix prefix (prefix ++ bytes) ≡ Some bytes
 unfolding strip_prefix
 behind_append [] bytes = refl
 behind_append (p ∷ prefix) bytes = rw (eq-eqb p p refl) (behind_append prefix bytes)
 
-pub behind_splits : (prefix bytes rest : List ℕ) → strip_prefix prefix bytes ≡ some rest → bytes ≡ prefix ++ rest
+pub behind_splits : (prefix bytes rest : List ℕ) → strip_prefix prefix bytes ≡ Some rest → bytes ≡ prefix ++ rest
 unfolding strip_prefix
 behind_splits [] bytes rest e = cc
 behind_splits (p ∷ prefix) [] rest e = let z : ◌≡◌ {A = ℕ} 0 1 = cc in absurd (omega arith)
 behind_splits (p ∷ prefix) (b ∷ bytes) rest e = go (eqb p b) refl (behind_splits prefix bytes rest) e
   where
-    go : (t : Bool) → eqb p b ≡ t → (strip_prefix prefix bytes ≡ some rest → bytes ≡ prefix ++ rest)
-        → cond t (strip_prefix prefix bytes) none ≡ some rest → b ∷ bytes ≡ p ∷ prefix ++ rest
+    go : (t : Bool) → eqb p b ≡ t → (strip_prefix prefix bytes ≡ Some rest → bytes ≡ prefix ++ rest)
+        → cond t (strip_prefix prefix bytes) None ≡ Some rest → b ∷ bytes ≡ p ∷ prefix ++ rest
     go true q ih e = let f = ih e in let g = eqb-true p b q in cc
     go false q ih e = let z : ◌≡◌ {A = ℕ} 0 1 = cc in absurd (omega arith)

@@ -2,7 +2,7 @@
 use Prim.Native.Nat.{ℕ, ◌+◌, ◌≤◌, ◌<◌}
 use mathlib.Core.Path.{◌≡◌, refl, sym, ap, ◌∙◌}
 use mathlib.Core.List.{List, [], ◌∷◌, ◌++◌}
-use mathlib.Core.Option.{Option, none}
+use Rattle.std.specs.Prelude.{None, Option}
 use native.Mathlib.Numerals.{add-one}
 use native.Mathlib.Omega.{arith}
 use borrow.Author.Tests.{eq-eqb, ne_eqb}
@@ -20,7 +20,7 @@ abbrev pub words_before : List ℕ → Option (List (List ℕ)) → Option (List
 words_before [] o = o
 words_before (w ∷ ws) o = word_before w (words_before ws o)
 
-pub words_none : (ws : List ℕ) → words_before ws none ≡ none
+pub words_none : (ws : List ℕ) → words_before ws None ≡ None
 words_none [] = refl
 words_none (w ∷ ws) = ap (word_before w) (words_none ws)
 
@@ -90,25 +90,25 @@ module _ {bytes : List ℕ} {from to : ℕ} {words₀ words : List ℕ} {i count
   pub wording_size : length words ≡ length words₀
   wording_size = ap length inv.stored ∙ length-sets words₀ to inv.line
 
-  pub wording_none : read_from WordStart bytes i ≡ none → read_from LineStart bytes from ≡ none
+  pub wording_none : read_from WordStart bytes i ≡ None → read_from LineStart bytes from ≡ None
   wording_none e = inv.reads ∙ ap (words_before inv.line) e ∙ words_none inv.line
 
   module _ {value at : ℕ} (number : NumberAt bytes i value at) where
     reads_on : read_from LineStart bytes from ≡ words_before inv.line (read_from (Behind value) bytes at)
     reads_on = inv.reads ∙ ap (words_before inv.line) number.reads
 
-    bad : read_from (Behind value) bytes at ≡ none → read_from LineStart bytes from ≡ none
+    bad : read_from (Behind value) bytes at ≡ None → read_from LineStart bytes from ≡ None
     bad e = reads_on ∙ ap (words_before inv.line) e ∙ words_none inv.line
 
-    pub wording_cut : length bytes ≤ at → read_from LineStart bytes from ≡ none
+    pub wording_cut : length bytes ≤ at → read_from LineStart bytes from ≡ None
     wording_cut h = bad ((at_end bytes at h).1 value)
 
     module _ (h : at < length bytes) where
-      stuck : (get_or bytes at 0 ≡ newline → ⊥) → (get_or bytes at 0 ≡ space → ⊥) → read_from (Behind value) bytes at ≡ none
+      stuck : (get_or bytes at 0 ≡ newline → ⊥) → (get_or bytes at 0 ≡ space → ⊥) → read_from (Behind value) bytes at ≡ None
       unfolding read_lines
       stuck n s = rw (drop-cons bytes at 0 h, ne_eqb (get_or bytes at 0) newline n, ne_eqb (get_or bytes at 0) space s, number.stops h)
 
-      pub wording_bad : (get_or bytes at 0 ≡ newline → ⊥) → (get_or bytes at 0 ≡ space → ⊥) → read_from LineStart bytes from ≡ none
+      pub wording_bad : (get_or bytes at 0 ≡ newline → ⊥) → (get_or bytes at 0 ≡ space → ⊥) → read_from LineStart bytes from ≡ None
       wording_bad n s = bad (stuck n s)
 
       longer : length (inv.line ++ (value ∷ [])) ≡ length inv.line + 1

@@ -1,9 +1,9 @@
 -- What `read_text` answers: the words of the ten records one after another in the lent slice, and where each record
 -- ends.
-use Rattle.std.specs.Prelude.{ℕ, cond, ◌&&◌, List, [], ◌∷◌, ◌++◌, leb, ltb, length, get_or, replicate}
+use Rattle.std.specs.Prelude.{ℕ, cond, ◌&&◌, List, [], ◌∷◌, ◌++◌, leb, ltb, length, get_or}
 use Rattle.std.proofs.Math.Seq.{slice}
-use Rattle.answers.specs.Refusals.{Check, Outcome, unless}
-use Rattle.answers.specs.Lent.{verdict_of, result_or, room_check}
+use Rattle.answers.specs.Refusals.{Check, Outcome, unless, over}
+use Rattle.answers.specs.Lent.{room_check}
 use Rattle.answers.specs.Lists.{ends_from}
 use Rattle.sheet.specs.declared.reading.Text.{Text}
 use Rattle.sheet.specs.Text.{record_count, Records, ten_records, lists, words_of}
@@ -27,13 +27,16 @@ records_at words ends =
     (record_words words ends 3) (record_words words ends 4) (record_words words ends 5) (record_words words ends 6)
     (record_words words ends 7) (record_words words ends 8) (record_words words ends 9)
 
--- an answer from the ends of the records; beside a refusal all ends are 0
-abbrev pub text_answer : Outcome (List ℕ) → Text
-text_answer o = record { verdict = verdict_of o; ends = result_or (replicate record_count 0) o }
+-- where the records of a text end, as it is answered
+abbrev pub text_with : List ℕ → Text
+text_with ends = record { ends = ends }
+
+abbrev pub text_answer : Outcome (List ℕ) → Outcome Text
+text_answer = over text_with
 
 -- the answer before the slice is looked at
-unfoldable pub measured : List ℕ → Text
-measured bytes = text_answer (unless (text_checks bytes) (ends_from 0 (lists (sheet_of bytes))))
+unfoldable pub measured : List ℕ → Outcome Text
+measured bytes = unless (text_checks bytes) (text_with (ends_from 0 (lists (sheet_of bytes))))
 
 -- some checks, then 9: the slice is too short for the words of all records
 abbrev pub with_room : List Check → ℕ → Records → List Check
@@ -49,5 +52,5 @@ read_words bytes room = unless (read_checks bytes room) (words_of (sheet_of byte
 unfoldable pub read_ends : List ℕ → ℕ → Outcome (List ℕ)
 read_ends bytes room = unless (read_checks bytes room) (ends_from 0 (lists (sheet_of bytes)))
 
-unfoldable pub read_answer : List ℕ → ℕ → Text
+unfoldable pub read_answer : List ℕ → ℕ → Outcome Text
 read_answer bytes room = text_answer (read_ends bytes room)

@@ -1,17 +1,17 @@
 -- Predicates that only private contracts cite: what reading a line and ten lines from a place on says of reading
 -- the rest; room for the words of any sheet.
-use Rattle.std.specs.Prelude.{ℕ, ◌+◌, ◌*◌, ◌≤◌, ◌<◌, Bool, true, false, ◌≡◌, ◌⊎◌, length, drop}
-use mathlib.Core.List.{List, flatten}
-use Rattle.std.proofs.Math.Option.{Option, none, some}
+use Rattle.std.specs.Prelude.{ℕ, ◌+◌, ◌*◌, ◌≤◌, ◌<◌, not, ◌≡◌, ◌⊎◌, eqb, length, drop, Err}
+use mathlib.Core.List.{List, [], ◌∷◌, flatten}
+use Rattle.std.specs.Prelude.{None, Option, Some}
 use Rattle.std.proofs.lemmas.List.Edits.{sets}
-use Rattle.answers.specs.Refusals.{NoneDue}
-use Rattle.sheet.specs.declared.lines.Read.{Read}
-use Rattle.sheet.specs.declared.lines.Read.TheVariants as read
-use Rattle.sheet.specs.declared.lines.Judged.{Judged}
-use Rattle.sheet.specs.declared.lines.Judged.TheVariants as judged
+use Rattle.answers.specs.Refusals.{check, Outcome, unless, NoneDue}
+use Rattle.answers.specs.declared.Refusal.TheVariants.{Malformed, Unreadable}
+use Rattle.sheet.specs.declared.reading.Text.{Text}
+use Rattle.sheet.specs.declared.lines.LineEnd.{LineEnd}
 use Rattle.records.specs.Reading.{most_words}
 use Rattle.sheet.specs.Text.{record_count, lists, most_word}
-use Rattle.sheet.specs.Reading.{Place, LineStart, line_before, read_lines, ten}
+use Rattle.sheet.specs.Answer.{text_with}
+use Rattle.sheet.specs.Reading.{Place, LineStart, line_before, read_lines}
 use Rattle.sheet.specs.Reading.{all_short, sheet_of, text_checks}
 use Rattle.answers.specs.Lists.{ends_from}
 
@@ -30,30 +30,29 @@ pub record LineAt (bytes : List ℕ) (from : ℕ) (words words' : List ℕ) (to 
 
 -- no line stands there: the bytes end before, or they cannot be read
 abbrev pub NoLine : List ℕ → ℕ → Type 0
-NoLine bytes from = (length bytes ≤ from) ⊎ (read_from LineStart bytes from ≡ none)
+NoLine bytes from = (length bytes ≤ from) ⊎ (read_from LineStart bytes from ≡ None)
 
-abbrev pub LineRead : List ℕ → ℕ → List ℕ → List ℕ → ℕ → Read → Type 0
-LineRead bytes from words words' to (read.Words at count) = LineAt bytes from words words' to at count
-LineRead bytes from words words' to read.Nothing = NoLine bytes from
+abbrev pub LineRead : List ℕ → ℕ → List ℕ → List ℕ → ℕ → Option LineEnd → Type 0
+LineRead bytes from words words' to (Some l) = LineAt bytes from words words' to l.at l.count
+LineRead bytes from words words' to None = NoLine bytes from
 
--- the bytes from an index on are ten lines; their words are stored, and where each line ends
-pub record TenAt (bytes : List ℕ) (from : ℕ) (words words' ends : List ℕ) (few : Bool) : Type 0 where
-  pub lines : List (List ℕ)
-  pub reads : read_from LineStart bytes from ≡ some lines
-  pub count : length lines ≡ record_count
-  pub size : all_short lines ≡ few
-  pub stored : words' ≡ sets words 0 (flatten lines)
-  pub placed : ends ≡ ends_from 0 lines
+-- where the words of ten lines end: 10 where these are no lines or not ten, then 1 where one has too many words
+unfoldable pub ten_ends : Option (List (List ℕ)) → Outcome Text
+ten_ends None = Err Unreadable
+ten_ends (Some ls) =
+    unless (check (not (eqb (length ls) record_count)) Unreadable ∷ check (not (all_short ls)) Malformed ∷ [])
+    (text_with (ends_from 0 ls))
 
--- what lines are whose records all have few words, or not
-abbrev pub judged_by : Bool → Judged
-judged_by true = judged.Good
-judged_by false = judged.TooLong
+abbrev pub lines_answer : List ℕ → ℕ → Outcome Text
+lines_answer bytes from = ten_ends (read_from LineStart bytes from)
 
-abbrev pub LinesRead : List ℕ → ℕ → List ℕ → List ℕ → List ℕ → Judged → Type 0
-LinesRead bytes from words words' ends judged.Unreadable = ten (read_from LineStart bytes from) ≡ none
-LinesRead bytes from words words' ends judged.TooLong = TenAt bytes from words words' ends false
-LinesRead bytes from words words' ends judged.Good = TenAt bytes from words words' ends true
+-- the words of ten lines are stored, too many or not; of anything else nothing is said
+abbrev pub TenStored : Option (List (List ℕ)) → List ℕ → List ℕ → Type 0
+TenStored o words words' = (ls : List (List ℕ)) → o ≡ Some ls → length ls ≡ record_count
+    → words' ≡ sets words 0 (flatten ls)
+
+abbrev pub LinesStored : List ℕ → ℕ → List ℕ → List ℕ → Type 0
+LinesStored bytes from words words' = TenStored (read_from LineStart bytes from) words words'
 
 -- an accepted text, and where its records end
 pub record Counted (bytes ends : List ℕ) : Type 0 where

@@ -2,8 +2,8 @@
 -- ReadingIsInverse in specs/Theorems.antt.
 use Rattle.std.specs.Prelude.{ℕ, ◌+◌, ◌*◌, ◌-◌, Bool, true, false, cond, not, ◌&&◌, List, [], ◌∷◌, eqb, ltb}
 use Rattle.std.specs.Prelude.{leb, length, get_or}
-use Rattle.std.proofs.Math.Option
-use Rattle.std.proofs.Math.Option.{Option, none, some}
+use Rattle.std.specs.Prelude.{None, Option, Some}
+use Rattle.std.specs.Option.{unwrap_or}
 use Rattle.answers.specs.declared.Refusal.TheVariants.{Malformed, Unreadable}
 use Rattle.answers.specs.Refusals.{Check, check, Outcome, unless}
 use Rattle.text.specs.Decimal.{newline, space}
@@ -14,9 +14,9 @@ use Rattle.answers.specs.Lists.{all}
 
 -- what follows the bytes of a prefix, where the bytes begin with it
 unfoldable pub strip_prefix : List ℕ → List ℕ → Option (List ℕ)
-strip_prefix [] bytes = some bytes
-strip_prefix (p ∷ prefix) [] = none
-strip_prefix (p ∷ prefix) (b ∷ bytes) = let rest = strip_prefix prefix bytes in cond (eqb p b) rest none
+strip_prefix [] bytes = Some bytes
+strip_prefix (p ∷ prefix) [] = None
+strip_prefix (p ∷ prefix) (b ∷ bytes) = let rest = strip_prefix prefix bytes in cond (eqb p b) rest None
 
 -- where reading stands: at the start of a line, at the start of a word behind a space, or behind the digits of a number
 pub data Place : Type 0 where
@@ -30,33 +30,33 @@ continues limit n b = is_digit b && (ltb 0 n && leb (n * 10 + (b - 48)) limit)
 
 -- a line before other lines, and a word before the words of the first line
 abbrev pub line_before : List ℕ → Option (List (List ℕ)) → Option (List (List ℕ))
-line_before l none = none
-line_before l (some ls) = some (l ∷ ls)
+line_before l None = None
+line_before l (Some ls) = Some (l ∷ ls)
 
 abbrev pub word_before : ℕ → Option (List (List ℕ)) → Option (List (List ℕ))
-word_before w none = none
-word_before w (some []) = none
-word_before w (some (l ∷ ls)) = some ((w ∷ l) ∷ ls)
+word_before w None = None
+word_before w (Some []) = None
+word_before w (Some (l ∷ ls)) = Some ((w ∷ l) ∷ ls)
 
 -- The lines of words that the bytes are, byte by byte; or none. No number grows above the limit (65,535, so that one
 -- digit is always within it).
 unfoldable pub read_lines : ℕ → Place → List ℕ → Option (List (List ℕ))
-read_lines limit LineStart [] = some []
-read_lines limit WordStart [] = none
-read_lines limit (Behind n) [] = none
+read_lines limit LineStart [] = Some []
+read_lines limit WordStart [] = None
+read_lines limit (Behind n) [] = None
 read_lines limit LineStart (b ∷ bytes) =
     let empty = line_before [] (read_lines limit LineStart bytes) in
     let number = read_lines limit (Behind (b - 48)) bytes in
-    let other = cond (is_digit b) number none in
+    let other = cond (is_digit b) number None in
     cond (eqb b newline) empty other
 read_lines limit WordStart (b ∷ bytes) =
     let number = read_lines limit (Behind (b - 48)) bytes in
-    cond (is_digit b) number none
+    cond (is_digit b) number None
 read_lines limit (Behind n) (b ∷ bytes) =
     let last = line_before (n ∷ []) (read_lines limit LineStart bytes) in
     let next = word_before n (read_lines limit WordStart bytes) in
     let number = read_lines limit (Behind (n * 10 + (b - 48))) bytes in
-    let other = cond (continues limit n b) number none in
+    let other = cond (continues limit n b) number None in
     let word = cond (eqb b space) next other in
     cond (eqb b newline) last word
 
@@ -77,25 +77,25 @@ records_of ls =
     }
 
 unfoldable pub ten : Option (List (List ℕ)) → Option Records
-ten none = none
-ten (some ls) = cond (eqb (length ls) record_count) (some (records_of ls)) none
+ten None = None
+ten (Some ls) = cond (eqb (length ls) record_count) (Some (records_of ls)) None
 
 -- the lines behind the heading
 unfoldable pub lines_behind : Option (List ℕ) → Option (List (List ℕ))
-lines_behind none = none
-lines_behind (some bytes) = read_lines most_word LineStart bytes
+lines_behind None = None
+lines_behind (Some bytes) = read_lines most_word LineStart bytes
 
 -- the sheet that the bytes are: at most 65,536 bytes, the heading and ten lines; or none
 unfoldable pub sheet_in : List ℕ → Option Records
-sheet_in bytes = cond (leb (length bytes) most_bytes) (ten (lines_behind (strip_prefix heading bytes))) none
+sheet_in bytes = cond (leb (length bytes) most_bytes) (ten (lines_behind (strip_prefix heading bytes))) None
 
 -- the same, and empty records where there is none
 unfoldable pub sheet_of : List ℕ → Records
-sheet_of bytes = Option.get_or (sheet_in bytes) (records_of [])
+sheet_of bytes = unwrap_or (sheet_in bytes) (records_of [])
 
 abbrev pub is_none : Option Records → Bool
-is_none none = true
-is_none (some r) = false
+is_none None = true
+is_none (Some r) = false
 
 -- no record has too many words
 abbrev pub all_short : List (List ℕ) → Bool

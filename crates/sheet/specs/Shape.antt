@@ -47,5 +47,5 @@ sheet_words bytes room = unless (call_checks bytes room) (words_of (sheet_of byt
 unfoldable pub sheet_ends : List ℕ → ℕ → Outcome (List ℕ)
 sheet_ends bytes room = unless (call_checks bytes room) (ends_from 0 (lists (sheet_of bytes)))
 
-unfoldable pub sheet_answer : List ℕ → ℕ → Text
+unfoldable pub sheet_answer : List ℕ → ℕ → Outcome Text
 sheet_answer bytes room = text_answer (sheet_ends bytes room)

@@ -4,6 +4,7 @@
 use Rattle.std.specs.Prelude.{ℕ, ◌≤◌}
 use mathlib.Core.List.{List, [], ◌∷◌, ◌++◌, flat_map, flatten, Memᴰ}
 use Rattle.text.specs.Decimal.{newline, space, line}
+use Rattle.sheet.specs.declared.record.Records as lent
 
 -- "One line of names": names bounds types self steps returns structs params output force
 abbrev pub heading : List ℕ
@@ -28,7 +29,7 @@ pub record Records : Type 0 where
   pub output : List ℕ
   pub force : List ℕ
 
--- ten lists as the ten records, and what ten lent slices hold
+-- ten lists as the ten records
 abbrev pub ten_records : List ℕ → List ℕ → List ℕ → List ℕ → List ℕ → List ℕ → List ℕ → List ℕ → List ℕ → List ℕ
     → Records
 ten_records names bounds types self steps returns structs params output force =
@@ -45,10 +46,11 @@ ten_records names bounds types self steps returns structs params output force =
       force = force;
     }
 
-abbrev pub records_in : List ℕ → List ℕ → List ℕ → List ℕ → List ℕ → List ℕ → List ℕ → List ℕ → List ℕ → List ℕ
-    → Records
-records_in names bounds types self steps returns structs params output force =
-    ten_records names bounds types self steps returns structs params output force
+-- what ten lent slices hold
+abbrev pub records_in : lent.Records → Records
+records_in r =
+    ten_records r.names.now r.bounds.now r.types.now r.own.now r.steps.now r.returns.now r.structs.now r.params.now
+    r.output.now r.force.now
 
 -- "ten lines of values in that order"
 abbrev pub lists : Records → List (List ℕ)

@@ -4,7 +4,7 @@
 // refused call answers one of their numbers (`Refusal`) and leaves the lent slice as it was.
 //
 // What is here, bottom up: the words of a line and the lines (`lines`), the call that reads ten records of any words
-// (`reading`), one record of ten (`record`), the shape of the records and 1 in `force` (`shapes`), and the call that
+// (`reading`), ten lent records and one of ten (`record`), the shape of the records and 1 in `force` (`shapes`), and the call that
 // reads a sheet, refused by these (`sheet`).
 #![tactic(auto)]
 
@@ -15,6 +15,6 @@ mod shapes;
 mod sheet;
 
 pub use reading::{Text, read_text};
-pub use record::record_words;
+pub use record::{Records, record_words};
 pub use shapes::sheet_shape;
 pub use sheet::read_sheet;

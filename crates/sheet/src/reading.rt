@@ -1,23 +1,19 @@
 // The call that reads ten records of any words: judge and count first, then write.
-ghost use Rattle.std.specs.Prelude.{cond, ◌≡◌, leb, drop, Err};
-ghost use Rattle.std.proofs.Math.Option.{none, some};
+ghost use Rattle.std.specs.Prelude.{cond, ◌≡◌, leb, drop, None, Some};
 ghost use Rattle.std.proofs.lemmas.List.Edits.{sets};
 ghost use Rattle.answers.specs.Refusals.{NoneDue};
 ghost use Rattle.answers.specs.Lent.{held, room, left, Fills};
 ghost use Rattle.sheet.specs.Text.{heading, words_of};
 ghost use Rattle.sheet.specs.Reading.{strip_prefix, sheet_of, text_checks};
-ghost use Rattle.sheet.specs.Answer.{text_answer, measured, read_answer, read_words};
+ghost use Rattle.sheet.specs.Answer.{measured, read_answer, read_words};
 
-use super::lines::{Judged, lines};
-use super::shapes::both;
+use super::lines::lines;
 use answers::Refusal;
 use records::MAX_WORDS;
 
-// Whether a text is refused, and where the words of each of its ten records end, one record after another. Beside a
-// refusal all ends are 0.
+// Where the words of each of the ten records of a text end, one record after another.
 #[derive(Clone, Copy)]
 pub struct Text {
-    pub verdict: Result<(), Refusal>,
     pub ends: [usize; Text::RECORDS],
 }
 
@@ -69,34 +65,19 @@ impl Text {
 // record after another; the answer says where each ends. Refused by 10 where the bytes are not the text of a sheet,
 // then by 1 for a record above 1,024 words, then by 9 where the slice is too short. 10,240 words are always enough.
 // Reads each byte twice: once to judge and to count, once to write.
-pub fn read_text(sheet: &[u8], words: &mut [usize]) -> Text
+pub fn read_text(sheet: &[u8], words: &mut [usize]) -> Result<Text, Refusal>
     ensures answer { result ≡ read_answer sheet.now (room words) }
     ensures stored { Fills (read_words sheet.now (room words)) words }
 {
-    let judged = measure(sheet);
-    let verdict = judged.verdict;
-    let Ok(()) = verdict else {
-        return judged;
-    };
-    let ends = judged.ends;
-    if !write_all(sheet, ends[Text::FORCE], words) {
-        return refused(Refusal::NoRoom);
+    let text = measure(sheet)?;
+    if !write_all(sheet, text.ends[Text::FORCE], words) {
+        return Err(Refusal::NoRoom);
     }
-    judged
-}
-
-// A refusal; all ends are 0.
-pub(crate) fn refused(refusal: Refusal) -> Text
-    ensures { result ≡ text_answer (Err refusal) }
-{
-    Text {
-        verdict: Err(refusal),
-        ends: [0; Text::RECORDS],
-    }
+    Ok(text)
 }
 
 // Judge a text and count its words, without writing any. Refused by 10, then by 1.
-fn measure(sheet: &[u8]) -> Text
+fn measure(sheet: &[u8]) -> Result<Text, Refusal>
     ensures { result ≡ measured sheet.now }
 {
     let mut unused = [0usize; 1];
@@ -104,26 +85,18 @@ fn measure(sheet: &[u8]) -> Text
 }
 
 // The same, and the words of an accepted text are left in scratch, one record after another, as far as it goes.
-pub(crate) fn scan(sheet: &[u8], scratch: &mut [usize]) -> Text
+pub(crate) fn scan(sheet: &[u8], scratch: &mut [usize]) -> Result<Text, Refusal>
     ensures value { result ≡ measured sheet.now }
     ensures scratch_value { NoneDue (text_checks sheet.now) → left scratch
         ≡ sets (held scratch) 0 (words_of (sheet_of sheet.now)) }
 {
     if Text::MAX_BYTES < sheet.len() {
-        return refused(Refusal::Unreadable);
+        return Err(Refusal::Unreadable);
     }
     if !headed(sheet) {
-        return refused(Refusal::Unreadable);
+        return Err(Refusal::Unreadable);
     }
-    let mut ends = [0usize; Text::RECORDS];
-    match lines(sheet, Text::HEADING, scratch, &mut ends) {
-        Judged::Unreadable => refused(Refusal::Unreadable),
-        Judged::TooLong => refused(Refusal::Malformed),
-        Judged::Good => Text {
-            verdict: Ok(()),
-            ends,
-        },
-    }
+    lines(sheet, Text::HEADING, scratch)
 }
 
 // Write the words of an accepted text, `count` of them, where the slice takes them all; else none. Says whether it
@@ -145,24 +118,21 @@ fn write(sheet: &[u8], words: &mut [usize])
     requires { NoneDue (text_checks sheet.now) }
     ensures { left words ≡ sets (held words) 0 (words_of (sheet_of sheet.now)) }
 {
-    let mut ends = [0usize; Text::RECORDS];
-    lines(sheet, Text::HEADING, words, &mut ends);
+    let _ = lines(sheet, Text::HEADING, words);
 }
 
 // Whether the first line is the heading. All its bytes are compared: without an early end the compiler compares many at
 // a time.
 fn headed(bytes: &[u8]) -> bool
-    ensures { strip_prefix heading bytes.now ≡ cond result (some (drop 66 bytes.now)) none }
+    ensures { strip_prefix heading bytes.now ≡ cond result (Some (drop 66 bytes.now)) None }
 {
     let line = b"names bounds types self steps returns structs params output force\n";
     if bytes.len() < Text::HEADING {
         return false;
     }
     let mut same = true;
-    let mut i = 0;
-    while i < Text::HEADING {
-        same = both(same, bytes[i] == line[i]);
-        i += 1;
+    for i in 0..Text::HEADING {
+        same &= bytes[i] == line[i];
     }
     same
 }

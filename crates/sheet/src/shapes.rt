@@ -3,13 +3,11 @@ ghost use Rattle.std.specs.Prelude.{◌&&◌, ◌≡◌};
 ghost use Rattle.ast_lifetimes.specs.Shapes.{names_in_shape, bounds_in_shape};
 ghost use Rattle.ast_lifetimes.specs.Types.{types_in_shape};
 ghost use Rattle.elision.specs.Steps.{self_in_shape, steps_in_shape};
-ghost use Rattle.answers.specs.Lent.{held, is_accepted};
+ghost use Rattle.answers.specs.Lent.{held};
 ghost use Rattle.sheet.specs.Text.{records_in};
-ghost use Rattle.sheet.specs.Answer.{records_at};
 ghost use Rattle.sheet.specs.Shape.{records_verdict};
 
-use super::reading::Text;
-use super::record::record_words;
+use super::record::Records;
 use answers::Refusal;
 use ast_lifetimes::{bounds_shape, names_shape, types_shape};
 use elision::{self_shape, steps_shape};
@@ -17,82 +15,32 @@ use hir_types::method_shape;
 
 // The first refusal of ten records: 1 over all of them, for one that is not in shape (or has more than 1,024 words),
 // then 13 for 1 in `force`. Reads no word of a record that is too long, and each of the others once.
-pub fn sheet_shape(
-    names: &[usize],
-    bounds: &[usize],
-    types: &[usize],
-    own: &[usize],
-    steps: &[usize],
-    returns: &[usize],
-    structs: &[usize],
-    params: &[usize],
-    output: &[usize],
-    force: &[usize],
-) -> Result<(), Refusal>
-    ensures answer { result ≡ records_verdict
-        (records_in names.now bounds.now types.now own.now steps.now
-        returns.now structs.now params.now output.now force.now) }
+pub fn sheet_shape(records: Records) -> Result<(), Refusal>
+    ensures answer { result ≡ records_verdict (records_in records.entry) }
 {
-    let environment = environment_in_shape(names, bounds, types);
-    let elision = elision_in_shape(own, steps, returns);
-    if !both(environment, elision) {
+    let environment = environment_in_shape(records.names, records.bounds, records.types);
+    let elision = elision_in_shape(records.own, records.steps, records.returns);
+    if !(environment & elision) {
         return Err(Refusal::Malformed);
     }
-    let shape = method_shape(structs, params, output, force);
-    shape.verdict
+    method_shape(
+        records.structs,
+        records.params,
+        records.output,
+        records.force,
+    )?;
+    Ok(())
 }
 
-// The same of records whose words stand one record after another.
-pub(crate) fn judge_laid(words: &[usize], ends: [usize; Text::RECORDS]) -> Result<(), Refusal>
-    ensures { result ≡ records_verdict (records_at words.now ends) }
-{
-    sheet_shape(
-        record_words(words, ends, Text::NAMES),
-        record_words(words, ends, Text::BOUNDS),
-        record_words(words, ends, Text::TYPES),
-        record_words(words, ends, Text::SELF),
-        record_words(words, ends, Text::STEPS),
-        record_words(words, ends, Text::RETURNS),
-        record_words(words, ends, Text::STRUCTS),
-        record_words(words, ends, Text::PARAMS),
-        record_words(words, ends, Text::OUTPUT),
-        record_words(words, ends, Text::FORCE),
-    )
-}
-
+// Each record is judged, whatever the others are.
 fn environment_in_shape(names: &[usize], bounds: &[usize], types: &[usize]) -> bool
     ensures { result ≡ names_in_shape names.now && (bounds_in_shape bounds.now && types_in_shape types.now) }
 {
-    let named = accepted(names_shape(names));
-    let bounded = accepted(bounds_shape(bounds));
-    let typed = accepted(types_shape(types));
-    both(named, both(bounded, typed))
+    names_shape(names).is_ok() & (bounds_shape(bounds).is_ok() & types_shape(types).is_ok())
 }
 
 fn elision_in_shape(own: &[usize], steps: &[usize], returns: &[usize]) -> bool
     ensures { result ≡ self_in_shape own.now && (steps_in_shape steps.now && steps_in_shape returns.now) }
 {
-    let received = accepted(self_shape(own));
-    let given = accepted(steps_shape(steps));
-    let returned = accepted(steps_shape(returns));
-    both(received, both(given, returned))
-}
-
-fn accepted(verdict: Result<(), Refusal>) -> bool
-    ensures { result ≡ is_accepted verdict }
-{
-    match verdict {
-        Ok(()) => true,
-        Err(_) => false,
-    }
-}
-
-// Whether both hold.
-pub(crate) fn both(a: bool, b: bool) -> bool
-    ensures { result ≡ a && b }
-{
-    if a {
-        return b;
-    }
-    false
+    self_shape(own).is_ok() & (steps_shape(steps).is_ok() & steps_shape(returns).is_ok())
 }

@@ -3,22 +3,20 @@ use Rattle.std.specs.Prelude.{Err}
 use Prim.Native.Nat.{ℕ, suc, ◌+◌, ◌≤◌, ◌<◌}
 use mathlib.Core.Bool.{Bool, true, false, ◌&&◌, and-eq-true_iff}
 use mathlib.Core.Path.{◌≡◌, refl, sym, ◌∙◌}
-use mathlib.Core.List.{List, [], ◌∷◌, ◌++◌, append-nil, flatten}
+use mathlib.Core.List.{List, [], ◌∷◌, ◌++◌, flatten}
 use native.Mathlib.Omega.{arith}
 use native.Mathlib.Numerals.{add-one}
 use borrow.Author.Tests.{le-leb, lt-leb, eq-eqb, ne_eqb, eqb-true}
 use lib.Dec.{leb, eqb}
-use lib.ListN.{length, get_or, take, drop, replicate, length-append, length-replicate, drop_of_length-le}
-use lib.Seq.{drop-cons, take_all}
+use lib.ListN.{length, get_or, drop, length-append, drop_of_length-le}
+use lib.Seq.{drop-cons}
 use Rattle.answers.specs.declared.Refusal.TheVariants.{Malformed}
-use Rattle.answers.specs.Refusals.{unless, end, Outcome}
+use Rattle.answers.specs.Refusals.{unless, Outcome}
 use Rattle.answers.specs.Lent.{counted, written}
 use Rattle.answers.specs.Lists.{ends_from}
-use Rattle.answers.proofs.LentLaws.{answers_list, has_room}
-use Rattle.records.specs.Copied.{copied}
-use Rattle.sheet.specs.Text.{record_count, Records, ten_records, lists, words_of}
-use Rattle.sheet.specs.Answer.{record_words, records_at}
-use Rattle.sheet.proofs.LaidLaws.{ten_found, laid_records}
+use Rattle.sheet.specs.Text.{record_count, Records, lists, words_of}
+use Rattle.sheet.specs.Answer.{records_at}
+use Rattle.sheet.proofs.LaidLaws.{laid_records}
 use Rattle.sheet_writer.specs.Writing.{write_sheet}
 use Rattle.sheet_writer.specs.Laid.{ascend_to, are_ends, write_laid}
 
@@ -61,25 +59,6 @@ pub are_ten : (count : ℕ) (ends : List ℕ) → are_ends count ends ≡ true �
 are_ten count ends e =
     eqb-true (length ends) record_count ((and-eq-true_iff (eqb (length ends) record_count) _).0 e).0
 
--- ten ends as an array: all of it is written
-pub ten_copied : (ends : List ℕ) → length ends ≡ record_count → {ten : List ℕ}
-    → ten ≡ written (copied ends 10 (length (replicate {A = ℕ} 10 0))) (replicate 10 0) → ten ≡ ends
-unfolding copied
-ten_copied ends h e =
-    let all : take 10 ends ≡ ends = take_all 10 ends (omega (arith, h)) in
-    let room : length ends ≤ length (replicate {A = ℕ} 10 0) = omega (arith, h, length-replicate {A = ℕ} 10 0) in
-    let given = answers_list ends (replicate 10 0) (has_room (length (replicate {A = ℕ} 10 0)) ends room end) in
-    let wrote : written (copied ends 10 (length (replicate {A = ℕ} 10 0))) (replicate 10 0)
-    ≡ ends ++ drop (length ends) (replicate 10 0) =
-    rw all (sym given.1) in
-    let none : drop (length ends) (replicate {A = ℕ} 10 0) ≡ [] =
-    drop_of_length-le (replicate 10 0) {i = length ends} (omega (arith, h, length-replicate {A = ℕ} 10 0)) in
-    e ∙ wrote ∙ rw none (append-nil ends)
-
-pub ends_fine : (count : ℕ) (ends : List ℕ) {ten : List ℕ} {t : Bool} → t ≡ are_ends count ends → t ≡ true → ten ≡ ends
-    → are_ends count ten ≡ true
-ends_fine count ends e h q = rw q (sym e ∙ h)
-
 -- ---- the ways out
 
 module _ (words ends : List ℕ) (room : ℕ) where
@@ -94,23 +73,11 @@ pub laid_torn : (words ends out : List ℕ) {t : Bool} → t ≡ are_ends (lengt
 unfolding write_laid unless
 laid_torn words ends out e h = rw (sym e ∙ h) (refl, refl)
 
-module _ (words ends out : List ℕ) (fine : are_ends (length words) ends ≡ true) {a b c d e f g h i j : List ℕ}
-    (pa : a ≡ record_words words ends 0) (pb : b ≡ record_words words ends 1) (pc : c ≡ record_words words ends 2)
-    (pd : d ≡ record_words words ends 3) (pe : e ≡ record_words words ends 4) (pf : f ≡ record_words words ends 5)
-    (pg : g ≡ record_words words ends 6) (ph : h ≡ record_words words ends 7) (pi : i ≡ record_words words ends 8)
-    (pj : j ≡ record_words words ends 9) {l : Outcome ℕ} {out₁ : List ℕ}
-    (told : (l ≡ counted (write_sheet (ten_records a b c d e f g h i j) (length out)))
-    × (out₁ ≡ written (write_sheet (ten_records a b c d e f g h i j) (length out)) out)) where
-  pub ten_written : (l ≡ counted (write_laid words ends (length out)))
-      × (out₁ ≡ written (write_laid words ends (length out)) out)
-  ten_written =
-      rw (laid_same words ends (length out) fine, ← ten_found words ends pa pb pc pd pe pf pg ph pi pj) told
-
--- the same by the array
-pub laid_written : (words ends out : List ℕ) {ten : List ℕ} → ten ≡ ends → {l : Outcome ℕ} {out₁ : List ℕ}
-    → (l ≡ counted (write_laid words ten (length out))) × (out₁ ≡ written (write_laid words ten (length out)) out)
+pub laid_written : (words ends out : List ℕ) → are_ends (length words) ends ≡ true → {r : Records} → r ≡ records_at words ends
+    → {l : Outcome ℕ} {out₁ : List ℕ}
+    → (l ≡ counted (write_sheet r (length out))) × (out₁ ≡ written (write_sheet r (length out)) out)
     → (l ≡ counted (write_laid words ends (length out))) × (out₁ ≡ written (write_laid words ends (length out)) out)
-laid_written words ends out q told = rw (← q) told
+laid_written words ends out fine e told = rw (laid_same words ends (length out) fine, ← e) told
 
 -- ---- records as reading gives them
 

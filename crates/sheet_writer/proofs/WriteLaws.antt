@@ -97,20 +97,20 @@ module _ (r : Records) (n : NoneDue (write_checks r)) (room : ℕ) where
 
 -- ---- the ways out
 
-module _ (r : Records) (out : List ℕ) {v : Verdict} (told : v ≡ judged (write_checks r)) where
+module _ (r : Records) (out : List ℕ) where
   abbrev checks : List Check
   checks = write_checks r ++ (room_check (length out) (text r) ∷ [])
 
-  pub write_refused : {k : Refusal} → v ≡ Err k
+  pub write_refused : {k : Refusal} → Err k ≡ judged (write_checks r)
       → (Err k ≡ counted (write_sheet r (length out))) × (out ≡ written (write_sheet r (length out)) out)
   unfolding write_sheet
-  write_refused {k} e =
-      let due : FirstDue k checks = first_more _ (refused_first (tt {0}) k (write_checks r) (sym told ∙ e)) in
+  write_refused {k} told =
+      let due : FirstDue k checks = first_more _ (refused_first (tt {0}) k (write_checks r) (sym told)) in
       answers_refusal (text r) out due
 
-  module _ (fine : v ≡ Ok (tt {0})) where
+  module _ (told : Ok (tt {0}) ≡ judged (write_checks r)) where
     pub none_due : NoneDue (write_checks r)
-    none_due = accepted_none (tt {0}) (write_checks r) (sym told ∙ fine)
+    none_due = accepted_none (tt {0}) (write_checks r) (sym told)
 
     module _ {t : Bool} (fits : t ≡ leb (length (text r)) (length out)) where
       pub write_short : t ≡ false

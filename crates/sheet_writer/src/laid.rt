@@ -1,13 +1,12 @@
 // Writing records that stand one after another in a slice, as reading a sheet gives them.
-ghost use Rattle.std.specs.Prelude.{true, ◌≡◌, eqb, length};
+ghost use Rattle.std.specs.Prelude.{◌≡◌, length};
 ghost use Rattle.answers.specs.Lent.{counted, held, room, Fills};
 ghost use Rattle.sheet.specs.Text.{record_count};
 ghost use Rattle.sheet_writer.specs.Laid.{ascend_to, are_ends, write_laid};
 
 use super::write::write_sheet;
 use answers::Refusal;
-use records::copy_words;
-use sheet::{Text, record_words};
+use sheet::{Records, Text};
 
 // Write the sheet of ten records whose words stand one record after another; `ends` says where each ends. Refused by 1
 // where these are not ten ends, where they do not ascend, or where one is past the words: there are no ten records
@@ -19,28 +18,7 @@ pub fn write_laid(words: &[usize], ends: &[usize], out: &mut [u8]) -> Result<usi
     if !are_ends(words.len(), ends) {
         return Err(Refusal::Malformed);
     }
-    write_ten(words, ten_of(ends), out)
-}
-
-// The same with ten ends that are known to be such.
-fn write_ten(words: &[usize], ends: [usize; Text::RECORDS], out: &mut [u8]) -> Result<usize, Refusal>
-    requires { are_ends (length words.now) ends ≡ true }
-    ensures value { result ≡ counted (write_laid words.now ends (room out)) }
-    ensures fills { Fills (write_laid words.now ends (room out)) out }
-{
-    write_sheet(
-        record_words(words, ends, Text::NAMES),
-        record_words(words, ends, Text::BOUNDS),
-        record_words(words, ends, Text::TYPES),
-        record_words(words, ends, Text::SELF),
-        record_words(words, ends, Text::STEPS),
-        record_words(words, ends, Text::RETURNS),
-        record_words(words, ends, Text::STRUCTS),
-        record_words(words, ends, Text::PARAMS),
-        record_words(words, ends, Text::OUTPUT),
-        record_words(words, ends, Text::FORCE),
-        out,
-    )
+    write_sheet(Records::laid(words, ten_of(ends)), out)
 }
 
 // Whether these are ten ends of records in so many words.
@@ -58,13 +36,11 @@ fn ascend(count: usize, ends: &[usize]) -> bool
     ensures { result ≡ ascend_to count 0 ends.now }
 {
     let mut from = 0;
-    let mut i = 0;
-    while i < ends.len() {
-        if ends[i] < from {
+    for end in ends {
+        if *end < from {
             return false;
         }
-        from = ends[i];
-        i += 1;
+        from = *end;
     }
     from <= count
 }
@@ -75,6 +51,6 @@ fn ten_of(ends: &[usize]) -> [usize; Text::RECORDS]
     ensures { result ≡ ends.now }
 {
     let mut ten = [0usize; Text::RECORDS];
-    copy_words(ends, Text::RECORDS, &mut ten);
+    ten.copy_from_slice(ends);
     ten
 }

@@ -5,32 +5,25 @@ ghost use Rattle.text.specs.Decimal.{line};
 ghost use Rattle.text.specs.Printing.{Prints};
 ghost use Rattle.sheet.specs.Text.{records_in, text};
 
+use sheet::Records;
 use text::{put_line, put_text};
 
 // The text of ten records, from the front of a slice as far as it goes; into no room it is measured.
-pub(crate) fn put_sheet(
-    out: &mut [u8],
-    names: &[usize],
-    bounds: &[usize],
-    types: &[usize],
-    own: &[usize],
-    steps: &[usize],
-    returns: &[usize],
-    structs: &[usize],
-    params: &[usize],
-    output: &[usize],
-    force: &[usize],
-) -> usize
-    ensures { Prints (text (records_in names.now bounds.now types.now own.now steps.now
-        returns.now structs.now params.now output.now force.now)) 0
-        (held out) result (left out) }
+pub(crate) fn put_sheet(out: &mut [u8], records: Records) -> usize
+    ensures { Prints (text (records_in records.entry)) 0 (held out) result (left out) }
 {
     let heading = b"names bounds types self steps returns structs params output force\n";
     let environment = put_text(out, 0, heading);
-    let elision = put_three(out, environment, names, bounds, types);
-    let method = put_three(out, elision, own, steps, returns);
-    let last = put_three(out, method, structs, params, output);
-    put_line(out, last, force)
+    let elision = put_three(
+        out,
+        environment,
+        records.names,
+        records.bounds,
+        records.types,
+    );
+    let method = put_three(out, elision, records.own, records.steps, records.returns);
+    let last = put_three(out, method, records.structs, records.params, records.output);
+    put_line(out, last, records.force)
 }
 
 // Three lines.

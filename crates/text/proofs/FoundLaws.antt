@@ -3,11 +3,11 @@ use Prim.Native.Nat.{ℕ, suc, ◌+◌, ◌≤◌, ◌<◌}
 use mathlib.Core.Bool.{Bool, true, false, cond}
 use mathlib.Core.Path.{◌≡◌, refl, sym, ap, ◌∙◌}
 use mathlib.Core.List.{List, [], ◌∷◌}
-use mathlib.Core.Option.{Option, none, some}
+use Rattle.std.specs.Prelude.{Option, None, Some}
 use native.Mathlib.Omega.{arith}
 use lib.ListN.{length, get_or, drop, length-drop}
 use lib.Seq.{drop-cons, drop-drop}
-use Rattle.text.specs.declared.number.Found.TheVariants as found
+use Rattle.text.specs.declared.number.Found.{Found}
 use Rattle.text.specs.Number.{is_digit, digits_in, behind_digits, number_in, found_to, found_at}
 use Rattle.text.specs.Theorems.{NoDigit}
 use Rattle.text.proofs.NumberLaws.{digits_in_lem, none_in}
@@ -23,7 +23,7 @@ digits_inside (b ∷ bytes) = go (is_digit b) (digits_inside bytes)
     go true h = omega (arith, h)
     go false h = omega arith
 
-some_digit : (limit : ℕ) (bytes : List ℕ) (n : ℕ) → number_in limit bytes ≡ some n → 1 ≤ length (digits_in bytes)
+some_digit : (limit : ℕ) (bytes : List ℕ) (n : ℕ) → number_in limit bytes ≡ Some n → 1 ≤ length (digits_in bytes)
 some_digit limit bytes n e = go (digits_in bytes) refl
   where
     go : (ds : List ℕ) → digits_in bytes ≡ ds → 1 ≤ length ds
@@ -39,25 +39,29 @@ no_digit_first b bytes e = go (is_digit b) refl
 
 -- a number stands from one place to another, and no digit behind it
 pub record StandsAt (limit : ℕ) (bytes : List ℕ) (from value at : ℕ) : Type 0 where
-  pub number : number_in limit (drop from bytes) ≡ some value
+  pub number : number_in limit (drop from bytes) ≡ Some value
   pub rest : behind_digits (drop from bytes) ≡ drop at bytes
   pub after : from < at
   pub inside : at ≤ length bytes
   pub stops : at < length bytes → is_digit (get_or bytes at 0) ≡ false
 
 module _ (limit : ℕ) (bytes : List ℕ) (from : ℕ) where
-  parts : (value at to : ℕ) (o : Option ℕ) → found_to to o ≡ found.Number value at → (o ≡ some value) × (to ≡ at)
-  parts value at to none e = let z : ◌≡◌ {A = ℕ} 0 1 = cc in absurd (omega arith)
-  parts value at to (some n) e = let v : n ≡ value = cc in let a : to ≡ at = cc in (ap some v, a)
+  parts : (f : Found) (to : ℕ) (o : Option ℕ) → found_to to o ≡ Some f → (o ≡ Some f.value) × (to ≡ f.at)
+  parts f to None e = let z : ◌≡◌ {A = ℕ} 0 1 = cc in absurd (omega arith)
+  parts f to (Some n) e =
+      let same : record { value = n; at = to } ≡ f = cc in
+      (ap (λ (x : Found). Some x.value) same, ap (λ (x : Found). x.at) same)
 
-  no_parts : (to : ℕ) (o : Option ℕ) → found_to to o ≡ found.Nothing → o ≡ none
-  no_parts to none e = refl
-  no_parts to (some n) e = let z : ◌≡◌ {A = ℕ} 0 1 = cc in absurd (omega arith)
+  no_parts : (to : ℕ) (o : Option ℕ) → found_to to o ≡ None → o ≡ None
+  no_parts to None e = refl
+  no_parts to (Some n) e = let z : ◌≡◌ {A = ℕ} 0 1 = cc in absurd (omega arith)
 
-  pub found_stands : {value at : ℕ} → found_at limit bytes from ≡ found.Number value at → StandsAt limit bytes from value at
+  pub found_stands : {f : Found} → found_at limit bytes from ≡ Some f → StandsAt limit bytes from f.value f.at
   unfolding found_at
-  found_stands {value} {at} e =
-      let p = parts value at (from + length (digits_in (drop from bytes))) (number_in limit (drop from bytes)) e in
+  found_stands {f} e =
+      let value = f.value in
+      let at = f.at in
+      let p = parts f (from + length (digits_in (drop from bytes))) (number_in limit (drop from bytes)) e in
       let some = some_digit limit (drop from bytes) value p.0 in
       let size = length-drop from bytes in
       let inside : at ≤ length bytes = omega (arith, p.1, some, size, digits_inside (drop from bytes)) in
@@ -72,6 +76,6 @@ module _ (limit : ℕ) (bytes : List ℕ) (from : ℕ) where
             (ap digits_in (sym (rest ∙ drop-cons bytes at 0 h)) ∙ none_behind (drop from bytes));
       }
 
-  pub found_nothing : found_at limit bytes from ≡ found.Nothing → number_in limit (drop from bytes) ≡ none
+  pub found_nothing : found_at limit bytes from ≡ None → number_in limit (drop from bytes) ≡ None
   unfolding found_at
   found_nothing e = no_parts (from + length (digits_in (drop from bytes))) (number_in limit (drop from bytes)) e

@@ -3,7 +3,7 @@ use Prim.Native.Nat.{ℕ, zero, suc, ◌+◌, ◌*◌, ◌-◌, ◌/◌, ◌%◌
 use mathlib.Core.Bool.{Bool, true, false, cond, ◌&&◌}
 use mathlib.Core.Path.{◌≡◌, refl, sym, ap, ◌∙◌}
 use mathlib.Core.List.{List, [], ◌∷◌, ◌++◌, append_assoc, append-nil}
-use mathlib.Core.Option.{none, some}
+use Rattle.std.specs.Prelude.{None, Some}
 use native.Mathlib.Nat.{div-add-mod', mod-lt}
 use native.Mathlib.Omega.{arith}
 use borrow.Author.Tests.{ltb-true, ltb-false, lt-ltb, leb-true, le-leb}
@@ -166,19 +166,19 @@ decimal_spelt (b ∷ bytes) d = go (is_digit b) refl d
 
 module _ (limit : ℕ) where
   pub number_printed : (n : ℕ) (rest : List ℕ) → NoDigit rest → n ≤ limit
-      → (number_in limit (digits n ++ rest) ≡ some n) × (behind_digits (digits n ++ rest) ≡ rest)
+      → (number_in limit (digits n ++ rest) ≡ Some n) × (behind_digits (digits n ++ rest) ≡ rest)
   unfolding number_in
   number_printed n rest d h =
       let e : digits_in (digits n ++ rest) ≡ digits n = all_digits n rest ∙ rw d (append-nil (digits n)) in
       (rw (e, digits_decimal n, value_digits n, le-leb n limit h), rw e (drop-append_seam (digits n) rest))
 
-  number_read : (bytes : List ℕ) (n : ℕ) → number_in limit bytes ≡ some n
+  number_read : (bytes : List ℕ) (n : ℕ) → number_in limit bytes ≡ Some n
       → (is_decimal (digits_in bytes) ≡ true) × (value_behind 0 (digits_in bytes) ≡ n) × (n ≤ limit)
   unfolding number_in
   number_read bytes n e = go (is_decimal (digits_in bytes)) refl (leb (value_behind 0 (digits_in bytes)) limit) refl e
     where
       go : (a : Bool) → is_decimal (digits_in bytes) ≡ a → (b : Bool) → leb (value_behind 0 (digits_in bytes)) limit ≡ b
-          → cond (a && b) (some (value_behind 0 (digits_in bytes))) none ≡ some n
+          → cond (a && b) (Some (value_behind 0 (digits_in bytes))) None ≡ Some n
           → (is_decimal (digits_in bytes) ≡ true) × (value_behind 0 (digits_in bytes) ≡ n) × (n ≤ limit)
       go true p true q k =
           let v : value_behind 0 (digits_in bytes) ≡ n = cc in
@@ -186,7 +186,7 @@ module _ (limit : ℕ) where
       go true p false q k = let z : ◌≡◌ {A = ℕ} 0 1 = cc in absurd (omega arith)
       go false p b q k = let z : ◌≡◌ {A = ℕ} 0 1 = cc in absurd (omega arith)
 
-  pub number_spelt : (bytes : List ℕ) (n : ℕ) → number_in limit bytes ≡ some n
+  pub number_spelt : (bytes : List ℕ) (n : ℕ) → number_in limit bytes ≡ Some n
       → (bytes ≡ digits n ++ behind_digits bytes) × NoDigit (behind_digits bytes) × (n ≤ limit)
   number_spelt bytes n e =
       let k = number_read bytes n e in
@@ -196,7 +196,7 @@ module _ (limit : ℕ) where
         k.2,
       )
 
-  pub number_none : (bytes : List ℕ) → number_in limit bytes ≡ none → (n : ℕ) (rest : List ℕ) → bytes ≡ digits n ++ rest
+  pub number_none : (bytes : List ℕ) → number_in limit bytes ≡ None → (n : ℕ) (rest : List ℕ) → bytes ≡ digits n ++ rest
       → NoDigit rest → n ≤ limit → ⊥
   number_none bytes e n rest q d h =
       let k = (number_printed n rest d h).0 in

@@ -3,7 +3,7 @@ use Prim.Native.Nat.{ℕ, suc, ◌+◌, ◌*◌, ◌-◌, ◌/◌, ◌≤◌, �
 use mathlib.Core.Bool.{Bool, true, false, cond, ◌&&◌, ◌||◌, and-eq-true_iff}
 use mathlib.Core.Path.{◌≡◌, refl, sym, ◌∙◌}
 use mathlib.Core.List.{List, [], ◌∷◌}
-use mathlib.Core.Option.{none, some}
+use Rattle.std.specs.Prelude.{Option, None, Some}
 use native.Mathlib.Nat.{div-add-mod', mod-lt}
 use native.Mathlib.Numerals.{add-one}
 use native.Mathlib.Omega.{arith}
@@ -12,7 +12,6 @@ use lib.Dec.{ltb, leb}
 use lib.ListN.{length, get_or, drop, drop_of_length-le}
 use lib.Seq.{drop-cons}
 use Rattle.text.specs.declared.number.Found.{Found}
-use Rattle.text.specs.declared.number.Found.TheVariants as found
 use Rattle.text.specs.Number.{is_digit, digits_in, is_decimal, value_behind, number_in, found_to, found_at}
 
 -- ---- bytes that are digits, and bytes that are none
@@ -69,8 +68,8 @@ is_empty (d ∷ ds) = false
 abbrev pub goes_on : ℕ → ℕ → List ℕ → Bool
 goes_on limit value ds = (ltb 0 value || is_empty ds) && leb (value_behind value ds) limit
 
-abbrev pub found_on : ℕ → ℕ → ℕ → List ℕ → Found
-found_on limit value at ds = found_to (at + length ds) (cond (goes_on limit value ds) (some (value_behind value ds)) none)
+abbrev pub found_on : ℕ → ℕ → ℕ → List ℕ → Option Found
+found_on limit value at ds = found_to (at + length ds) (cond (goes_on limit value ds) (Some (value_behind value ds)) None)
 
 pub value_grows : (value : ℕ) (ds : List ℕ) → value ≤ value_behind value ds
 unfolding value_behind
@@ -136,28 +135,32 @@ first_value_one d = omega arith
 
 -- the number in front of bytes by its first byte
 module _ (limit : ℕ) (bytes : List ℕ) where
-  pub none_in : digits_in bytes ≡ [] → number_in limit bytes ≡ none
+  pub none_in : digits_in bytes ≡ [] → number_in limit bytes ≡ None
   unfolding number_in
   none_in e = rw e
 
   pub number_in_lem : (d : ℕ) (ds : List ℕ) → digits_in bytes ≡ d ∷ ds → 48 ≤ d
-      → number_in limit bytes ≡ cond (goes_on limit (d - 48) ds) (some (value_behind (d - 48) ds)) none
+      → number_in limit bytes ≡ cond (goes_on limit (d - 48) ds) (Some (value_behind (d - 48) ds)) None
   unfolding number_in
   number_in_lem d ds e h = rw (e, first_goes limit d ds h, first_value limit d ds h)
+
+-- a number that was found, and the place behind it
+abbrev pub found : ℕ → ℕ → Found
+found value at = record { value = value; at = at }
 
 -- ---- from a place on
 
 module _ (limit : ℕ) (bytes : List ℕ) (from : ℕ) where
-  none_found : digits_in (drop from bytes) ≡ [] → found.Nothing ≡ found_at limit bytes from
+  none_found : digits_in (drop from bytes) ≡ [] → None ≡ found_at limit bytes from
   unfolding found_at
   none_found e = rw (none_in limit (drop from bytes) e)
 
-  pub found_past : length bytes ≤ from → found.Nothing ≡ found_at limit bytes from
+  pub found_past : length bytes ≤ from → None ≡ found_at limit bytes from
   unfolding digits_in
   found_past h = none_found (rw (drop_of_length-le bytes {i = from} h))
 
   module _ {d : ℕ} (byte : d ≡ get_or bytes from 0) (h : from < length bytes) where
-    pub found_none : is_digit d ≡ false → found.Nothing ≡ found_at limit bytes from
+    pub found_none : is_digit d ≡ false → None ≡ found_at limit bytes from
     found_none f =
         none_found
         (rw (drop-cons bytes from 0 h) (no_digits_in (get_or bytes from 0) (drop (suc from) bytes) (rw byte at f)))
@@ -188,7 +191,7 @@ pub record Numbering (limit : ℕ) (bytes : List ℕ) (from value at : ℕ) : Ty
 
 module _ (limit : ℕ) (bytes : List ℕ) (from : ℕ) {d : ℕ} (byte : d ≡ get_or bytes from 0) (h : from < length bytes)
     (f : is_digit d ≡ true) where
-  pub first_above : limit < d - 48 → found.Nothing ≡ found_at limit bytes from
+  pub first_above : limit < d - 48 → None ≡ found_at limit bytes from
   first_above m =
       sym
       (found_first limit bytes from byte h f
@@ -199,18 +202,20 @@ module _ (limit : ℕ) (bytes : List ℕ) (from : ℕ) {d : ℕ} (byte : d ≡ g
       record { reads = found_first limit bytes from byte h f; after = omega arith; inside = omega (arith, h); small = m }
 
 module _ {limit : ℕ} {bytes : List ℕ} {from value at : ℕ} (inv : Numbering limit bytes from value at) where
-  stops : digits_in (drop at bytes) ≡ [] → found.Number value at ≡ found_at limit bytes from
+  stops : digits_in (drop at bytes) ≡ [] → Some (found value at) ≡ found_at limit bytes from
   stops e =
       let g = goes_no_further limit value inv.small in
       let p : at + 0 ≡ at = omega arith in
       sym (inv.reads ∙ rw (e, g.0, g.1, p))
 
-  pub numbering_end : length bytes ≤ at → found.Number value at ≡ found_at limit bytes from
+  pub numbering_end : length bytes ≤ at → Some (found value (length bytes)) ≡ found_at limit bytes from
   unfolding digits_in
-  numbering_end h = stops (rw (drop_of_length-le bytes {i = at} h))
+  numbering_end h =
+      let e : length bytes ≡ at = omega (arith, inv.inside) in
+      rw e (stops (rw (drop_of_length-le bytes {i = at} h)))
 
   module _ {b : ℕ} (byte : b ≡ get_or bytes at 0) (h : at < length bytes) where
-    pub numbering_stop : is_digit b ≡ false → found.Number value at ≡ found_at limit bytes from
+    pub numbering_stop : is_digit b ≡ false → Some (found value at) ≡ found_at limit bytes from
     numbering_stop f =
         stops (rw (drop-cons bytes at 0 h) (no_digits_in (get_or bytes at 0) (drop (suc at) bytes) (rw byte at f)))
 
@@ -219,13 +224,13 @@ module _ {limit : ℕ} {bytes : List ℕ} {from value at : ℕ} (inv : Numbering
       rest_of =
           rw (drop-cons bytes at 0 h, byte) (digits_in_lem (get_or bytes at 0) (drop (suc at) bytes) (rw byte at f))
 
-      nothing : goes_on limit value (b ∷ digits_in (drop (suc at) bytes)) ≡ false → found.Nothing ≡ found_at limit bytes from
+      nothing : goes_on limit value (b ∷ digits_in (drop (suc at) bytes)) ≡ false → None ≡ found_at limit bytes from
       nothing g = sym (inv.reads ∙ rw (rest_of, g))
 
-      pub numbering_nought : value ≡ 0 → found.Nothing ≡ found_at limit bytes from
+      pub numbering_nought : value ≡ 0 → None ≡ found_at limit bytes from
       numbering_nought z = nothing (nought_leads limit value b (digits_in (drop (suc at) bytes)) z)
 
-      pub numbering_above : limit < value * 10 + (b - 48) → found.Nothing ≡ found_at limit bytes from
+      pub numbering_above : limit < value * 10 + (b - 48) → None ≡ found_at limit bytes from
       numbering_above m = nothing (one_above limit value b (digits_in (drop (suc at) bytes)) m)
 
       pub numbering_more : (value ≡ 0 → ⊥) → value * 10 + (b - 48) ≤ limit

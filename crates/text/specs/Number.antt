@@ -1,9 +1,8 @@
 -- The number in front of some bytes: what is read. That reading is the inverse of printing is NumbersReadBack in
 -- specs/Theorems.antt.
 use Rattle.std.specs.Prelude.{ℕ, ◌+◌, ◌*◌, ◌-◌, Bool, true, false, cond, ◌&&◌, List, [], ◌∷◌, ltb, leb, length, drop}
-use Rattle.std.proofs.Math.Option.{Option, none, some}
+use Rattle.std.specs.Prelude.{Option, None, Some}
 use Rattle.text.specs.declared.number.Found.{Found}
-use Rattle.text.specs.declared.number.Found.TheVariants as found
 
 abbrev pub is_digit : ℕ → Bool
 is_digit b = leb 48 b && leb b 57
@@ -31,12 +30,12 @@ value_behind n (d ∷ ds) = value_behind (n * 10 + (d - 48)) ds
 unfoldable pub number_in : ℕ → List ℕ → Option ℕ
 number_in limit bytes =
     let n = value_behind 0 (digits_in bytes) in
-    cond (is_decimal (digits_in bytes) && leb n limit) (some n) none
+    cond (is_decimal (digits_in bytes) && leb n limit) (Some n) None
 
 -- what is found of bytes from a place on: the number in front of them and the place behind its digits
-abbrev pub found_to : ℕ → Option ℕ → Found
-found_to at none = found.Nothing
-found_to at (some n) = found.Number n at
+abbrev pub found_to : ℕ → Option ℕ → Option Found
+found_to at None = None
+found_to at (Some n) = Some (record { value = n; at = at })
 
-unfoldable pub found_at : ℕ → List ℕ → ℕ → Found
+unfoldable pub found_at : ℕ → List ℕ → ℕ → Option Found
 found_at limit bytes from = found_to (from + length (digits_in (drop from bytes))) (number_in limit (drop from bytes))

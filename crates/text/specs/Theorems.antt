@@ -1,7 +1,7 @@
 -- The main theorems of this crate, stated. Each has its proof, a term of exactly this type and of the same name in
 -- small letters, in proofs/Theorems.antt.
 use Rattle.std.specs.Prelude.{ℕ, suc, ◌+◌, ◌/◌, ◌%◌, ◌^◌, ◌≤◌, ◌<◌, ◌≡◌, List, [], ◌∷◌, ◌++◌, length}
-use Rattle.std.proofs.Math.Option.{none, some}
+use Rattle.std.specs.Prelude.{None, Some}
 use Rattle.text.specs.Decimal.{digits}
 use Rattle.text.specs.Number.{digits_in, behind_digits, number_in}
 
@@ -23,10 +23,10 @@ NoDigit bytes = digits_in bytes ≡ []
 -- nothing is read where no number within the limit stands in front so.
 pub record ReadsNumber (limit : ℕ) (bytes : List ℕ) : Type 0 where
   pub printed : (n : ℕ) (rest : List ℕ) → bytes ≡ digits n ++ rest → NoDigit rest → n ≤ limit
-      → (number_in limit bytes ≡ some n) × (behind_digits bytes ≡ rest)
-  pub read : (n : ℕ) → number_in limit bytes ≡ some n
+      → (number_in limit bytes ≡ Some n) × (behind_digits bytes ≡ rest)
+  pub read : (n : ℕ) → number_in limit bytes ≡ Some n
       → (bytes ≡ digits n ++ behind_digits bytes) × NoDigit (behind_digits bytes) × (n ≤ limit)
-  pub nothing : number_in limit bytes ≡ none
+  pub nothing : number_in limit bytes ≡ None
       → (n : ℕ) (rest : List ℕ) → bytes ≡ digits n ++ rest → NoDigit rest → n ≤ limit → ⊥
 
 abbrev pub NumbersReadBack : Type 0

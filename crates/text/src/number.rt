@@ -1,29 +1,13 @@
 // Reading one number in decimal.
 ghost use Rattle.std.specs.Prelude.{◌+◌, ◌*◌, ◌/◌, ◌≤◌, ◌≡◌, leb};
 ghost use Rattle.answers.specs.Lent.{held};
-ghost use Rattle.text.specs.Number.{is_digit, found_at};
+ghost use Rattle.text.specs.Number.{found_at};
 
-// A number that stands at a place, and the place behind its digits; or none.
+// A number that stands at a place, and the place behind its digits.
 #[derive(Clone, Copy)]
-pub enum Found {
-    Number { value: usize, at: usize },
-    Nothing,
-}
-
-fn wide(b: u8) -> usize
-    ensures { result ≡ b }
-{
-    b as usize
-}
-
-// Whether a byte is a digit.
-fn is_digit(b: usize) -> bool
-    ensures { result ≡ is_digit b }
-{
-    if b < 48 {
-        return false;
-    }
-    b <= 57
+pub struct Found {
+    pub value: usize,
+    pub at: usize,
 }
 
 // Whether a number with one digit more is within a limit; `tenth` is a tenth of it.
@@ -40,38 +24,37 @@ fn fits(value: usize, digit: usize, limit: usize, tenth: usize) -> bool
     digit <= limit - value * 10
 }
 
-// The number that starts at a place: decimal, no leading nought, at most a limit, as many digits as there are. Reads
-// its digits and one byte more.
-pub fn read_number(bytes: &[u8], from: usize, limit: usize) -> Found
+// The number that starts at a place: decimal, no leading nought, at most a limit, as many digits as there are; or none.
+// Reads its digits and one byte more.
+pub fn read_number(bytes: &[u8], from: usize, limit: usize) -> Option<Found>
     ensures answer { result ≡ found_at limit bytes.now from }
 {
     let n = bytes.len();
     if n <= from {
-        return Found::Nothing;
+        return None;
     }
-    let first = wide(bytes[from]);
-    if !is_digit(first) {
-        return Found::Nothing;
+    let first = bytes[from];
+    if !first.is_ascii_digit() {
+        return None;
     }
-    let mut value = first - 48;
+    let mut value = (first - b'0') as usize;
     if limit < value {
-        return Found::Nothing;
+        return None;
     }
-    let mut at = from + 1;
     let tenth = limit / 10;
-    while at < n {
-        let b = wide(bytes[at]);
-        if !is_digit(b) {
-            return Found::Number { value, at };
+    for at in from + 1..n {
+        let b = bytes[at];
+        if !b.is_ascii_digit() {
+            return Some(Found { value, at });
         }
+        let digit = (b - b'0') as usize;
         if value == 0 {
-            return Found::Nothing;
+            return None;
         }
-        if !fits(value, b - 48, limit, tenth) {
-            return Found::Nothing;
+        if !fits(value, digit, limit, tenth) {
+            return None;
         }
-        value = value * 10 + (b - 48);
-        at += 1;
+        value = value * 10 + digit;
     }
-    Found::Number { value, at }
+    Some(Found { value, at: n })
 }

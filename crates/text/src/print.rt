@@ -8,39 +8,6 @@ ghost use Rattle.answers.specs.Lent.{held, left};
 ghost use Rattle.text.specs.Decimal.{space, digits, padded, following, line};
 ghost use Rattle.text.specs.Printing.{behind, Prints};
 
-// The place so many bytes behind a place.
-fn place_behind(at: usize, count: usize) -> usize
-    ensures { result ≡ min (at + count) (2 ^ 64 - 1) }
-{
-    if usize::MAX - at < count {
-        return usize::MAX;
-    }
-    at + count
-}
-
-// A number less another, 0 at least.
-fn less(number: usize, other: usize) -> usize
-    ensures { result ≡ number - other }
-{
-    if number <= other {
-        return 0;
-    }
-    number - other
-}
-
-// How many of `n` bytes there is room for from a place on, in a slice of so many.
-fn room(size: usize, at: usize, n: usize) -> usize
-    ensures { result ≡ min n (size - at) }
-{
-    if size <= at {
-        return 0;
-    }
-    if n <= size - at {
-        return n;
-    }
-    size - at
-}
-
 // One byte.
 fn put(out: &mut [u8], at: usize, byte: u8) -> usize
     ensures { Prints (byte ∷ []) at (held out) result (left out) }
@@ -49,7 +16,7 @@ fn put(out: &mut [u8], at: usize, byte: u8) -> usize
         out[at] = byte;
         return at + 1;
     }
-    place_behind(at, 1)
+    at.saturating_add(1)
 }
 
 // A text.
@@ -57,26 +24,22 @@ pub fn put_text(out: &mut [u8], at: usize, text: &[u8]) -> usize
     ensures answer { result ≡ behind at text.now }
     ensures stored { left out ≡ sets (held out) at text.now }
 {
-    let n = room(out.len(), at, text.len());
-    let mut i = 0;
-    while i < n {
+    let n = text.len().min(out.len().saturating_sub(at));
+    for i in 0..n {
         out[at + i] = text[i];
-        i += 1;
     }
-    place_behind(at, text.len())
+    at.saturating_add(text.len())
 }
 
 // So many blanks.
 fn put_blanks(out: &mut [u8], at: usize, count: usize) -> usize
     ensures { Prints (replicate count space) at (held out) result (left out) }
 {
-    let n = room(out.len(), at, count);
-    let mut i = 0;
-    while i < n {
+    let n = count.min(out.len().saturating_sub(at));
+    for i in 0..n {
         out[at + i] = b' ';
-        i += 1;
     }
-    place_behind(at, count)
+    at.saturating_add(count)
 }
 
 // A number digit by digit.
@@ -84,10 +47,10 @@ fn put_digits(out: &mut [u8], at: usize, number: usize) -> usize
     ensures { Prints (digits number) at (held out) result (left out) }
 {
     if number < 10 {
-        return put(out, at, 48 + number as u8);
+        return put(out, at, b'0' + number as u8);
     }
     let next = put_digits(out, at, number / 10);
-    put(out, next, 48 + (number % 10) as u8)
+    put(out, next, b'0' + (number % 10) as u8)
 }
 
 // A number in decimal, without leading noughts.
@@ -96,11 +59,11 @@ pub fn put_number(out: &mut [u8], at: usize, number: usize) -> usize
     ensures stored { left out ≡ sets (held out) at (digits number) }
 {
     if number < 10 {
-        return put(out, at, 48 + number as u8);
+        return put(out, at, b'0' + number as u8);
     }
     if number < 100 {
-        let next = put(out, at, 48 + (number / 10) as u8);
-        return put(out, next, 48 + (number % 10) as u8);
+        let next = put(out, at, b'0' + (number / 10) as u8);
+        return put(out, next, b'0' + (number % 10) as u8);
     }
     put_digits(out, at, number)
 }
@@ -112,7 +75,7 @@ pub fn put_padded(out: &mut [u8], at: usize, number: usize, width: usize) -> usi
 {
     let mut none = [0u8; 0];
     let count = put_number(&mut none, 0, number);
-    let next = put_blanks(out, at, less(width, count));
+    let next = put_blanks(out, at, width.saturating_sub(count));
     put_number(out, next, number)
 }
 
@@ -127,12 +90,12 @@ fn put_word(out: &mut [u8], at: usize, word: usize, safe: usize) -> usize
     }
     out[at] = b' ';
     if word < 10 {
-        out[at + 1] = 48 + word as u8;
+        out[at + 1] = b'0' + word as u8;
         return at + 2;
     }
     if word < 100 {
-        out[at + 1] = 48 + (word / 10) as u8;
-        out[at + 2] = 48 + (word % 10) as u8;
+        out[at + 1] = b'0' + (word / 10) as u8;
+        out[at + 2] = b'0' + (word % 10) as u8;
         return at + 3;
     }
     put_digits(out, at + 1, word)
@@ -143,12 +106,10 @@ pub fn put_following(out: &mut [u8], at: usize, words: &[usize]) -> usize
     ensures answer { result ≡ behind at (following words.now) }
     ensures stored { left out ≡ sets (held out) at (following words.now) }
 {
-    let safe = less(out.len(), 2);
+    let safe = out.len().saturating_sub(2);
     let mut to = at;
-    let mut i = 0;
-    while i < words.len() {
-        to = put_word(out, to, words[i], safe);
-        i += 1;
+    for word in words {
+        to = put_word(out, to, *word, safe);
     }
     put(out, to, b'\n')
 }
@@ -158,7 +119,7 @@ pub fn put_line(out: &mut [u8], at: usize, words: &[usize]) -> usize
     ensures answer { result ≡ behind at (line words.now) }
     ensures stored { left out ≡ sets (held out) at (line words.now) }
 {
-    if words.len() == 0 {
+    if words.is_empty() {
         return put(out, at, b'\n');
     }
     let next = put_number(out, at, words[0]);

@@ -8,7 +8,7 @@ returns-clause-whole g c complete =
     let got = c.read_input-got in
     let responded = c.respond-count.ensures in
     whole_written _ _ _ _ _ got.new.bytes _ got.result.count got.ensures.count
-    (omega (arith, got.auto.bytes, c.room_for_sheet-sheet.ensures))
+    (omega (arith, got.auto.bytes, c.room-sheet.ensures.size))
     got.ensures.front
     (got.ensures.whole complete)
     (answer_in_front _ _ _ _ responded.answer responded.stored)

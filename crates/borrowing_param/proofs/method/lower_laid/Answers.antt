@@ -1,8 +1,6 @@
 -- `lower_laid` meets its contract: the ten slices are the records.
 use mathlib.Core.Path.{◌≡◌, sym, ap, subst, ◌∙◌}
-use mathlib.Core.List.{[]}
 use Rattle.answers.specs.Refusals.{NoneDue}
-use Rattle.lifetimes.specs.Env.{env_of, made}
 use Rattle.sheet.specs.Text.{Records, ten_records}
 use Rattle.sheet.specs.Shape.{records_checks}
 use Rattle.sheet.specs.Answer.{records_at}
@@ -48,4 +46,4 @@ returns c =
     c.record_words-5.ensures.answer
     c.record_words-6.ensures.answer c.record_words-7.ensures.answer
     c.record_words-8.ensures.answer c.record_words-9.ensures.answer c.record_words-10.ensures.answer in
-    c.lower_records.ensures ∙ ap (λ (r : Records). made (env_of 0 0 []) (lowered_env r)) found
+    c.lower_records.ensures ∙ ap lowered_env found

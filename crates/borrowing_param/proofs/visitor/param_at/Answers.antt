@@ -1,17 +1,18 @@
--- `param_at` meets its contract. The loop's invariant is `Finding` of proofs/VisitorLaws.antt; the measure is how many
--- types are to be passed.
+-- `param_at` meets its contract. The loop's invariant is `Finding` of proofs/VisitorLaws.antt.
 use Rattle.borrowing_param.proofs.VisitorLaws.{finding_start, finding_end, finding_missing, finding_more}
 use borrow.Author.Rules.{rules}
 use Rattle.borrowing_param.proofs.visitor.param_at.Goals as goal
 
-pub loop-i-init : goal.loop-i-init
-loop-i-init c = search (finding_start, rules)
+pub loop-passed-init : goal.loop-passed-init
+loop-passed-init c = search (finding_start, rules)
 
-pub returns-in_default : goal.returns-in_default
-returns-in_default c = search (finding_missing, rules)
+pub returns-in_err-at : goal.returns-in_err-at
+returns-in_err-at c = rw c.from_residual.ensures
+    (finding_missing c.loop-passed.invariant c.loop-passed-test.true c.type_at.ensures.answer c.in_err-at.was)
 
-pub loop-i-preserved : goal.loop-i-preserved
-loop-i-preserved c = search (finding_more, rules)
+pub loop-passed-preserved : goal.loop-passed-preserved
+loop-passed-preserved c = finding_more c.loop-passed.invariant c.loop-passed-test.true c.type_at.ensures.answer
+    c.in_ok-at.was
 
 pub returns : goal.returns
 returns c = search (finding_end, rules)

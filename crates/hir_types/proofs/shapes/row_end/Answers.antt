@@ -1,19 +1,18 @@
 -- `row_end` meets its contract: each way out is one law of proofs/EndLaws.antt.
-use Rattle.hir_types.proofs.EndLaws.{row_none, row_short, row_wide, row_many, row_ends}
-use borrow.Author.Rules.{rules}
+use Rattle.hir_types.proofs.EndLaws.{row_none, row_short, row_large, row_ends}
 use Rattle.hir_types.proofs.shapes.row_end.Goals as goal
 
-pub returns-then-n-at : goal.returns-then-n-at
-returns-then-n-at c = search (row_none, rules)
+pub returns-in_err-declared : goal.returns-in_err-declared
+returns-in_err-declared c = rw c.from_residual.ensures (row_none _ _ _ c.in_err-declared.ensures.lookup.3)
 
-pub returns-then-n-at-2 : goal.returns-then-n-at-2
-returns-then-n-at-2 c = search (row_short, rules)
+pub returns-in_err-fields : goal.returns-in_err-fields
+returns-in_err-fields c = rw c.from_residual-in_err-fields.ensures
+    (row_short _ _ _ c.in_ok-declared.ensures.lookup.3 c.in_err-fields.ensures.lookup.3)
 
-pub returns-then-structs-at-gt-MAX_FIELDS : goal.returns-then-structs-at-gt-MAX_FIELDS
-returns-then-structs-at-gt-MAX_FIELDS c = search (row_wide, rules)
-
-pub returns-then-fields-gt-MAX_FIELDS : goal.returns-then-fields-gt-MAX_FIELDS
-returns-then-fields-gt-MAX_FIELDS c = search (row_many, rules)
+pub returns-then-declared-gt-MAX_LIST : goal.returns-then-declared-gt-MAX_LIST
+returns-then-declared-gt-MAX_LIST c =
+    row_large _ _ _ c.in_ok-declared.ensures.lookup.3 c.in_ok-fields.ensures.lookup.3 c.then-declared-gt-MAX_LIST.either
 
 pub returns : goal.returns
-returns c = search (row_ends, rules)
+returns c = row_ends _ _ _ c.in_ok-declared.ensures.lookup.3 c.in_ok-fields.ensures.lookup.3
+    c.if-declared-gt-MAX_LIST.false c.if-fields-gt-MAX_LIST.false c.types_end.ensures

@@ -1,11 +1,6 @@
--- `types_end` meets its contract. The loop's invariant is `Ending` of proofs/EndLaws.antt; the measure is how many
--- types are to be read.
-use Prim.Native.Nat.{◌-◌}
+-- `types_end` meets its contract. The loop's invariant is `Ending` of proofs/EndLaws.antt.
 use Rattle.hir_types.proofs.EndLaws.{Ending}
 use Rattle.hir_types.proofs.shapes.types_end.Given as goal
 
 abbrev pub invariant-loop-i : goal.invariant-loop-i
-invariant-loop-i l = Ending l.words l.rows l.count l.from l.at l.i
-
-abbrev pub decreases-loop-i : goal.decreases-loop-i
-decreases-loop-i l = l.count - l.i
+invariant-loop-i l = Ending l.words l.rows l.count l.from l.at l._i

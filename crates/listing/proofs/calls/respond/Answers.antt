@@ -9,14 +9,12 @@ use Rattle.listing.proofs.calls.respond.Goals as goal
 pub returns-in-Ok : goal.returns-in-Ok
 returns-in-Ok c =
     let full : length c.args.out.now ≡ room_bytes = search rules in
-    let it = respond_listed c.args.sheet.now c.args.out.now c.list_sheet-answer.result c.list_sheet-answer.new.out
-    full c.list_sheet-answer.ensures c.in-Ok.is in
+    let it = respond_listed c.args.sheet.now c.args.out.now c.list_sheet.new.out full c.in-Ok.ensures in
     record { answer = it.0; stored = it.1 }
 
 pub returns-in-Err : goal.returns-in-Err
 returns-in-Err c =
     let full : length c.args.out.now ≡ room_bytes = search rules in
-    let it = respond_refused c.in-Err.refusal c.number.ensures.answer
-    c.args.sheet.now c.args.out.now c.list_sheet-answer.result c.list_sheet-answer.new.out full
-    c.list_sheet-answer.ensures c.in-Err.is c.put_refusal.ensures in
+    let it = respond_refused c.in-Err.refusal c.number.ensures.answer c.args.sheet.now c.args.out.now
+    c.list_sheet.new.out full c.in-Err.ensures c.put_headed.ensures in
     record { answer = it.0; stored = it.1 }

@@ -5,6 +5,3 @@ use Rattle.listing.proofs.sections.put_numbered.Given as goal
 
 abbrev pub invariant-loop-i : goal.invariant-loop-i
 invariant-loop-i l = Numbering l.words l.ends l.count l.at l.initial.out l.next l.out l.from l.i
-
-abbrev pub decreases-loop-i : goal.decreases-loop-i
-decreases-loop-i l = l.count - l.i

@@ -26,7 +26,7 @@ returns c =
     let all = leaves_all (counts ++ (lowered ++ (longer ++ (answers ++ edges)))) 0 c.args.out.now
     small (omega arith) in
     let four = leaves_rest {s = counts} (lowered ++ (longer ++ (answers ++ edges))) all
-    c.put_counts-lowered.ensures in
+    c.put_headed-lowered.ensures in
     let three = leaves_rest {s = lowered} (longer ++ (answers ++ edges)) four c.put_lowered-longer.ensures in
     let two = leaves_rest {s = longer} (answers ++ edges) three c.put_longer-answered.ensures in
     let one = leaves_rest {s = answers} edges two c.put_answers-edged.ensures in

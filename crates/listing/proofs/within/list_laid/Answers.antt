@@ -6,7 +6,7 @@ use Rattle.answers.specs.Refusals.{NoneDue}
 use Rattle.sheet.specs.Shape.{records_checks}
 use Rattle.sheet.specs.Answer.{records_at}
 use Rattle.sheet.proofs.LaidLaws.{ten_found}
-use Rattle.listing.specs.InnerListing.{listed_records, ListsWithin, Ample}
+use Rattle.listing.specs.InnerListing.{listed_records, ListsWithin, Suffices}
 use Rattle.listing.proofs.within.list_laid.Goals as goal
 
 pub list_records-requires : goal.list_records-requires
@@ -48,7 +48,6 @@ returns c =
     c.record_words-6.ensures.answer c.record_words-7.ensures.answer
     c.record_words-8.ensures.answer c.record_words-9.ensures.answer c.record_words-10.ensures.answer in
     subst (λ (r : Records). ListsWithin (listed_records r)
-    (Ample (length c.args.given.now) (length c.args.taken.now) (length c.args.lists.now)
-    (length c.args.edges.now)) c.args.out.now c.list_records.result
+    (Suffices c.args.scratch) c.args.out.now c.list_records.result
     c.list_records.new.out) found
     c.list_records.ensures

@@ -7,6 +7,28 @@ use Rattle.listing.proofs.RoomLaws.{lifetimes_few}
 use Rattle.listing.proofs.WithinMethodLaws.{AllListed, Mapped, lists_short, map_refused, params_inside}
 use Rattle.listing.proofs.WithinMethodLaws.{lists_ascend, edges_inside, method_listed}
 use Rattle.listing.proofs.within.list_method.Goals as goal
+use Rattle.listing.proofs.within.list_method.Goals.{After-borrow_map}
+
+-- what `all_lists` and `borrow_map` have left
+all_listed : (c : After-borrow_map) → AllListed c.args.env c.args.lists.now (replicate 64 0) c.all_lists-longer.result
+    c.all_lists-longer.new.words c.all_lists-longer.new.ends
+all_listed c = record {
+  places = refl;
+  room = c.if-lists-count.false;
+  is = c.all_lists-longer.ensures.answer;
+  wrote = c.all_lists-longer.ensures.words_filled;
+  ended = c.all_lists-longer.ensures.ends_filled;
+}
+
+mapped : (c : After-borrow_map) → Mapped c.from_sets-visitor.result c.args.structs.now c.args.params.now (replicate 16 0)
+    c.args.edges.now c.borrow_map.result c.borrow_map.new.answers c.borrow_map.new.edges
+mapped c = record {
+  sixteen = refl;
+  most = c.requires.1;
+  maps = c.borrow_map.ensures.answer.counts;
+  noted = c.borrow_map.ensures.answer.answers_filled;
+  stored = c.borrow_map.ensures.answer.edges_filled;
+}
 
 pub overflow_mul-count : goal.overflow_mul-count
 overflow_mul-count c = let few = lifetimes_few c.args.env c.requires.0.valid in
@@ -15,101 +37,28 @@ overflow_mul-count c = let few = lifetimes_few c.args.env c.requires.0.valid in
 pub returns-then-lists-count : goal.returns-then-lists-count
 returns-then-lists-count c = lists_short c.requires.0 c.args.lists.now c.if-lists-count.true
 
-pub returns-in-Err : goal.returns-in-Err
-returns-in-Err c =
-    let all_listed : AllListed c.args.env c.args.lists.now (replicate 64 0) c.all_lists-longer.result
-    c.all_lists-longer.new.words c.all_lists-longer.new.ends = record {
-      places = refl;
-      room =
-          c.if-lists-count.false;
-      is = c.all_lists-longer.ensures.answer;
-      wrote = c.all_lists-longer.ensures.words_filled;
-      ended = c.all_lists-longer.ensures.ends_filled;
-    } in
-    let mapped : Mapped c.from_sets-visitor.result c.args.structs.now c.args.params.now (replicate 16 0)
-    c.args.edges.now c.borrow_map-map.result c.borrow_map-map.new.answers c.borrow_map-map.new.edges = record {
-      sixteen = refl;
-      most = c.requires.1;
-      maps = c.borrow_map-map.ensures.answer.counts;
-      noted =
-          c.borrow_map-map.ensures.answer.answers_filled;
-      stored = c.borrow_map-map.ensures.answer.edges_filled;
-    } in
-    map_refused c.requires.0 all_listed c.from_sets-visitor.ensures.answer mapped
-    _ c.args.out.now c.in-Err.is c.too_many.ensures
+pub returns-in_default : goal.returns-in_default
+returns-in_default c =
+    let at = (goal.at.returns-in_default c).After-borrow_map in
+    map_refused c.requires.0 (all_listed at) c.from_sets-visitor.ensures.answer (mapped at)
+    _ c.args.out.now c.in_default.is c.too_many.ensures
 
 pub slice_bounds-put_listing-end : goal.slice_bounds-put_listing-end
 slice_bounds-put_listing-end c =
-    let all_listed : AllListed c.args.env c.args.lists.now (replicate 64 0) c.all_lists-longer.result
-    c.all_lists-longer.new.words c.all_lists-longer.new.ends = record {
-      places = refl;
-      room =
-          c.if-lists-count.false;
-      is = c.all_lists-longer.ensures.answer;
-      wrote = c.all_lists-longer.ensures.words_filled;
-      ended = c.all_lists-longer.ensures.ends_filled;
-    } in
-    let mapped : Mapped c.from_sets-visitor.result c.args.structs.now c.args.params.now (replicate 16 0)
-    c.args.edges.now c.borrow_map-map.result c.borrow_map-map.new.answers c.borrow_map-map.new.edges = record {
-      sixteen = refl;
-      most = c.requires.1;
-      maps = c.borrow_map-map.ensures.answer.counts;
-      noted =
-          c.borrow_map-map.ensures.answer.answers_filled;
-      stored = c.borrow_map-map.ensures.answer.edges_filled;
-    } in
-    params_inside c.requires.0 all_listed
-    c.from_sets-visitor.ensures.answer mapped c.in_default.is
+    let at = (goal.at.slice_bounds-put_listing-end c).After-borrow_map in
+    params_inside c.requires.0 (all_listed at) c.from_sets-visitor.ensures.answer (mapped at) c.in-Ok.is
 
 pub put_listing-length-requires : goal.put_listing-length-requires
 put_listing-length-requires c =
-    let all_listed : AllListed c.args.env c.args.lists.now (replicate 64 0) c.all_lists-longer.result
-    c.all_lists-longer.new.words c.all_lists-longer.new.ends = record {
-      places = refl;
-      room =
-          c.if-lists-count.false;
-      is = c.all_lists-longer.ensures.answer;
-      wrote = c.all_lists-longer.ensures.words_filled;
-      ended = c.all_lists-longer.ensures.ends_filled;
-    } in
-    let mapped : Mapped c.from_sets-visitor.result c.args.structs.now c.args.params.now (replicate 16 0)
-    c.args.edges.now c.borrow_map-map.result c.borrow_map-map.new.answers c.borrow_map-map.new.edges = record {
-      sixteen = refl;
-      most = c.requires.1;
-      maps = c.borrow_map-map.ensures.answer.counts;
-      noted =
-          c.borrow_map-map.ensures.answer.answers_filled;
-      stored = c.borrow_map-map.ensures.answer.edges_filled;
-    } in
-    let can = c.requires.0 in
-    let all = all_listed in
+    let at = (goal.at.put_listing-length-requires c).After-borrow_map in
     record {
       counts_len = refl;
-      ascend = lists_ascend can all;
-      counts_in_bounds = edges_inside can all
-          c.from_sets-visitor.ensures.answer mapped c.in_default.is;
+      ascend = lists_ascend c.requires.0 (all_listed at);
+      counts_in_bounds = edges_inside c.requires.0 (all_listed at) c.from_sets-visitor.ensures.answer (mapped at) c.in-Ok.is;
     }
 
 pub returns : goal.returns
 returns c =
-    let all_listed : AllListed c.args.env c.args.lists.now (replicate 64 0) c.all_lists-longer.result
-    c.all_lists-longer.new.words c.all_lists-longer.new.ends = record {
-      places = refl;
-      room =
-          c.if-lists-count.false;
-      is = c.all_lists-longer.ensures.answer;
-      wrote = c.all_lists-longer.ensures.words_filled;
-      ended = c.all_lists-longer.ensures.ends_filled;
-    } in
-    let mapped : Mapped c.from_sets-visitor.result c.args.structs.now c.args.params.now (replicate 16 0)
-    c.args.edges.now c.borrow_map-map.result c.borrow_map-map.new.answers c.borrow_map-map.new.edges = record {
-      sixteen = refl;
-      most = c.requires.1;
-      maps = c.borrow_map-map.ensures.answer.counts;
-      noted =
-          c.borrow_map-map.ensures.answer.answers_filled;
-      stored = c.borrow_map-map.ensures.answer.edges_filled;
-    } in
-    method_listed c.requires.0 all_listed
-    c.from_sets-visitor.ensures.answer mapped c.in_default.is c.count.ensures.answer
+    let at = (goal.at.returns c).After-borrow_map in
+    method_listed c.requires.0 (all_listed at) c.from_sets-visitor.ensures.answer (mapped at) c.in-Ok.is c.count.ensures.answer
     c.put_listing-length.ensures

@@ -1,11 +1,6 @@
--- `pairs_of` meets its contract. The loop's invariant is `Pairing` of proofs/FieldsLaws.antt; the measure is how many
--- words are left.
-use Prim.Native.Nat.{◌-◌}
+-- `pairs_of` meets its contract. The loop's invariant is `Pairing` of proofs/FieldsLaws.antt.
 use Rattle.methods.proofs.FieldsLaws.{Pairing}
 use Rattle.methods.proofs.fields.pairs_of.Given as goal
 
 abbrev pub invariant-loop-i : goal.invariant-loop-i
-invariant-loop-i l = Pairing l.path l.declared l.pairs l.n l.i
-
-abbrev pub decreases-loop-i : goal.decreases-loop-i
-decreases-loop-i l = l.count - l.i
+invariant-loop-i l = Pairing l.path l.declared l.pairs l.count l.i

@@ -1,20 +1,15 @@
 -- `type_fits` meets its contract: each way out is one law of proofs/FitsLaws.antt.
-use mathlib.Core.Path.{sym, ◌∙◌}
-use Rattle.hir_types.proofs.FoundLaws.{found_told, missing_told}
+use mathlib.Core.Path.{sym}
+use Rattle.hir_types.proofs.FoundLaws.{type_found, type_lost}
 use Rattle.methods.proofs.FitsLaws.{type_missing, type_unfit, type_fit}
-use Rattle.hir_types.proofs.LocatedLaws.{type_located}
-use borrow.Author.Rules.{rules}
 use Rattle.methods.proofs.fits.type_fits.Goals as goal
 
-pub returns-in_default : goal.returns-in_default
-returns-in_default c = search (missing_told, type_missing, type_located, rules)
+pub returns-in_err-parts : goal.returns-in_err-parts
+returns-in_err-parts c = rw c.from_residual.ensures
+    (type_missing _ _ _ (type_lost c.args.words.now c.args.at c.in_err-parts.ensures.answer))
 
 pub returns-then-is_misfit : goal.returns-then-is_misfit
-returns-then-is_misfit c = type_unfit
-    _ _ _ (found_told (type_located _ _ c.type_at-found.ensures.answer)
-    c.in-Some.is) (sym c.is_misfit.ensures ∙ c.if-is_misfit.true)
+returns-then-is_misfit c = type_unfit _ _ _ (type_found _ _ c.in_ok-parts.ensures.answer) (sym c.if-is_misfit.ensures)
 
 pub returns : goal.returns
-returns c = type_fit
-    _ _ _ (found_told (type_located _ _ c.type_at-found.ensures.answer)
-    c.in-Some.is) (sym c.is_misfit.ensures ∙ c.if-is_misfit.false)
+returns c = type_fit _ _ _ (type_found _ _ c.in_ok-parts.ensures.answer) (sym c.if-is_misfit.ensures)

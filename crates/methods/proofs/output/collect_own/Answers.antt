@@ -1,10 +1,7 @@
 -- `collect_own` meets its contract: one lifetime or none.
-use Rattle.methods.proofs.OutputLaws.{own_collected, own_absent}
+use Rattle.methods.proofs.OutputLaws.{own_absent}
 use borrow.Author.Rules.{rules}
 use Rattle.methods.proofs.output.collect_own.Goals as goal
-
-pub returns-in-Some : goal.returns-in-Some
-returns-in-Some c = search (own_collected, rules)
 
 pub returns-in-None : goal.returns-in-None
 returns-in-None c = search (own_absent, rules)

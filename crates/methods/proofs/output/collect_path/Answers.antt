@@ -1,27 +1,15 @@
--- `collect_path` meets its contract. The loop's invariant is `Pathing` of proofs/OutputLaws.antt; the measure is how
--- many words are to be read.
+-- `collect_path` meets its contract. The loop's invariant is `Pathing` of proofs/OutputLaws.antt.
 use borrow.Author.Rules.{rules}
-use native.Mathlib.Omega.{arith}
-use Rattle.methods.proofs.OutputLaws.{pathing_start, pathing_stops, pathing_more, pathing_end}
+use Rattle.methods.proofs.OutputLaws.{pathing_stops, pathing_more, pathing_end}
 use Rattle.methods.proofs.output.collect_path.Goals as goal
 
-pub loop-i-init : goal.loop-i-init
-loop-i-init c = search (pathing_start, rules)
+pub returns-in_err-used : goal.returns-in_err-used
+returns-in_err-used c = rw c.from_residual.ensures
+    (pathing_stops c.loop-word.invariant c.loop-word-test.true c.from_word.ensures.answer c.in_err-used.ensures)
 
-pub overflow_add-word : goal.overflow_add-word
-overflow_add-word c = omega (arith, c.requires.1 c.loop-i.i c.loop-i-test.true)
-
-pub offset_bounds-words-from : goal.offset_bounds-words-from
-offset_bounds-words-from c = omega (arith, c.requires.1 c.loop-i.i c.loop-i-test.true)
-
-pub bounds-words-from : goal.bounds-words-from
-bounds-words-from c = c.requires.1 c.loop-i.i c.loop-i-test.true
-
-pub returns-in_default : goal.returns-in_default
-returns-in_default c = search (pathing_stops, rules)
-
-pub loop-i-preserved : goal.loop-i-preserved
-loop-i-preserved c = search (pathing_more, rules)
+pub loop-word-preserved : goal.loop-word-preserved
+loop-word-preserved c =
+    pathing_more c.loop-word.invariant c.loop-word-test.true c.from_word.ensures.answer c.in_ok-used.ensures
 
 pub returns : goal.returns
 returns c = search (pathing_end, rules)

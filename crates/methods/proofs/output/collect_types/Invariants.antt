@@ -1,11 +1,6 @@
--- `collect_types` meets its contract. The loop's invariant is `Collecting` of proofs/OutputLaws.antt; the measure is
--- how many types are to be read.
-use Prim.Native.Nat.{◌-◌}
+-- `collect_types` meets its contract. The loop's invariant is `Collecting` of proofs/OutputLaws.antt.
 use Rattle.methods.proofs.OutputLaws.{Collecting}
 use Rattle.methods.proofs.output.collect_types.Given as goal
 
 abbrev pub invariant-loop-i : goal.invariant-loop-i
-invariant-loop-i l = Collecting l.words l.types l.count l.at l.used l.i
-
-abbrev pub decreases-loop-i : goal.decreases-loop-i
-decreases-loop-i l = l.types - l.i
+invariant-loop-i l = Collecting l.words l.types l.count l.at l.used l._i

@@ -1,33 +1,32 @@
 -- `lines` meets its contract: each turn of the loop takes one line more.
-use mathlib.Core.Path.{◌∙◌}
-use borrow.Author.Rules.{rules}
-use Rattle.sheet.proofs.LinesLaws.{read_words_lem, read_nothing, lining_start, lining_size, lining_none, lining_many, lining_end, lining_sub, lining_more}
+use mathlib.Core.Path.{refl}
+use Rattle.sheet.proofs.LinesLaws.{lining_start, lining_none, lining_many, lining_stored, lining_long, lining_end, lining_more}
 use Rattle.sheet.proofs.lines.lines.Goals as goal
 
 pub loop-i-init : goal.loop-i-init
-loop-i-init c = search (lining_start, rules)
-
-pub shape_of-words-in_default : goal.shape_of-words-in_default
-shape_of-words-in_default c = c.line-read.auto.words ∙ lining_size c.loop-i.invariant
+loop-i-init c = lining_start _ _ _ _ refl
 
 pub returns-in_default : goal.returns-in_default
-returns-in_default c = search (read_nothing, lining_none, rules)
-
-pub overflow_sub-more : goal.overflow_sub-more
-overflow_sub-more c = lining_sub c.loop-i.invariant
-    (read_words_lem _ _ _ _ _ c.in-Words.is c.line-read.ensures)
+returns-in_default c =
+    let it = lining_none c.loop-i.invariant c.loop-i-test.true c.in_default.ensures in
+    record { value = it.0; words_value = it.1 }
 
 pub loop-i-preserved : goal.loop-i-preserved
-loop-i-preserved c = search (read_words_lem, lining_more, rules)
-
-pub shape_of-words-then-at-bytes : goal.shape_of-words-then-at-bytes
-shape_of-words-then-at-bytes c = search (lining_size, rules)
+loop-i-preserved c = lining_more c.loop-i.invariant c.in-Some.ensures c.loop-i-test.true refl refl
 
 pub returns-then-at-bytes : goal.returns-then-at-bytes
-returns-then-at-bytes c = search (lining_many, rules)
+returns-then-at-bytes c =
+    let it = lining_many c.loop-i.invariant c.loop-i-test.false c.if-at-bytes.true in
+    record { value = it.0; words_value = it.1 }
 
-pub shape_of-words : goal.shape_of-words
-shape_of-words c = search (lining_size, rules)
+pub returns-then-not-short : goal.returns-then-not-short
+returns-then-not-short c = record {
+  value = lining_long c.loop-i.invariant c.loop-i-test.false c.if-at-bytes.false c.if-not-short.true;
+  words_value = lining_stored c.loop-i.invariant c.loop-i-test.false c.if-at-bytes.false;
+}
 
 pub returns : goal.returns
-returns c = search (lining_end, rules)
+returns c = record {
+  value = lining_end c.loop-i.invariant c.loop-i-test.false c.if-at-bytes.false c.if-not-short.false;
+  words_value = lining_stored c.loop-i.invariant c.loop-i-test.false c.if-at-bytes.false;
+}

@@ -1,10 +1,6 @@
 -- `lines` meets its contract: each turn of the loop takes one line more.
-use Prim.Native.Nat.{◌-◌}
 use Rattle.sheet.proofs.LinesLaws.{Lining}
 use Rattle.sheet.proofs.lines.lines.Given as goal
 
 abbrev pub invariant-loop-i : goal.invariant-loop-i
-invariant-loop-i l = Lining l.bytes l.from l.initial.words l.words l.ends l.at l.count l.judged l.i
-
-abbrev pub decreases-loop-i : goal.decreases-loop-i
-decreases-loop-i l = 10 - l.i
+invariant-loop-i l = Lining l.bytes l.from l.initial.words l.words l.ends l.at l.count l.short l.i

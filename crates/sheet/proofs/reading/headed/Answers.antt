@@ -3,23 +3,17 @@ use mathlib.Core.Path.{◌≡◌, refl, ◌∙◌}
 use native.Mathlib.Omega.{arith}
 use borrow.Author.Rules.{rules}
 use Rattle.sheet.specs.Text.{heading}
-use Rattle.sheet.proofs.HeadingLaws.{behind_short, matching_start, comparing_here, comparing_more}
+use Rattle.sheet.proofs.HeadingLaws.{behind_short, comparing_here, comparing_more}
 use Rattle.sheet.proofs.HeadingLaws.{comparing_end}
 use Rattle.sheet.proofs.reading.headed.Goals as goal
 
 pub returns-then-bytes-lt-HEADING : goal.returns-then-bytes-lt-HEADING
 returns-then-bytes-lt-HEADING c = search (behind_short, rules)
 
-pub loop-i-init : goal.loop-i-init
-loop-i-init c = search (matching_start, rules)
-
-pub bounds-bytes-i : goal.bounds-bytes-i
-bounds-bytes-i c = search (comparing_here, rules)
-
 pub loop-i-preserved : goal.loop-i-preserved
 loop-i-preserved c = (
   comparing_more heading c.args.bytes.now c.loop-i.i c.loop-i.same c.loop-i.invariant.0
-      c.loop-i-test.true c.both-same.result c.both-same.ensures,
+      c.loop-i-test.true _ refl,
   refl,
 )
 

@@ -1,5 +1,4 @@
 -- `headed` meets its contract: the heading is compared byte by byte.
-use Prim.Native.Nat.{◌-◌}
 use mathlib.Core.Path.{◌≡◌}
 use Rattle.sheet.specs.Text.{heading}
 use Rattle.sheet.proofs.HeadingLaws.{Comparing}
@@ -7,6 +6,3 @@ use Rattle.sheet.proofs.reading.headed.Given as goal
 
 abbrev pub invariant-loop-i : goal.invariant-loop-i
 invariant-loop-i l = Comparing l.same heading l.bytes l.i × (l.line ≡ heading)
-
-abbrev pub decreases-loop-i : goal.decreases-loop-i
-decreases-loop-i l = 66 - l.i

@@ -3,4 +3,4 @@ use Rattle.sheet.proofs.ReadingLaws.{wrote}
 use Rattle.sheet.proofs.reading.write.Goals as goal
 
 pub returns : goal.returns
-returns c = wrote _ _ _ _ c.requires c.lines.result c.lines.ensures
+returns c = wrote c.args.sheet.now c.args.words.now c.requires c.lines.ensures.words_value

@@ -1,16 +1,12 @@
 -- `ascend` meets its contract: each turn looks at one end more.
-use borrow.Author.Rules.{rules}
-use Rattle.sheet_writer.proofs.LaidLaws.{ascending_start, ascending_not, ascending_more, ascending_end}
+use Rattle.sheet_writer.proofs.LaidLaws.{ascending_not, ascending_more, ascending_end}
 use Rattle.sheet_writer.proofs.laid.ascend.Goals as goal
 
-pub loop-i-init : goal.loop-i-init
-loop-i-init c = search (ascending_start, rules)
+pub returns-then-end-from : goal.returns-then-end-from
+returns-then-end-from c = ascending_not c.loop-end.invariant c.loop-end-test.true c.if-end-from.true
 
-pub returns-then-ends-i : goal.returns-then-ends-i
-returns-then-ends-i c = search (ascending_not, rules)
-
-pub loop-i-preserved : goal.loop-i-preserved
-loop-i-preserved c = search (ascending_more, rules)
+pub loop-end-preserved : goal.loop-end-preserved
+loop-end-preserved c = ascending_more c.loop-end.invariant c.loop-end-test.true c.if-end-from.false
 
 pub returns : goal.returns
-returns c = search (ascending_end, rules)
+returns c = ascending_end c.loop-end.invariant c.loop-end-test.false

@@ -1,13 +1,11 @@
--- `any_large` meets its contract: one of ten, by threes.
-use Rattle.sheet.specs.Text.{Records, ten_records}
+-- `any_large` meets its contract: one of ten; the library's test of a record is the definition's.
+use Rattle.answers.specs.Lists.{any}
+use Rattle.sheet.specs.Text.{records_in}
 use Rattle.sheet_writer.proofs.LargeLaws.{ten_large}
 use Rattle.sheet_writer.proofs.large.any_large.Goals as goal
 
 pub returns : goal.returns
-returns c =
-    let records : Records = ten_records c.args.names.now c.args.bounds.now c.args.types.now c.args.own.now
-    c.args.steps.now
-    c.args.returns.now c.args.structs.now c.args.params.now c.args.output.now c.args.force.now in
-    ten_large records c.three_large-environment.ensures c.three_large-elision.ensures
-    c.three_large.ensures c.has_large.ensures c.either-method.ensures
-    c.either.ensures c.either-2.ensures
+unfolding any
+returns c = ten_large (records_in c.args.records) c.has_large.ensures c.has_large-2.ensures c.has_large-3.ensures
+    c.has_large-4.ensures c.has_large-5.ensures c.has_large-6.ensures c.has_large-7.ensures c.has_large-8.ensures
+    c.has_large-9.ensures c.has_large-10.ensures

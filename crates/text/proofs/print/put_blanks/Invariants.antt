@@ -1,5 +1,4 @@
 -- `put_blanks` meets its contract: each turn stores one blank more, as long as there is room.
-use Prim.Native.Nat.{◌-◌}
 use lib.ListN.{replicate}
 use Rattle.answers.proofs.Copying.{Copying}
 use Rattle.text.specs.Decimal.{space}
@@ -7,6 +6,3 @@ use Rattle.text.proofs.print.put_blanks.Given as goal
 
 abbrev pub invariant-loop-i : goal.invariant-loop-i
 invariant-loop-i l = Copying (replicate l.count space) l.n l.at l.initial.out l.out l.i
-
-abbrev pub decreases-loop-i : goal.decreases-loop-i
-decreases-loop-i l = l.n - l.i
