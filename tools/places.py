@@ -63,7 +63,7 @@ def enums(sources_):
     """1: enums of the shape of Option or Result."""
     for name, text in sources_:
         for line, _, body in blocks(text, r"(pub(\(crate\))? )?enum "):
-            if re.search(ABSENT, body) and "Malformed," not in body:
+            if re.search(ABSENT, body) and "Malformed" not in body:
                 yield name, line, body.split("\n")[0]
 
 

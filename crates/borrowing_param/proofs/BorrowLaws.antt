@@ -7,19 +7,19 @@ use mathlib.Core.Path.{◌≡◌, refl, sym, ap, subst, ◌∙◌}
 use mathlib.Core.List.{List, [], ◌∷◌, ◌++◌}
 use native.Mathlib.Omega.{arith}
 use borrow.Author.Tests.{le-ltb, lt-ltb}
-use lib.ListN.{length, get_or, take, drop}
+use lib.ListN.{length, take, drop}
 use lib.Seq.{take-append_seam}
 use Rattle.answers.specs.declared.Refusal.{Refusal}
 use Rattle.answers.specs.declared.Refusal.TheVariants.{NoRoom}
 use Rattle.lifetimes.specs.declared.env.LifetimeEnv.{LifetimeEnv}
-use Rattle.answers.specs.Refusals.{Check, Outcome, unless, FirstDue, here, later, NoneDue, next, end}
+use Rattle.answers.specs.Refusals.{Check, Outcome, FirstDue, here, later, NoneDue, next, end}
 use Rattle.answers.specs.Lent.{Slice, left, room, Fills, Stays, room_check}
 use Rattle.lifetimes.specs.Sets as sets
 use Rattle.answers.proofs.RefusalLaws.{due_given, due_refused, none_split, first_more, first_behind, refused_due}
 use Rattle.answers.proofs.RefusalLaws.{given_due}
 use Rattle.answers.proofs.VerdictLaws.{unless_after}
 use Rattle.methods.specs.Method.{types_in, structs_and_params_checks, method_checks}
-use Rattle.methods.specs.Used.{used_set, output_numbers, most_used}
+use Rattle.methods.specs.Used.{most_used}
 use Rattle.sheet.specs.Text.{Records, lists}
 use Rattle.sheet.specs.Reading.{sheet_of}
 use Rattle.answers.specs.Lists.{ends_from}
@@ -34,7 +34,7 @@ use Rattle.borrowing_param.specs.Edges.{edges_in}
 use Rattle.borrowing_param.specs.New.{method_visitor, created}
 use Rattle.borrowing_param.specs.BorrowMap as map
 use Rattle.borrowing_param.specs.Consistent.{Consistent}
-use Rattle.borrowing_param.specs.SheetMethod.{env_of_sheet, lowering_checks, sheet_refusals, method_answer}
+use Rattle.borrowing_param.specs.SheetMethod.{env_of_sheet, lowering_checks, sheet_refusals}
 use Rattle.borrowing_param.specs.Borrows.{Borrows, borrows_by, borrows_of, sheet_borrows, borrows_room_checks, borrow_method}
 use Rattle.borrowing_param.specs.Borrows.{borrow_sheet, borrows_answer, used_words, answer_words, edges_words}
 use Rattle.borrowing_param.specs.Borrows.{BorrowsTo, most_listed}

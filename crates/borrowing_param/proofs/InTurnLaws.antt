@@ -14,7 +14,7 @@ use lib.ListN.{length, get_or, take}
 use lib.Seq.{take-length}
 use Rattle.answers.specs.declared.Refusal.TheVariants.{NoRoom}
 use Rattle.lifetimes.specs.declared.env.LifetimeEnv.{LifetimeEnv}
-use Rattle.answers.specs.Refusals.{NoneDue, Outcome, over}
+use Rattle.answers.specs.Refusals.{NoneDue, over}
 use Rattle.answers.specs.Lists.{range, numbered}
 use Rattle.lifetimes.specs.Sets.{member}
 use Rattle.answers.proofs.ListLaws.{length_range, get_d_range, range_has}

@@ -31,7 +31,7 @@ use Rattle.hir_types.specs.declared.types.Parts.{Parts}
 use Rattle.hir_types.specs.LoweredTypes.{LoweredType, read_lowered, located}
 use Rattle.hir_types.specs.Rows.{Row, rows_of, read_known, types_of, structs_in_shape, params_in_shape}
 use Rattle.hir_types.proofs.LocatedLaws.{type_located}
-use Rattle.hir_types.proofs.FoundLaws.{found_told, missing_told, path_inside}
+use Rattle.hir_types.proofs.FoundLaws.{found_told, missing_told}
 use Rattle.methods.specs.Method.{types_in, row_checks, param_checks, structs_and_params_checks, structs_and_params_verdict}
 use Rattle.borrowing_param.specs.declared.listed.BorrowMap.{BorrowMap}
 use Rattle.borrowing_param.specs.declared.visitor.LifetimeEdge.{LifetimeEdge}

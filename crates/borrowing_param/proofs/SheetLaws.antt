@@ -11,7 +11,7 @@ use lib.ListN.{length, get_or, take, drop, length-append}
 use lib.Seq.{sets, take-append_seam}
 use Rattle.answers.specs.declared.Refusal.{Refusal}
 use Rattle.answers.specs.declared.Refusal.TheVariants.{NoRoom}
-use Rattle.answers.specs.Refusals.{Check, Outcome, unless, FirstDue, here, later, NoneDue}
+use Rattle.answers.specs.Refusals.{Check, Outcome, FirstDue, here, later, NoneDue}
 use Rattle.answers.specs.Refusals.{next, end}
 use Rattle.answers.specs.Lent.{counted, room_check, written}
 use Rattle.lifetimes.specs.declared.env.LifetimeEnv.{LifetimeEnv}

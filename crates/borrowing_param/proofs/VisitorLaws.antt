@@ -28,7 +28,7 @@ use Rattle.hir_types.specs.LoweredTypes.{LoweredType, read_lowered, knows, locat
 use Rattle.hir_types.specs.Rows.{rows_of, read_known, types_of, params_in_shape, structs_in_shape}
 use Rattle.hir_types.specs.Places.{Stands, nowhere, code_of, code_in, Coded}
 use Rattle.hir_types.proofs.LocatedLaws.{type_few, type_located, type_coded}
-use Rattle.hir_types.proofs.FoundLaws.{found_told, missing_told, code_told, path_inside}
+use Rattle.hir_types.proofs.FoundLaws.{found_told, missing_told, code_told}
 use Rattle.methods.specs.Method.{types_in, structs_and_params_checks, structs_and_params_verdict}
 use Rattle.borrowing_param.specs.declared.visitor.LifetimeEdge.{LifetimeEdge}
 use Rattle.borrowing_param.specs.declared.visitor.BorrowingParamVisitor.{BorrowingParamVisitor}

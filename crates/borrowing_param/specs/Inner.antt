@@ -1,10 +1,9 @@
 -- For private functions only: searching, counting and storing the edges of one parameter. No public contract cites this
 -- file.
-use Rattle.std.specs.Prelude.{ℕ, zero, suc, ◌+◌, ◌*◌, ◌^◌, ◌≤◌, ◌<◌, Bool, true, false, cond, ◌≡◌, eqb}
-use Rattle.std.specs.Prelude.{Some, None, Option, length, get_or, take, drop}
-use mathlib.Core.List.{List, [], ◌∷◌, ◌++◌, map, flat_map}
+use Rattle.std.specs.Prelude.{ℕ, zero, suc, ◌+◌, ◌*◌, ◌^◌, ◌≤◌, ◌<◌, Bool, cond, ◌≡◌, eqb}
+use Rattle.std.specs.Prelude.{Option, length, get_or, take, drop}
+use mathlib.Core.List.{List, map, flat_map}
 use Rattle.std.proofs.lemmas.List.Edits.{sets}
-use Rattle.lifetimes.specs.declared.maybe_static.MaybeStatic.{MaybeStatic}
 use Rattle.lifetimes.specs.LoweredWords.{from_word}
 use Rattle.lifetimes.specs.Limits.{most_lifetimes}
 use Rattle.lifetimes.specs.Sets.{members}
@@ -12,13 +11,12 @@ use Rattle.records.specs.Reading.{Reading, onward}
 use Rattle.hir_types.specs.declared.types.Kind.{Kind}
 use Rattle.hir_types.specs.declared.types.Kind.TheVariants.{Plain, Opaque, Struct, Slice}
 use Rattle.hir_types.specs.declared.types.Parts.{Parts}
-use Rattle.hir_types.specs.LoweredTypes.{LoweredType, own_lifetimes, read_lowered}
+use Rattle.hir_types.specs.LoweredTypes.{LoweredType, read_lowered}
 use Rattle.hir_types.specs.Places.{Locates, CodedAt}
 use Rattle.borrowing_param.specs.declared.visitor.LifetimeEdge.{LifetimeEdge}
 use Rattle.borrowing_param.specs.Edges.{width, edge_words}
 use Rattle.borrowing_param.specs.Brings.{drawn, struct_edges, option_of, bring, notes}
 use Rattle.borrowing_param.specs.Visit.{draws_in}
-use Rattle.answers.specs.Lists.{count}
 
 -- a type by its parts and its path words
 abbrev pub typed : Parts → List ℕ → LoweredType

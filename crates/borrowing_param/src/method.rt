@@ -56,7 +56,11 @@ fn lower_in<const N: usize>(sheet: &[u8], words: &mut [usize]) -> Result<SheetMe
 }
 
 // The same with scratch that takes the words of any sheet of so many bytes.
-fn lower_within(sheet: &[u8], scratch: &mut [usize], words: &mut [usize]) -> Result<SheetMethod, Refusal>
+fn lower_within(
+    sheet: &[u8],
+    scratch: &mut [usize],
+    words: &mut [usize],
+) -> Result<SheetMethod, Refusal>
     requires { Roomy sheet.now (length scratch.old) }
     ensures value { result ≡ method_answer (lower_sheet sheet.now (room words)) }
     ensures fills { Fills (method_words (lower_sheet sheet.now (room words))) words }
@@ -72,11 +76,9 @@ pub(crate) fn judge_sheet(sheet: &[u8], scratch: &mut [usize]) -> Result<SheetMe
     ensures { JudgesSheet sheet.now result (left scratch) }
 {
     let text = read_sheet(sheet, scratch)?;
-    let env = lower_records(Records::laid(scratch, text.ends))?;
-    Ok(SheetMethod {
-        ends: text.ends,
-        env,
-    })
+    let ends = text.ends;
+    let env = lower_records(Records::laid(scratch, ends))?;
+    Ok(SheetMethod { ends, env })
 }
 
 // The environment of records that were read, or the first refusal due on them.
@@ -84,7 +86,11 @@ fn lower_records(records: Records) -> Result<LifetimeEnv, Refusal>
     requires { NoneDue (records_checks (records_in records)) }
     ensures { result ≡ lowered_env (records_in records.entry) }
 {
-    let ast = ast_lifetimes::LifetimeEnv::from_method_item(records.names, records.bounds, records.types)?;
+    let ast = ast_lifetimes::LifetimeEnv::from_method_item(
+        records.names,
+        records.bounds,
+        records.types,
+    )?;
     let lowered = measure(ast, records.own, records.steps, records.returns)?;
     check_method(
         lowered.env,

@@ -1,5 +1,6 @@
 // Asking: both calls of the crate `sheet`, or `respond` of the crate `listing`, each with a slice of its own.
 use super::print;
+use answers::Refusal;
 use input::room;
 use listing::{ROOM, respond};
 use sheet::{Text, read_sheet, read_text};
@@ -9,6 +10,9 @@ const WORDS: usize = Text::MAX_WORDS;
 
 // A word that no sheet has, so that each word that is written shows.
 const UNWRITTEN: usize = Text::MAX_WORD + 1;
+
+// What is printed as the ends of a refused text.
+const NO_ENDS: [usize; Text::RECORDS] = [0; Text::RECORDS];
 
 // A text asked about, by the kind of the question.
 pub(crate) fn ask(rt: &impl Print, text: &[u8], kind: usize, length: usize) {
@@ -43,15 +47,15 @@ fn both(rt: &impl Print, text: &[u8], length: usize) {
 }
 
 // What a call answered, and what it left in the slice.
-fn print_answer(rt: &impl Print, answer: Text, words: &[usize]) {
+fn print_answer(rt: &impl Print, answer: Result<Text, Refusal>, words: &[usize]) {
     let unwritten = words
         .iter()
         .rev()
         .take_while(|word| **word == UNWRITTEN)
         .count();
     let written = &words[..words.len() - unwritten];
-    print::next(rt, print::number_of(answer.verdict));
-    print::all(rt, &answer.ends);
+    print::next(rt, print::number_of(&answer));
+    print::all(rt, &answer.map_or(NO_ENDS, |text| text.ends));
     print::next(rt, written.len());
     print::all(rt, written);
 }

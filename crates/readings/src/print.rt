@@ -30,7 +30,10 @@ pub(crate) fn counted(rt: &impl Print, text: &[u8]) {
     let _ = rt.write_all(text);
 }
 
-// The number of a verdict: 0 where nothing is refused.
-pub(crate) fn number_of(verdict: Result<(), Refusal>) -> usize {
-    verdict.map_or_else(|refusal| refusal.number(), |()| 0)
+// The number of an outcome: 0 where nothing is refused.
+pub(crate) fn number_of<T>(outcome: &Result<T, Refusal>) -> usize {
+    match outcome {
+        Ok(_) => 0,
+        Err(refusal) => refusal.number(),
+    }
 }

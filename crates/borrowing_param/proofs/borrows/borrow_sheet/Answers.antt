@@ -1,5 +1,4 @@
 -- `borrow_sheet` meets its contract: what its scratch of either size gave, and what follows for a crate above.
-use Rattle.sheet.proofs.LaidLaws.{half_room, any_room}
 use Rattle.borrowing_param.proofs.BorrowLaws.{sheet_says}
 use Rattle.borrowing_param.proofs.borrows.borrow_sheet.Goals as goal
 

@@ -2,7 +2,6 @@
 use mathlib.Core.Path.{refl}
 use Rattle.borrowing_param.proofs.ListedLaws.{are_params, map_none, map_torn, map_listed}
 use Rattle.borrowing_param.proofs.OutcomeLaws.{way_out}
-use borrow.Author.Rules.{rules}
 use Rattle.borrowing_param.proofs.visitor.BorrowingParamVisitor.borrow_map.Goals as goal
 
 pub returns-in_err-check_structs_and_params : goal.returns-in_err-check_structs_and_params

@@ -1,6 +1,5 @@
 -- `map_params` meets its contract: its three answers are laws of proofs/ListedLaws.antt.
-use mathlib.Core.Path.{◌≡◌, refl, sym}
-use lib.ListN.{length}
+use mathlib.Core.Path.{refl, sym}
 use Rattle.borrowing_param.specs.InnerMap.{param_types}
 use Rattle.borrowing_param.proofs.ListedLaws.{no_room_answers, no_room_edges, numbers_size, listed_room, mapped}
 use borrow.Author.Rules.{rules}
