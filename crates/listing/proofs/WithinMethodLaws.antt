@@ -21,7 +21,7 @@ use Rattle.answers.specs.Lent.{written, verdict_of, result_or, room_check}
 use Rattle.answers.specs.Lists.{range}
 use Rattle.lifetimes.specs.Sets as sets
 use Rattle.answers.specs.Lists.{ends_from}
-use Rattle.lifetimes.specs.Reach.{reach_list, all_sets, no_sets, all_lists, lists_checks, list_words, list_ends}
+use Rattle.lifetimes.specs.Reach.{reach_list, all_sets, all_lists, lists_checks, list_words, list_ends}
 use Rattle.lifetimes.specs.Reach.{lists_answer}
 use Rattle.answers.proofs.RefusalLaws.{due_given, due_refused, refused_first, accepted_none, none_first, none_rest}
 use Rattle.answers.proofs.RefusalLaws.{none_more, none_split, first_behind}
@@ -40,14 +40,15 @@ use Rattle.borrowing_param.specs.BorrowMap as spec
 use Rattle.borrowing_param.specs.BorrowMap.{Mapping, mapping_of, map_checks, borrow_map, map_answer, map_answers}
 use Rattle.borrowing_param.specs.BorrowMap.{answers_from, listed_edges}
 use Rattle.borrowing_param.specs.Borrows.{Borrows}
-use Rattle.borrowing_param.proofs.OutcomeLaws.{over_refused, over_given}
+use Rattle.borrowing_param.proofs.OutcomeLaws.{ok_same, no_both, over_refused, over_given}
 use Rattle.borrowing_param.proofs.JoinLaws.{words_many, words_read}
 use Rattle.borrowing_param.proofs.ConsistentLaws.{listing_consistent}
-use Rattle.listing.specs.Listing.{count_heading, lowered_heading, longer_heading, longer_lines, answer_lines}
+use Rattle.listing.specs.declared.sections.Lowered.{Lowered}
+use Rattle.listing.specs.Listing.{count_heading, longer_heading, longer_lines, answer_lines}
 use Rattle.listing.specs.Listing.{edge_lines, most_edges}
 use Rattle.text.specs.Printing.{Prints}
 use Rattle.text.proofs.PrintLaws.{prints_length}
-use Rattle.listing.specs.InnerSections.{list_lines, cut_from, Ascend, edges_of_words}
+use Rattle.listing.specs.InnerSections.{list_lines, cut_from, Ascend, edges_of_words, lowered_lines_of}
 use Rattle.listing.specs.InnerListing.{ListsWithin, method_borrows, method_listing, listed_method, Listable}
 use Rattle.listing.specs.InnerListing.{sections, edges_overflow, lists_room, edges_room}
 use Rattle.listing.proofs.ListingLaws.{cut_lists, ends_ascend, numbered_map}
@@ -67,7 +68,7 @@ five_same b f g h i = rw (f, g, h, i)
 pub record AllListed (env : LifetimeEnv) (lists ends : List ℕ) (l : reach.Lists) (lists₁ ends₁ : List ℕ) : Type 0 where
   pub places : length ends ≡ 64
   pub room : env.count * env.count ≤ length lists
-  pub is : l ≡ lists_answer true env (length lists) (length ends)
+  pub is : Ok l ≡ lists_answer true env (length lists) (length ends)
   pub wrote : lists₁ ≡ written (list_words true env (length lists) (length ends)) lists
   pub ended : ends₁ ≡ written (list_ends true env (length lists) (length ends)) ends
 
@@ -80,8 +81,8 @@ pub record Mapped (v : BorrowingParamVisitor) (structs params answers edges : Li
   pub noted : answers₁ ≡ written (map_answers (borrow_map v structs params (length answers) (length edges))) answers
   pub stored : edges₁ ≡ written (spec.map_edges (borrow_map v structs params (length answers) (length edges))) edges
 
-module _ {env : LifetimeEnv} {used : ℕ} {structs params own given taken : List ℕ}
-    (can : Listable env used structs params own given taken) where
+module _ {env : LifetimeEnv} {used : ℕ} {structs params : List ℕ} {words : Lowered}
+    (can : Listable env used structs params words) where
   abbrev borrows : Borrows
   borrows = method_borrows env used structs params
 
@@ -92,7 +93,7 @@ module _ {env : LifetimeEnv} {used : ℕ} {structs params own given taken : List
   new = new_visitor used env
 
   abbrev listing : Outcome (List ℕ)
-  listing = listed_method env used structs params own given taken
+  listing = listed_method env used structs params words
 
   few : env.count ≤ 64
   few = lifetimes_few env can.valid
@@ -123,9 +124,8 @@ module _ {env : LifetimeEnv} {used : ℕ} {structs params own given taken : List
       → ListsWithin listing ((lists_room ≤ length lists) × (edges_room ≤ edges)) out (Ok None) out
   lists_short lists h = (λ a. omega (arith, h, mul-le-mul few few, a.0), refl)
 
-  module _ {lists ends : List ℕ} {l : reach.Lists} {lists₁ ends₁ : List ℕ} (all : AllListed env lists ends l lists₁ ends₁) where
-    open all use {places, room, is, wrote, ended}
-
+  -- with so much scratch the lists are never refused
+  module _ {lists ends : List ℕ} (places : length ends ≡ 64) (room : env.count * env.count ≤ length lists) where
     lists_fit : length (flatten (all_lists true env)) ≤ length lists
     lists_fit = omega (arith, lists_few, room)
 
@@ -136,9 +136,22 @@ module _ {env : LifetimeEnv} {used : ℕ} {structs params own given taken : List
         (omega (arith, length_ends 0 (all_lists true env), lists_many, few, places)))
         (next (le-ltb (length lists) (length (flatten (all_lists true env))) lists_fit) end))
 
-    sets_are : l.sets ≡ all_sets true env
+    lists_given : lists_answer true env (length lists) (length ends)
+        ≡ Ok (record { count = length (flatten (all_lists true env)); sets = all_sets true env })
     unfolding lists_answer
-    sets_are = ap (λ (x : reach.Lists). x.sets) is ∙ ap (result_or no_sets) (due_given (all_sets true env) lists_none)
+    lists_given = due_given _ lists_none
+
+    pub lists_taken : {k : Refusal} {A : Type 0} → Err k ≡ lists_answer true env (length lists) (length ends) → A
+    lists_taken e = no_both (e ∙ lists_given)
+
+  module _ {lists ends : List ℕ} {l : reach.Lists} {lists₁ ends₁ : List ℕ} (all : AllListed env lists ends l lists₁ ends₁) where
+    open all use {places, room, is, wrote, ended}
+
+    all_none : NoneDue (lists_checks true env (length lists) (length ends))
+    all_none = lists_none places room
+
+    sets_are : l.sets ≡ all_sets true env
+    sets_are = ap (λ (x : reach.Lists). x.sets) (ok_same (is ∙ lists_given places room))
 
     abbrev behind : List ℕ
     behind = drop (length (flatten (all_lists true env))) lists
@@ -148,11 +161,11 @@ module _ {env : LifetimeEnv} {used : ℕ} {structs params own given taken : List
 
     lists_are : lists₁ ≡ flatten (all_lists true env) ++ behind
     unfolding list_words
-    lists_are = wrote ∙ ap (λ (o : Outcome (List ℕ)). written o lists) (due_given (flatten (all_lists true env)) lists_none)
+    lists_are = wrote ∙ ap (λ (o : Outcome (List ℕ)). written o lists) (due_given (flatten (all_lists true env)) all_none)
 
     ends_are : ends₁ ≡ ends_from 0 (all_lists true env) ++ past
     unfolding list_ends
-    ends_are = ended ∙ ap (λ (o : Outcome (List ℕ)). written o ends) (due_given (ends_from 0 (all_lists true env)) lists_none)
+    ends_are = ended ∙ ap (λ (o : Outcome (List ℕ)). written o ends) (due_given (ends_from 0 (all_lists true env)) all_none)
 
     -- the ends, as the part of the scratch that is handed on
     abbrev ends₂ : List ℕ
@@ -251,7 +264,7 @@ module _ {env : LifetimeEnv} {used : ℕ} {structs params own given taken : List
             go true s = (λ a. omega (arith, ltb-true (length edges) edges_room s, a.1), refl)
             go false s =
                 let many : most_edges < length borrows.edges = omega (arith, ltb-false (length edges) edges_room s, edges_many v) in (
-                  due_refused (method_listing env used structs params own given taken) (here
+                  due_refused (method_listing env used structs params words) (here
                       (lt-ltb most_edges (length borrows.edges) many) refl),
                   refl,
                 )
@@ -331,24 +344,24 @@ module _ {env : LifetimeEnv} {used : ℕ} {structs params own given taken : List
           few_edges = omega (arith, edges_fit, most)
 
           module _ {many : ℕ} (counted : many ≡ sets.cardinality used) where
-            sections_are : sections (counts many) own given taken lists₁ ends₂ answers₂ edges₂
-                ≡ method_listing env used structs params own given taken
+            sections_are : sections (counts many) words lists₁ ends₂ answers₂ edges₂
+                ≡ method_listing env used structs params words
             unfolding sections method_listing sets.cardinality visitor_from
             sections_are =
-                five_same (lowered_heading ++ (line own ++ (line given ++ line taken)))
+                five_same (lowered_lines_of words)
                 (ap (λ (ns : List ℕ). count_heading ++ line ns) (rw (counted, map_is)))
                 longer_are (ap answer_lines answers₂_are) (ap edge_lines edges₂_are)
 
-            sections_small : 0 + length (sections (counts many) own given taken lists₁ ends₂ answers₂ edges₂) < 2 ^ 64
+            sections_small : 0 + length (sections (counts many) words lists₁ ends₂ answers₂ edges₂) < 2 ^ 64
             sections_small = rw sections_are (omega (arith, can.short few_edges))
 
             pub method_listed : {n : ℕ} {out out₁ : List ℕ}
-                → Prints (sections (counts many) own given taken lists₁ ends₂ answers₂ edges₂) 0 out n out₁
+                → Prints (sections (counts many) words lists₁ ends₂ answers₂ edges₂) 0 out n out₁
                 → ListsWithin listing ((lists_room ≤ length lists) × (edges_room ≤ length edges)) out (Ok (Some n)) out₁
             unfolding listed_method
             method_listed p = (
-              method_listing env used structs params own given taken,
-              due_given (method_listing env used structs params own given taken)
+              method_listing env used structs params words,
+              due_given (method_listing env used structs params words)
                   (next (le-ltb most_edges (length borrows.edges) few_edges) end),
               rw (← sections_are) (record { size = prints_length p sections_small ∙ zero-add _; stored = p.stored }),
             )

@@ -11,8 +11,11 @@ use Rattle.listing.proofs.sections.put_each_edge.Goals as goal
 pub loop-edge-init : goal.loop-edge-init
 loop-edge-init c =
     let small : length c.args.out.now < 2 ^ 64 = search rules in
-    rw (c.into_iter-edge-iterator.ensures.into_iter_gives, c.chunks_exact-edge-items.ensures.rest,
-    c.chunks_exact-edge-items.ensures.size)
+    rw (
+      c.into_iter-edge-iterator.ensures.into_iter_gives,
+      c.chunks_exact-edge-items.ensures.rest,
+      c.chunks_exact-edge-items.ensures.size,
+    )
     (edging_start c.args.edges.now c.args.at c.args.out.now small (omega (arith, c.ranges.at)), refl)
 
 pub loop-edge-preserved : goal.loop-edge-preserved
