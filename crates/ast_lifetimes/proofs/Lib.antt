@@ -1,5 +1,6 @@
 -- Laws of the definitions, and of the loops over plain values.
 -- Verdicts, and the shape of the records:
+pub mod OptionLaws
 pub mod ShapeLaws
 pub mod ReadingLaws
 pub mod TypesLaws

@@ -10,6 +10,7 @@ use Rattle.std.specs.List.{position_or_len}
 use Rattle.std.specs.Option.{is_some, ok_or}
 use Rattle.answers.specs.declared.Refusal.{Refusal}
 use Rattle.answers.specs.Refusals.{Outcome}
+use Rattle.ast_lifetimes.proofs.OptionLaws.{ok_or_missing, ok_or_found}
 use Rattle.ast_lifetimes.specs.Env.{place, is_declared, number_of}
 
 place_position : (names : List ℕ) (word : ℕ) → position_or_len (λ name. eqb name word) names ≡ place names word
@@ -51,16 +52,7 @@ module _ (names : List ℕ) (word : ℕ) where
   -- a number or a refusal
   module _ {r : Option ℕ} (e : r ≡ number_of names word) (x : Refusal) {o : Outcome ℕ} (f : o ≡ ok_or r x) where
     pub missing : {y : Refusal} → o ≡ Err y → (is_declared names word ≡ false) × (y ≡ x)
-    missing {y} k = go r refl
-      where
-        go : (q : Option ℕ) → r ≡ q → (is_declared names word ≡ false) × (y ≡ x)
-        go None h = (number_none (sym e ∙ h), let s : ◌≡◌ {A = Outcome ℕ} (Err y) (Err x) = sym k ∙ f ∙ rw h in cc)
-        go (Some at) h = absurd (let s : ◌≡◌ {A = Outcome ℕ} (Err y) (Ok at) = sym k ∙ f ∙ rw h in cc)
+    missing k = let m = ok_or_missing x f k in (number_none (sym e ∙ m.0), m.1)
 
     pub found : {at : ℕ} → o ≡ Ok at → (is_declared names word ≡ true) × (at ≡ place names word)
-    found {at} k = go r refl
-      where
-        go : (q : Option ℕ) → r ≡ q → (is_declared names word ≡ true) × (at ≡ place names word)
-        go None h = absurd (let s : ◌≡◌ {A = Outcome ℕ} (Ok at) (Err x) = sym k ∙ f ∙ rw h in cc)
-        go (Some i) h = let s : ◌≡◌ {A = Outcome ℕ} (Ok at) (Ok i) = sym k ∙ f ∙ rw h in
-            let same : at ≡ i = cc in number_some (sym e ∙ h ∙ rw same)
+    found k = number_some (sym e ∙ ok_or_found x f k)

@@ -18,11 +18,7 @@ pub fn types_shape(types: &[usize]) -> Result<(), Refusal>
     }
     let mut at = 0;
     while at < types.len() {
-        let end = type_end(types, at, LifetimeEnv::MAX_NESTING);
-        let Some(next) = end else {
-            return Err(Refusal::Malformed);
-        };
-        at = next;
+        at = type_end(types, at, LifetimeEnv::MAX_NESTING).ok_or(Refusal::Malformed)?;
     }
     Ok(())
 }
@@ -39,30 +35,22 @@ fn type_end(words: &[usize], at: usize, nesting: usize) -> Option<usize>
     if n <= at {
         return None;
     }
-    let code = words[at];
     let inside = nesting - 1;
     let next = at + 1;
-    if code == 0 {
-        return Some(next);
-    }
-    if code == 1 {
-        return lifetimes_end(words, next);
-    }
-    if code == 2 {
-        if n <= next {
-            return None;
+    match words[at] {
+        0 => Some(next),
+        1 => lifetimes_end(words, next),
+        2 => {
+            if n <= next {
+                return None;
+            }
+            type_end(words, next + 1, inside)
         }
-        return type_end(words, next + 1, inside);
+        3 => type_end(words, next, inside),
+        4 => {
+            let second = type_end(words, next, inside)?;
+            type_end(words, second, inside)
+        }
+        _ => None,
     }
-    if code == 3 {
-        return type_end(words, next, inside);
-    }
-    if code == 4 {
-        let first = type_end(words, next, inside);
-        let Some(second) = first else {
-            return None;
-        };
-        return type_end(words, second, inside);
-    }
-    None
 }

@@ -24,8 +24,8 @@ fn report(rt: &impl Eprint, failed: bool, line: &str) {
     }
 }
 
-// Whether reading the sheet failed, and what came of writing the answer. No Result of the two: a read that fails stops no
-// writing.
+// Whether reading the sheet failed, and what came of writing the answer. No Result of the two: a read that fails stops
+// no writing.
 #[derive(Clone, Copy)]
 struct Answered {
     unread: bool,

@@ -11,7 +11,7 @@ use Rattle.sheet.specs.Reading.{sheet_of}
 use Rattle.methods.specs.Method.{most_params}
 use Rattle.methods.specs.Used.{most_used}
 use Rattle.borrowing_param.specs.Edges.{width, edge_words}
-use Rattle.borrowing_param.specs.New.{created}
+use Rattle.borrowing_param.specs.New.{method_visitor}
 use Rattle.borrowing_param.specs.Consistent.{Consistent}
 use Rattle.borrowing_param.specs.Theorems.{Small}
 use Rattle.borrowing_param.specs.SheetMethod.{env_of_sheet, sheet_refusals}
@@ -31,7 +31,7 @@ module _ (bytes : List ℕ) where
   consistent : NoneDue (sheet_refusals bytes) → Consistent all.used all.answers all.edges
   consistent n =
       listing_in_order
-      (created (env_of_sheet sheet) sheet.structs sheet.params sheet.output sheet.force).visitor
+      (method_visitor (env_of_sheet sheet) sheet.structs sheet.output)
       sheet.structs sheet.params
       (params_none (env_of_sheet sheet) sheet.structs sheet.params sheet.output sheet.force (sheets_give_methods bytes n))
 

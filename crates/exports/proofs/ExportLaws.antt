@@ -23,7 +23,8 @@ use Rattle.borrowing_param.specs.SheetMethod.{sheet_refusals}
 use Rattle.borrowing_param.specs.Borrows.{Borrows, sheet_borrows, borrows_room_checks, borrow_sheet, borrows_answer, used_words}
 use Rattle.borrowing_param.specs.Borrows.{answer_words, edges_words}
 use Rattle.listing.specs.Listing.{listing_of, listing_checks, listing}
-use Rattle.exports.specs.Calls.{length_word, text_to, TextAnswers, count_words, sheet_to, SheetAnswers}
+use Rattle.borrowing_param.proofs.OutcomeLaws.{ok_same, no_both}
+use Rattle.exports.specs.Calls.{unplaced, length_word, text_to, TextAnswers, count_words, sheet_to, SheetAnswers}
 
 module _ {A : Type 0} (a : A) where
   -- one check more, not due
@@ -78,12 +79,6 @@ pub one_stored : (x : ℕ) (w : List ℕ) → 1 ≤ length w → set w 0 x ≡ (
 one_stored x [] h = absurd (omega (arith, h))
 one_stored x (a ∷ w) h = refl
 
-pub three_stored : (x y z : ℕ) (w : List ℕ) → 3 ≤ length w → set (set (set w 0 x) 1 y) 2 z ≡ (x ∷ y ∷ z ∷ []) ++ drop 3 w
-three_stored x y z [] h = absurd (omega (arith, h))
-three_stored x y z (a ∷ []) h = absurd (omega (arith, h))
-three_stored x y z (a ∷ b ∷ []) h = absurd (omega (arith, h))
-three_stored x y z (a ∷ b ∷ c ∷ w) h = refl
-
 -- ---- a text and its length, by a call that gives the text
 
 refused_text : {o : Outcome (List ℕ)} {k : Refusal} {s : ℕ} {out w : Slice} → o ≡ Err k → s ≡ number_of k
@@ -124,56 +119,41 @@ module _ (checks : List Check) (text : List ℕ) where
       in_place_refused text (room_check 0 text ∷ []) (room_check room text ∷ room_check 0 (length_word text) ∷ [])
       (no_word room) only_room checks k e
 
-  module _ (o : Outcome (List ℕ)) (is-unworded : o ≡ unworded 0) (l : Outcome ℕ) (is : l ≡ counted o) where
-    pub untold_given : (n : ℕ) → l ≡ Ok n → (room : ℕ) → text_to checks text room 0 ≡ Err NoRoom
-    untold_given n e = go o refl (sym is ∙ e)
-      where
-        go : (x : Outcome (List ℕ)) → o ≡ x → counted x ≡ Ok n → (room : ℕ)
-            → text_to checks text room 0 ≡ Err NoRoom
-        go (Ok b) u v = given_there b (sym is-unworded ∙ u)
-        go (Err k) u v = let z : ◌≡◌ {A = ℕ} 0 1 = cc in absurd (omega arith)
-
-    pub untold_refused : (k : Refusal) → l ≡ Err k → (room : ℕ) → text_to checks text room 0 ≡ Err k
-    untold_refused k e = go o refl (sym is ∙ e)
-      where
-        go : (x : Outcome (List ℕ)) → o ≡ x → counted x ≡ Err k → (room : ℕ)
-            → text_to checks text room 0 ≡ Err k
-        go (Ok b) u v = let z : ◌≡◌ {A = ℕ} 0 1 = cc in absurd (omega arith)
-        go (Err m) u v = let z : m ≡ k = cc in refused_there k (sym is-unworded ∙ (rw z at u))
+  untold : (o : Outcome (List ℕ)) → o ≡ unworded 0 → (room : ℕ) → text_to checks text room 0 ≡ Err (unplaced (counted o))
+  untold (Ok b) e room = given_there b (sym e) room
+  untold (Err k) e room = refused_there k (sym e) room
 
   -- the ways out of the exported call
   module _ (out w : Slice) where
     abbrev there : Outcome (List ℕ)
     there = text_to checks text (room out) (room w)
 
-    pub text_unplaced : {k : Refusal} {s : ℕ} → ((room : ℕ) → text_to checks text room 0 ≡ Err k) → room w < 1
-        → s ≡ number_of k → Stays out → Stays w → TextAnswers there s out w
-    text_unplaced {k} f h e =
-        let z : room w ≡ 0 = omega (arith, h) in
-        let r : there ≡ Err k = rw z (f (room out)) in
-        refused_text r e
+    pub text_unplaced : {o : Outcome (List ℕ)} {l : Outcome ℕ} {k : Refusal} {s : ℕ} → room w ≡ 0 → o ≡ unworded 0
+        → l ≡ counted o → k ≡ unplaced l → s ≡ number_of k → Stays out → Stays w → TextAnswers there s out w
+    text_unplaced {o} none is told why =
+        refused_text (rw none (untold o is (room out)) ∙ ap (λ (x : Outcome ℕ). Err (unplaced x)) (sym told)
+        ∙ ap (λ (x : Refusal). Err x) (sym why))
 
-    module _ (place : 1 ≤ room w) {o : Outcome (List ℕ)} (is-unworded : o ≡ unworded (room out)) {l : Outcome ℕ} (is : l ≡ counted o)
-        (stands : Fills o out) where
+    module _ (place : 1 ≤ room w) {o : Outcome (List ℕ)} (is-unworded : o ≡ unworded (room out)) (stands : Fills o out) where
       same : there ≡ o
       same = to_unworded (room out) (room w) place ∙ sym is-unworded
 
-      pub text_refused : {k : Refusal} {s : ℕ} → l ≡ Err k → s ≡ number_of k → Stays w → TextAnswers there s out w
-      text_refused {k} {s} e h c = go o refl (sym is ∙ e) stands
+      pub text_refused : {k : Refusal} {s : ℕ} → Err k ≡ counted o → s ≡ number_of k → Stays w → TextAnswers there s out w
+      text_refused {k} {s} e h c = go o refl e stands
         where
-          go : (x : Outcome (List ℕ)) → o ≡ x → counted x ≡ Err k → Fills x out → TextAnswers there s out w
-          go (Ok b) u v x = let z : ◌≡◌ {A = ℕ} 0 1 = cc in absurd (omega arith)
-          go (Err m) u v x = let z : m ≡ k = cc in refused_text (same ∙ u) (rw z h) x c
+          go : (x : Outcome (List ℕ)) → o ≡ x → Err k ≡ counted x → Fills x out → TextAnswers there s out w
+          go (Ok b) u v x = no_both v
+          go (Err m) u v x = let z : k ≡ m = cc in refused_text (same ∙ u) (rw (← z) h) x c
 
-      pub text_given : {n : ℕ} → l ≡ Ok n → left w ≡ set (held w) 0 n → TextAnswers there 0 out w
-      text_given {n} e c = go o refl (sym is ∙ e) stands
+      pub text_given : {n : ℕ} → Ok n ≡ counted o → left w ≡ set (held w) 0 n → TextAnswers there 0 out w
+      text_given {n} e c = go o refl e stands
         where
-          go : (x : Outcome (List ℕ)) → o ≡ x → counted x ≡ Ok n → Fills x out → TextAnswers there 0 out w
+          go : (x : Outcome (List ℕ)) → o ≡ x → Ok n ≡ counted x → Fills x out → TextAnswers there 0 out w
           go (Ok b) u v x =
-              let z : length b ≡ n = cc in
+              let z : length b ≡ n = sym (ok_same v) in
               let g : there ≡ Ok b = same ∙ u in
               record { status_is = rw g; out_filled = rw g x; written_filled = rw (g, z) (c ∙ one_stored n (held w) place) }
-          go (Err m) u v x = let z : ◌≡◌ {A = ℕ} 0 1 = cc in absurd (omega arith)
+          go (Err m) u v x = no_both (sym v)
 
 -- the two calls that give a text
 pub is_listing : (bytes : List ℕ) (room : ℕ)
@@ -241,24 +221,10 @@ module _ (bytes : List ℕ) where
       (borrows_room_checks all used answers edges ++ (room_check counts (count_words all) ∷ []))
       (no_words used answers edges counts h) only_rooms (sheet_refusals bytes) k e
 
-  pub unborrowed_given : (r : answer.Borrows) → r ≡ borrows_answer (borrow_sheet bytes 0 0 0) → r.verdict ≡ Ok (tt {0})
-      → (used answers edges counts : ℕ) → counts < 3 → sheet_to bytes used answers edges counts ≡ Err NoRoom
-  unborrowed_given r is e = go (borrow_sheet bytes 0 0 0) refl (ap (λ (x : answer.Borrows). x.verdict) (sym is) ∙ e)
-    where
-      go : (o : Outcome Borrows) → borrow_sheet bytes 0 0 0 ≡ o → (borrows_answer o).verdict ≡ Ok (tt {0})
-          → (used answers edges counts : ℕ) → counts < 3 → sheet_to bytes used answers edges counts ≡ Err NoRoom
-      go (Ok b) u v = borrowed_there b u
-      go (Err k) u v = let z : ◌≡◌ {A = ℕ} 0 1 = cc in absurd (omega arith)
-
-  pub unborrowed_refused : (r : answer.Borrows) (k : Refusal) → r ≡ borrows_answer (borrow_sheet bytes 0 0 0)
-      → r.verdict ≡ Err k
-      → (used answers edges counts : ℕ) → counts < 3 → sheet_to bytes used answers edges counts ≡ Err k
-  unborrowed_refused r k is e = go (borrow_sheet bytes 0 0 0) refl (ap (λ (x : answer.Borrows). x.verdict) (sym is) ∙ e)
-    where
-      go : (o : Outcome Borrows) → borrow_sheet bytes 0 0 0 ≡ o → (borrows_answer o).verdict ≡ Err k
-          → (used answers edges counts : ℕ) → counts < 3 → sheet_to bytes used answers edges counts ≡ Err k
-      go (Ok b) u v = let z : ◌≡◌ {A = ℕ} 0 1 = cc in absurd (omega arith)
-      go (Err m) u v = let z : m ≡ k = cc in unborrowed_there k (rw z at u)
+  unborrowed : (o : Outcome Borrows) → borrow_sheet bytes 0 0 0 ≡ o → (used answers edges counts : ℕ) → counts < 3
+      → sheet_to bytes used answers edges counts ≡ Err (unplaced (borrows_answer o))
+  unborrowed (Ok b) e = borrowed_there b e
+  unborrowed (Err k) e = unborrowed_there k e
 
   module _ (used answers edges w : Slice) where
     abbrev here : Outcome Borrows
@@ -267,42 +233,45 @@ module _ (bytes : List ℕ) where
     abbrev below : Outcome Borrows
     below = borrow_sheet bytes (room used) (room answers) (room edges)
 
-    pub no_places : {k : Refusal} {s : ℕ} → ((u a e c : ℕ) → c < 3 → sheet_to bytes u a e c ≡ Err k) → room w < 3 → s ≡ number_of k
+    pub no_places : {r : Outcome answer.Borrows} {k : Refusal} {s : ℕ} → room w < 3
+        → r ≡ borrows_answer (borrow_sheet bytes 0 0 0) → k ≡ unplaced r → s ≡ number_of k
         → Stays used → Stays answers → Stays edges → Stays w → SheetAnswers here s used answers edges w
-    no_places f h e = refused_sheet (f (room used) (room answers) (room edges) (room w) h) e
+    no_places h told why =
+        refused_sheet
+        (unborrowed (borrow_sheet bytes 0 0 0) refl (room used) (room answers) (room edges) (room w) h
+        ∙ ap (λ (x : Outcome answer.Borrows). Err (unplaced x)) (sym told) ∙ ap (λ (x : Refusal). Err x) (sym why))
 
-    module _ (places : 3 ≤ room w) {r : answer.Borrows} (is : r ≡ borrows_answer below) (a : Fills (used_words below) used)
-        (b : Fills (answer_words below) answers) (c : Fills (edges_words below) edges) where
+    module _ (places : 3 ≤ room w) (a : Fills (used_words below) used) (b : Fills (answer_words below) answers)
+        (c : Fills (edges_words below) edges) where
       same_borrows : here ≡ below
       same_borrows = to_borrows (room used) (room answers) (room edges) (room w) places
 
-      pub borrowed_refused : {k : Refusal} {s : ℕ} → r.verdict ≡ Err k → s ≡ number_of k → Stays w
+      pub borrowed_refused : {k : Refusal} {s : ℕ} → Err k ≡ borrows_answer below → s ≡ number_of k → Stays w
           → SheetAnswers here s used answers edges w
-      borrowed_refused {k} {s} e h d = go below refl (ap (λ (x : answer.Borrows). x.verdict) (sym is) ∙ e) a b c
+      borrowed_refused {k} {s} e h d = go below refl e a b c
         where
-          go : (o : Outcome Borrows) → below ≡ o → (borrows_answer o).verdict ≡ Err k → Fills (used_words o) used
+          go : (o : Outcome Borrows) → below ≡ o → Err k ≡ borrows_answer o → Fills (used_words o) used
               → Fills (answer_words o) answers → Fills (edges_words o) edges → SheetAnswers here s used answers edges w
-          go (Ok x) u v p q t = let z : ◌≡◌ {A = ℕ} 0 1 = cc in absurd (omega arith)
-          go (Err m) u v p q t = let z : m ≡ k = cc in refused_sheet (same_borrows ∙ u) (rw z h) p q t d
+          go (Ok x) u v p q t = no_both v
+          go (Err m) u v p q t = let z : k ≡ m = cc in refused_sheet (same_borrows ∙ u) (rw (← z) h) p q t d
 
-      pub borrowed_given : r.verdict ≡ Ok (tt {0}) → left w ≡ (r.used ∷ r.params ∷ r.edges ∷ []) ++ drop 3 (held w)
+      pub borrowed_given : {r : answer.Borrows} {three : List ℕ} → Ok r ≡ borrows_answer below
+          → three ≡ r.used ∷ r.params ∷ r.edges ∷ [] → left w ≡ three ++ drop 3 (held w)
           → SheetAnswers here 0 used answers edges w
-      borrowed_given e d = go below refl is (ap (λ (x : answer.Borrows). x.verdict) (sym is) ∙ e) a b c
+      borrowed_given {r} {three} e is d = go below refl e a b c
         where
-          go : (o : Outcome Borrows) → below ≡ o → r ≡ borrows_answer o → (borrows_answer o).verdict ≡ Ok (tt {0})
+          go : (o : Outcome Borrows) → below ≡ o → Ok r ≡ borrows_answer o
               → Fills (used_words o) used → Fills (answer_words o) answers → Fills (edges_words o) edges
               → SheetAnswers here 0 used answers edges w
-          go (Ok x) u i v p q t =
+          go (Ok x) u v p q t =
               let g : here ≡ Ok x = same_borrows ∙ u in
-              let n : r.used ≡ length x.used = ap (λ (y : answer.Borrows). y.used) i in
-              let m : r.params ≡ length x.answers = ap (λ (y : answer.Borrows). y.params) i in
-              let l : r.edges ≡ length x.edges = ap (λ (y : answer.Borrows). y.edges) i in
-              let z : (r.used ∷ r.params ∷ r.edges ∷ []) ++ drop 3 (held w) ≡ count_words x ++ drop 3 (held w) = rw (n, m, l) in
+              let z : three ≡ count_words x =
+              is ∙ ap (λ (y : answer.Borrows). y.used ∷ y.params ∷ y.edges ∷ []) (ok_same v) in
               record {
                 status_is = rw g;
                 used_filled = rw g p;
                 answers_filled = rw g q;
                 edges_filled = rw g t;
-                counts_filled = rw g (d ∙ z);
+                counts_filled = rw g (d ∙ ap (λ (ws : List ℕ). ws ++ drop 3 (held w)) z);
               }
-          go (Err k) u i v p q t = let z : ◌≡◌ {A = ℕ} 0 1 = cc in absurd (omega arith)
+          go (Err k) u v p q t = no_both (sym v)

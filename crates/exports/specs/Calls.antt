@@ -2,6 +2,8 @@
 -- crates below; here there is one slice more, which may be too short (9), and a status in place of an answer of many
 -- cases.
 use Rattle.std.specs.Prelude.{ℕ, ◌≡◌, List, [], ◌∷◌, ◌++◌, length, Ok, Err}
+use Rattle.answers.specs.declared.Refusal.{Refusal}
+use Rattle.answers.specs.declared.Refusal.TheVariants.{NoRoom}
 use Rattle.answers.specs.Refusals.{Check, Outcome, unless, number_of, over}
 use Rattle.answers.specs.Lent.{Slice, Fills, room_check}
 use Rattle.sheet.specs.Text.{text}
@@ -17,6 +19,11 @@ use Rattle.listing.specs.Listing.{listing_of, listing_checks}
 abbrev pub status_of : {A : Type 0} → Outcome A → ℕ
 status_of (Ok a) = 0
 status_of (Err r) = number_of r
+
+-- why a call is refused whose last words have no place: as what gives them is refused into no room at all, else by 9
+abbrev pub unplaced : {A : Type 0} → Outcome A → Refusal
+unplaced (Ok a) = NoRoom
+unplaced (Err r) = r
 
 -- ---- a text, and how many bytes it has in a word beside it: `borrows_listing`, `borrows_write_sheet`
 

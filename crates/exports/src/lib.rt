@@ -11,6 +11,7 @@
 
 mod listed;
 mod sheets;
+mod unplaced;
 mod written;
 
 pub use listed::borrows_listing;

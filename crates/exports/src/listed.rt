@@ -1,9 +1,8 @@
 // A sheet's listing, with its length in a word beside it.
-ghost use Rattle.std.specs.Prelude.{ℕ, ◌≡◌, Err};
 ghost use Rattle.answers.specs.Lent.{held, room};
 ghost use Rattle.exports.specs.Calls.{listing_to, TextAnswers};
 
-use answers::Refusal;
+use super::unplaced::unplaced;
 use listing::listing;
 
 // Write the listing of a sheet to the first slice and its length in bytes to the first word of the second. Refused as
@@ -12,28 +11,14 @@ use listing::listing;
 pub fn borrows_listing(sheet: &[u8], out: &mut [u8], written: &mut [usize]) -> usize
     ensures answer { TextAnswers (listing_to sheet.now (room out) (room written)) result out written }
 {
-    if written.len() < 1 {
-        let refusal = unlisted(sheet);
-        return refusal.number();
+    if written.is_empty() {
+        return unplaced(listing(sheet, &mut [])).number();
     }
-    let answer = listing(sheet, out);
-    match answer {
+    match listing(sheet, out) {
         Ok(count) => {
             written[0] = count;
             0
         }
         Err(refusal) => refusal.number(),
-    }
-}
-
-// Why a sheet is refused whose listing's length has no place.
-fn unlisted(sheet: &[u8]) -> Refusal
-    ensures { (room : ℕ) → listing_to sheet.now room 0 ≡ Err result }
-{
-    let mut none = [0u8; 0];
-    let answer = listing(sheet, &mut none);
-    match answer {
-        Ok(_) => Refusal::NoRoom,
-        Err(refusal) => refusal,
     }
 }

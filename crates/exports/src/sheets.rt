@@ -1,9 +1,8 @@
 // What a sheet's wrapper has to hold on to, with the numbers of words in a slice beside it.
-ghost use Rattle.std.specs.Prelude.{ℕ, ◌≤◌, ◌<◌, ◌≡◌, [], ◌∷◌, ◌++◌, length, drop, Err};
-ghost use Rattle.answers.specs.Lent.{held, room, left};
+ghost use Rattle.answers.specs.Lent.{room};
 ghost use Rattle.exports.specs.Calls.{sheet_to, SheetAnswers};
 
-use answers::Refusal;
+use super::unplaced::unplaced;
 use borrowing_param::borrow_sheet;
 
 // Write a sheet's used lifetimes, ascending, to the first slice; the number of each parameter's answer to the second;
@@ -21,40 +20,13 @@ pub fn borrows_sheet(
         used answers edges counts }
 {
     if counts.len() < 3 {
-        let refusal = unborrowed(sheet);
-        return refusal.number();
+        return unplaced(borrow_sheet(sheet, &mut [], &mut [], &mut [])).number();
     }
-    let borrows = borrow_sheet(sheet, used, answers, edges);
-    let verdict = borrows.verdict;
-    if let Err(refusal) = verdict {
-        return refusal.number();
-    }
-    store_counts(counts, borrows.used, borrows.params, borrows.edges);
-    0
-}
-
-// Three words to the front of a slice.
-fn store_counts(counts: &mut [usize], used: usize, params: usize, edges: usize)
-    requires { 3 ≤ length counts.old }
-    ensures { left counts ≡ (used ∷ params ∷ edges ∷ []) ++ drop 3 (held counts) }
-{
-    counts[0] = used;
-    counts[1] = params;
-    counts[2] = edges;
-}
-
-// Why a sheet is refused where `counts` has fewer than three words.
-fn unborrowed(sheet: &[u8]) -> Refusal
-    ensures { (used answers edges counts : ℕ) → counts < 3 → sheet_to sheet.now used answers edges counts
-        ≡ Err result }
-{
-    let mut no_used = [0usize; 0];
-    let mut no_answers = [0usize; 0];
-    let mut no_edges = [0usize; 0];
-    let borrows = borrow_sheet(sheet, &mut no_used, &mut no_answers, &mut no_edges);
-    let verdict = borrows.verdict;
-    match verdict {
-        Ok(()) => Refusal::NoRoom,
-        Err(refusal) => refusal,
+    match borrow_sheet(sheet, used, answers, edges) {
+        Ok(borrows) => {
+            counts[..3].copy_from_slice(&[borrows.used, borrows.params, borrows.edges]);
+            0
+        }
+        Err(refusal) => refusal.number(),
     }
 }

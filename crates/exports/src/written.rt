@@ -1,9 +1,8 @@
 // A sheet written from records one after another, with its length in a word beside it.
-ghost use Rattle.std.specs.Prelude.{ℕ, ◌≡◌, Err};
 ghost use Rattle.answers.specs.Lent.{held, room};
 ghost use Rattle.exports.specs.Calls.{writing_to, TextAnswers};
 
-use answers::Refusal;
+use super::unplaced::unplaced;
 use sheet_writer::write_laid;
 
 // Write the sheet of ten records to the third slice and its length in bytes to the first word of the fourth. The words
@@ -20,28 +19,14 @@ pub fn borrows_write_sheet(
     ensures answer { TextAnswers (writing_to words.now ends.now (room out) (room written)) result
         out written }
 {
-    if written.len() < 1 {
-        let refusal = unwritten(words, ends);
-        return refusal.number();
+    if written.is_empty() {
+        return unplaced(write_laid(words, ends, &mut [])).number();
     }
-    let answer = write_laid(words, ends, out);
-    match answer {
+    match write_laid(words, ends, out) {
         Ok(count) => {
             written[0] = count;
             0
         }
         Err(refusal) => refusal.number(),
-    }
-}
-
-// Why records are refused whose text's length has no place.
-fn unwritten(words: &[usize], ends: &[usize]) -> Refusal
-    ensures { (room : ℕ) → writing_to words.now ends.now room 0 ≡ Err result }
-{
-    let mut none = [0u8; 0];
-    let answer = write_laid(words, ends, &mut none);
-    match answer {
-        Ok(_) => Refusal::NoRoom,
-        Err(refusal) => refusal,
     }
 }

@@ -11,8 +11,8 @@ use std::io;
 use std::io::{ErrorKind, Read};
 use std::process::ExitCode;
 
-// How many bytes were read, and whether the read behind them failed. No Result: the bytes before a read that fails count
-// like any others, and every program works on them.
+// How many bytes were read, and whether the read behind them failed. No Result: the bytes before a read that fails
+// count like any others, and every program works on them.
 #[derive(Clone, Copy)]
 pub struct Input {
     pub count: usize,

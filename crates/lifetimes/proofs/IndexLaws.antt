@@ -6,29 +6,23 @@ use native.Mathlib.Omega.{arith}
 use lib.ListN.{length, get_or, replicate, length-take}
 use Rattle.lifetimes.specs.declared.env.LifetimeEnv.{LifetimeEnv}
 use Rattle.lifetimes.specs.Env.{bounds_of}
-use Rattle.lifetimes.specs.declared.index.Index.{Index}
-use Rattle.lifetimes.specs.Walk.{Order, LastFirst}
-use Rattle.lifetimes.specs.Index.{Linkable, Indexed, Measurable, graph_of, graph_in, Within}
+use Rattle.lifetimes.specs.Walk.{Order}
+use Rattle.lifetimes.specs.Index.{Fine, graph_in, Within}
 use Rattle.lifetimes.proofs.EnvLaws.{Valid, far_declared}
 use Rattle.lifetimes.proofs.ReverseLaws.{linked_in_lem}
 
 module _ {e : LifetimeEnv} (v : Valid e) where
-  pub bounds_linkable : length e.bounds.list ≡ 256 → Linkable e.bounds
-  bounds_linkable full =
-      let all : length (bounds_of e) ≡ e.bounds.pushed = simp length-take (omega (arith, v.few)) in
-      record {
-        fine = record {
-          few = omega (arith, all, v.few);
-          small = λ b k. let h = v.below b k in omega (arith, h, v.declares, v.counted);
-        };
-        all = all;
-      }
+  pub bounds_length : length e.bounds.list ≡ 256 → length (bounds_of e) ≡ e.bounds.pushed
+  bounds_length full = simp length-take (omega (arith, v.few))
+
+  pub bounds_fine : length e.bounds.list ≡ 256 → Fine (bounds_of e)
+  bounds_fine full = record {
+    few = omega (arith, bounds_length full, v.few);
+    small = λ b k. let h = v.below b k in omega (arith, h, v.declares, v.counted);
+  }
 
   pub bounds_within : (o : Order) (d : Bool) (n : ℕ) → e.declared ≤ n → Within (graph_in o d (bounds_of e)) n
   bounds_within o d n h b k = omega (arith, far_declared d v b (linked_in_lem o (bounds_of e) k))
-
-  pub measurable : {d : Bool} {ix : Index} → Indexed (graph_of d e) ix → Measurable ix e.declared e.count
-  measurable {d} k = ((graph_of d e, k, bounds_within LastFirst d e.declared (omega arith)), v.declares, v.counted)
 
 pub zeros : (n x : ℕ) → ◌≡◌ {A = ℕ} (get_or (replicate n 0) x 0) 0
 zeros zero x = refl

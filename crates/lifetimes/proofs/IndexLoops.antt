@@ -11,11 +11,14 @@ use lib.ListN.{length, get_or, replicate, set, length-set}
 use lib.Seq.{get_or-set_same, get_or-set_other}
 use Rattle.lifetimes.specs.declared.bounds.Bound.{Bound}
 use Rattle.lifetimes.specs.declared.index.Index.{Index}
-use Rattle.lifetimes.specs.declared.bounds.Bounds.{Bounds}
-use Rattle.lifetimes.specs.Bounds.{above, list_of}
+use Rattle.lifetimes.specs.Bounds.{above}
 use Rattle.lifetimes.specs.Walk.{near, far, order_of}
-use Rattle.lifetimes.specs.Index.{Fine, Linkable, Graph, graph_in, linked_in, near_at, far_at, last_of, Indexed}
-use Rattle.lifetimes.proofs.IndexLaws.{zeros}
+use Rattle.lifetimes.specs.Index.{Fine, Within, Graph, graph_in, linked_in, near_at, far_at, last_of, Indexed}
+use Rattle.answers.specs.Refusals.{NoneDue}
+use Rattle.lifetimes.specs.declared.env.LifetimeEnv.{LifetimeEnv}
+use Rattle.lifetimes.specs.Env.{bounds_of, env_checks}
+use Rattle.lifetimes.proofs.EnvLaws.{Valid, valid}
+use Rattle.lifetimes.proofs.IndexLaws.{bounds_length, bounds_fine, bounds_within, zeros}
 use Rattle.lifetimes.proofs.ChainLaws.{at_mem}
 use Rattle.lifetimes.proofs.ReverseLaws.{linked_length, linked_fine, linked_at}
 
@@ -37,10 +40,10 @@ pub record Linking (g : Graph) (i : ℕ) (ix : Index) : Type 0 where
   pub full_before : length ix.before ≡ 256
   pub full_last : length ix.last ≡ 64
 
-pub linking_start : (g : Graph)
-    → Linking g 0 (record { far = replicate 256 0; before = replicate 256 0; last = replicate 64 0 })
+pub linking_start : (g : Graph) (declared count : ℕ) → Linking g 0
+    (record { declared = declared; count = count; far = replicate 256 0; before = replicate 256 0; last = replicate 64 0 })
 unfolding last_of
-linking_start g = record {
+linking_start g declared count = record {
   here = omega arith;
   far = λ j h. absurd (omega arith);
   before = λ j h. absurd (omega arith);
@@ -48,6 +51,16 @@ linking_start g = record {
   full_far = refl;
   full_before = refl;
   full_last = refl;
+}
+
+-- the index of one bound more
+abbrev pub linked_more : Index → ℕ → ℕ → ℕ → ℕ → Index
+linked_more ix i x y older = record {
+  declared = ix.declared;
+  count = ix.count;
+  far = set ix.far i y;
+  before = set ix.before i older;
+  last = set ix.last x (i + 1);
 }
 
 far_small : (d : Bool) {bs : List Bound} → Fine bs → (b : Bound) → Memᴰ b bs → far d b < 64
@@ -63,10 +76,13 @@ module _ {g : Graph} {i n : ℕ} {ix : Index} (inv : Linking g i ix)
   pub linking_few : n ≤ 256
   linking_few = omega (arith, fine.few)
 
-  pub linking_end : n ≤ i → Indexed g ix
-  linking_end h =
+  pub linking_end : Within g ix.declared → ix.declared ≤ ix.count → ix.count ≤ 64 → n ≤ i → Indexed g ix
+  linking_end within declares counted h =
       let done : length g.bounds ≡ i = omega (arith, inv.here) in
       record {
+        within = within;
+        declares = declares;
+        counted = counted;
         chained =
             record {
               few = fine.few;
@@ -90,7 +106,7 @@ module _ {g : Graph} {i n : ℕ} {ix : Index} (inv : Linking g i ix)
         (far_small g.longer fine (get_or g.bounds i (above 0 0)) (at_mem g.bounds i (above 0 0) (omega arith)))
 
     pub linking_more : (x y older : ℕ) → x ≡ near g.longer b → y ≡ far g.longer b → older ≡ get_or ix.last x 0
-        → Linking g (i + 1) (record { far = set ix.far i y; before = set ix.before i older; last = set ix.last x (i + 1) })
+        → Linking g (i + 1) (linked_more ix i x y older)
     unfolding last_of
     linking_more x y older p q r =
         let is : x ≡ near_at g i = rw reads p in
@@ -119,26 +135,43 @@ module _ {g : Graph} {i n : ℕ} {ix : Index} (inv : Linking g i ix)
           full_last = length-set ix.last x (i + 1) ∙ inv.full_last;
         }
 
+-- what `link` keeps, of an environment on which no refusal is due
+pub record Links (e : LifetimeEnv) (g : Graph) (i : ℕ) (ix : Index) : Type 0 where
+  pub linking : Linking g i ix
+  pub declared : ix.declared ≡ e.declared
+  pub count : ix.count ≡ e.count
+
 -- A turn of `link`: the bound at the place that `place` gives is the i-th linked
-module _ (ast d : Bool) {b : Bounds} (bounds : Linkable b) {i : ℕ} {ix : Index}
-    (inv : Linking (graph_in (order_of ast) d (list_of b)) i ix) where
-  linked : Fine (linked_in (order_of ast) (list_of b)) × (length (linked_in (order_of ast) (list_of b)) ≡ b.pushed)
-  linked = (linked_fine (order_of ast) bounds.fine, linked_length (order_of ast) (list_of b) ∙ bounds.all)
+module _ (ast d : Bool) (e : LifetimeEnv) (none : NoneDue (env_checks e)) (full : length e.bounds.list ≡ 256) {i : ℕ} {ix : Index}
+    (inv : Links e (graph_in (order_of ast) d (bounds_of e)) i ix) where
+  v : Valid e
+  v = valid e none
 
-  pub link_end : b.pushed ≤ i → Indexed (graph_in (order_of ast) d (list_of b)) ix
-  link_end h = linking_end inv linked.0 linked.1 h
+  fine : Fine (linked_in (order_of ast) (bounds_of e))
+  fine = linked_fine (order_of ast) (bounds_fine v full)
 
-  module _ (h : i < b.pushed) {at : ℕ} (place : at ≡ cond ast (b.pushed - 1 - i) i) where
-    reads : get_or (linked_in (order_of ast) (list_of b)) i (above 0 0) ≡ get_or b.list at (above 0 0)
-    reads = linked_at ast b i at bounds.all h place
+  all : length (linked_in (order_of ast) (bounds_of e)) ≡ e.bounds.pushed
+  all = linked_length (order_of ast) (bounds_of e) ∙ bounds_length v full
 
-    pub link_near : {x : ℕ} → x ≡ near d (get_or b.list at (above 0 0)) → x < 64
-    link_near e = rw e (linking_near inv linked.0 linked.1 h reads)
+  pub link_end : e.bounds.pushed ≤ i → Indexed (graph_in (order_of ast) d (bounds_of e)) ix
+  link_end h =
+      linking_end inv.linking fine all (bounds_within v (order_of ast) d ix.declared (omega (arith, inv.declared)))
+      (omega (arith, inv.declared, inv.count, v.declares)) (omega (arith, inv.count, v.counted)) h
 
-    pub link_far : {y : ℕ} → y ≡ far d (get_or b.list at (above 0 0)) → y < 64
-    link_far e = rw e (linking_far inv linked.0 linked.1 h reads)
+  module _ (h : i < e.bounds.pushed) {at : ℕ} (place : at ≡ cond ast (e.bounds.pushed - 1 - i) i) where
+    reads : get_or (linked_in (order_of ast) (bounds_of e)) i (above 0 0) ≡ get_or e.bounds.list at (above 0 0)
+    reads = linked_at ast e.bounds i at (bounds_length v full) h place
 
-    pub link_more : {x y : ℕ} → x ≡ near d (get_or b.list at (above 0 0)) → y ≡ far d (get_or b.list at (above 0 0))
-        → Linking (graph_in (order_of ast) d (list_of b)) (i + 1)
-        (record { far = set ix.far i y; before = set ix.before i (get_or ix.last x 0); last = set ix.last x (i + 1) })
-    link_more {x} {y} p q = linking_more inv linked.0 linked.1 h reads x y (get_or ix.last x 0) p q refl
+    pub link_near : {x : ℕ} → x ≡ near d (get_or e.bounds.list at (above 0 0)) → x < 64
+    link_near p = rw p (linking_near inv.linking fine all h reads)
+
+    pub link_far : {y : ℕ} → y ≡ far d (get_or e.bounds.list at (above 0 0)) → y < 64
+    link_far p = rw p (linking_far inv.linking fine all h reads)
+
+    pub link_more : {x y : ℕ} → x ≡ near d (get_or e.bounds.list at (above 0 0)) → y ≡ far d (get_or e.bounds.list at (above 0 0))
+        → Links e (graph_in (order_of ast) d (bounds_of e)) (i + 1) (linked_more ix i x y (get_or ix.last x 0))
+    link_more {x} {y} p q = record {
+      linking = linking_more inv.linking fine all h reads x y (get_or ix.last x 0) p q refl;
+      declared = inv.declared;
+      count = inv.count;
+    }

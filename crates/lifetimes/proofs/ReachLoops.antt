@@ -123,18 +123,17 @@ module _ {g : Graph} {count : ℕ} {words₀ ends₀ reach₀ words ends reach :
 
 -- A turn of `lay`: what it keeps, and what its walk lists, are of every graph that the index is of; for the one that there
 -- is the lists have room together
-module _ {ix : Index} {declared count room : ℕ} (layable : Layable ix declared count room)
-    {words₀ ends₀ reach₀ words ends reach : List ℕ} {x at : ℕ}
-    (inv : (g : Graph) → Indexed g ix → Within g declared → Laying g count words₀ ends₀ reach₀ words ends reach x at)
-    (size : length words ≡ room) (h : x < count) {items : List ℕ} {r : Walked} (few : r.count ≤ length items)
-    (done : (g : Graph) → Indexed g ix → Within g declared → Complete g x items r) where
+module _ {ix : Index} {room : ℕ} (layable : Layable ix room) {words₀ ends₀ reach₀ words ends reach : List ℕ} {x at : ℕ}
+    (inv : (g : Graph) → Indexed g ix → Laying g ix.count words₀ ends₀ reach₀ words ends reach x at)
+    (size : length words ≡ room) (h : x < ix.count) {items : List ℕ} {r : Walked} (few : r.count ≤ length items)
+    (done : (g : Graph) → Indexed g ix → Complete g x items r) where
   pub turn_room : at + r.count ≤ length words
-  turn_room = let (g, k, w, fits) = layable.0 in laying_room (inv g k w) h few (done g k w) (omega (arith, fits))
+  turn_room = let (g, k, fits) = layable in laying_room (inv g k) h few (done g k) (omega (arith, fits))
 
-  pub turn_lays : {vs : List ℕ} → vs ≡ take r.count items → (g : Graph) → Indexed g ix → Within g declared
-      → Laying g count words₀ ends₀ reach₀ (put_mid at (at + r.count - at) words vs) (set ends x (at + r.count))
+  pub turn_lays : {vs : List ℕ} → vs ≡ take r.count items → (g : Graph) → Indexed g ix
+      → Laying g ix.count words₀ ends₀ reach₀ (put_mid at (at + r.count - at) words vs) (set ends x (at + r.count))
       (set reach x r.seen) (x + 1) (at + r.count)
-  turn_lays p g k w = laying_more (inv g k w) h few (done g k w) turn_room p
+  turn_lays p g k = laying_more (inv g k) h few (done g k) turn_room p
 
 -- no list is longer than there are lifetimes, so as many words for each of them are enough
 pub lists_few : (g : Graph) (limit : ℕ) → Within g limit → (x n : ℕ) → x + n ≤ limit → length (flatten (lists_from g x n)) ≤ limit * n

@@ -19,7 +19,7 @@ use Rattle.lifetimes.specs.declared.walk.Stepped.{Stepped}
 use Rattle.lifetimes.specs.Sets.{empty, member, insert, insert_all, set_of}
 use Rattle.lifetimes.specs.Walk.{neighbours, LastFirst, walk, traversal}
 use Rattle.lifetimes.specs.Index.{Graph, last_of, chain, chains, pending, skip, Indexed, Ready, Steps, Within}
-use Rattle.lifetimes.specs.Index.{Chained, Complete, Walkable}
+use Rattle.lifetimes.specs.Index.{Chained, Complete, Limits}
 use Rattle.lifetimes.proofs.SetLaws.{member_empty, insert_all_append}
 use Rattle.lifetimes.proofs.NeighbourLaws.{neighbours_only, push_in}
 use Rattle.lifetimes.proofs.WalkLaws.{walks, walk_nil, walk_seen, walk_new, unseen, unseen_empty, unseen_insert}
@@ -202,43 +202,56 @@ module _ {g : Graph} {ix : Index} (linked : Indexed g ix) {limit start : ℕ}
       walking_held k i = inv.ready.held k (omega (arith, steps.deep))
 
 -- A turn of `walk`: what it keeps, and what its step yields, are of every graph that the index is of; there is one
-module _ {ix : Index} {limit start : ℕ} (walkable : Walkable ix limit start) {items stack : List ℕ} {n seen depth at : ℕ}
-    (inv : (g : Graph) → Indexed g ix → Within g limit → Walking g limit start items stack n seen depth at) where
-  -- as many are listed as there are
-  pub turn_end : n ≡ limit → (g : Graph) → Indexed g ix → Within g limit
-      → Complete g start items (record { count = limit; seen = seen })
-  turn_end e g k w = rw (← e) (going_full w (inv g k w).going (omega arith))
+module _ {ix : Index} {limit start : ℕ} (limits : Limits ix start limit) where
+  within : {g : Graph} → Indexed g ix → Within g limit
+  within k b m = omega (arith, k.within b m, limits)
 
-  module _ {r : Stepped} (steps : (g : Graph) → Chained g ix → Ready g stack at depth → Steps g stack seen at depth r) where
-    pub turn_steps : (g : Graph) → Indexed g ix → Within g limit → Steps g stack seen at depth r
-    turn_steps g k w = steps g k.chained (inv g k w).ready
+  few : {g : Graph} → Indexed g ix → limit ≤ 64
+  few k = omega (arith, k.counted, limits)
 
-    pub turn_deep : n < limit → r.depth < 64
-    turn_deep h = let (g, k, w) = walkable.0 in omega (arith, walkable.1, (inv g k w).deep, (turn_steps g k w).deep)
+  pub turn_first : (items stack : List ℕ) → length items ≡ 64 → {seen : ℕ} → seen ≡ insert empty start
+      → (g : Graph) → Indexed g ix → Walking g limit start (set items 0 start) stack 1 seen 0 (get_or ix.last start 0)
+  turn_first items stack full marked g k = rw marked (walking_start k (within k) (few k) items stack full limits.0)
 
-    pub turn_small : {l : Lifetime} → r.next ≡ Some l → l.0 < 64
-    turn_small h = let (g, k, w) = walkable.0 in
-        omega (arith, walkable.1, walking_small k w walkable.1 (inv g k w) (turn_steps g k w) h)
+  module _ (walkable : (g : Graph) × Indexed g ix) {items stack : List ℕ} {n seen depth at : ℕ}
+      (inv : (g : Graph) → Indexed g ix → Walking g limit start items stack n seen depth at) where
+    -- as many are listed as there can be
+    pub turn_full : n ≡ limit → (g : Graph) → Indexed g ix → Complete g start items (record { count = limit; seen = seen })
+    turn_full e g k = rw (← e) (going_full (within k) (inv g k).going (omega arith))
 
-    -- what the next turn has: the new lifetime stands among the items, and the rest of its bound's chain is stacked, or
-    -- has ended
-    module _ {l : Lifetime} (found : r.next ≡ Some l) (m : n < limit) (full : length items ≡ 64) {y seen' : ℕ}
-        (marked : seen' ≡ insert seen y) (is : y ≡ l.0) where
-      after : {stack' : List ℕ} {depth' : ℕ} → depth' ≤ r.depth + 1
-          → ((g : Graph) → Indexed g ix → Within g limit → Stacked g stack' depth' (pending g stack r.at r.depth))
-          → (g : Graph) → Indexed g ix → Within g limit
-          → Walking g limit start (set items n y) stack' (n + 1) seen' depth' (get_or ix.last y 0)
-      after d st g k w =
-          rw (marked, is) (walking_more k w walkable.1 (inv g k w) (turn_steps g k w) found m full d (st g k w))
+    module _ {r : Stepped} (steps : (g : Graph) → Chained g ix → Ready g stack at depth → Steps g stack seen at depth r) where
+      step : {g : Graph} → Indexed g ix → Steps g stack seen at depth r
+      step {g} k = steps g k.chained (inv g k).ready
 
-      held : (g : Graph) → Indexed g ix → Within g limit → (j : ℕ) → j < r.depth → get_or stack j 0 ≤ length g.bounds
-      held g k w = walking_held k w walkable.1 (inv g k w) (turn_steps g k w) found
+      deep : n < limit → r.depth < 64
+      deep h = let (g, k) = walkable in omega (arith, few k, (inv g k).deep, (step k).deep)
 
-      pub turn_pushed : length stack ≡ 64 → (g : Graph) → Indexed g ix → Within g limit
-          → Walking g limit start (set items n y) (set stack r.depth r.at) (n + 1) seen' (r.depth + 1) (get_or ix.last y 0)
-      turn_pushed size = after (omega arith) (λ g k w.
-          stacked_push stack r.depth r.at (turn_steps g k w).here (held g k w) (omega (arith, size, turn_deep m)))
+      pub turn_small : {l : Lifetime} → r.next ≡ Some l → l.0 < 64
+      turn_small h = let (g, k) = walkable in omega (arith, few k, walking_small k (within k) (few k) (inv g k) (step k) h)
 
-      pub turn_ended : r.at ≡ 0 → (g : Graph) → Indexed g ix → Within g limit
-          → Walking g limit start (set items n y) stack (n + 1) seen' r.depth (get_or ix.last y 0)
-      turn_ended z = after (omega arith) (λ g k w. stacked_same stack r.depth r.at (turn_steps g k w).here (held g k w) z)
+      -- nothing is unseen of what is pending
+      pub turn_end : r.next ≡ None → (g : Graph) → Indexed g ix → Complete g start items (record { count = n; seen = seen })
+      turn_end h g k = walking_end k (within k) (few k) (inv g k) (step k) h
+
+      -- what the next turn has: the new lifetime stands among the items, and the rest of its bound's chain is stacked, or
+      -- has ended
+      module _ {l : Lifetime} (found : r.next ≡ Some l) (m : n < limit) (full : length items ≡ 64) {y seen' : ℕ}
+          (marked : seen' ≡ insert seen y) (is : y ≡ l.0) where
+        after : {stack' : List ℕ} {depth' : ℕ} → depth' ≤ r.depth + 1
+            → ((g : Graph) → Indexed g ix → Stacked g stack' depth' (pending g stack r.at r.depth))
+            → (g : Graph) → Indexed g ix
+            → Walking g limit start (set items n y) stack' (n + 1) seen' depth' (get_or ix.last y 0)
+        after d st g k =
+            rw (marked, is) (walking_more k (within k) (few k) (inv g k) (step k) found m full d (st g k))
+
+        held : {g : Graph} → Indexed g ix → (j : ℕ) → j < r.depth → get_or stack j 0 ≤ length g.bounds
+        held {g} k = walking_held k (within k) (few k) (inv g k) (step k) found
+
+        pub turn_pushed : length stack ≡ 64 → (g : Graph) → Indexed g ix
+            → Walking g limit start (set items n y) (set stack r.depth r.at) (n + 1) seen' (r.depth + 1) (get_or ix.last y 0)
+        turn_pushed size = after (omega arith) (λ g k.
+            stacked_push stack r.depth r.at (step k).here (held k) (omega (arith, size, deep m)))
+
+        pub turn_ended : r.at ≡ 0 → (g : Graph) → Indexed g ix
+            → Walking g limit start (set items n y) stack (n + 1) seen' r.depth (get_or ix.last y 0)
+        turn_ended z = after (omega arith) (λ g k. stacked_same stack r.depth r.at (step k).here (held k) z)

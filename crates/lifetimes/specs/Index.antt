@@ -8,7 +8,6 @@ use Rattle.std.specs.Prelude.{Some, None, Option}
 use mathlib.Core.List.{List, [], ◌∷◌, ◌++◌, map, flatten, reverse, Memᴰ}
 use Rattle.std.proofs.lemmas.List.Edits.{sets}
 use Rattle.lifetimes.specs.declared.bounds.Bound.{Bound}
-use Rattle.lifetimes.specs.declared.bounds.Bounds.{Bounds}
 use Rattle.lifetimes.specs.declared.env.LifetimeEnv.{LifetimeEnv}
 use Rattle.lifetimes.specs.declared.index.Index.{Index}
 use Rattle.lifetimes.specs.declared.walk.Stepped.{Stepped}
@@ -16,7 +15,7 @@ use Rattle.lifetimes.specs.declared.lifetime.Lifetime.{Lifetime}
 use Rattle.lifetimes.specs.declared.walk.Walked.{Walked}
 use Rattle.answers.specs.Lists.{range}
 use Rattle.lifetimes.specs.Sets.{member, set_of}
-use Rattle.lifetimes.specs.Bounds.{above, list_of}
+use Rattle.lifetimes.specs.Bounds.{above}
 use Rattle.lifetimes.specs.Env.{bounds_of}
 use Rattle.lifetimes.specs.Walk.{near, far, Order, LastFirst, FirstFirst, traversal}
 use Rattle.lifetimes.specs.Reach.{reach_list, depth_first}
@@ -80,18 +79,20 @@ pub record Fine (bs : List Bound) : Type 0 where
   pub few : length bs ≤ most_bounds
   pub small : (b : Bound) → Memᴰ b bs → (b.longer < most_lifetimes) × (b.shorter < most_lifetimes)
 
--- what `link` asks of bounds
-pub record Linkable (b : Bounds) : Type 0 where
-  pub fine : Fine (list_of b)
-  pub all : length (list_of b) ≡ b.pushed
-
 pub record Chained (g : Graph) (x : Index) : Type 0 where
   pub few : length g.bounds ≤ most_bounds
   pub small : (b : Bound) → Memᴰ b g.bounds → far g.longer b < most_lifetimes
   pub far : (j : ℕ) → j < length g.bounds → get_or x.far j 0 ≡ far_at g j
   pub before : (j : ℕ) → j < length g.bounds → get_or x.before j 0 ≡ last_of g j (near_at g j)
 
+-- the lifetimes that the bounds lead to are below a limit
+abbrev pub Within : Graph → ℕ → Type 0
+Within g limit = (b : Bound) → Memᴰ b g.bounds → far g.longer b < limit
+
 pub record Indexed (g : Graph) (x : Index) : Type 0 where
+  pub within : Within g x.declared
+  pub declares : x.declared ≤ x.count
+  pub counted : x.count ≤ most_lifetimes
   pub chained : Chained g x
   pub last : (k : ℕ) → k < most_lifetimes → get_or x.last k 0 ≡ last_of g (length g.bounds) k
 
@@ -114,14 +115,12 @@ pub record Steps (g : Graph) (stack : List ℕ) (seen at depth : ℕ) (r : Stepp
   pub here : r.at ≤ length g.bounds
   pub deep : r.depth ≤ depth
 
--- the lifetimes that the bounds lead to are below a limit
-abbrev pub Within : Graph → ℕ → Type 0
-Within g limit = (b : Bound) → Memᴰ b g.bounds → far g.longer b < limit
+-- how many lifetimes a traversal can list
+abbrev pub Limits : Index → ℕ → ℕ → Type 0
+Limits x start limit = (start < limit) × (limit ≤ x.count) × (x.declared ≤ limit)
 
-abbrev pub Walkable : Index → ℕ → ℕ → Type 0
-Walkable x limit start =
-    ((g : Graph) × Indexed g x × Within g limit) × (limit ≤ most_lifetimes)
-    × (start < limit)
+abbrev pub Walkable : Index → ℕ → Type 0
+Walkable x start = ((g : Graph) × Indexed g x) × (start < x.count)
 
 -- the list of a lifetime over a graph, and its set
 abbrev pub list_over : Graph → ℕ → List ℕ
@@ -147,9 +146,8 @@ lists_from g x n = map (list_over g) (range x n)
 abbrev pub sets_from : Graph → ℕ → ℕ → List ℕ
 sets_from g x n = map (set_over g) (range x n)
 
-abbrev pub Measurable : Index → ℕ → ℕ → Type 0
-Measurable x declared count = ((g : Graph) × Indexed g x × Within g declared)
-    × (declared ≤ count) × (count ≤ most_lifetimes)
+abbrev pub Measurable : Index → Type 0
+Measurable x = (g : Graph) × Indexed g x
 
 pub record Measures (g : Graph) (count : ℕ) (reach₀ reach₁ : List ℕ) (total₁ : ℕ) : Type 0 where
   pub total : total₁ ≡ length (flatten (lists_from g 0 count))
@@ -159,10 +157,8 @@ pub record Measures (g : Graph) (count : ℕ) (reach₀ reach₁ : List ℕ) (to
 pub record Fits (g : Graph) (count room : ℕ) (r : Bool) : Type 0 where
   pub fits : r ≡ leb (length (flatten (lists_from g 0 count))) room
 
-abbrev pub Layable : Index → ℕ → ℕ → ℕ → Type 0
-Layable x declared count room =
-    ((g : Graph) × Indexed g x × Within g declared × (length (flatten (lists_from g 0 count)) ≤ room))
-    × (declared ≤ count) × (count ≤ most_lifetimes)
+abbrev pub Layable : Index → ℕ → Type 0
+Layable x room = (g : Graph) × Indexed g x × (length (flatten (lists_from g 0 x.count)) ≤ room)
 
 pub record Lays (g : Graph) (count : ℕ) (words₀ ends₀ reach₀ words₁ ends₁ reach₁ : List ℕ) (total₁ : ℕ) : Type 0 where
   pub measures : Measures g count reach₀ reach₁ total₁

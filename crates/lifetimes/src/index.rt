@@ -2,38 +2,46 @@
 //
 // A list is pushed in order and its last entry is taken first, so each list is needed backwards: a chain that is linked
 // at its head. Made once for all traversals in a direction, in one pass over the bounds.
-ghost use Rattle.std.specs.Prelude.{◌≡◌, cond, ◌-◌, ◌<◌};
-ghost use Rattle.lifetimes.specs.Bounds.{list_of};
+ghost use Rattle.std.specs.Prelude.{◌≡◌, cond, ◌-◌, ◌≤◌, ◌<◌};
+ghost use Rattle.answers.specs.Refusals.{NoneDue};
+ghost use Rattle.lifetimes.specs.Env.{bounds_of, env_checks};
 ghost use Rattle.lifetimes.specs.Walk.{order_of};
-ghost use Rattle.lifetimes.specs.Index.{graph_in, Linkable, Indexed};
+ghost use Rattle.lifetimes.specs.Index.{graph_in, Indexed, Limits};
 
 use super::bounds::Bounds;
 use super::env::LifetimeEnv;
 
-// For each bound its far side, and the bound before it with the same near side; for each lifetime the last bound whose
-// near side it is. A bound's number is its place counted from 1, and 0 stands for none.
+// How many lifetimes the environment has, declared and in all. For each bound its far side, and the bound before it
+// with the same near side; for each lifetime the last bound whose near side it is. A bound's number is its place
+// counted from 1, and 0 stands for none.
 #[derive(Clone, Copy)]
 pub(crate) struct Index {
+    pub(crate) declared: usize,
+    pub(crate) count: usize,
     pub(crate) far: [u8; Bounds::MAX],
     pub(crate) before: [u16; Bounds::MAX],
     pub(crate) last: [u16; LifetimeEnv::MAX_LIFETIMES],
 }
 
 impl Index {
-    // The index of bounds, which are linked in push order, or, for the AST's order, from the last to the first.
-    pub(crate) fn link(bounds: Bounds, ast: bool, longer: bool) -> Index
-        requires { Linkable bounds }
-        ensures { Indexed (graph_in (order_of ast) longer (list_of bounds)) result }
+    // The index of an environment, whose bounds are linked in push order, or, for the AST's order, from the last to the
+    // first.
+    pub(crate) fn link(env: &LifetimeEnv, ast: bool, longer: bool) -> Index
+        requires { NoneDue (env_checks env.now) }
+        ensures indexed { Indexed (graph_in (order_of ast) longer (bounds_of env.now)) result }
+        ensures count { result.count ≡ env.now.count }
     {
         let mut index = Index {
+            declared: env.declared,
+            count: env.count,
             far: [0; Bounds::MAX],
             before: [0; Bounds::MAX],
             last: [0; LifetimeEnv::MAX_LIFETIMES],
         };
-        let n = bounds.pushed;
+        let n = env.bounds.pushed;
         for i in 0..n {
             let at = place(ast, n, i);
-            let b = bounds.list[at];
+            let b = env.bounds.list[at];
             let x = b.near(longer);
             let y = b.far(longer);
             index.far[i] = y as u8;
@@ -41,6 +49,18 @@ impl Index {
             index.last[x] = (i + 1) as u16;
         }
         index
+    }
+
+    // How many lifetimes a traversal can list: the declared ones, unless it starts past them.
+    pub(crate) fn limit(&self, start: usize) -> usize
+        requires { (start < self.now.count) × (self.now.declared ≤ self.now.count) }
+        ensures { Limits self.now start result }
+    {
+        if start < self.declared {
+            self.declared
+        } else {
+            self.count
+        }
     }
 }
 

@@ -8,7 +8,7 @@ ghost use Rattle.answers.specs.Lent.{counted, held, room, left, Fills};
 ghost use Rattle.lifetimes.specs.Env.{env_checks};
 ghost use Rattle.lifetimes.specs.Reach.{list_from, list_reach, list_depth_first, reach_sets, list_words, list_ends};
 ghost use Rattle.lifetimes.specs.Reach.{lists_answer};
-ghost use Rattle.lifetimes.specs.Index.{Graph, Indexed, Within, list_by, Measurable, Measures, Fits};
+ghost use Rattle.lifetimes.specs.Index.{Graph, Indexed, list_by, Measurable, Measures, Fits};
 ghost use Rattle.lifetimes.specs.Index.{Layable, Lays};
 ghost use Rattle.lifetimes.specs.Limits.{most_lifetimes};
 
@@ -71,11 +71,9 @@ impl LifetimeEnv {
         ensures answer { result ≡ reach_sets longer self }
     {
         self.check()?;
-        let declared = self.declared;
-        let count = self.count;
-        let index = Index::link(self.bounds, false, longer);
+        let index = Index::link(&self, false, longer);
         let mut sets = [0u64; LifetimeEnv::MAX_LIFETIMES];
-        index.measure(declared, count, &mut sets);
+        index.measure(&mut sets);
         Ok(sets)
     }
 
@@ -93,17 +91,15 @@ impl LifetimeEnv {
         ensures ends_filled { Fills (list_ends longer self (room words) (room ends)) ends }
     {
         self.check()?;
-        let declared = self.declared;
-        let count = self.count;
-        if ends.len() < count {
+        if ends.len() < self.count {
             return Err(Refusal::NoRoom);
         }
-        let index = Index::link(self.bounds, false, longer);
-        if !index.all_fit(declared, count, words.len()) {
+        let index = Index::link(&self, false, longer);
+        if !index.all_fit(words.len()) {
             return Err(Refusal::NoRoom);
         }
         let mut sets = [0u64; LifetimeEnv::MAX_LIFETIMES];
-        let total = index.lay(declared, count, words, ends, &mut sets);
+        let total = index.lay(words, ends, &mut sets);
         Ok(Lists { count: total, sets })
     }
 }
@@ -125,7 +121,7 @@ fn traverse(
         return Err(Refusal::OutOfRange);
     }
     let mut items = [0usize; LifetimeEnv::MAX_LIFETIMES];
-    let n = list(env, ast, longer, start, &mut items);
+    let n = list(&env, ast, longer, start, &mut items);
     if out.len() < n {
         return Err(Refusal::NoRoom);
     }
@@ -135,62 +131,44 @@ fn traverse(
 
 // The list of one lifetime of an environment, to the first places of `items`. Answers how many it lists.
 fn list(
-    env: LifetimeEnv,
+    env: &LifetimeEnv,
     ast: bool,
     longer: bool,
     start: usize,
     items: &mut [usize; LifetimeEnv::MAX_LIFETIMES],
 ) -> usize
-    requires none_due { NoneDue (env_checks env) × (start < env.count) }
+    requires none_due { NoneDue (env_checks env.now) × (start < env.now.count) }
     requires len { length items.old ≡ most_lifetimes }
     ensures { (result ≤ most_lifetimes) × (length (left items) ≡ most_lifetimes)
-        × (take result (left items) ≡ list_by ast longer env start) }
+        × (take result (left items) ≡ list_by ast longer env.now start) }
 {
-    let limit = limit_of(env.declared, env.count, start);
-    Index::link(env.bounds, ast, longer)
-        .walk(limit, start, items)
-        .count
-}
-
-// How many lifetimes a traversal can list: the declared ones, unless it starts past them.
-fn limit_of(declared: usize, count: usize, start: usize) -> usize
-    requires { (start < count) × (declared ≤ count) }
-    ensures { (start < result) × (result ≤ count) × (declared ≤ result) }
-{
-    if start < declared { declared } else { count }
+    Index::link(env, ast, longer).walk(start, items).count
 }
 
 impl Index {
     // Whether all lists have room together. None is longer than there are lifetimes, so with as many words for each
     // they have; with less they are measured.
-    fn all_fit(&self, declared: usize, count: usize, room: usize) -> bool
-        requires { Measurable self.now declared count }
-        ensures { (g : Graph) → Indexed g self.now → Within g declared → Fits g count room result }
+    fn all_fit(&self, room: usize) -> bool
+        requires { Measurable self.now }
+        ensures { (g : Graph) → Indexed g self.now → Fits g self.now.count room result }
     {
-        if count * count <= room {
+        if self.count * self.count <= room {
             return true;
         }
         let mut measured = [0u64; LifetimeEnv::MAX_LIFETIMES];
-        self.measure(declared, count, &mut measured) <= room
+        self.measure(&mut measured) <= room
     }
 
     // All traversals: the set of each to its place, and how many words all lists have together.
-    fn measure(
-        &self,
-        declared: usize,
-        count: usize,
-        reach: &mut [u64; LifetimeEnv::MAX_LIFETIMES],
-    ) -> usize
-        requires measurable { Measurable self.now declared count }
+    fn measure(&self, reach: &mut [u64; LifetimeEnv::MAX_LIFETIMES]) -> usize
+        requires measurable { Measurable self.now }
         requires reach_len { length reach.old ≡ most_lifetimes }
-        ensures { (g : Graph) → Indexed g self.now → Within g declared
-            → Measures g count (held reach) (left reach) result }
+        ensures { (g : Graph) → Indexed g self.now → Measures g self.now.count (held reach) (left reach) result }
     {
         let mut items = [0usize; LifetimeEnv::MAX_LIFETIMES];
         let mut total = 0;
-        for x in 0..count {
-            let limit = limit_of(declared, count, x);
-            let walked = self.walk(limit, x, &mut items);
+        for x in 0..self.count {
+            let walked = self.walk(x, &mut items);
             reach[x] = walked.seen;
             total += walked.count;
         }
@@ -200,22 +178,19 @@ impl Index {
     // All traversals: the lists one after another, where each ends, and the set of each.
     fn lay(
         &self,
-        declared: usize,
-        count: usize,
         words: &mut [usize],
         ends: &mut [usize],
         reach: &mut [u64; LifetimeEnv::MAX_LIFETIMES],
     ) -> usize
-        requires layable { Layable self.now declared count (length words.old) }
-        requires count_in_bounds { (count ≤ length ends.old) × (length reach.old ≡ most_lifetimes) }
-        ensures { (g : Graph) → Indexed g self.now → Within g declared
-            → Lays g count (held words) (held ends) (held reach) (left words) (left ends) (left reach) result }
+        requires layable { Layable self.now (length words.old) }
+        requires count_in_bounds { (self.now.count ≤ length ends.old) × (length reach.old ≡ most_lifetimes) }
+        ensures { (g : Graph) → Indexed g self.now
+            → Lays g self.now.count (held words) (held ends) (held reach) (left words) (left ends) (left reach) result }
     {
         let mut items = [0usize; LifetimeEnv::MAX_LIFETIMES];
         let mut at = 0;
-        for x in 0..count {
-            let limit = limit_of(declared, count, x);
-            let walked = self.walk(limit, x, &mut items);
+        for x in 0..self.count {
+            let walked = self.walk(x, &mut items);
             let n = walked.count;
             words[at..at + n].copy_from_slice(&items[..n]);
             at += n;

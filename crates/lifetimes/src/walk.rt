@@ -1,6 +1,6 @@
 // One traversal over the index.
 ghost use Rattle.std.specs.Prelude.{◌≡◌, ◌≤◌, length};
-ghost use Rattle.lifetimes.specs.Index.{Graph, Chained, Indexed, Ready, Standing, Steps, Within, Walkable};
+ghost use Rattle.lifetimes.specs.Index.{Graph, Chained, Indexed, Ready, Standing, Steps, Walkable};
 ghost use Rattle.lifetimes.specs.Index.{Complete};
 ghost use Rattle.answers.specs.Lent.{left};
 ghost use Rattle.lifetimes.specs.Limits.{most_lifetimes};
@@ -11,8 +11,8 @@ use super::lifetime::Lifetime;
 use super::set;
 
 // What a step yields, and where the traversal stands after it: the chain that it is in, and how many the stack holds.
-// Both are known whatever it yields. They go in and out by value: behind a reference they would be read and stored with
-// every entry that is passed over.
+// Both are known whatever it yields, so that the answer is no `Option` of all three. They go in and out by value, since
+// the stack beside them is read at a place that varies: in one lent struct with it they would stand in memory.
 #[derive(Clone, Copy)]
 struct Stepped {
     next: Option<Lifetime>,
@@ -62,20 +62,19 @@ impl Index {
         Stepped { next, at, depth }
     }
 
-    // The traversal from a lifetime, over the index of an environment whose lifetimes are below a limit, to the first
-    // places of `items`. It stops when as many are listed as there are. A chain that is at its end is not stacked.
+    // The traversal from a lifetime, to the first places of `items`. It stops when as many are listed as there can be.
+    // A chain that is at its end is not stacked.
     pub(crate) fn walk(
         &self,
-        limit: usize,
         start: usize,
         items: &mut [usize; LifetimeEnv::MAX_LIFETIMES],
     ) -> Walked
-        requires walkable { Walkable self.now limit start }
+        requires walkable { Walkable self.now start }
         requires len { length items.old ≡ most_lifetimes }
         ensures count_le_most_lifetimes { (result.count ≤ most_lifetimes) × (length (left items) ≡ most_lifetimes) }
-        ensures complete { (g : Graph) → Indexed g self.now → Within g limit
-            → Complete g start (left items) result }
+        ensures complete { (g : Graph) → Indexed g self.now → Complete g start (left items) result }
     {
+        let limit = self.limit(start);
         let mut stack = [0usize; LifetimeEnv::MAX_LIFETIMES];
         items[0] = start;
         let mut seen = set::with(set::EMPTY, start);

@@ -45,11 +45,10 @@ module _ (bytes : List ℕ) where
 
   -- ---- read
 
-  module _ (scratch : List ℕ) (roomy : Roomy bytes (length scratch)) {t : Text}
-      (read : t ≡ sheet_answer bytes (length scratch)) {scratch₁ : List ℕ}
+  module _ (scratch : List ℕ) (roomy : Roomy bytes (length scratch)) {o : Outcome Text}
+      (read : o ≡ sheet_answer bytes (length scratch)) {scratch₁ : List ℕ}
       (wrote : scratch₁ ≡ written (shape.sheet_words bytes (length scratch)) scratch) where
-    pub text_refused : {k : Refusal} {out : List ℕ} → t.verdict ≡ Err k
-        → ListsTo (listed_sheet bytes) out (Err k) out
+    pub text_refused : {k : Refusal} {out : List ℕ} → o ≡ Err k → ListsTo (listed_sheet bytes) out (Err k) out
     unfolding listing_checks
     text_refused v = (
       due_refused (listing_of sheet) (first_more (edges_check sheet ∷ [])
@@ -57,18 +56,17 @@ module _ (bytes : List ℕ) where
       refl,
     )
 
-    module _ (fine : t.verdict ≡ Ok (tt {0})) where
-      records_same : listed_records (records_at scratch₁ t.ends) ≡ listed_sheet bytes
+    module _ {t : Text} (fine : o ≡ Ok t) {r : Records} (laid : r ≡ records_at scratch₁ t.ends) where
+      records_same : listed_records r ≡ listed_sheet bytes
       unfolding listing_checks sheet_refusals
       records_same =
-          ap listed_records (found bytes scratch roomy read wrote fine)
+          ap listed_records (laid ∙ found bytes scratch roomy read wrote fine)
           ∙ sym (unless_after (listing_of sheet) (lowering_checks sheet ++ (edges_check sheet ∷ []))
           (read_none bytes scratch roomy read wrote fine))
           ∙ ap (λ (cs : List Check). unless cs (listing_of sheet))
           (sym (append_assoc (shape.sheet_checks bytes) (lowering_checks sheet) (edges_check sheet ∷ [])))
 
-      pub text_listed : (A : Type 0) (w : Outcome (Option ℕ)) (out out₁ : List ℕ)
-          → ListsWithin (listed_records (records_at scratch₁ t.ends)) A out w out₁
+      pub text_listed : (A : Type 0) (w : Outcome (Option ℕ)) (out out₁ : List ℕ) → ListsWithin (listed_records r) A out w out₁
           → ListsWithin (listed_sheet bytes) A out w out₁
       text_listed A w out out₁ = subst (λ (o : Outcome (List ℕ)). ListsWithin o A out w out₁) records_same
 

@@ -22,28 +22,27 @@ slice_middle [] l rest = rw zero-add (front l)
 slice_middle (b ∷ before) l rest = let e : suc (length before) + length l ≡ suc (length before + length l) =
     omega arith in rw e (slice_middle before l rest)
 
-pub cut_lists : (before : List ℕ) (ls : List (List ℕ)) (rest past : List ℕ)
-    → cut_from (length before) (before ++ (flatten ls ++ rest)) (ends_from (length before) ls ++ past) (length ls) ≡ ls
+pub cut_lists : (before : List ℕ) (ls : List (List ℕ)) (rest : List ℕ)
+    → cut_from (length before) (before ++ (flatten ls ++ rest)) (ends_from (length before) ls) ≡ ls
 unfolding cut_from ends_from flatten
-cut_lists before [] rest past = refl
-cut_lists before (l ∷ ls) rest past =
+cut_lists before [] rest = refl
+cut_lists before (l ∷ ls) rest =
     let a : before ++ ((l ++ flatten ls) ++ rest) ≡ (before ++ l) ++ (flatten ls ++ rest) = simp append_assoc in
     let b : before ++ ((l ++ flatten ls) ++ rest) ≡ before ++ (l ++ (flatten ls ++ rest)) = simp append_assoc in
     let e : length before + length l ≡ length (before ++ l) = sym (length-append before l) in
     let first : slice (length before) (length before + length l) (before ++ ((l ++ flatten ls) ++ rest)) ≡ l =
     rw b (slice_middle before l (flatten ls ++ rest)) in
     let others : cut_from (length before + length l) (before ++ ((l ++ flatten ls) ++ rest))
-    (ends_from (length before + length l) ls ++ past) (length ls) ≡ ls =
-    rw (a, e) (cut_lists (before ++ l) ls rest past) in
+    (ends_from (length before + length l) ls) ≡ ls =
+    rw (a, e) (cut_lists (before ++ l) ls rest) in
     rw (first, others)
 
-pub ends_ascend : (at size : ℕ) (ls : List (List ℕ)) (past : List ℕ) → at + length (flatten ls) ≤ size
-    → Ascend at size (ends_from at ls ++ past) (length ls)
+pub ends_ascend : (at size : ℕ) (ls : List (List ℕ)) → at + length (flatten ls) ≤ size → Ascend at size (ends_from at ls)
 unfolding Ascend ends_from flatten
-ends_ascend at size [] past h = tt
-ends_ascend at size (l ∷ ls) past h =
+ends_ascend at size [] h = tt
+ends_ascend at size (l ∷ ls) h =
     let e = length-append l (flatten ls) in
-    (omega arith, omega (arith, h, e), ends_ascend (at + length l) size ls past (omega (arith, h, e)))
+    (omega arith, omega (arith, h, e), ends_ascend (at + length l) size ls (omega (arith, h, e)))
 
 -- ---- numbered
 

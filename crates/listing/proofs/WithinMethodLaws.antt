@@ -1,7 +1,7 @@
 -- An accepted method, listed from what stands in scratch: all lists and sets as `all_lists` leaves them, the answers
 -- and edges of `borrow_map`.
 use Rattle.std.specs.Prelude.{Ok, Err, Some, None, Option}
-use Prim.Native.Nat.{ℕ, ◌+◌, ◌*◌, ◌-◌, ◌≤◌, ◌<◌, ◌^◌}
+use Prim.Native.Nat.{ℕ, ◌+◌, ◌*◌, ◌-◌, ◌/◌, ◌≤◌, ◌<◌, ◌^◌}
 use mathlib.Core.Bool.{Bool, true, false, cond}
 use mathlib.Core.Path.{◌≡◌, refl, sym, ap, subst, ◌∙◌}
 use mathlib.Core.List.{List, [], ◌∷◌, ◌++◌, map, flat_map, flatten}
@@ -11,6 +11,7 @@ use borrow.Author.Tests.{le-ltb, lt-ltb, ltb-true, ltb-false}
 use lib.Dec.{ltb}
 use lib.ListN.{length, take, drop, length-append, length-map}
 use lib.Seq.{take-append_seam}
+use Rattle.std.proofs.lemmas.List.{append-nil}
 use Rattle.answers.specs.declared.Refusal.{Refusal}
 use Rattle.answers.specs.declared.Refusal.TheVariants.{NoRoom}
 use Rattle.lifetimes.specs.declared.env.LifetimeEnv.{LifetimeEnv}
@@ -20,7 +21,7 @@ use Rattle.answers.specs.Lent.{written, verdict_of, result_or, room_check}
 use Rattle.answers.specs.Lists.{range}
 use Rattle.lifetimes.specs.Sets as sets
 use Rattle.answers.specs.Lists.{ends_from}
-use Rattle.lifetimes.specs.Reach.{reach_list, all_sets, no_sets, all_lists, lists_checks, list_words, list_ends}
+use Rattle.lifetimes.specs.Reach.{reach_list, all_sets, all_lists, lists_checks, list_words, list_ends}
 use Rattle.lifetimes.specs.Reach.{lists_answer}
 use Rattle.answers.proofs.RefusalLaws.{due_given, due_refused, refused_first, accepted_none, none_first, none_rest}
 use Rattle.answers.proofs.RefusalLaws.{none_more, none_split, first_behind}
@@ -39,14 +40,15 @@ use Rattle.borrowing_param.specs.BorrowMap as spec
 use Rattle.borrowing_param.specs.BorrowMap.{Mapping, mapping_of, map_checks, borrow_map, map_answer, map_answers}
 use Rattle.borrowing_param.specs.BorrowMap.{answers_from, listed_edges}
 use Rattle.borrowing_param.specs.Borrows.{Borrows}
-use Rattle.borrowing_param.proofs.OutcomeLaws.{over_refused, over_given}
+use Rattle.borrowing_param.proofs.OutcomeLaws.{ok_same, no_both, over_refused, over_given}
 use Rattle.borrowing_param.proofs.JoinLaws.{words_many, words_read}
 use Rattle.borrowing_param.proofs.ConsistentLaws.{listing_consistent}
-use Rattle.listing.specs.Listing.{count_heading, lowered_heading, longer_heading, longer_lines, answer_lines}
+use Rattle.listing.specs.declared.sections.Lowered.{Lowered}
+use Rattle.listing.specs.Listing.{count_heading, longer_heading, longer_lines, answer_lines}
 use Rattle.listing.specs.Listing.{edge_lines, most_edges}
 use Rattle.text.specs.Printing.{Prints}
 use Rattle.text.proofs.PrintLaws.{prints_length}
-use Rattle.listing.specs.InnerSections.{list_lines, cut_from, Ascend}
+use Rattle.listing.specs.InnerSections.{list_lines, cut_from, Ascend, edges_of_words, lowered_lines_of}
 use Rattle.listing.specs.InnerListing.{ListsWithin, method_borrows, method_listing, listed_method, Listable}
 use Rattle.listing.specs.InnerListing.{sections, edges_overflow, lists_room, edges_room}
 use Rattle.listing.proofs.ListingLaws.{cut_lists, ends_ascend, numbered_map}
@@ -66,7 +68,7 @@ five_same b f g h i = rw (f, g, h, i)
 pub record AllListed (env : LifetimeEnv) (lists ends : List ℕ) (l : reach.Lists) (lists₁ ends₁ : List ℕ) : Type 0 where
   pub places : length ends ≡ 64
   pub room : env.count * env.count ≤ length lists
-  pub is : l ≡ lists_answer true env (length lists) (length ends)
+  pub is : Ok l ≡ lists_answer true env (length lists) (length ends)
   pub wrote : lists₁ ≡ written (list_words true env (length lists) (length ends)) lists
   pub ended : ends₁ ≡ written (list_ends true env (length lists) (length ends)) ends
 
@@ -79,8 +81,8 @@ pub record Mapped (v : BorrowingParamVisitor) (structs params answers edges : Li
   pub noted : answers₁ ≡ written (map_answers (borrow_map v structs params (length answers) (length edges))) answers
   pub stored : edges₁ ≡ written (spec.map_edges (borrow_map v structs params (length answers) (length edges))) edges
 
-module _ {env : LifetimeEnv} {used : ℕ} {structs params own given taken : List ℕ}
-    (can : Listable env used structs params own given taken) where
+module _ {env : LifetimeEnv} {used : ℕ} {structs params : List ℕ} {words : Lowered}
+    (can : Listable env used structs params words) where
   abbrev borrows : Borrows
   borrows = method_borrows env used structs params
 
@@ -91,7 +93,7 @@ module _ {env : LifetimeEnv} {used : ℕ} {structs params own given taken : List
   new = new_visitor used env
 
   abbrev listing : Outcome (List ℕ)
-  listing = listed_method env used structs params own given taken
+  listing = listed_method env used structs params words
 
   few : env.count ≤ 64
   few = lifetimes_few env can.valid
@@ -122,9 +124,8 @@ module _ {env : LifetimeEnv} {used : ℕ} {structs params own given taken : List
       → ListsWithin listing ((lists_room ≤ length lists) × (edges_room ≤ edges)) out (Ok None) out
   lists_short lists h = (λ a. omega (arith, h, mul-le-mul few few, a.0), refl)
 
-  module _ {lists ends : List ℕ} {l : reach.Lists} {lists₁ ends₁ : List ℕ} (all : AllListed env lists ends l lists₁ ends₁) where
-    open all use {places, room, is, wrote, ended}
-
+  -- with so much scratch the lists are never refused
+  module _ {lists ends : List ℕ} (places : length ends ≡ 64) (room : env.count * env.count ≤ length lists) where
     lists_fit : length (flatten (all_lists true env)) ≤ length lists
     lists_fit = omega (arith, lists_few, room)
 
@@ -135,9 +136,22 @@ module _ {env : LifetimeEnv} {used : ℕ} {structs params own given taken : List
         (omega (arith, length_ends 0 (all_lists true env), lists_many, few, places)))
         (next (le-ltb (length lists) (length (flatten (all_lists true env))) lists_fit) end))
 
-    sets_are : l.sets ≡ all_sets true env
+    lists_given : lists_answer true env (length lists) (length ends)
+        ≡ Ok (record { count = length (flatten (all_lists true env)); sets = all_sets true env })
     unfolding lists_answer
-    sets_are = ap (λ (x : reach.Lists). x.sets) is ∙ ap (result_or no_sets) (due_given (all_sets true env) lists_none)
+    lists_given = due_given _ lists_none
+
+    pub lists_taken : {k : Refusal} {A : Type 0} → Err k ≡ lists_answer true env (length lists) (length ends) → A
+    lists_taken e = no_both (e ∙ lists_given)
+
+  module _ {lists ends : List ℕ} {l : reach.Lists} {lists₁ ends₁ : List ℕ} (all : AllListed env lists ends l lists₁ ends₁) where
+    open all use {places, room, is, wrote, ended}
+
+    all_none : NoneDue (lists_checks true env (length lists) (length ends))
+    all_none = lists_none places room
+
+    sets_are : l.sets ≡ all_sets true env
+    sets_are = ap (λ (x : reach.Lists). x.sets) (ok_same (is ∙ lists_given places room))
 
     abbrev behind : List ℕ
     behind = drop (length (flatten (all_lists true env))) lists
@@ -147,24 +161,37 @@ module _ {env : LifetimeEnv} {used : ℕ} {structs params own given taken : List
 
     lists_are : lists₁ ≡ flatten (all_lists true env) ++ behind
     unfolding list_words
-    lists_are = wrote ∙ ap (λ (o : Outcome (List ℕ)). written o lists) (due_given (flatten (all_lists true env)) lists_none)
+    lists_are = wrote ∙ ap (λ (o : Outcome (List ℕ)). written o lists) (due_given (flatten (all_lists true env)) all_none)
 
     ends_are : ends₁ ≡ ends_from 0 (all_lists true env) ++ past
     unfolding list_ends
-    ends_are = ended ∙ ap (λ (o : Outcome (List ℕ)). written o ends) (due_given (ends_from 0 (all_lists true env)) lists_none)
+    ends_are = ended ∙ ap (λ (o : Outcome (List ℕ)). written o ends) (due_given (ends_from 0 (all_lists true env)) all_none)
 
-    pub lists_ascend : Ascend 0 (length lists₁) ends₁ env.count
+    -- the ends, as the part of the scratch that is handed on
+    abbrev ends₂ : List ℕ
+    ends₂ = take (env.count - 0) (drop 0 ends₁)
+
+    ends_many : length (ends_from 0 (all_lists true env)) ≡ env.count
+    ends_many = length_ends 0 (all_lists true env) ∙ lists_many
+
+    ends₂_are : ends₂ ≡ ends_from 0 (all_lists true env)
+    ends₂_are =
+        rw (sub-zero, ends_are)
+        (subst (λ (n : ℕ). take n (ends_from 0 (all_lists true env) ++ past) ≡ ends_from 0 (all_lists true env)) ends_many
+        (take-append_seam (ends_from 0 (all_lists true env)) past))
+
+    pub ends_inside : env.count ≤ length ends₁
+    ends_inside = rw (ends_are, length-append) (omega (arith, ends_many))
+
+    pub lists_ascend : Ascend 0 (length lists₁) ends₂
     lists_ascend =
         let k : 0 + length (flatten (all_lists true env)) ≤ length lists₁ = rw (lists_are, length-append) (omega arith) in
-        subst (λ (n : ℕ). Ascend 0 (length lists₁) ends₁ n) lists_many
-        (rw ends_are (ends_ascend 0 (length lists₁) (all_lists true env) past k))
+        rw ends₂_are (ends_ascend 0 (length lists₁) (all_lists true env) k)
 
-    lists_cut : cut_from 0 lists₁ ends₁ env.count ≡ all_lists true env
-    lists_cut =
-        subst (λ (n : ℕ). cut_from 0 lists₁ ends₁ n ≡ all_lists true env) lists_many
-        (rw (lists_are, ends_are) (cut_lists [] (all_lists true env) behind past))
+    lists_cut : cut_from 0 lists₁ ends₂ ≡ all_lists true env
+    lists_cut = rw (ends₂_are, lists_are) (cut_lists [] (all_lists true env) behind)
 
-    longer_are : longer_heading ++ list_lines 0 (cut_from 0 lists₁ ends₁ env.count) ≡ longer_lines env
+    longer_are : longer_heading ++ list_lines 0 (cut_from 0 lists₁ ends₂) ≡ longer_lines env
     unfolding all_lists
     longer_are =
         rw lists_cut
@@ -237,7 +264,7 @@ module _ {env : LifetimeEnv} {used : ℕ} {structs params own given taken : List
             go true s = (λ a. omega (arith, ltb-true (length edges) edges_room s, a.1), refl)
             go false s =
                 let many : most_edges < length borrows.edges = omega (arith, ltb-false (length edges) edges_room s, edges_many v) in (
-                  due_refused (method_listing env used structs params own given taken) (here
+                  due_refused (method_listing env used structs params words) (here
                       (lt-ltb most_edges (length borrows.edges) many) refl),
                   refl,
                 )
@@ -279,7 +306,7 @@ module _ {env : LifetimeEnv} {used : ℕ} {structs params own given taken : List
           pub params_inside : b.params ≤ length answers₁
           params_inside = rw (map_is, answers_stand, length-append) (omega arith)
 
-          pub edges_inside : width * b.edges ≤ length edges₁
+          pub edges_inside : b.edges * width ≤ length edges₁
           edges_inside = rw (map_is, edges_stand, length-append, words_many borrows.edges) (omega arith)
 
           -- ---- the whole
@@ -293,31 +320,48 @@ module _ {env : LifetimeEnv} {used : ℕ} {structs params own given taken : List
           answers₂_are : answers₂ ≡ borrows.answers
           answers₂_are = rw (sub-zero, map_is, answers_stand) (take-append_seam borrows.answers _)
 
-          edges₂_are : edges_in b.edges edges₁ ≡ borrows.edges
-          edges₂_are = rw (map_is, edges_stand) (words_read borrows.edges _)
+          abbrev edges₂ : List ℕ
+          edges₂ = take (b.edges * width - 0) (drop 0 edges₁)
+
+          edges₂_words : edges₂ ≡ flat_map edge_words borrows.edges
+          edges₂_words =
+              let many : length (flat_map edge_words borrows.edges) ≡ length borrows.edges * width =
+              words_many borrows.edges ∙ omega arith in
+              rw (sub-zero, map_is, edges_stand)
+              (subst (λ (n : ℕ). take n (flat_map edge_words borrows.edges ++ drop (length (flat_map edge_words borrows.edges)) edges)
+              ≡ flat_map edge_words borrows.edges) many
+              (take-append_seam (flat_map edge_words borrows.edges) _))
+
+          edges₂_are : edges_of_words edges₂ ≡ borrows.edges
+          edges₂_are =
+              let many : length (flat_map edge_words borrows.edges) / width ≡ length borrows.edges =
+              omega (arith, words_many borrows.edges) in
+              rw (edges₂_words, many)
+              (ap (edges_in (length borrows.edges)) (sym (append-nil (flat_map edge_words borrows.edges)))
+              ∙ words_read borrows.edges [])
 
           few_edges : length borrows.edges ≤ most_edges
           few_edges = omega (arith, edges_fit, most)
 
           module _ {many : ℕ} (counted : many ≡ sets.cardinality used) where
-            sections_are : sections (counts many) own given taken lists₁ ends₁ answers₂ edges₁
-                ≡ method_listing env used structs params own given taken
+            sections_are : sections (counts many) words lists₁ ends₂ answers₂ edges₂
+                ≡ method_listing env used structs params words
             unfolding sections method_listing sets.cardinality visitor_from
             sections_are =
-                five_same (lowered_heading ++ (line own ++ (line given ++ line taken)))
+                five_same (lowered_lines_of words)
                 (ap (λ (ns : List ℕ). count_heading ++ line ns) (rw (counted, map_is)))
                 longer_are (ap answer_lines answers₂_are) (ap edge_lines edges₂_are)
 
-            sections_small : 0 + length (sections (counts many) own given taken lists₁ ends₁ answers₂ edges₁) < 2 ^ 64
+            sections_small : 0 + length (sections (counts many) words lists₁ ends₂ answers₂ edges₂) < 2 ^ 64
             sections_small = rw sections_are (omega (arith, can.short few_edges))
 
             pub method_listed : {n : ℕ} {out out₁ : List ℕ}
-                → Prints (sections (counts many) own given taken lists₁ ends₁ answers₂ edges₁) 0 out n out₁
+                → Prints (sections (counts many) words lists₁ ends₂ answers₂ edges₂) 0 out n out₁
                 → ListsWithin listing ((lists_room ≤ length lists) × (edges_room ≤ length edges)) out (Ok (Some n)) out₁
             unfolding listed_method
             method_listed p = (
-              method_listing env used structs params own given taken,
-              due_given (method_listing env used structs params own given taken)
+              method_listing env used structs params words,
+              due_given (method_listing env used structs params words)
                   (next (le-ltb most_edges (length borrows.edges) few_edges) end),
               rw (← sections_are) (record { size = prints_length p sections_small ∙ zero-add _; stored = p.stored }),
             )

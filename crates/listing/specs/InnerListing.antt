@@ -1,5 +1,5 @@
 -- For private functions only: a listing made in lent scratch. No public contract cites this file.
-use Rattle.std.specs.Prelude.{ℕ, ◌*◌, ◌≤◌, ◌<◌, true, cond, ◌≡◌, List, [], ◌∷◌, ◌++◌, ltb, length, get_or, Ok, Err, Some, None, Option}
+use Rattle.std.specs.Prelude.{ℕ, ◌*◌, ◌≤◌, ◌<◌, true, cond, ◌≡◌, List, [], ◌∷◌, ◌++◌, ltb, length, Ok, Err, Some, None, Option}
 use Rattle.std.proofs.lemmas.List.Edits.{sets}
 use Rattle.answers.specs.declared.Refusal.TheVariants.{NoRoom}
 use Rattle.lifetimes.specs.declared.env.LifetimeEnv.{LifetimeEnv}
@@ -11,16 +11,17 @@ use Rattle.records.specs.Reading.{most_words}
 use Rattle.sheet.specs.Text.{Records, record_count}
 use Rattle.text.specs.Decimal.{line}
 use Rattle.sheet.specs.Reading.{sheet_of}
-use Rattle.borrowing_param.specs.Edges.{width, edges_in}
+use Rattle.borrowing_param.specs.Edges.{width}
 use Rattle.borrowing_param.specs.New.{new_visitor}
 use Rattle.borrowing_param.specs.SheetMethod.{lowering_checks}
 use Rattle.borrowing_param.specs.Borrows.{Borrows, borrows_by}
 use Rattle.borrowing_param.specs.InnerSheet.{OfMethod}
+use Rattle.listing.specs.declared.sections.Lowered.{Lowered}
 use Rattle.listing.specs.declared.within.Scratch.{Scratch}
 use Rattle.listing.specs.Listing.{count_heading, count_lines, lowered_heading, longer_heading, longer_lines}
 use Rattle.listing.specs.Listing.{answer_lines, edge_lines, most_edges, edges_check, listing_of, listing_checks}
 use Rattle.listing.specs.Listing.{room_bytes}
-use Rattle.listing.specs.InnerSections.{list_lines, cut_from}
+use Rattle.listing.specs.InnerSections.{list_lines, cut_from, edges_of_words, lowered_lines_of}
 
 -- what is listed, or why not
 abbrev pub listed_sheet : List ℕ → Outcome (List ℕ)
@@ -78,35 +79,35 @@ ListsWithin o ample out (Err k) out₁ = ListsTo o out (Err k) out₁
 abbrev pub method_borrows : LifetimeEnv → ℕ → List ℕ → List ℕ → Borrows
 method_borrows env used structs params = borrows_by (new_visitor used env) structs params
 
-unfoldable pub method_listing : LifetimeEnv → ℕ → List ℕ → List ℕ → List ℕ → List ℕ → List ℕ → List ℕ
-method_listing env used structs params own given taken =
+unfoldable pub method_listing : LifetimeEnv → ℕ → List ℕ → List ℕ → Lowered → List ℕ
+method_listing env used structs params words =
     count_lines env.count (method_borrows env used structs params)
-    ++ ((lowered_heading ++ (line own ++ (line given ++ line taken)))
+    ++ (lowered_lines_of words
     ++ (longer_lines env
     ++ (answer_lines (method_borrows env used structs params).answers
     ++ edge_lines (method_borrows env used structs params).edges)))
 
-unfoldable pub listed_method : LifetimeEnv → ℕ → List ℕ → List ℕ → List ℕ → List ℕ → List ℕ → Outcome (List ℕ)
-listed_method env used structs params own given taken =
+unfoldable pub listed_method : LifetimeEnv → ℕ → List ℕ → List ℕ → Lowered → Outcome (List ℕ)
+listed_method env used structs params words =
     unless (check (ltb most_edges (length (method_borrows env used structs params).edges)) NoRoom ∷ [])
-    (method_listing env used structs params own given taken)
+    (method_listing env used structs params words)
 
-pub record Listable (env : LifetimeEnv) (used : ℕ) (structs params own given taken : List ℕ) : Type 0 where
+pub record Listable (env : LifetimeEnv) (used : ℕ) (structs params : List ℕ) (words : Lowered) : Type 0 where
   pub valid : NoneDue (env_checks env)
   pub of : OfMethod structs params
   pub below : (k : ℕ) → member used k ≡ true → k < env.count
   pub short : length (method_borrows env used structs params).edges ≤ most_edges
-      → length (method_listing env used structs params own given taken) ≤ room_bytes
+      → length (method_listing env used structs params words) ≤ room_bytes
 
 -- the sections by what stands in slices: counts of lifetimes, used lifetimes, parameters and edges; lowered words;
 -- longer lists by their ends; answers; edges
-unfoldable pub sections : List ℕ → List ℕ → List ℕ → List ℕ → List ℕ → List ℕ → List ℕ → List ℕ → List ℕ
-sections counts own given taken lists ends answers edges =
+unfoldable pub sections : List ℕ → Lowered → List ℕ → List ℕ → List ℕ → List ℕ → List ℕ
+sections counts words lists ends answers edges =
     (count_heading ++ line counts)
-    ++ ((lowered_heading ++ (line own ++ (line given ++ line taken)))
-    ++ ((longer_heading ++ list_lines 0 (cut_from 0 lists ends (get_or counts 0 0)))
+    ++ (lowered_lines_of words
+    ++ ((longer_heading ++ list_lines 0 (cut_from 0 lists ends))
     ++ (answer_lines answers
-    ++ edge_lines (edges_in (get_or counts 3 0) edges))))
+    ++ edge_lines (edges_of_words edges))))
 
 -- the edges do not fit so many words
 abbrev pub edges_overflow : ℕ → Outcome (Option ℕ)

@@ -9,7 +9,7 @@ ghost use Rattle.sheet.specs.Inner.{Roomy};
 ghost use Rattle.listing.specs.Listing as spec;
 ghost use Rattle.listing.specs.InnerListing.{listed_sheet, ListsTo, ListsWithin, Ample, NoWider};
 
-use super::sections::put_refusal;
+use super::sections::put_headed;
 use super::within::{EDGES_ROOM, LISTS_ROOM, LOWERED_ROOM, PER_WORD, Scratch, list_within};
 use answers::Refusal;
 use borrowing_param::BorrowingParamVisitor;
@@ -83,7 +83,7 @@ pub fn respond(sheet: &[u8], out: &mut [u8; ROOM]) -> usize
 {
     match list_sheet(sheet, out) {
         Ok(count) => count,
-        Err(refusal) => put_refusal(out, 0, &[refusal.number()]),
+        Err(refusal) => put_headed(out, 0, b"refusal\n", &[refusal.number()]),
     }
 }
 

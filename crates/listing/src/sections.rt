@@ -1,85 +1,62 @@
 // The sections of a listing, each its heading and its lines.
-ghost use Rattle.std.specs.Prelude.{◌*◌, ◌≤◌, length};
+ghost use Rattle.std.specs.Prelude.{length};
 ghost use mathlib.Core.List.{◌++◌, flat_map};
 ghost use Rattle.answers.specs.Lent.{held, left};
 ghost use Rattle.text.specs.Decimal.{line};
 ghost use Rattle.text.specs.Printing.{Prints};
-ghost use Rattle.borrowing_param.specs.Edges.{width, edges_in};
-ghost use Rattle.listing.specs.Listing.{count_heading, lowered_heading, longer_heading};
+ghost use Rattle.listing.specs.Listing.{longer_heading};
 ghost use Rattle.listing.specs.Listing.{answer_lines_from, answer_lines};
-ghost use Rattle.listing.specs.Listing.{edge_line, edge_lines, refusal_heading};
-ghost use Rattle.listing.specs.InnerSections.{list_lines, cut_from, Ascend};
+ghost use Rattle.listing.specs.Listing.{edge_line, edge_lines};
+ghost use Rattle.listing.specs.InnerSections.{list_lines, cut_from, Ascend, edges_of_words, lowered_lines_of};
 
 use borrowing_param::BorrowingParamVisitor;
 use text::{put_following, put_line, put_number, put_text};
 
-// How many lifetimes, used lifetimes, parameters and edges there are.
-pub(crate) fn put_counts(out: &mut [u8], at: usize, counts: &[usize]) -> usize
-    ensures { Prints (count_heading ++ line counts.now) at (held out) result (left out) }
+// A heading and a line of numbers: how many there are of each, or a refusal.
+pub(crate) fn put_headed(out: &mut [u8], at: usize, heading: &[u8], numbers: &[usize]) -> usize
+    ensures { Prints (heading.now ++ line numbers.now) at (held out) result (left out) }
 {
-    let heading = b"lifetimes used params edges\n";
     let next = put_text(out, at, heading);
-    put_line(out, next, counts)
+    put_line(out, next, numbers)
 }
 
-// The lowered words of self, steps and returns.
-pub(crate) fn put_lowered(
-    out: &mut [u8],
-    at: usize,
-    own: &[usize],
-    given: &[usize],
-    taken: &[usize],
-) -> usize
-    ensures { Prints (lowered_heading ++ (line own.now ++ (line given.now ++ line taken.now)))
-        at (held out) result (left out) }
-{
-    let heading = b"lowered\n";
-    let first = put_text(out, at, heading);
-    let second = put_line(out, first, own);
-    let third = put_line(out, second, given);
-    put_line(out, third, taken)
+// The lowered words of self, steps and returns, lent.
+#[derive(Clone, Copy)]
+pub(crate) struct Lowered<'a> {
+    pub(crate) own: &'a [usize],
+    pub(crate) given: &'a [usize],
+    pub(crate) taken: &'a [usize],
 }
 
-// A refusal.
-pub(crate) fn put_refusal(out: &mut [u8], at: usize, number: &[usize]) -> usize
-    ensures { Prints (refusal_heading ++ line number.now) at (held out) result (left out) }
+pub(crate) fn put_lowered(out: &mut [u8], at: usize, words: Lowered) -> usize
+    ensures { Prints (lowered_lines_of words.entry) at (held out) result (left out) }
 {
-    let heading = b"refusal\n";
-    let next = put_text(out, at, heading);
-    put_line(out, next, number)
+    let first = put_text(out, at, b"lowered\n");
+    let second = put_line(out, first, words.own);
+    let third = put_line(out, second, words.given);
+    put_line(out, third, words.taken)
 }
 
 // Each lifetime and its list: the lists stand one after another in a slice, and another says where each ends.
-pub(crate) fn put_longer(
-    out: &mut [u8],
-    at: usize,
-    words: &[usize],
-    ends: &[usize],
-    count: usize,
-) -> usize
-    requires { Ascend 0 (length words.now) ends.now count }
-    ensures { Prints (longer_heading ++ list_lines 0 (cut_from 0 words.now ends.now count)) at (held out) result
-        (left out) }
+pub(crate) fn put_longer(out: &mut [u8], at: usize, words: &[usize], ends: &[usize]) -> usize
+    requires { Ascend 0 (length words.now) ends.now }
+    ensures { Prints (longer_heading ++ list_lines 0 (cut_from 0 words.now ends.now)) at (held out) result (left out) }
 {
-    let heading = b"lifetime longer\n";
-    let next = put_text(out, at, heading);
-    put_numbered(out, next, words, ends, count)
+    let next = put_text(out, at, b"lifetime longer\n");
+    put_numbered(out, next, words, ends)
 }
 
 // The lines of numbered lists.
-fn put_numbered(out: &mut [u8], at: usize, words: &[usize], ends: &[usize], count: usize) -> usize
-    requires { Ascend 0 (length words.now) ends.now count }
-    ensures { Prints (list_lines 0 (cut_from 0 words.now ends.now count)) at (held out) result (left out) }
+fn put_numbered(out: &mut [u8], at: usize, words: &[usize], ends: &[usize]) -> usize
+    requires { Ascend 0 (length words.now) ends.now }
+    ensures { Prints (list_lines 0 (cut_from 0 words.now ends.now)) at (held out) result (left out) }
 {
     let mut next = at;
     let mut from = 0;
-    let mut i = 0;
-    while i < count {
-        let to = ends[i];
-        let start = put_number(out, next, i);
-        next = put_following(out, start, &words[from..to]);
-        from = to;
-        i += 1;
+    for (number, to) in ends.iter().enumerate() {
+        let start = put_number(out, next, number);
+        next = put_following(out, start, &words[from..*to]);
+        from = *to;
     }
     next
 }
@@ -88,49 +65,34 @@ fn put_numbered(out: &mut [u8], at: usize, words: &[usize], ends: &[usize], coun
 pub(crate) fn put_answers(out: &mut [u8], at: usize, answers: &[usize]) -> usize
     ensures { Prints (answer_lines answers.now) at (held out) result (left out) }
 {
-    let heading = b"param answer\n";
-    let next = put_text(out, at, heading);
+    let next = put_text(out, at, b"param answer\n");
     put_each_answer(out, next, answers)
 }
 
 fn put_each_answer(out: &mut [u8], at: usize, answers: &[usize]) -> usize
     ensures { Prints (answer_lines_from 0 answers.now) at (held out) result (left out) }
 {
-    let count = answers.len();
     let mut next = at;
-    let mut i = 0;
-    while i < count {
-        let start = put_number(out, next, i);
-        next = put_following(out, start, &answers[i..i + 1]);
-        i += 1;
+    for (param, answer) in answers.iter().enumerate() {
+        next = put_line(out, next, &[param, *answer]);
     }
     next
 }
 
 // Each edge, by the values that stand for it.
-pub(crate) fn put_edges(out: &mut [u8], at: usize, edges: &[usize], count: usize) -> usize
-    requires { width * count ≤ length edges.now }
-    ensures { Prints (edge_lines (edges_in count edges.now)) at (held out) result (left out) }
+pub(crate) fn put_edges(out: &mut [u8], at: usize, edges: &[usize]) -> usize
+    ensures { Prints (edge_lines (edges_of_words edges.now)) at (held out) result (left out) }
 {
-    let heading = b"used param kind def option\n";
-    let next = put_text(out, at, heading);
-    put_each_edge(out, next, edges, count)
+    let next = put_text(out, at, b"used param kind def option\n");
+    put_each_edge(out, next, edges)
 }
 
-fn put_each_edge(out: &mut [u8], at: usize, edges: &[usize], count: usize) -> usize
-    requires { width * count ≤ length edges.now }
-    ensures { Prints (flat_map edge_line (edges_in count edges.now)) at (held out) result (left out) }
+fn put_each_edge(out: &mut [u8], at: usize, edges: &[usize]) -> usize
+    ensures { Prints (flat_map edge_line (edges_of_words edges.now)) at (held out) result (left out) }
 {
     let mut next = at;
-    let mut i = 0;
-    while i < count {
-        let from = i * BorrowingParamVisitor::EDGE_WORDS;
-        next = put_line(
-            out,
-            next,
-            &edges[from..from + BorrowingParamVisitor::EDGE_WORDS],
-        );
-        i += 1;
+    for edge in edges.chunks_exact(BorrowingParamVisitor::EDGE_WORDS) {
+        next = put_line(out, next, edge);
     }
     next
 }

@@ -2,13 +2,13 @@
 ghost use Rattle.std.specs.Prelude.{◌≤◌, ◌≡◌, length};
 ghost use Rattle.answers.specs.Refusals.{NoneDue};
 ghost use Rattle.answers.specs.Lent.{held, room, left};
-ghost use Rattle.sheet.specs.Text.{ten_records};
-ghost use Rattle.sheet.specs.Answer.{records_at};
+ghost use Rattle.sheet.specs.Text.{records_in};
 ghost use Rattle.sheet.specs.Shape.{records_checks};
 ghost use Rattle.sheet.specs.Inner.{Roomy};
 ghost use Rattle.listing.specs.InnerListing.{listed_sheet, listed_records, Suffices, ListsWithin, listed_method};
 ghost use Rattle.listing.specs.InnerListing.{Listable, edges_overflow, lists_room, edges_room};
 
+use super::sections::Lowered;
 use super::whole::put_listing;
 use answers::Refusal;
 use borrowing_param::BorrowingParamVisitor;
@@ -16,7 +16,7 @@ use elision::lower;
 use lifetimes::{LifetimeEnv, set};
 use methods::{MAX_PARAMS, used_method_lifetimes};
 use records::MAX_WORDS;
-use sheet::{Text, read_sheet, record_words};
+use sheet::{Records, read_sheet};
 
 // How many lowered words a word of steps or returns gives at most: a step has two words or more and gives at most 16.
 pub(crate) const PER_WORD: usize = 8;
@@ -52,60 +52,19 @@ pub(crate) fn list_within(
     requires { Roomy sheet.now (length words.old) × (length scratch.edges.now ≤ edges_room) }
     ensures { ListsWithin (listed_sheet sheet.now) (Suffices scratch.entry) (held out) result (left out) }
 {
-    let text = read_sheet(sheet, words);
-    text.verdict?;
-    list_laid(words, text.ends, scratch, out)
+    let text = read_sheet(sheet, words)?;
+    list_records(Records::laid(words, text.ends), scratch, out)
 }
 
-// List records that were read, whose words stand one record after another.
-fn list_laid(
-    words: &[usize],
-    ends: [usize; Text::RECORDS],
-    scratch: Scratch,
-    out: &mut [u8],
-) -> Result<Option<usize>, Refusal>
-    requires { NoneDue (records_checks (records_at words.now ends)) × (length scratch.edges.now ≤ edges_room) }
-    ensures { ListsWithin (listed_records (records_at words.now ends)) (Suffices scratch.entry)
-        (held out) result (left out) }
-{
-    list_records(
-        record_words(words, ends, Text::NAMES),
-        record_words(words, ends, Text::BOUNDS),
-        record_words(words, ends, Text::TYPES),
-        record_words(words, ends, Text::SELF),
-        record_words(words, ends, Text::STEPS),
-        record_words(words, ends, Text::RETURNS),
-        record_words(words, ends, Text::STRUCTS),
-        record_words(words, ends, Text::PARAMS),
-        record_words(words, ends, Text::OUTPUT),
-        record_words(words, ends, Text::FORCE),
-        scratch,
-        out,
-    )
-}
-
-// The same of ten records, each in a slice.
+// List records that were read.
 fn list_records(
-    names: &[usize],
-    bounds: &[usize],
-    types: &[usize],
-    receiver: &[usize],
-    steps: &[usize],
-    returns: &[usize],
-    structs: &[usize],
-    params: &[usize],
-    output: &[usize],
-    force: &[usize],
+    records: Records,
     scratch: Scratch,
     out: &mut [u8],
 ) -> Result<Option<usize>, Refusal>
-    requires { NoneDue (records_checks
-        (ten_records names.now bounds.now types.now receiver.now steps.now returns.now structs.now
-        params.now output.now force.now)) × (length scratch.edges.now ≤ edges_room) }
-    ensures { ListsWithin
-        (listed_records
-        (ten_records names.now bounds.now types.now receiver.now steps.now returns.now structs.now
-        params.now output.now force.now)) (Suffices scratch.entry) (held out) result (left out) }
+    requires { NoneDue (records_checks (records_in records)) × (length scratch.edges.now ≤ edges_room) }
+    ensures { ListsWithin (listed_records (records_in records.entry)) (Suffices scratch.entry)
+        (held out) result (left out) }
 {
     let Scratch {
         given,
@@ -113,52 +72,55 @@ fn list_records(
         lists,
         edges,
     } = scratch;
-    if given.len() / PER_WORD < steps.len() {
+    if given.len() / PER_WORD < records.steps.len() {
         return Ok(None);
     }
-    if taken.len() / PER_WORD < returns.len() {
+    if taken.len() / PER_WORD < records.returns.len() {
         return Ok(None);
     }
-    let ast = ast_lifetimes::LifetimeEnv::from_method_item(names, bounds, types);
-    ast.verdict?;
+    let ast = ast_lifetimes::LifetimeEnv::from_method_item(
+        records.names,
+        records.bounds,
+        records.types,
+    )?;
     let mut own = [0usize; 1];
-    let lowered = lower(ast.env, receiver, steps, returns, &mut own, given, taken);
-    lowered.verdict?;
-    let selves = lowered.selves;
-    let stepped = lowered.steps;
-    let returned = lowered.returns;
-    let used = used_method_lifetimes(lowered.env, structs, params, output, force)?;
-    list_method(
+    let lowered = lower(
+        ast,
+        records.own,
+        records.steps,
+        records.returns,
+        &mut own,
+        given,
+        taken,
+    )?;
+    let used = used_method_lifetimes(
         lowered.env,
-        used,
-        structs,
-        params,
-        &own[0..selves],
-        &given[0..stepped],
-        &taken[0..returned],
-        lists,
-        edges,
-        out,
-    )
+        records.structs,
+        records.params,
+        records.output,
+        records.force,
+    )?;
+    let words = Lowered {
+        own: &own[0..lowered.selves],
+        given: &given[0..lowered.steps],
+        taken: &taken[0..lowered.returns],
+    };
+    list_method(lowered.env, used, records, words, lists, edges, out)
 }
 
 // List an accepted method.
 fn list_method(
     env: LifetimeEnv,
     used: u64,
-    structs: &[usize],
-    params: &[usize],
-    own: &[usize],
-    given: &[usize],
-    taken: &[usize],
+    records: Records,
+    words: Lowered,
     lists: &mut [usize],
     edges: &mut [usize],
     out: &mut [u8],
 ) -> Result<Option<usize>, Refusal>
-    requires { Listable env used structs.now params.now own.now given.now taken.now
-        × (length edges.old ≤ edges_room) }
+    requires { Listable env used records.structs.now records.params.now words × (length edges.old ≤ edges_room) }
     ensures { ListsWithin
-        (listed_method env used structs.now params.now own.now given.now taken.now)
+        (listed_method env used records.entry.structs.now records.entry.params.now words.entry)
         ((lists_room ≤ room lists) × (edges_room ≤ room edges)) (held out) result (left out) }
 {
     let count = env.count;
@@ -166,23 +128,21 @@ fn list_method(
         return Ok(None);
     }
     let mut ends = [0usize; LifetimeEnv::MAX_LIFETIMES];
-    let longer = env.all_lists(true, lists, &mut ends);
+    let longer = env.all_lists(true, lists, &mut ends)?;
     let visitor = BorrowingParamVisitor::from_sets(used, &longer.sets);
     let mut answers = [0usize; MAX_PARAMS];
-    let Ok(map) = visitor.borrow_map(structs, params, &mut answers, edges) else {
+    let Ok(map) = visitor.borrow_map(records.structs, records.params, &mut answers, edges) else {
         return too_many(edges.len());
     };
     let counts = [count, set::count(used), map.params, map.edges];
     let length = put_listing(
         out,
         &counts,
-        own,
-        given,
-        taken,
+        words,
         lists,
-        &ends,
+        &ends[0..count],
         &answers[0..map.params],
-        edges,
+        &edges[0..map.edges * BorrowingParamVisitor::EDGE_WORDS],
     );
     Ok(Some(length))
 }

@@ -55,11 +55,10 @@ holding_set rows number value lifetimes size h e k row l =
     (eq-or-lt_of_le {n = row} {m = number} (omega arith))
 
 -- a refusal beside any array
-refused_index : (structs lifetimes : List ℕ) {r : Verdict} → length lifetimes ≡ 32
-    → r ≡ judged (row_checks (rows_of structs) 0 (rows_of structs))
+refused_index : (structs lifetimes : List ℕ) {r : Verdict} → r ≡ judged (row_checks (rows_of structs) 0 (rows_of structs))
     → (r ≡ Ok (tt {0}) → ⊥) → Indexes structs lifetimes r
-refused_index structs lifetimes s e n =
-    record { verdict = e; size = s; few = λ k. absurd (n k); holding = λ k. absurd (n k) }
+refused_index structs lifetimes e n =
+    record { verdict = e; few = λ k. absurd (n k); holding = λ k. absurd (n k) }
 
 module _ {structs lifetimes : List ℕ} {at number : ℕ} (inv : Indexing structs lifetimes at number) where
   module _ {rows : ℕ} (all : length (rows_of structs) ≡ rows) (left : number < rows) where
@@ -82,7 +81,7 @@ module _ {structs lifetimes : List ℕ} {at number : ℕ} (inv : Indexing struct
     pub indexing_full : 32 ≤ number → Indexes structs lifetimes (Err Full)
     unfolding numbered unless
     indexing_full k =
-        refused_index structs lifetimes inv.size
+        refused_index structs lifetimes
         (sym (inv.same ∙ rw (rows_next, le-leb 32 number k)))
         (λ e. refused_accepted e)
 
@@ -105,7 +104,7 @@ module _ {structs lifetimes : List ℕ} {at number : ℕ} (inv : Indexing struct
         pub indexing_stops : r ≡ None
             → Indexes structs (set lifetimes number (get_or structs at 0)) (Err Mismatch)
         indexing_stops e =
-            refused_index structs (set lifetimes number (get_or structs at 0)) size₁
+            refused_index structs (set lifetimes number (get_or structs at 0))
             (sym (judged_row
             ∙ judged_stays (type_checks (rows_of structs) (row_at (rows_of structs) number).fields)
             (row_checks (rows_of structs) (suc number) (drop (number + 1) (rows_of structs)))
@@ -140,7 +139,6 @@ module _ {structs lifetimes : List ℕ} {at number : ℕ} (inv : Indexing struct
       let z : number ≡ length (rows_of structs) = omega (arith, inv.before) in
       record {
         verdict = sym (inv.same ∙ rw (drop_of_length-le (rows_of structs) {i = number} h));
-        size = inv.size;
         few = λ e. omega (arith, inv.few);
         holding = λ e row l. inv.holding row (omega arith);
       }

@@ -63,7 +63,6 @@ pub record RowStands (structs : List ℕ) (row place : ℕ) : Type 0 where
 -- rows that were checked: the verdict, and where they are accepted the lifetimes of each
 pub record Indexes (structs lifetimes : List ℕ) (r : Verdict) : Type 0 where
   pub verdict : r ≡ judged (row_checks (rows_of structs) 0 (rows_of structs))
-  pub size : length lifetimes ≡ most_rows
   pub few : r ≡ Ok (tt {0}) → length (rows_of structs) ≤ most_rows
   pub holding : r ≡ Ok (tt {0}) → Holding (rows_of structs) (length (rows_of structs)) lifetimes
 

@@ -106,7 +106,8 @@ fn row_place(structs: &[usize], row: usize) -> Option<usize>
     Some(at)
 }
 
-// The place behind so many types.
+// The place behind so many types. The crate `hir_types` has such a walk that looks the rows up as well; what that one
+// says is for its own functions, and a public promise of it would be no plainer than this one.
 fn skip_types(words: &[usize], from: usize, count: usize) -> Option<usize>
     ensures { TypesSkip words.now from count result }
 {

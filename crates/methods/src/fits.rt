@@ -3,7 +3,7 @@ ghost use Rattle.std.specs.Prelude.{◌≡◌, true, ◌≤◌, length};
 ghost use Rattle.answers.specs.Lent.{judged, left};
 ghost use Rattle.hir_types.specs.Rows.{rows_of, structs_in_shape};
 ghost use Rattle.methods.specs.Inner.{InShape, ParamsFit, TypesFit, Indexes, TypeFits, row_lifetimes, misfit_in};
-ghost use Rattle.methods.specs.Method.{most_rows, place_checks};
+ghost use Rattle.methods.specs.Method.{place_checks};
 
 use answers::Refusal;
 use hir_types::{Kind, Shape, type_at};
@@ -31,6 +31,9 @@ pub(crate) fn judge_places(
     Ok(())
 }
 
+// The record with its number of rows goes to three functions, here and in `fields`; a struct of the two, with their
+// agreement as its invariant, would be no plainer: each caller has them from a call that says so.
+//
 // Whether the rows of `structs`, so many, are not too many and their fields fit. Accepted, the array holds each row's
 // lifetimes: it is lent, since handed back beside a refusal it would be copied.
 pub(crate) fn index_rows(
@@ -38,8 +41,7 @@ pub(crate) fn index_rows(
     rows: usize,
     lifetimes: &mut [usize; MAX_ROWS],
 ) -> Result<(), Refusal>
-    requires structs_value { (structs_in_shape structs.now ≡ true) × (length (rows_of structs.now) ≡ rows) }
-    requires lifetimes_len { length lifetimes.old ≡ most_rows }
+    requires { (structs_in_shape structs.now ≡ true) × (length (rows_of structs.now) ≡ rows) }
     ensures { Indexes structs.now (left lifetimes) result }
 {
     let mut at = 0;
@@ -59,7 +61,6 @@ pub(crate) fn params_fit(
     count: usize,
     lifetimes: &[usize; MAX_ROWS],
 ) -> Result<(), Refusal>
-    requires { length lifetimes.now ≡ most_rows }
     ensures { ParamsFit params.now count lifetimes.now result }
 {
     types_fit(params, 0, count.min(MAX_PARAMS), lifetimes).ok_or(Refusal::Mismatch)?;
@@ -77,7 +78,7 @@ fn types_fit(
     count: usize,
     lifetimes: &[usize; MAX_ROWS],
 ) -> Option<usize>
-    requires { (from ≤ length words.now) × (length lifetimes.now ≡ most_rows) }
+    requires { from ≤ length words.now }
     ensures { TypesFit words.now from count lifetimes.now result }
 {
     let mut at = from;
@@ -89,7 +90,6 @@ fn types_fit(
 
 // Where the type at a place ends, if it fits.
 fn type_fits(words: &[usize], at: usize, lifetimes: &[usize; MAX_ROWS]) -> Option<usize>
-    requires { length lifetimes.now ≡ most_rows }
     ensures { TypeFits words.now at lifetimes.now result }
 {
     let parts = type_at(words, at)?;
@@ -101,7 +101,6 @@ fn type_fits(words: &[usize], at: usize, lifetimes: &[usize; MAX_ROWS]) -> Optio
 
 // Whether a type with so many path words is a struct whose row has not as many lifetimes.
 fn is_misfit(kind: Kind, count: usize, lifetimes: &[usize; MAX_ROWS]) -> bool
-    requires { length lifetimes.now ≡ most_rows }
     ensures { result ≡ misfit_in lifetimes.now kind count }
 {
     match kind {
@@ -112,7 +111,6 @@ fn is_misfit(kind: Kind, count: usize, lifetimes: &[usize; MAX_ROWS]) -> bool
 
 // The lifetimes of a row.
 fn lifetimes_of(lifetimes: &[usize; MAX_ROWS], row: usize) -> usize
-    requires { length lifetimes.now ≡ most_rows }
     ensures { result ≡ row_lifetimes lifetimes.now row }
 {
     lifetimes.get(row).copied().unwrap_or(0)

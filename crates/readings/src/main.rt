@@ -12,58 +12,42 @@
 mod ask;
 mod pieces;
 mod print;
-mod scan;
+mod questions;
 
-ghost use Rattle.std.specs.Prelude.{◌≡◌, ◌≤◌, length};
+ghost use Rattle.std.specs.Prelude.{◌≤◌, length};
 
-use input::read_input;
+use input::{read_input, room};
+use questions::Questions;
 
-// Print the answer to the question that stands at a place, with room for its text. Answers the place behind it.
-fn answer(rt: &impl Print, bytes: &[u8], kind: usize, text: &mut [u8]) -> usize
-    requires { kind ≤ length bytes.now }
-    ensures { (kind ≤ result) × (result ≤ length bytes.now) }
+// Print the answer to the first question, whose LF is read, with room for its text.
+fn answer(rt: &impl Print, questions: &mut Questions<'_>, text: &mut [u8])
+    ensures { length questions.new.left.now ≤ length questions.old.left.now }
 {
-    let room = scan::behind(bytes, kind);
-    let count = scan::behind(bytes, room);
-    let from = scan::behind(bytes, count);
-    let laid = pieces::lay_all(bytes, from, scan::number(bytes, count), text);
-    let size = laid.size;
-    ask::ask(
-        rt,
-        &text[..size],
-        scan::number(bytes, kind),
-        scan::number(bytes, room),
-    );
-    laid.at
+    let kind = questions.number();
+    let length = questions.number();
+    let count = questions.number();
+    let size = pieces::lay_all(questions, count, text);
+    ask::ask(rt, &text[..size], kind, length);
 }
 
 // Print the answers to all questions.
 fn answer_all(rt: &impl Print, bytes: &[u8], text: &mut [u8]) {
-    let mut at = 0;
-    while at < bytes.len() {
-        at = answer(rt, bytes, at + 1, text);
+    let mut questions = Questions { left: bytes };
+    while let Some(_) = questions.left.split_off_first() {
+        answer(rt, &mut questions, text);
     }
 }
 
-// Room for the bytes that are read.
-fn room_for_bytes() -> [u8; 262144]
-    ensures { 262144 ≡ length result }
-{
-    [0; 262144]
-}
+// How many bytes of questions are read.
+const BYTES: usize = 262144;
 
-// Room for a text: more than any sheet may have.
-fn room_for_text() -> [u8; 69632]
-    ensures { 69632 ≡ length result }
-{
-    [0; 69632]
-}
+// How many a text has room for: more than any sheet may have.
+const TEXT: usize = 69632;
 
 fn main(rt: HostRuntime) {
-    let mut bytes = room_for_bytes();
+    let mut bytes: [u8; BYTES] = room(0);
     let mut stdin = rt.stdin();
-    let input = read_input(&mut stdin, &mut bytes);
-    let n = input.count;
-    let mut text = room_for_text();
+    let n = read_input(&mut stdin, &mut bytes).count;
+    let mut text: [u8; TEXT] = room(0);
     answer_all(&rt, &bytes[..n], &mut text);
 }

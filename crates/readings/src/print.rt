@@ -1,5 +1,4 @@
 // Writing: a line of numbers, one blank between; bytes as they are, counted.
-use super::scan;
 use answers::Refusal;
 
 // The first number of a line.
@@ -12,13 +11,10 @@ pub(crate) fn next(rt: &impl Print, number: usize) {
     let _ = print!(rt; " {number}");
 }
 
-// Further numbers: the first n, or all.
-pub(crate) fn some(rt: &impl Print, words: &[usize], n: usize) {
-    let count = scan::least(n, words.len());
-    let mut i = 0;
-    while i < count {
-        next(rt, words[i]);
-        i += 1;
+// Further numbers.
+pub(crate) fn all(rt: &impl Print, words: &[usize]) {
+    for word in words {
+        next(rt, *word);
     }
 }
 
@@ -34,10 +30,10 @@ pub(crate) fn counted(rt: &impl Print, text: &[u8]) {
     let _ = rt.write_all(text);
 }
 
-// The number of a verdict: 0 where nothing is refused.
-pub(crate) fn number_of(verdict: Result<(), Refusal>) -> usize {
-    match verdict {
-        Ok(()) => 0,
+// The number of an outcome: 0 where nothing is refused.
+pub(crate) fn number_of<T>(outcome: &Result<T, Refusal>) -> usize {
+    match outcome {
+        Ok(_) => 0,
         Err(refusal) => refusal.number(),
     }
 }

@@ -28,8 +28,7 @@ fn rewrite(sheet: &[u8], out: &mut [u8]) -> usize {
 // The sheet read and written again.
 fn written_again(sheet: &[u8], out: &mut [u8]) -> Result<usize, Refusal> {
     let mut words = [0usize; Text::MAX_WORDS];
-    let text = read_sheet(sheet, &mut words);
-    text.verdict?;
+    let text = read_sheet(sheet, &mut words)?;
     write_laid(&words, &text.ends, out)
 }
 

@@ -1,7 +1,10 @@
 -- Records one after another: each stands between two ends, and the whole is the sheet.
-use Rattle.std.specs.Prelude.{Ok, Err}
+use Rattle.std.specs.Prelude.{Ok, Err, Option, None, Some, MatchOption}
+use Rattle.std.specs.Option.{unwrap_or}
+use Rattle.std.specs.Borrow.{Bor}
 use Prim.Native.Nat.{ℕ, zero, suc, ◌+◌, ◌*◌, ◌-◌, ◌≤◌, ◌<◌}
-use mathlib.Core.Bool.{Bool, true, false, ◌&&◌, true≢false, false≢true}
+use mathlib.Core.Bool.{Bool, true, false, cond, ◌&&◌, true≢false, false≢true}
+use mathlib.Core.Logic.{◌⊎◌, ⊎_elim}
 use mathlib.Core.Path.{◌≡◌, refl, sym, ap, ◌∙◌}
 use mathlib.Core.List.{List, [], ◌∷◌, ◌++◌, flatten}
 use native.Mathlib.Nat.{sub-zero}
@@ -25,7 +28,6 @@ use Rattle.records.proofs.CopyLaws.{copied_stores, copied_all, copied_none}
 use Rattle.ast_lifetimes.specs.Shapes.{names_in_shape, bounds_in_shape}
 use Rattle.ast_lifetimes.specs.Types.{types_in_shape}
 use Rattle.elision.specs.Steps.{self_in_shape, steps_in_shape}
-use Rattle.hir_types.specs.declared.shapes.Shape.{Shape}
 use Rattle.hir_types.specs.Rows.{method_in_shape, method_shape, checks_verdict}
 use Rattle.hir_types.proofs.ShapeLaws.{shape_verdict_lem}
 use Rattle.sheet.specs.Text.{Records, lists, words_of}
@@ -64,35 +66,47 @@ end_inside at (l ∷ ls) (suc i) h = rw length-append (omega (arith, end_inside 
 
 -- `record_words`, way out by way out
 module _ (words ends : List ℕ) (i : ℕ) where
-  pub start_next : (i ≡ 0 → ⊥) → start_of ends i ≡ get_or ends (i - 1) 0
-  start_next h = go i h
-    where
-      go : (i : ℕ) → (i ≡ 0 → ⊥) → start_of ends i ≡ get_or ends (i - 1) 0
-      go zero h = absurd (h refl)
-      go (suc i) h = let e : suc i - 1 ≡ i = omega arith in rw e
-
-  pub no_record : {l : List ℕ} → l ≡ take (0 - 0) words → 10 ≤ i → l ≡ record_words words ends i
+  pub no_record : 10 ≤ i → [] ≡ record_words words ends i
   unfolding record_words
-  no_record e h = rw (le-ltb i 10 h) e
+  no_record h = rw (le-ltb i 10 h)
 
   module _ (h : i < 10) {from : ℕ} (is : from ≡ start_of ends i) where
-    pub turned_ends : {l : List ℕ} → l ≡ take (0 - 0) words → get_or ends i 0 < from → l ≡ record_words words ends i
+    turned_ends : get_or ends i 0 < from → [] ≡ record_words words ends i
     unfolding record_words
-    turned_ends e k = rw (lt-ltb i 10 h, lt-leb (start_of ends i) (get_or ends i 0) (omega (arith, is))) e
+    turned_ends k = rw (lt-ltb i 10 h, lt-leb (start_of ends i) (get_or ends i 0) (omega (arith, is)))
 
-    module _ (after : from ≤ get_or ends i 0) where
-      in_order : leb (start_of ends i) (get_or ends i 0) ≡ true
-      in_order = le-leb (start_of ends i) (get_or ends i 0) (omega (arith, is))
+    past_words : length words < get_or ends i 0 → [] ≡ record_words words ends i
+    unfolding record_words
+    past_words m =
+        rw (lt-ltb i 10 h, lt-leb (get_or ends i 0) (length words) m) (go (leb (start_of ends i) (get_or ends i 0)))
+      where
+        go : (t : Bool) → [] ≡ cond (t && false) (slice (start_of ends i) (get_or ends i 0) words) []
+        go true = refl
+        go false = refl
 
-      pub past_words : {l : List ℕ} → l ≡ take (0 - 0) words → length words < get_or ends i 0 → l ≡ record_words words ends i
-      unfolding record_words
-      past_words e m = rw (lt-ltb i 10 h, in_order, lt-leb (get_or ends i 0) (length words) m) e
+    record_there : from ≤ get_or ends i 0 → get_or ends i 0 ≤ length words
+        → take (get_or ends i 0 - from) (drop from words) ≡ record_words words ends i
+    unfolding record_words
+    record_there after m =
+        rw (
+          is,
+          lt-ltb i 10 h,
+          le-leb (start_of ends i) (get_or ends i 0) (omega (arith, is)),
+          le-leb (get_or ends i 0) (length words) m,
+        )
+        (part_is (start_of ends i) (get_or ends i 0) words (omega (arith, is)))
 
-      pub record_there : get_or ends i 0 ≤ length words → take (get_or ends i 0 - from) (drop from words) ≡ record_words words ends i
-      unfolding record_words
-      record_there m =
-          rw (is, lt-ltb i 10 h, in_order, le-leb (get_or ends i 0) (length words) m)
-          (part_is (start_of ends i) (get_or ends i 0) words (omega (arith, is)))
+    -- what `get` gives, or no words
+    abbrev Got : Bor (List ℕ) → Type 0
+    Got x = (from ≤ get_or ends i 0) × (get_or ends i 0 ≤ length words)
+        × (x.now ≡ take (get_or ends i 0 - from) (drop from words))
+        × (length x.now + from ≡ get_or ends i 0)
+
+    pub part_got : (o : Option (Bor (List ℕ))) (d : Bor (List ℕ)) → d.now ≡ []
+        → MatchOption o ((get_or ends i 0 < from) ⊎ (length words < get_or ends i 0)) Got
+        → (unwrap_or o d).now ≡ record_words words ends i
+    part_got None d e m = e ∙ ⊎_elim turned_ends past_words m
+    part_got (Some x) d e m = m.2 ∙ record_there m.0 m.1
 
 -- the words of some records stand one record after another, and these are their ends
 pub record Laid (words ends : List ℕ) : Type 0 where

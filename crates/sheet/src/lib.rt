@@ -4,8 +4,8 @@
 // refused call answers one of their numbers (`Refusal`) and leaves the lent slice as it was.
 //
 // What is here, bottom up: the words of a line and the lines (`lines`), the call that reads ten records of any words
-// (`reading`), ten lent records and one of ten (`record`), the shape of the records and 1 in `force` (`shapes`), and the call that
-// reads a sheet, refused by these (`sheet`).
+// (`reading`), ten records lent and the words of one (`record`), the shape of the records and 1 in `force` (`shapes`),
+// and the call that reads a sheet, refused by these (`sheet`).
 #![tactic(auto)]
 
 mod lines;

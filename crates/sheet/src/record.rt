@@ -47,17 +47,9 @@ pub fn record_words(words: &[usize], ends: [usize; Text::RECORDS], i: usize) -> 
     ensures answer { result.now ≡ record_words words.now ends i }
 {
     if Text::RECORDS <= i {
-        return &words[0..0];
+        return &[];
     }
-    let from = start_of(ends, i);
-    let to = ends[i];
-    if to < from {
-        return &words[0..0];
-    }
-    if words.len() < to {
-        return &words[0..0];
-    }
-    &words[from..to]
+    words.get(start_of(ends, i)..ends[i]).unwrap_or(&[])
 }
 
 // Where a record starts.
@@ -65,8 +57,5 @@ fn start_of(ends: [usize; Text::RECORDS], i: usize) -> usize
     requires { i < record_count }
     ensures { result ≡ start_of ends i }
 {
-    if i == 0 {
-        return 0;
-    }
-    ends[i - 1]
+    if i == 0 { 0 } else { ends[i - 1] }
 }

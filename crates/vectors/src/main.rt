@@ -6,9 +6,8 @@
 // record in it is the number of its words, then they. Each answer is a line of numbers on standard output. The files
 // stdin and stdout beside src/ are made by tests/vectors.py.
 //
-// To add a kind: a function in the module of its crate that reads the question at a place, prints one line, and answers
-// the place behind the question; a line in `answer` below; question and answer in tests/model/questions.py; cases in
-// tests/vectors.py.
+// To add a kind: a function in the module of its crate that takes the question off the front and prints one line; a
+// line in `answer` below; question and answer in tests/model/questions.py; cases in tests/vectors.py.
 #![tactic(auto)]
 
 mod ast;
@@ -19,6 +18,7 @@ mod lowered;
 mod lowerer;
 mod lowering;
 mod print;
+mod questions;
 mod reach;
 mod rooms;
 mod scan;
@@ -28,58 +28,59 @@ mod visits;
 mod words;
 mod writes;
 
-ghost use Rattle.std.specs.Prelude.{◌≡◌, ◌≤◌, length};
+use input::{read_input, room};
+use questions::Questions;
 
-use input::read_input;
-
-// Print the answer to the question that stands at a place. Answers the place behind it; behind a kind that is not known
-// the end, so that the answers stop.
-fn answer(rt: &impl Print, kind: usize, words: &[usize], at: usize) -> usize
-    requires { at ≤ length words.now }
-    ensures { (at ≤ result) × (result ≤ length words.now) }
-{
+// Print the answer to the first question, whose kind is read. Behind a kind that is not known all is taken off, so that
+// the answers stop. The kinds are numbers and no enum: their names would stand twice, there and here.
+fn answer(rt: &impl Print, kind: usize, questions: &mut Questions<'_>) {
     match kind {
-        1 => ast::from_method_item(rt, words, at),
-        2 => ast::names_shape(rt, words, at),
-        3 => ast::bounds_shape(rt, words, at),
-        4 => ast::types_shape(rt, words, at),
-        5 => ast::lists(rt, words, at),
-        6 => ast::extend_implicit_lifetime_bounds(rt, words, at),
-        7 => lowering::lower(rt, words, at),
-        8 => lowering::self_shape(rt, words, at),
-        9 => lowering::steps_shape(rt, words, at),
-        10 => lowered::used_method_lifetimes(rt, words, at),
-        11 => lowered::compute_for_struct_field(rt, words, at),
-        12 => lowered::type_lifetimes(rt, words, at),
-        13 => visits::visit_params(rt, words, at),
-        14 => lowerer::step(rt, words, at),
-        15 => lowerer::finish(rt, words, at),
-        16 => reach::all_lists(rt, words, at),
-        17 => environments::new(rt, words, at),
-        18 => environments::push_bound(rt, words, at),
-        19 => words::list(rt, words, at),
-        20 => words::word(rt, words, at),
-        21 => lowerer::start(rt, words, at),
-        22 => lowerer::input_then_output(rt, words, at),
-        23 => borrows::borrow(rt, words, at),
-        24 | 25 | 26 => sheets::ask(rt, kind, words, at),
-        27 => visits::edge(rt, words, at),
-        28 => texts::put(rt, words, at),
-        29 => texts::read(rt, words, at),
-        30 => visits::from_sets(rt, words, at),
-        31 => bounds::check(rt, words, at),
-        32 => environments::none(rt, at),
-        33 => writes::ten(rt, words, at),
-        34 => writes::laid(rt, words, at),
-        _ => words.len(),
+        1 => ast::from_method_item(rt, questions),
+        2 => ast::names_shape(rt, questions),
+        3 => ast::bounds_shape(rt, questions),
+        4 => ast::types_shape(rt, questions),
+        5 => ast::lists(rt, questions),
+        6 => ast::extend_implicit_lifetime_bounds(rt, questions),
+        7 => lowering::lower(rt, questions),
+        8 => lowering::self_shape(rt, questions),
+        9 => lowering::steps_shape(rt, questions),
+        10 => lowered::used_method_lifetimes(rt, questions),
+        11 => lowered::compute_for_struct_field(rt, questions),
+        12 => lowered::type_lifetimes(rt, questions),
+        13 => visits::visit_params(rt, questions),
+        14 => lowerer::step(rt, questions),
+        15 => lowerer::finish(rt, questions),
+        16 => reach::all_lists(rt, questions),
+        17 => environments::new(rt, questions),
+        18 => environments::push_bound(rt, questions),
+        19 => words::list(rt, questions),
+        20 => words::word(rt, questions),
+        21 => lowerer::start(rt, questions),
+        22 => lowerer::input_then_output(rt, questions),
+        23 => borrows::borrow(rt, questions),
+        24 => sheets::lower(rt, questions),
+        25 => sheets::borrow(rt, questions),
+        26 => sheets::list(rt, questions),
+        27 => visits::edge(rt, questions),
+        28 => texts::put(rt, questions),
+        29 => texts::read(rt, questions),
+        30 => visits::from_sets(rt, questions),
+        31 => bounds::check(rt, questions),
+        32 => environments::none(rt),
+        33 => writes::ten(rt, questions),
+        34 => writes::laid(rt, questions),
+        _ => questions.left = &[],
     }
 }
 
-// Print the answers to all questions.
+// Print the answers to all questions. Each has its kind, so that there are no more of them than numbers.
 fn answer_all(rt: &impl Print, words: &[usize]) {
-    let mut at = 0;
-    while at < words.len() {
-        at = answer(rt, words[at], words, at + 1);
+    let mut questions = Questions { left: words };
+    for _ in words {
+        let Some(kind) = questions.left.split_off_first() else {
+            return;
+        };
+        answer(rt, *kind, &mut questions);
     }
 }
 
@@ -89,33 +90,11 @@ const BYTES: usize = 524288;
 // How many numbers: every other byte may be one.
 const NUMBERS: usize = 262144;
 
-// So many zeros.
-fn zeros<const N: usize>() -> [u8; N]
-    ensures { N ≡ length result }
-{
-    [0; N]
-}
-
-// Room for the bytes that are read. The prover does not count so many places one by one, but those of any number.
-fn room_for_bytes() -> [u8; BYTES]
-    ensures { 524288 ≡ length result }
-{
-    zeros()
-}
-
-// Room for their numbers.
-fn room_for_numbers() -> [usize; NUMBERS]
-    ensures { 262144 ≡ length result }
-{
-    [0; NUMBERS]
-}
-
 fn main(rt: HostRuntime) {
-    let mut bytes = room_for_bytes();
+    let mut bytes: [u8; BYTES] = room(0);
     let mut stdin = rt.stdin();
-    let input = read_input(&mut stdin, &mut bytes);
-    let n = input.count;
-    let mut words = room_for_numbers();
+    let n = read_input(&mut stdin, &mut bytes).count;
+    let mut words: [usize; NUMBERS] = room(0);
     let count = scan::numbers(&bytes[..n], &mut words);
     answer_all(&rt, &words[..count]);
 }

@@ -1,5 +1,5 @@
-// Writing: a line of numbers, one blank between.
-use super::scan;
+// Writing: a line of numbers, one blank between. The program `readings` has the same few lines and not the crate
+// `input`: what goes to a handle is nothing that a contract could say, and a public function has one.
 use answers::Refusal;
 
 // The first number of a line.
@@ -12,41 +12,22 @@ pub(crate) fn next(rt: &impl Print, number: usize) {
     let _ = print!(rt; " {number}");
 }
 
-// A byte as a number.
-fn next_byte(rt: &impl Print, byte: u8) {
-    next(rt, byte as usize);
-}
-
 // 1 or 0.
 pub(crate) fn flag(rt: &impl Print, flag: bool) {
-    if flag {
-        next(rt, 1);
-    } else {
-        next(rt, 0);
-    }
-}
-
-// Further numbers: the first n, or all.
-pub(crate) fn some(rt: &impl Print, words: &[usize], n: usize) {
-    let count = scan::least(n, words.len());
-    let mut i = 0;
-    while i < count {
-        next(rt, words[i]);
-        i += 1;
-    }
+    next(rt, usize::from(flag));
 }
 
 // Every word of a slice.
 pub(crate) fn all(rt: &impl Print, words: &[usize]) {
-    some(rt, words, words.len());
+    for word in words {
+        next(rt, *word);
+    }
 }
 
 // Every byte of a slice.
 pub(crate) fn bytes(rt: &impl Print, bytes: &[u8]) {
-    let mut i = 0;
-    while i < bytes.len() {
-        next_byte(rt, bytes[i]);
-        i += 1;
+    for byte in bytes {
+        next(rt, usize::from(*byte));
     }
 }
 
@@ -55,25 +36,9 @@ pub(crate) fn listed(rt: &impl Print, listed: Result<usize, Refusal>, out: &[usi
     match listed {
         Ok(count) => {
             next(rt, count);
-            some(rt, out, count);
+            all(rt, &out[..count.min(out.len())]);
         }
         Err(refusal) => next(rt, refusal.number()),
-    }
-}
-
-// The number of a refused list: 0 where it is not refused.
-pub(crate) fn number_in(listed: Result<usize, Refusal>) -> usize {
-    match listed {
-        Ok(_) => 0,
-        Err(refusal) => refusal.number(),
-    }
-}
-
-// How many a list has: 0 where it is refused.
-pub(crate) fn count_in(listed: Result<usize, Refusal>) -> usize {
-    match listed {
-        Ok(count) => count,
-        Err(_) => 0,
     }
 }
 
@@ -82,16 +47,16 @@ pub(crate) fn end(rt: &impl Print) {
     let _ = rt.print("\n");
 }
 
-// The number of a verdict: 0 where nothing is refused.
-pub(crate) fn number_of(verdict: Result<(), Refusal>) -> usize {
-    match verdict {
-        Ok(()) => 0,
+// The number of an outcome: 0 where nothing is refused.
+pub(crate) fn number_of<T>(outcome: &Result<T, Refusal>) -> usize {
+    match outcome {
+        Ok(_) => 0,
         Err(refusal) => refusal.number(),
     }
 }
 
 // The line of a verdict.
 pub(crate) fn verdict(rt: &impl Print, verdict: Result<(), Refusal>) {
-    first(rt, number_of(verdict));
+    first(rt, number_of(&verdict));
     end(rt);
 }

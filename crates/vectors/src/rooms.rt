@@ -1,6 +1,8 @@
-// Room for what a call writes. A slice that is lent is a part of one of these arrays, as long as the question says.
-// Every word is 99 before and every byte a dot, so that each one that is written shows.
+// Room for what a call writes. A slice that is lent is a part of an array, as long as the question says. Every word is
+// 99 before and every byte a dot, so that each one that is written shows.
 ghost use Rattle.std.specs.Prelude.{◌≡◌, length};
+
+use input::room;
 
 // As many words as the longest lowered record has: 512 steps of 16 lifetimes.
 pub(crate) const WORDS: usize = 8192;
@@ -12,20 +14,14 @@ pub(crate) const EDGES: usize = 20480;
 // longest.
 pub(crate) const BYTES: usize = 16384;
 
-pub(crate) fn words() -> [usize; WORDS]
-    ensures { 8192 ≡ length result }
+pub(crate) fn words<const N: usize>() -> [usize; N]
+    ensures { N ≡ length result }
 {
-    [99; WORDS]
+    room(99)
 }
 
-pub(crate) fn edges() -> [usize; EDGES]
-    ensures { 20480 ≡ length result }
+pub(crate) fn bytes<const N: usize>() -> [u8; N]
+    ensures { N ≡ length result }
 {
-    [99; EDGES]
-}
-
-pub(crate) fn bytes() -> [u8; BYTES]
-    ensures { 16384 ≡ length result }
-{
-    [b'.'; BYTES]
+    room(b'.')
 }

@@ -1,11 +1,9 @@
--- `answer_all` is safe and ends: each question leaves the place further on.
-use Prim.Native.Nat.{◌≤◌, ◌-◌}
-use mathlib.Core.Path.{◌≡◌}
-use lib.ListN.{length}
+-- `answer_all` ends: each question that is answered is taken off the front.
+use Rattle.std.proofs.Common.{length}
 use Rattle.readings.proofs.answer_all.Given as goal
 
-abbrev pub invariant-loop-at : goal.invariant-loop-at
-invariant-loop-at g l = (l.at ≤ length l.bytes) × (length l.text ≡ length l.initial.text)
+abbrev pub invariant-loop-questions : goal.invariant-loop-questions
+invariant-loop-questions g l = Unit {0}
 
-abbrev pub decreases-loop-at : goal.decreases-loop-at
-decreases-loop-at g l = length l.bytes - l.at
+abbrev pub decreases-loop-questions : goal.decreases-loop-questions
+decreases-loop-questions g l = length l.questions.left.now

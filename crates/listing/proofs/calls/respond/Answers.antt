@@ -16,5 +16,5 @@ pub returns-in-Err : goal.returns-in-Err
 returns-in-Err c =
     let full : length c.args.out.now ≡ room_bytes = search rules in
     let it = respond_refused c.in-Err.refusal c.number.ensures.answer c.args.sheet.now c.args.out.now
-    c.list_sheet.new.out full c.in-Err.ensures c.put_refusal.ensures in
+    c.list_sheet.new.out full c.in-Err.ensures c.put_headed.ensures in
     record { answer = it.0; stored = it.1 }

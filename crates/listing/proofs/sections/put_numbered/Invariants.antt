@@ -1,10 +1,6 @@
 -- `put_numbered` meets its contract: each turn prints one numbered list.
-use Prim.Native.Nat.{◌-◌}
 use Rattle.listing.proofs.SectionsLaws.{Numbering}
 use Rattle.listing.proofs.sections.put_numbered.Given as goal
 
-abbrev pub invariant-loop-i : goal.invariant-loop-i
-invariant-loop-i l = Numbering l.words l.ends l.count l.at l.initial.out l.next l.out l.from l.i
-
-abbrev pub decreases-loop-i : goal.decreases-loop-i
-decreases-loop-i l = l.count - l.i
+abbrev pub invariant-loop-number : goal.invariant-loop-number
+invariant-loop-number l = Numbering l.words l.ends l.at l.initial.out l.next l.out l.from l.number

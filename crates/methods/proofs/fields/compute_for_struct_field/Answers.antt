@@ -20,8 +20,8 @@ returns-in_err-parts c = let none = was_none c.field_at.result Malformed c.in_er
       (compute_other _ _ _ c.in_ok-rows.ensures.answer (field_told c.field_at.ensures none.0));
 }
 
-pub index_rows-requires-clause-structs_value : goal.index_rows-requires-clause-structs_value
-index_rows-requires-clause-structs_value c = in_order _ c.args.row c.args.field c.in_ok-rows.ensures.answer
+pub index_rows-requires : goal.index_rows-requires
+index_rows-requires c = in_order _ c.args.row c.args.field c.in_ok-rows.ensures.answer
 
 pub returns-in_err-index_rows : goal.returns-in_err-index_rows
 returns-in_err-index_rows c = record {

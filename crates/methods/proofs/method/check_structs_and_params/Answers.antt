@@ -14,8 +14,8 @@ returns-in_err-inputs c = record {
       (alone_params _ _ c.in_ok-rows.ensures.answer c.in_err-inputs.ensures.answer);
 }
 
-pub index_rows-requires-clause-structs_value : goal.index_rows-requires-clause-structs_value
-index_rows-requires-clause-structs_value c =
+pub index_rows-requires : goal.index_rows-requires
+index_rows-requires c =
     structs_are c.args.structs.now c.args.params.now c.in_ok-rows.ensures.answer
 
 pub returns-in_err-index_rows : goal.returns-in_err-index_rows

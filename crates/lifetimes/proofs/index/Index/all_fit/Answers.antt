@@ -9,14 +9,10 @@ use Rattle.lifetimes.specs.Index.{lists_from}
 use Rattle.lifetimes.proofs.ReachLoops.{lists_few}
 use Rattle.lifetimes.proofs.index.Index.all_fit.Goals as goal
 
-pub returns-then-count-room : goal.returns-then-count-room
-returns-then-count-room c = λ g k w.
+pub returns-then-self-room : goal.returns-then-self-room
+returns-then-self-room c = λ g k.
+    let n = c.args.self.now.count in
     record {
-      fits = sym
-          (le-leb (length (flatten (lists_from g 0 c.args.count))) c.args.room
-          (omega (
-            arith,
-            c.if-count-room.true,
-            lists_few g c.args.count (λ b i. omega (arith, w b i, c.requires)) 0 c.args.count (omega arith),
-          )));
+      fits = sym (le-leb (length (flatten (lists_from g 0 n))) c.args.room
+          (omega (arith, lists_few g n (λ b i. omega (arith, k.within b i, k.declares)) 0 n (omega arith))));
     }

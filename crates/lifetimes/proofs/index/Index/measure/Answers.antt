@@ -7,10 +7,9 @@ pub loop-x-preserved : goal.loop-x-preserved
 loop-x-preserved c = let few = c.walk-walked.ensures.count_le_most_lifetimes in (
   few.1,
   omega (arith, few),
-  λ g k w. measuring_more (c.loop-x.invariant.2 g k w) c.loop-x-test.true {items = c.walk-walked.new.items}
-      (omega (arith, few))
-      (c.walk-walked.ensures.complete g k (λ b i. omega (arith, w b i, c.limit_of-limit.ensures))),
+  λ g k. measuring_more (c.loop-x.invariant.2 g k) c.loop-x-test.true {items = c.walk-walked.new.items}
+      (omega (arith, few)) (c.walk-walked.ensures.complete g k),
 )
 
 pub returns : goal.returns
-returns c = λ g k w. measuring_end (c.loop-x.invariant.2 g k w) c.loop-x-test.false
+returns c = λ g k. measuring_end (c.loop-x.invariant.2 g k) c.loop-x-test.false

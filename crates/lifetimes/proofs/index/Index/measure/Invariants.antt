@@ -2,10 +2,10 @@
 use Prim.Native.Nat.{◌*◌, ◌≤◌}
 use mathlib.Core.Path.{◌≡◌}
 use lib.ListN.{length}
-use Rattle.lifetimes.specs.Index.{Graph, Indexed, Within}
+use Rattle.lifetimes.specs.Index.{Graph, Indexed}
 use Rattle.lifetimes.proofs.ReachLoops.{Measuring}
 use Rattle.lifetimes.proofs.index.Index.measure.Given as goal
 
 abbrev pub invariant-loop-x : goal.invariant-loop-x
 invariant-loop-x l = (length l.items ≡ 64) × (l.total ≤ 64 * l.x)
-    × ((g : Graph) → Indexed g l.self → Within g l.declared → Measuring g l.count l.initial.reach l.reach l.x l.total)
+    × ((g : Graph) → Indexed g l.self → Measuring g l.self.count l.initial.reach l.reach l.x l.total)

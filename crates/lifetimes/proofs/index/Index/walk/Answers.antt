@@ -2,7 +2,7 @@
 use mathlib.Core.Path.{refl, ◌∙◌}
 use native.Mathlib.Omega.{arith}
 use lib.ListN.{length-set}
-use Rattle.lifetimes.proofs.WalkLoops.{walking_start, walking_end, turn_end, turn_steps, turn_small, turn_pushed, turn_ended}
+use Rattle.lifetimes.proofs.WalkLoops.{turn_first, turn_full, turn_small, turn_end, turn_pushed, turn_ended}
 use Rattle.lifetimes.proofs.index.Index.walk.Goals as goal
 use Rattle.lifetimes.proofs.index.Index.walk.Goals.{then-rest-ne0, else-rest-ne0}
 
@@ -10,33 +10,32 @@ pub loop-count-init : goal.loop-count-init
 loop-count-init c = (
   length-set c.args.items.now 0 c.args.start ∙ c.requires.len,
   refl,
-  λ g k w. rw c.with-seen.ensures
-      (walking_start k w c.requires.walkable.1 c.args.items.now _ c.requires.len c.requires.walkable.2),
+  turn_first c.limit-limit.ensures c.args.items.now _ c.requires.len c.with-seen.ensures,
 )
 
 pub returns-in_default : goal.returns-in_default
 returns-in_default c = record {
-  count_le_most_lifetimes = (omega (arith, c.requires.walkable.1), c.loop-count.invariant.0);
-  complete = λ g k w. walking_end k w c.requires.walkable.1 (c.loop-count.invariant.2 g k w)
-      (turn_steps c.requires.walkable c.loop-count.invariant.2 c.advance-stepped.ensures g k w) c.in_default.is;
+  count_le_most_lifetimes = (omega (arith, c.requires.walkable.0.1.counted, c.limit-limit.ensures), c.loop-count.invariant.0);
+  complete = turn_end c.limit-limit.ensures c.requires.walkable.0 c.loop-count.invariant.2 c.advance-stepped.ensures
+      c.in_default.is;
 }
 
 pub with-seen-requires-in-loop-count : goal.with-seen-requires-in-loop-count
 with-seen-requires-in-loop-count c = omega (
   arith,
-  turn_small c.requires.walkable c.loop-count.invariant.2 c.advance-stepped.ensures c.in-Some.is,
+  turn_small c.limit-limit.ensures c.requires.walkable.0 c.loop-count.invariant.2 c.advance-stepped.ensures c.in-Some.is,
 )
 
 pub bounds-self-y : goal.bounds-self-y
 bounds-self-y c = omega (
   arith,
-  turn_small c.requires.walkable c.loop-count.invariant.2 c.advance-stepped.ensures c.in-Some.is,
+  turn_small c.limit-limit.ensures c.requires.walkable.0 c.loop-count.invariant.2 c.advance-stepped.ensures c.in-Some.is,
 )
 
 pub offset_bounds-self-y : goal.offset_bounds-self-y
 offset_bounds-self-y c = omega (
   arith,
-  turn_small c.requires.walkable c.loop-count.invariant.2 c.advance-stepped.ensures c.in-Some.is,
+  turn_small c.limit-limit.ensures c.requires.walkable.0 c.loop-count.invariant.2 c.advance-stepped.ensures c.in-Some.is,
 )
 
 pub loop-count-preserved : goal.loop-count-preserved
@@ -48,14 +47,14 @@ loop-count-preserved c =
       | then-rest-ne0 v ↦ rw (v.stack-is, v.depth-is) (
         items,
         length-set c.loop-count.stack r.depth r.at ∙ stack,
-        turn_pushed c.requires.walkable c.loop-count.invariant.2 c.advance-stepped.ensures c.in-Some.is
+        turn_pushed c.limit-limit.ensures c.requires.walkable.0 c.loop-count.invariant.2 c.advance-stepped.ensures c.in-Some.is
             c.loop-count-test.true c.loop-count.invariant.0 c.with-seen-in-loop-count.ensures c.index-y.ensures.answer
             stack,
       )
       | else-rest-ne0 v ↦ rw (v.stack-is, v.depth-is) (
         items,
         stack,
-        turn_ended c.requires.walkable c.loop-count.invariant.2 c.advance-stepped.ensures c.in-Some.is
+        turn_ended c.limit-limit.ensures c.requires.walkable.0 c.loop-count.invariant.2 c.advance-stepped.ensures c.in-Some.is
             c.loop-count-test.true c.loop-count.invariant.0 c.with-seen-in-loop-count.ensures c.index-y.ensures.answer
             v.if-rest-ne0.false,
       )
@@ -63,6 +62,6 @@ loop-count-preserved c =
 
 pub returns : goal.returns
 returns c = record {
-  count_le_most_lifetimes = (c.requires.walkable.1, c.loop-count.invariant.0);
-  complete = turn_end c.requires.walkable c.loop-count.invariant.2 (omega arith);
+  count_le_most_lifetimes = (omega (arith, c.requires.walkable.0.1.counted, c.limit-limit.ensures), c.loop-count.invariant.0);
+  complete = turn_full c.limit-limit.ensures c.requires.walkable.0 c.loop-count.invariant.2 (omega arith);
 }

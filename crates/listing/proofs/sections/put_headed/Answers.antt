@@ -1,11 +1,10 @@
--- `put_counts` meets its contract: the heading, then the line.
-use Rattle.listing.specs.Listing.{count_heading}
+-- `put_headed` meets its contract: the heading, then the line.
 use Rattle.text.proofs.PrintLaws.{prints, prints_more}
 use borrow.Author.Rules.{rules}
-use Rattle.listing.proofs.sections.put_counts.Goals as goal
+use Rattle.listing.proofs.sections.put_headed.Goals as goal
 
 pub returns : goal.returns
-returns c = prints_more {s = count_heading} (search rules) (prints (
+returns c = prints_more {s = c.args.heading.now} (search rules) (prints (
   c.put_text-next.ensures.answer,
   c.put_text-next.ensures.stored,
 ))
