@@ -17,13 +17,13 @@ use Rattle.answers.specs.declared.Refusal.TheVariants.{NoRoom}
 use Rattle.lifetimes.specs.declared.env.LifetimeEnv.{LifetimeEnv}
 use Rattle.lifetimes.specs.declared.reach.Lists as reach
 use Rattle.answers.specs.Refusals.{Check, Outcome, FirstDue, here, later, NoneDue, next, end}
-use Rattle.answers.specs.Lent.{written, verdict_of, result_or, room_check}
+use Rattle.answers.specs.Lent.{written, room_check}
 use Rattle.answers.specs.Lists.{range}
 use Rattle.lifetimes.specs.Sets as sets
 use Rattle.answers.specs.Lists.{ends_from}
 use Rattle.lifetimes.specs.Reach.{reach_list, all_sets, all_lists, lists_checks, list_words, list_ends}
 use Rattle.lifetimes.specs.Reach.{lists_answer}
-use Rattle.answers.proofs.RefusalLaws.{due_given, due_refused, refused_first, accepted_none, none_first, none_rest}
+use Rattle.answers.proofs.RefusalLaws.{due_given, due_refused, none_first, none_rest}
 use Rattle.answers.proofs.RefusalLaws.{none_more, none_split, first_behind}
 use Rattle.answers.proofs.ListLaws.{range_has, length_range}
 use Rattle.lifetimes.proofs.ReachLaws.{reach_few}

@@ -2,10 +2,9 @@
 use Prim.Native.Nat.{ℕ, ◌<◌, ◌^◌}
 use mathlib.Core.List.{List, ◌++◌}
 use native.Mathlib.Omega.{arith}
-use lib.ListN.{length, get_or}
+use lib.ListN.{length}
 use Rattle.text.specs.Decimal.{line}
 use Rattle.text.proofs.PrintLaws.{leaves_all, leaves_rest, leaves_none}
-use Rattle.borrowing_param.specs.Edges.{edges_in}
 use Rattle.listing.specs.Listing.{count_heading, lowered_heading, longer_heading, answer_lines, edge_lines}
 use Rattle.listing.specs.InnerSections.{list_lines, cut_from, edges_of_words}
 use Rattle.listing.specs.InnerListing.{sections}
