@@ -1,5 +1,5 @@
 -- A sheet listed in scratch: what reading it says, and what the calls answer and write.
-use Rattle.std.specs.Prelude.{Ok, Err, Some, None, Option, MatchOption}
+use Rattle.std.specs.Prelude.{Ok, Err, Option}
 use Prim.Native.Nat.{ℕ, ◌+◌, ◌≤◌, ◌<◌, ◌^◌}
 use mathlib.Core.Path.{◌≡◌, refl, sym, ap, subst, ◌∙◌}
 use mathlib.Core.List.{List, [], ◌∷◌, ◌++◌, append_assoc}
@@ -34,8 +34,7 @@ use Rattle.listing.specs.Listing.{most_edges, edges_check, listing_of, listing_c
 use Rattle.listing.specs.Listing.{response, room_bytes}
 use Rattle.text.specs.Printing.{Prints}
 use Rattle.text.proofs.PrintLaws.{prints_length}
-use Rattle.listing.specs.InnerListing.{listed_sheet, listed_records, StandsInFront, ListsTo, ListsWithin, Ample}
-use Rattle.listing.specs.InnerListing.{lowered_room, lists_room, edges_room}
+use Rattle.listing.specs.InnerListing.{listed_sheet, listed_records, StandsInFront, ListsTo, ListsWithin}
 use Rattle.text.proofs.LineLaws.{line_short, line_bytes}
 use Rattle.listing.proofs.RoomLaws.{listing_short, two_digits}
 

@@ -1,6 +1,5 @@
 -- `borrows_write_sheet` meets its contract: each way out is one law of proofs/ExportLaws.antt.
 use mathlib.Core.Path.{refl}
-use native.Mathlib.Omega.{arith}
 use lib.ListN.{length}
 use Rattle.exports.proofs.ExportLaws.{text_unplaced, text_given, text_refused, is_writing}
 use borrow.Author.Rules.{rules}
