@@ -8,7 +8,6 @@ use native.Mathlib.Omega.{arith}
 use lib.ListN.{length, get_or, replicate, length-append, length-map}
 use borrow.Author.Tests.{ltb-false, not-false}
 use Rattle.lifetimes.specs.declared.env.LifetimeEnv.{LifetimeEnv}
-use Rattle.lifetimes.specs.declared.maybe_static.MaybeStatic.{MaybeStatic}
 use Rattle.answers.specs.Lists.{range, numbered}
 use Rattle.answers.specs.Refusals.{NoneDue}
 use Rattle.lifetimes.specs.LoweredWords.{word_of}
@@ -75,7 +74,7 @@ below_from n (w ∷ ws) h = (h w (Memᴰ.head refl), below_from n ws (λ x m. h 
 
 -- ---- the parts of a listing
 
-small_below : (ls : List MaybeStatic) → AllSmall ls → Below 100 (words ls)
+small_below : (ls : List rfc.MethodLifetime) → AllSmall ls → Below 100 (words ls)
 small_below [] p = tt
 small_below (l ∷ ls) p = (omega (arith, p.0), small_below ls p.1)
 

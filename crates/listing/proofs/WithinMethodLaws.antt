@@ -43,12 +43,11 @@ use Rattle.borrowing_param.specs.Borrows.{Borrows}
 use Rattle.borrowing_param.proofs.OutcomeLaws.{ok_same, no_both, over_refused, over_given}
 use Rattle.borrowing_param.proofs.JoinLaws.{words_many, words_read}
 use Rattle.borrowing_param.proofs.ConsistentLaws.{listing_consistent}
-use Rattle.listing.specs.declared.sections.Lowered.{Lowered}
-use Rattle.listing.specs.Listing.{count_heading, longer_heading, longer_lines, answer_lines}
+use Rattle.listing.specs.Listing.{count_heading, lowered_heading, longer_heading, longer_lines, answer_lines}
 use Rattle.listing.specs.Listing.{edge_lines, most_edges}
 use Rattle.text.specs.Printing.{Prints}
 use Rattle.text.proofs.PrintLaws.{prints_length}
-use Rattle.listing.specs.InnerSections.{list_lines, cut_from, Ascend, edges_of_words, lowered_lines_of}
+use Rattle.listing.specs.InnerSections.{list_lines, cut_from, Ascend, edges_of_words}
 use Rattle.listing.specs.InnerListing.{ListsWithin, method_borrows, method_listing, listed_method, Listable}
 use Rattle.listing.specs.InnerListing.{sections, edges_overflow, lists_room, edges_room}
 use Rattle.listing.proofs.ListingLaws.{cut_lists, ends_ascend, numbered_map}
@@ -81,8 +80,8 @@ pub record Mapped (v : BorrowingParamVisitor) (structs params answers edges : Li
   pub noted : answers₁ ≡ written (map_answers (borrow_map v structs params (length answers) (length edges))) answers
   pub stored : edges₁ ≡ written (spec.map_edges (borrow_map v structs params (length answers) (length edges))) edges
 
-module _ {env : LifetimeEnv} {used : ℕ} {structs params : List ℕ} {words : Lowered}
-    (can : Listable env used structs params words) where
+module _ {env : LifetimeEnv} {used : ℕ} {structs params own given taken : List ℕ}
+    (can : Listable env used structs params own given taken) where
   abbrev borrows : Borrows
   borrows = method_borrows env used structs params
 
@@ -93,7 +92,7 @@ module _ {env : LifetimeEnv} {used : ℕ} {structs params : List ℕ} {words : L
   new = new_visitor used env
 
   abbrev listing : Outcome (List ℕ)
-  listing = listed_method env used structs params words
+  listing = listed_method env used structs params own given taken
 
   few : env.count ≤ 64
   few = lifetimes_few env can.valid
@@ -125,7 +124,7 @@ module _ {env : LifetimeEnv} {used : ℕ} {structs params : List ℕ} {words : L
   lists_short lists h = (λ a. omega (arith, h, mul-le-mul few few, a.0), refl)
 
   -- with so much scratch the lists are never refused
-  module _ {lists ends : List ℕ} (places : length ends ≡ 64) (room : env.count * env.count ≤ length lists) where
+  module _ (lists ends : List ℕ) (places : length ends ≡ 64) (room : env.count * env.count ≤ length lists) where
     lists_fit : length (flatten (all_lists true env)) ≤ length lists
     lists_fit = omega (arith, lists_few, room)
 
@@ -148,10 +147,10 @@ module _ {env : LifetimeEnv} {used : ℕ} {structs params : List ℕ} {words : L
     open all use {places, room, is, wrote, ended}
 
     all_none : NoneDue (lists_checks true env (length lists) (length ends))
-    all_none = lists_none places room
+    all_none = lists_none lists ends places room
 
     sets_are : l.sets ≡ all_sets true env
-    sets_are = ap (λ (x : reach.Lists). x.sets) (ok_same (is ∙ lists_given places room))
+    sets_are = ap (λ (x : reach.Lists). x.sets) (ok_same (is ∙ lists_given lists ends places room))
 
     abbrev behind : List ℕ
     behind = drop (length (flatten (all_lists true env))) lists
@@ -264,7 +263,7 @@ module _ {env : LifetimeEnv} {used : ℕ} {structs params : List ℕ} {words : L
             go true s = (λ a. omega (arith, ltb-true (length edges) edges_room s, a.1), refl)
             go false s =
                 let many : most_edges < length borrows.edges = omega (arith, ltb-false (length edges) edges_room s, edges_many v) in (
-                  due_refused (method_listing env used structs params words) (here
+                  due_refused (method_listing env used structs params own given taken) (here
                       (lt-ltb most_edges (length borrows.edges) many) refl),
                   refl,
                 )
@@ -344,24 +343,24 @@ module _ {env : LifetimeEnv} {used : ℕ} {structs params : List ℕ} {words : L
           few_edges = omega (arith, edges_fit, most)
 
           module _ {many : ℕ} (counted : many ≡ sets.cardinality used) where
-            sections_are : sections (counts many) words lists₁ ends₂ answers₂ edges₂
-                ≡ method_listing env used structs params words
+            sections_are : sections (counts many) own given taken lists₁ ends₂ answers₂ edges₂
+                ≡ method_listing env used structs params own given taken
             unfolding sections method_listing sets.cardinality visitor_from
             sections_are =
-                five_same (lowered_lines_of words)
+                five_same (lowered_heading ++ (line own ++ (line given ++ line taken)))
                 (ap (λ (ns : List ℕ). count_heading ++ line ns) (rw (counted, map_is)))
                 longer_are (ap answer_lines answers₂_are) (ap edge_lines edges₂_are)
 
-            sections_small : 0 + length (sections (counts many) words lists₁ ends₂ answers₂ edges₂) < 2 ^ 64
+            sections_small : 0 + length (sections (counts many) own given taken lists₁ ends₂ answers₂ edges₂) < 2 ^ 64
             sections_small = rw sections_are (omega (arith, can.short few_edges))
 
             pub method_listed : {n : ℕ} {out out₁ : List ℕ}
-                → Prints (sections (counts many) words lists₁ ends₂ answers₂ edges₂) 0 out n out₁
+                → Prints (sections (counts many) own given taken lists₁ ends₂ answers₂ edges₂) 0 out n out₁
                 → ListsWithin listing ((lists_room ≤ length lists) × (edges_room ≤ length edges)) out (Ok (Some n)) out₁
             unfolding listed_method
             method_listed p = (
-              method_listing env used structs params words,
-              due_given (method_listing env used structs params words)
+              method_listing env used structs params own given taken,
+              due_given (method_listing env used structs params own given taken)
                   (next (le-ltb most_edges (length borrows.edges) few_edges) end),
               rw (← sections_are) (record { size = prints_length p sections_small ∙ zero-add _; stored = p.stored }),
             )

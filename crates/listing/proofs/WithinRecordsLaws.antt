@@ -43,7 +43,6 @@ use Rattle.borrowing_param.proofs.OutcomeLaws.{ok_same}
 use Rattle.borrowing_param.proofs.Condition3Laws.{params_none}
 use Rattle.borrowing_param.proofs.MethodLaws.{names_first, ast_is, names_are, steps_first, env_is, measure_none}
 use Rattle.borrowing_param.proofs.MethodLaws.{method_first, method_none}
-use Rattle.listing.specs.declared.sections.Lowered.{Lowered}
 use Rattle.listing.specs.Listing.{count_lines, lowered_heading, longer_lines, answer_lines, edge_lines, most_edges}
 use Rattle.listing.specs.Listing.{room_bytes, edges_check, listing_of}
 use Rattle.listing.specs.InnerListing.{ListsTo, ListsWithin, Ample, listed_records, method_borrows, method_listing}
@@ -216,10 +215,17 @@ module _ {r : Records} {own given taken : List ℕ} {e : ast-env.LifetimeEnv} {l
   used_listed {k} u =
       refuses r (method_first r h.first h.names refl measured refl (refused_due _ k method (sym u)))
 
-  module _ {used : ℕ} (gives : Ok used ≡ used_set low.env r.structs r.params r.output r.force) (lent : Lowered)
-      (own_lent : lent.own.now ≡ take (low.selves - 0) (drop 0 own₁))
-      (given_lent : lent.given.now ≡ take (low.steps - 0) (drop 0 given₁))
-      (taken_lent : lent.taken.now ≡ take (low.returns - 0) (drop 0 taken₁)) where
+  module _ {used : ℕ} (gives : Ok used ≡ used_set low.env r.structs r.params r.output r.force) where
+    -- the lowered words, as the parts of the scratch that are handed on
+    abbrev selves : List ℕ
+    selves = take (low.selves - 0) (drop 0 own₁)
+
+    abbrev inputs : List ℕ
+    inputs = take (low.steps - 0) (drop 0 given₁)
+
+    abbrev outputs : List ℕ
+    outputs = take (low.returns - 0) (drop 0 taken₁)
+
     accepted : NoneDue method × (set_of (output_numbers r.structs r.output) ≡ used)
     unfolding used_set
     accepted = given_due _ used method (sym gives)
@@ -233,16 +239,16 @@ module _ {r : Records} {own given taken : List ℕ} {e : ast-env.LifetimeEnv} {l
     borrows_are : sheet_borrows r ≡ method_borrows low.env used r.structs r.params
     borrows_are = rw (accepted.1, the_env)
 
-    text_is : listing_of r ≡ method_listing low.env used r.structs r.params lent
+    text_is : listing_of r ≡ method_listing low.env used r.structs r.params selves inputs outputs
     unfolding listing_of method_listing
     text_is =
         ap (λ (b : Borrows). text_by (env_of_sheet r) b (words (lowered_of r).self) (words (lowered_of r).steps)
         (words (lowered_of r).returns)) borrows_are
         ∙ ap (λ (x : LifetimeEnv). text_by x (method_borrows low.env used r.structs r.params)
         (words (lowered_of r).self) (words (lowered_of r).steps) (words (lowered_of r).returns)) (sym the_env)
-        ∙ rw (own_lent, given_lent, taken_lent, own_stands.1, steps_stand.1, returns_stand.1)
+        ∙ rw (own_stands.1, steps_stand.1, returns_stand.1)
 
-    pub listable : Listable low.env used r.structs r.params lent
+    pub listable : Listable low.env used r.structs r.params selves inputs outputs
     listable = record {
       valid = env_none low.env r.structs r.params r.output r.force accepted.0;
       of = params_none low.env r.structs r.params r.output r.force accepted.0;
@@ -253,21 +259,21 @@ module _ {r : Records} {own given taken : List ℕ} {e : ast-env.LifetimeEnv} {l
     }
 
     pub records_listed : (lists edges : ℕ) (w : Outcome (Option ℕ)) (out out₁ : List ℕ)
-        → ListsWithin (listed_method low.env used r.structs r.params lent)
+        → ListsWithin (listed_method low.env used r.structs r.params selves inputs outputs)
         ((lists_room ≤ lists) × (edges_room ≤ edges)) out w out₁
         → ListsWithin (listed_records r) (Ample (length given) (length taken) lists edges) out w out₁
     unfolding listed_method
     records_listed lists edges w out out₁ h = go w h
       where
-        same : listed_method low.env used r.structs r.params lent ≡ listed_records r
+        same : listed_method low.env used r.structs r.params selves inputs outputs ≡ listed_records r
         same =
             ap (λ (b : Borrows). unless (check (ltb most_edges (length b.edges)) NoRoom ∷ [])
-            (method_listing low.env used r.structs r.params lent)) (sym borrows_are)
+            (method_listing low.env used r.structs r.params selves inputs outputs)) (sym borrows_are)
             ∙ ap (λ (t : List ℕ). unless (edges_check r ∷ []) t) (sym text_is)
             ∙ sym (unless_after (listing_of r) (edges_check r ∷ []) none)
 
         go : (w : Outcome (Option ℕ))
-            → ListsWithin (listed_method low.env used r.structs r.params lent)
+            → ListsWithin (listed_method low.env used r.structs r.params selves inputs outputs)
             ((lists_room ≤ lists) × (edges_room ≤ edges)) out w out₁
             → ListsWithin (listed_records r) (Ample (length given) (length taken) lists edges) out w out₁
         go (Ok (Some n)) h = subst (λ (o : Outcome (List ℕ)). ListsTo o out (Ok n) out₁) same h

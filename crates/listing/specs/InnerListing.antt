@@ -16,12 +16,11 @@ use Rattle.borrowing_param.specs.New.{new_visitor}
 use Rattle.borrowing_param.specs.SheetMethod.{lowering_checks}
 use Rattle.borrowing_param.specs.Borrows.{Borrows, borrows_by}
 use Rattle.borrowing_param.specs.InnerSheet.{OfMethod}
-use Rattle.listing.specs.declared.sections.Lowered.{Lowered}
 use Rattle.listing.specs.declared.within.Scratch.{Scratch}
 use Rattle.listing.specs.Listing.{count_heading, count_lines, lowered_heading, longer_heading, longer_lines}
 use Rattle.listing.specs.Listing.{answer_lines, edge_lines, most_edges, edges_check, listing_of, listing_checks}
 use Rattle.listing.specs.Listing.{room_bytes}
-use Rattle.listing.specs.InnerSections.{list_lines, cut_from, edges_of_words, lowered_lines_of}
+use Rattle.listing.specs.InnerSections.{list_lines, cut_from, edges_of_words}
 
 -- what is listed, or why not
 abbrev pub listed_sheet : List ℕ → Outcome (List ℕ)
@@ -79,32 +78,32 @@ ListsWithin o ample out (Err k) out₁ = ListsTo o out (Err k) out₁
 abbrev pub method_borrows : LifetimeEnv → ℕ → List ℕ → List ℕ → Borrows
 method_borrows env used structs params = borrows_by (new_visitor used env) structs params
 
-unfoldable pub method_listing : LifetimeEnv → ℕ → List ℕ → List ℕ → Lowered → List ℕ
-method_listing env used structs params words =
+unfoldable pub method_listing : LifetimeEnv → ℕ → List ℕ → List ℕ → List ℕ → List ℕ → List ℕ → List ℕ
+method_listing env used structs params own given taken =
     count_lines env.count (method_borrows env used structs params)
-    ++ (lowered_lines_of words
+    ++ ((lowered_heading ++ (line own ++ (line given ++ line taken)))
     ++ (longer_lines env
     ++ (answer_lines (method_borrows env used structs params).answers
     ++ edge_lines (method_borrows env used structs params).edges)))
 
-unfoldable pub listed_method : LifetimeEnv → ℕ → List ℕ → List ℕ → Lowered → Outcome (List ℕ)
-listed_method env used structs params words =
+unfoldable pub listed_method : LifetimeEnv → ℕ → List ℕ → List ℕ → List ℕ → List ℕ → List ℕ → Outcome (List ℕ)
+listed_method env used structs params own given taken =
     unless (check (ltb most_edges (length (method_borrows env used structs params).edges)) NoRoom ∷ [])
-    (method_listing env used structs params words)
+    (method_listing env used structs params own given taken)
 
-pub record Listable (env : LifetimeEnv) (used : ℕ) (structs params : List ℕ) (words : Lowered) : Type 0 where
+pub record Listable (env : LifetimeEnv) (used : ℕ) (structs params own given taken : List ℕ) : Type 0 where
   pub valid : NoneDue (env_checks env)
   pub of : OfMethod structs params
   pub below : (k : ℕ) → member used k ≡ true → k < env.count
   pub short : length (method_borrows env used structs params).edges ≤ most_edges
-      → length (method_listing env used structs params words) ≤ room_bytes
+      → length (method_listing env used structs params own given taken) ≤ room_bytes
 
 -- the sections by what stands in slices: counts of lifetimes, used lifetimes, parameters and edges; lowered words;
 -- longer lists by their ends; answers; edges
-unfoldable pub sections : List ℕ → Lowered → List ℕ → List ℕ → List ℕ → List ℕ → List ℕ
-sections counts words lists ends answers edges =
+unfoldable pub sections : List ℕ → List ℕ → List ℕ → List ℕ → List ℕ → List ℕ → List ℕ → List ℕ → List ℕ
+sections counts own given taken lists ends answers edges =
     (count_heading ++ line counts)
-    ++ (lowered_lines_of words
+    ++ ((lowered_heading ++ (line own ++ (line given ++ line taken)))
     ++ ((longer_heading ++ list_lines 0 (cut_from 0 lists ends))
     ++ (answer_lines answers
     ++ edge_lines (edges_of_words edges))))

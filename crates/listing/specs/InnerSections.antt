@@ -1,12 +1,10 @@
 -- For private functions only: lists and edges that stand in slices, and the lines that they are printed as.
-use Rattle.std.specs.Prelude.{ℕ, ◌/◌, ◌≤◌, List, [], ◌∷◌, ◌++◌, length}
+use Rattle.std.specs.Prelude.{ℕ, ◌/◌, ◌≤◌, List, [], ◌∷◌, length}
 use Rattle.std.proofs.Math.Seq.{slice}
 use Rattle.text.specs.Decimal.{line}
 use Rattle.answers.specs.Lists.{numbered}
 use Rattle.borrowing_param.specs.declared.visitor.LifetimeEdge.{LifetimeEdge}
 use Rattle.borrowing_param.specs.Edges.{width, edges_in}
-use Rattle.listing.specs.declared.sections.Lowered.{Lowered}
-use Rattle.listing.specs.Listing.{lowered_heading}
 
 -- numbered lists, a line each
 abbrev pub list_lines : ℕ → List (List ℕ) → List ℕ
@@ -25,7 +23,3 @@ Ascend from size (end ∷ ends) = (from ≤ end) × (end ≤ size) × Ascend end
 -- the edges whose words these are
 abbrev pub edges_of_words : List ℕ → List LifetimeEdge
 edges_of_words words = edges_in (length words / width) words
-
--- the section of the lowered words that are lent
-abbrev pub lowered_lines_of : Lowered → List ℕ
-lowered_lines_of w = lowered_heading ++ (line w.own.now ++ (line w.given.now ++ line w.taken.now))

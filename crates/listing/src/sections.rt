@@ -4,10 +4,10 @@ ghost use mathlib.Core.List.{◌++◌, flat_map};
 ghost use Rattle.answers.specs.Lent.{held, left};
 ghost use Rattle.text.specs.Decimal.{line};
 ghost use Rattle.text.specs.Printing.{Prints};
-ghost use Rattle.listing.specs.Listing.{longer_heading};
+ghost use Rattle.listing.specs.Listing.{lowered_heading, longer_heading};
 ghost use Rattle.listing.specs.Listing.{answer_lines_from, answer_lines};
 ghost use Rattle.listing.specs.Listing.{edge_line, edge_lines};
-ghost use Rattle.listing.specs.InnerSections.{list_lines, cut_from, Ascend, edges_of_words, lowered_lines_of};
+ghost use Rattle.listing.specs.InnerSections.{list_lines, cut_from, Ascend, edges_of_words};
 
 use borrowing_param::BorrowingParamVisitor;
 use text::{put_following, put_line, put_number, put_text};
@@ -20,21 +20,21 @@ pub(crate) fn put_headed(out: &mut [u8], at: usize, heading: &[u8], numbers: &[u
     put_line(out, next, numbers)
 }
 
-// The lowered words of self, steps and returns, lent.
-#[derive(Clone, Copy)]
-pub(crate) struct Lowered<'a> {
-    pub(crate) own: &'a [usize],
-    pub(crate) given: &'a [usize],
-    pub(crate) taken: &'a [usize],
-}
-
-pub(crate) fn put_lowered(out: &mut [u8], at: usize, words: Lowered) -> usize
-    ensures { Prints (lowered_lines_of words.entry) at (held out) result (left out) }
+// The lowered words of self, steps and returns.
+pub(crate) fn put_lowered(
+    out: &mut [u8],
+    at: usize,
+    own: &[usize],
+    given: &[usize],
+    taken: &[usize],
+) -> usize
+    ensures { Prints (lowered_heading ++ (line own.now ++ (line given.now ++ line taken.now)))
+        at (held out) result (left out) }
 {
     let first = put_text(out, at, b"lowered\n");
-    let second = put_line(out, first, words.own);
-    let third = put_line(out, second, words.given);
-    put_line(out, third, words.taken)
+    let second = put_line(out, first, own);
+    let third = put_line(out, second, given);
+    put_line(out, third, taken)
 }
 
 // Each lifetime and its list: the lists stand one after another in a slice, and another says where each ends.

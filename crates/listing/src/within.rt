@@ -8,7 +8,6 @@ ghost use Rattle.sheet.specs.Inner.{Roomy};
 ghost use Rattle.listing.specs.InnerListing.{listed_sheet, listed_records, Suffices, ListsWithin, listed_method};
 ghost use Rattle.listing.specs.InnerListing.{Listable, edges_overflow, lists_room, edges_room};
 
-use super::sections::Lowered;
 use super::whole::put_listing;
 use answers::Refusal;
 use borrowing_param::BorrowingParamVisitor;
@@ -100,12 +99,17 @@ fn list_records(
         records.output,
         records.force,
     )?;
-    let words = Lowered {
-        own: &own[0..lowered.selves],
-        given: &given[0..lowered.steps],
-        taken: &taken[0..lowered.returns],
-    };
-    list_method(lowered.env, used, records, words, lists, edges, out)
+    list_method(
+        lowered.env,
+        used,
+        records,
+        &own[0..lowered.selves],
+        &given[0..lowered.steps],
+        &taken[0..lowered.returns],
+        lists,
+        edges,
+        out,
+    )
 }
 
 // List an accepted method.
@@ -113,14 +117,18 @@ fn list_method(
     env: LifetimeEnv,
     used: u64,
     records: Records,
-    words: Lowered,
+    own: &[usize],
+    given: &[usize],
+    taken: &[usize],
     lists: &mut [usize],
     edges: &mut [usize],
     out: &mut [u8],
 ) -> Result<Option<usize>, Refusal>
-    requires { Listable env used records.structs.now records.params.now words × (length edges.old ≤ edges_room) }
+    requires { Listable env used records.structs.now records.params.now own.now given.now taken.now
+        × (length edges.old ≤ edges_room) }
     ensures { ListsWithin
-        (listed_method env used records.entry.structs.now records.entry.params.now words.entry)
+        (listed_method env used records.entry.structs.now records.entry.params.now own.now given.now
+        taken.now)
         ((lists_room ≤ room lists) × (edges_room ≤ room edges)) (held out) result (left out) }
 {
     let count = env.count;
@@ -138,7 +146,9 @@ fn list_method(
     let length = put_listing(
         out,
         &counts,
-        words,
+        own,
+        given,
+        taken,
         lists,
         &ends[0..count],
         &answers[0..map.params],

@@ -11,9 +11,9 @@ use Rattle.listing.proofs.sections.put_lowered.Goals as goal
 
 pub returns : goal.returns
 returns c =
-    let own : List ℕ = line c.args.words.own.now in
-    let given : List ℕ = line c.args.words.given.now in
-    let taken : List ℕ = line c.args.words.taken.now in
+    let own : List ℕ = line c.args.own.now in
+    let given : List ℕ = line c.args.given.now in
+    let taken : List ℕ = line c.args.taken.now in
     let small : length c.args.out.now < 2 ^ 64 = search rules in
     let all = leaves_all (lowered_heading ++ (own ++ (given ++ taken))) c.args.at c.args.out.now
     small (omega (arith, c.ranges.at)) in

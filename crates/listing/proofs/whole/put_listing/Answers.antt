@@ -6,8 +6,8 @@ use lib.ListN.{length, get_or}
 use Rattle.text.specs.Decimal.{line}
 use Rattle.text.proofs.PrintLaws.{leaves_all, leaves_rest, leaves_none}
 use Rattle.borrowing_param.specs.Edges.{edges_in}
-use Rattle.listing.specs.Listing.{count_heading, longer_heading, answer_lines, edge_lines}
-use Rattle.listing.specs.InnerSections.{list_lines, cut_from, edges_of_words, lowered_lines_of}
+use Rattle.listing.specs.Listing.{count_heading, lowered_heading, longer_heading, answer_lines, edge_lines}
+use Rattle.listing.specs.InnerSections.{list_lines, cut_from, edges_of_words}
 use Rattle.listing.specs.InnerListing.{sections}
 use borrow.Author.Rules.{rules}
 use Rattle.listing.proofs.whole.put_listing.Goals as goal
@@ -16,7 +16,8 @@ pub returns : goal.returns
 unfolding sections
 returns c =
     let counts : List ℕ = count_heading ++ line c.args.counts.now in
-    let lowered : List ℕ = lowered_lines_of c.args.words in
+    let lowered : List ℕ = lowered_heading ++ (line c.args.own.now ++ (line c.args.given.now ++ line
+    c.args.taken.now)) in
     let longer : List ℕ = longer_heading ++ list_lines 0 (cut_from 0 c.args.lists.now c.args.ends.now) in
     let answers : List ℕ = answer_lines c.args.answers.now in
     let edges : List ℕ = edge_lines (edges_of_words c.args.edges.now) in

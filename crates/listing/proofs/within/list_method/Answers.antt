@@ -39,7 +39,7 @@ pub returns-then-lists-count : goal.returns-then-lists-count
 returns-then-lists-count c = lists_short c.requires.0 c.args.lists.now c.if-lists-count.true
 
 pub returns-in_err-longer : goal.returns-in_err-longer
-returns-in_err-longer c = lists_taken c.requires.0 refl c.if-lists-count.false c.in_err-longer.ensures.answer
+returns-in_err-longer c = lists_taken c.requires.0 c.args.lists.now (replicate 64 0) refl c.if-lists-count.false c.in_err-longer.ensures.answer
 
 pub returns-in_default : goal.returns-in_default
 returns-in_default c =
