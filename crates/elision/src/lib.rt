@@ -7,8 +7,8 @@
 // records, are ours.
 //
 // A method's records `self`, `steps` and `returns` are read in place, over the names of its AST environment. The scope
-// paper ("01") decides what is right; a refused call answers one of its numbers and leaves every lent slice as it was,
-// and a lowerer comes back as it was given.
+// paper ("01") decides what is right; a refused call answers one of its numbers and leaves every lent slice and a lent
+// lowerer as it was.
 //
 // What is here: the source of elision (`source`), the shape of the records (`steps`), the lowerer and its steps, by
 // value (`lowerer`), one step by its words, by value or on a lowerer that is lent (`step`), the whole records word by
