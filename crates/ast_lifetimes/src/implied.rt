@@ -120,6 +120,7 @@ impl LifetimeEnv {
         let mut reach = Reach::of(self);
         let mut behind = 0;
         let mut at = 0;
+        // No range to go over: a path's length is read from it.
         'words: while at < types.len() {
             let code = types[at];
             if code == 2 {

@@ -17,6 +17,7 @@ pub fn types_shape(types: &[usize]) -> Result<(), Refusal>
         return Err(Refusal::Malformed);
     }
     let mut at = 0;
+    // No range to go over: where the next type stands is read from this one.
     while at < types.len() {
         at = type_end(types, at, LifetimeEnv::MAX_NESTING).ok_or(Refusal::Malformed)?;
     }
@@ -37,6 +38,7 @@ fn type_end(words: &[usize], at: usize, nesting: usize) -> Option<usize>
     }
     let inside = nesting - 1;
     let next = at + 1;
+    // The codes are the record's, as 01 gives them.
     match words[at] {
         0 => Some(next),
         1 => lifetimes_end(words, next),
