@@ -127,9 +127,6 @@ module _ (names bounds types : List ℕ) {v : Verdict} (e : v ≡ shape_verdict 
       unfolding from_method_item unless
       item_types m = let o = off_shape g m in rw (in_shape e k, in_shape f l, o.0, o.1)
 
-      pub item_shaped : u ≡ Ok (tt {0}) → names_in_shape names && (bounds_in_shape bounds && types_in_shape types) ≡ true
-      item_shaped m = rw (in_shape e k, in_shape f l, in_shape g m)
-
 -- ---- the stages: what is left of the entries, done from here, gives what all give from the start
 
 module _ {names bounds types : List ℕ} (sh : Shaped names bounds types) where

@@ -75,9 +75,6 @@ pub record Joining (long short : ℕ) (before now : List ℕ) (x : ℕ) : Type 0
   pub done : (j : ℕ) → j < x → get_or now j 0 ≡ joined_at before long short j
   pub left : (j : ℕ) → x ≤ j → get_or now j 0 ≡ get_or before j 0
 
-pub joining_start : (long short : ℕ) (before : List ℕ) → length before ≡ 32 → Joining long short before before 0
-joining_start long short before full = record { size = full; done = λ j h. absurd (omega arith); left = λ j h. refl }
-
 module _ {long short : ℕ} {before now : List ℕ} {x : ℕ} (inv : Joining long short before now x) where
   -- a set that does not hold the shorter side stays
   pub joining_stays : member (get_or now x 0) short ≡ false → Joining long short before now (x + 1)
@@ -119,19 +116,7 @@ pub record Starting (now : List ℕ) (x : ℕ) : Type 0 where
   pub size : length now ≡ 32
   pub done : (j : ℕ) → j < x → get_or now j 0 ≡ insert empty j
 
-pub starting_more : {now : List ℕ} {x : ℕ} → Starting now x → x < 32 → (s : ℕ) → s ≡ insert empty x → Starting (set now x s) (x + 1)
-starting_more {now} {x} inv h s e = record {
-  size = length-set now x s ∙ inv.size;
-  done = λ j k. elim (ℕ_discrete j x) [
-    | yes q ↦ rw (q, get_or-set_same now x s 0 (omega (arith, inv.size))) e
-    | no q ↦ rw (get_or-set_other now x j s 0 q) (inv.done j (omega arith))
-  ];
-}
-
 -- the loop of `of`: the sets of the first bounds
-pub reaching_start : (named : ℕ) (bounds : List Bound) (sets : List ℕ) → OutliveSets [] named sets → OutliveSets (take 0 bounds) named sets
-reaching_start named bounds sets r = r
-
 pub reaching_more : (named i : ℕ) (bounds : List Bound) (before after : List ℕ) → i < length bounds
     → ((bs : List Bound) → OutliveSets bs named before → OutliveSets (bs ++ (get_or bounds i (above 0 0) ∷ [])) named after)
     → OutliveSets (take i bounds) named before → OutliveSets (take (i + 1) bounds) named after

@@ -3,7 +3,7 @@
 use Rattle.std.specs.Prelude.{Ok, Err}
 use Prim.Native.Nat.{ℕ, ◌+◌, ◌≤◌, ◌<◌}
 use mathlib.Core.Bool.{Bool, true, false, ◌&&◌, not}
-use mathlib.Core.Path.{◌≡◌, refl, sym, ap, ◌∙◌}
+use mathlib.Core.Path.{◌≡◌, sym, ap, ◌∙◌}
 use mathlib.Core.List.{List, [], ◌∷◌, ◌++◌}
 use native.Mathlib.Omega.{arith}
 use borrow.Author.Tests.{ltb-true, not-false}
@@ -17,7 +17,7 @@ use Rattle.ast_lifetimes.specs.Shapes.{Pair, is_name, pair}
 use Rattle.ast_lifetimes.specs.Env.{place, is_declared, pair_checks, bound_of, names_of, bounds_of, among, path_pairs}
 use Rattle.ast_lifetimes.specs.Entries.{SoFar, so_far, fold, push_pair}
 use Rattle.ast_lifetimes.specs.Inner.{so_far_of, Stands, Leaves, OutliveSets, outlived_by, is_implied}
-use Rattle.ast_lifetimes.proofs.StandsLaws.{stands_named, leaves_stands, Folding, folding_start, folding_same, folding_end}
+use Rattle.ast_lifetimes.proofs.StandsLaws.{stands_named, leaves_stands, Folding, folding_same, folding_end}
 use Rattle.ast_lifetimes.proofs.StandsLaws.{folding_more, folding_refused}
 use Rattle.ast_lifetimes.proofs.PathLaws.{implied_test, path_next, path_end}
 
@@ -51,10 +51,6 @@ pub record Pathing (behind : ℕ) (lifetimes : List ℕ) (e₀ e : LifetimeEnv) 
   pub run : Folding push_pair (fold push_pair (so_far_of e₀) (path_pairs (names_of e₀) (bounds_of e₀) behind lifetimes))
       (path_pairs (names_of e₀) (bounds_of e₀) behind (drop i lifetimes)) e
   pub reaches : OutliveSets (bounds_of e) e.named sets
-
-pub pathing_start : (behind : ℕ) (lifetimes : List ℕ) {e : LifetimeEnv} (sets : List ℕ) → Stands (so_far_of e) e
-    → OutliveSets (bounds_of e) e.named sets → Pathing behind lifetimes e e sets 0
-pathing_start behind lifetimes sets h r = record { names = refl; run = folding_start push_pair _ h; reaches = r }
 
 module _ {behind : ℕ} {lifetimes : List ℕ} {e₀ e : LifetimeEnv} {sets : List ℕ} {i : ℕ}
     (inv : Pathing behind lifetimes e₀ e sets i) where

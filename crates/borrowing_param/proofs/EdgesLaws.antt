@@ -1,17 +1,22 @@
 -- Which lifetimes of a parameter draw, and how many edges that makes. In order: among words, in a type, edges counted.
-use Prim.Native.Nat.{ℕ, suc, ◌+◌, ◌≤◌}
+use Prim.Native.Nat.{ℕ, suc, ◌+◌, ◌≤◌, ◌<◌}
 use mathlib.Core.Bool.{Bool, true, false, cond, ◌||◌}
 use mathlib.Core.Path.{◌≡◌, refl, sym, ap, ◌∙◌}
 use mathlib.Core.List.{List, [], ◌∷◌, ◌++◌, map}
 use native.Mathlib.Nat.{add-zero, zero-add}
 use native.Mathlib.Omega.{arith}
 use mir.Val.{bool_byte}
-use lib.ListN.{length, take, drop, length-map, length-take}
-use Rattle.std.specs.Prelude.{Some, None, Option}
+use lib.ListN.{length, get_or, take, drop, length-map, length-take}
+use Rattle.std.specs.Prelude.{Some, None, Option, Ok}
 use Rattle.std.specs.List.{fold, list_any, count_by}
 use Rattle.lifetimes.specs.declared.lifetime.Lifetime.{Lifetime}
 use Rattle.lifetimes.specs.declared.maybe_static.MaybeStatic.{MaybeStatic}
 use Rattle.lifetimes.specs.LoweredWords.{from_word}
+use Rattle.lifetimes.specs.declared.def_lifetime.DefLifetime.{DefLifetime}
+use Rattle.lifetimes.specs.Numbers.{def_lifetime}
+use Rattle.lifetimes.specs.Linked.{linked_word}
+use Rattle.lifetimes.proofs.LinkedLaws.{word_there}
+use Rattle.answers.specs.Refusals.{Outcome}
 use Rattle.hir_types.specs.declared.types.Kind.{Kind}
 use Rattle.hir_types.specs.declared.types.Kind.TheVariants.{Plain, Opaque, Struct, Slice}
 use Rattle.hir_types.specs.LoweredTypes.{LoweredType, lifetimes_of, own_lifetimes, own_lifetime}
@@ -86,6 +91,19 @@ module _ (draws : ℕ → Bool) where
         pub drawn_absent : last ≡ None → false ≡ any_drawn draws (lifetimes_of t)
         unfolding any
         drawn_absent e = sym (own_left ∙ ap (any_drawn draws) (own_none t.own own e))
+
+pub some_same : {x y : ℕ} → ◌≡◌ {A = Option ℕ} (Some x) (Some y) → x ≡ y
+some_same e = cc
+
+pub none_some : {x : ℕ} {A : Type 0} → ◌≡◌ {A = Option ℕ} None (Some x) → A
+none_some e = let z : ◌≡◌ {A = ℕ} 0 1 = cc in absurd (omega arith)
+
+-- what the view of path words answers for a lifetime of the definition
+pub linked_is : (path words : List ℕ) {count def : ℕ} → words ≡ path → count ≡ length path → def < length path
+    → {d : DefLifetime} → d ≡ def_lifetime def → {r : Outcome (Option ℕ)} → r ≡ linked_word words count d
+    → r ≡ Ok (Some (get_or path def 0))
+linked_is path words {count} {def} same many h is e =
+    e ∙ rw (same, many, is) (word_there path (length path) refl def h)
 
 -- path words lent: no more than are said to be there
 pub path_few : (words : List ℕ) (from : ℕ) {path : List ℕ} {count : ℕ} → path ≡ take count (drop from words) → count ≤ 16

@@ -2,7 +2,7 @@
 //
 // A parameter is the parts of its type and its path words, lent where they stand (`Param`); a set holds the lifetimes
 // that draw an edge to a used one.
-ghost use Rattle.std.specs.Prelude.{◌≡◌, [], ◌∷◌, ◌+◌, ◌*◌, ◌≤◌, ◌<◌, length};
+ghost use Rattle.std.specs.Prelude.{◌≡◌, [], ◌∷◌, ◌+◌, ◌*◌, ◌≤◌, ◌<◌, length, get_or};
 ghost use Rattle.std.specs.List.{list_any, count_by};
 ghost use Rattle.std.proofs.lemmas.List.Edits.{sets};
 ghost use Rattle.answers.specs.Lent.{held, left};
@@ -17,7 +17,7 @@ ghost use Rattle.borrowing_param.specs.Inner.{Stores, StoresWords};
 
 use super::visitor::{BorrowingParamVisitor, LifetimeEdge, ParamBorrowInfo};
 use hir_types::{Kind, Parts};
-use lifetimes::{Lifetime, MaybeStatic, set};
+use lifetimes::{DefLifetime, Lifetime, LinkedLifetimes, MaybeStatic, set};
 
 impl LifetimeEdge {
     // The kinds. They stay numbers and are no enum: `edge_at` gives whatever five words stand in a slice.
@@ -191,6 +191,23 @@ impl<'a> Param<'a> {
         at + 1
     }
 
+    // The method's lifetime at the use of a struct for a lifetime of its definition, by the view of its path words. The
+    // definition's count is how many they are: the check of the records has refused by 7 where its row says another, so
+    // that a visit does not look the row up.
+    fn linked_lifetime(self, def: usize) -> MaybeStatic<Lifetime>
+        requires { def < length self.path.now }
+        ensures { result ≡ from_word (get_or self.entry.path.now def 0) }
+    {
+        let linked = LinkedLifetimes::new(self.path, self.path.len());
+        let Ok(found) = linked.def_to_use(DefLifetime::new(def)) else {
+            return MaybeStatic::Static;
+        };
+        let Some(word) = found else {
+            return MaybeStatic::Static;
+        };
+        MaybeStatic::from_word(word)
+    }
+
     // Store the edges of a struct, and their pairs.
     fn store_struct(
         self,
@@ -210,8 +227,8 @@ impl<'a> Param<'a> {
     {
         let option = usize::from(self.parts.option);
         let mut next = at;
-        for (def, word) in self.path.iter().enumerate() {
-            if draws(set, MaybeStatic::from_word(*word)) {
+        for def in 0..self.path.len() {
+            if draws(set, self.linked_lifetime(def)) {
                 let edge = LifetimeEdge {
                     used,
                     param: self.number,

@@ -117,8 +117,9 @@ impl BorrowingParamVisitor {
     }
 }
 
-// Store the edges of all parameters to one used lifetime behind so many. Answers how many there are then. `Param::store`
-// notes the pairs of structs too; they are not used here.
+// Store the edges of all parameters to one used lifetime behind so many. Answers how many there are then.
+// `Param::store` notes the pairs of structs too; they are not used here. It goes from place to place by what stands
+// there, so the loop stays a `while`.
 fn store_to(
     set: u64,
     params: &[usize],

@@ -19,7 +19,8 @@ use methods::check_method;
 use records::copy_words;
 use sheet::{Records, Text, read_sheet};
 
-// How many words scratch has: for a sheet of at most `Text::MIDDLE` bytes, since a word takes two at least, and for any.
+// How many words scratch has: for a sheet of at most `Text::MIDDLE` bytes, since a word takes two at least, and for any
+// sheet.
 pub(crate) const FEW_WORDS: usize = Text::MIDDLE / 2;
 
 pub(crate) const MOST_WORDS: usize = Text::MAX_WORDS;

@@ -70,9 +70,6 @@ pub shape_told : (e : ast.LifetimeEnv) (self steps returns : List ℕ)
 shape_told e self steps returns v = record { shape = shape_in (in_shape_all self steps returns) v }
 
 module _ {e : ast.LifetimeEnv} {self steps returns : List ℕ} (h : Shaped e self steps returns) where
-  pub measure_shaped : (steps_in_shape steps ≡ true) × (steps_in_shape returns ≡ true)
-  measure_shaped = all_shaped self steps returns h.shape
-
   shape_not : not (in_shape_all self steps returns) ≡ false
   shape_not = rw h.shape
 

@@ -1,26 +1,21 @@
 -- Lists of lifetimes in 16 places: an array filled from its front, and the loop of `first_of`.
-use Prim.Native.Nat.{ℕ, suc, ◌+◌, ◌-◌, min, ◌≤◌, ◌<◌}
+use Prim.Native.Nat.{ℕ, suc, ◌+◌, ◌-◌, min, ◌<◌}
 use mathlib.Core.Path.{◌≡◌, refl, sym, ap, ◌∙◌}
 use mathlib.Core.List.{List, [], ◌∷◌, ◌++◌, map}
-use native.Mathlib.Numerals.{add-one}
 use native.Mathlib.Omega.{arith}
-use Rattle.std.proofs.lemmas.List.{take_min}
-use lib.ListN.{length, get_or, take, set, replicate, length-append, length-map}
-use lib.Seq.{set_at, take-suc, length-take-le}
+use lib.ListN.{length, take, set, replicate, length-append, length-map}
+use lib.Seq.{set_at, length-take-le}
 use Rattle.elision.specs.Rfc.{MethodLifetime}
 use Rattle.lifetimes.specs.declared.maybe_static.MaybeStatic.TheVariants.{Static}
 use Rattle.elision.specs.declared.lowerer.Lowered.{Lowered}
 use Rattle.elision.specs.declared.lowerer.Lifetimes.{Lifetimes}
-use Rattle.elision.specs.Machine.{lowered, values_in, laid}
+use Rattle.elision.specs.Machine.{lowered, laid}
 use Rattle.elision.proofs.RfcLaws.{length_lowered}
 
 -- the first places hold these lifetimes, the others a static one
 pub record Filled (done : List MethodLifetime) (list : List Lowered) (i : ℕ) : Type 0 where
   pub size : length done ≡ i
   pub stands : list ≡ map lowered done ++ replicate (16 - i) (lowered Static)
-
-pub filled_none : Filled [] (replicate 16 (lowered Static)) 0
-filled_none = record { size = refl; stands = refl }
 
 lowered_last : (ls : List MethodLifetime) (l : MethodLifetime) (rest : List Lowered)
     → map lowered (ls ++ (l ∷ [])) ++ rest ≡ map lowered ls ++ lowered l ∷ rest
@@ -64,16 +59,9 @@ laid_many ls e = ap (λ (x : Lifetimes). x.n) e
 abbrev lifetimes_in : List Lowered → List MethodLifetime
 lifetimes_in l = map (λ (x : Lowered). x.lifetime) l
 
-lifetimes_last : (l : List Lowered) (x : Lowered) → lifetimes_in (l ++ (x ∷ [])) ≡ lifetimes_in l ++ (x.lifetime ∷ [])
-lifetimes_last [] x = refl
-lifetimes_last (y ∷ l) x = ap (λ (m : List MethodLifetime). y.lifetime ∷ m) (lifetimes_last l x)
-
 -- the lifetimes of the first places
 pub record Firsts (own first : Lifetimes) (i : ℕ) : Type 0 where
   pub laid_so : first ≡ laid (lifetimes_in (take i own.list))
-
-pub firsts_start : (own : Lifetimes) {first : Lifetimes} → first ≡ laid [] → Firsts own first 0
-firsts_start own e = record { laid_so = e }
 
 module _ {own first : Lifetimes} {i : ℕ} (full : length own.list ≡ 16) (inv : Firsts own first i) where
   pub firsts_room : {n : ℕ} → n ≡ min own.n 16 → i < n → first.n < 16
@@ -81,21 +69,3 @@ module _ {own first : Lifetimes} {i : ℕ} (full : length own.list ≡ 16) (inv 
       let many : length (lifetimes_in (take i own.list)) ≡ i =
       length-map (take i own.list) (λ (x : Lowered). x.lifetime) ∙ length-take-le i own.list (omega (arith, full)) in
       omega (arith, laid_many (lifetimes_in (take i own.list)) inv.laid_so, many)
-
-  pub firsts_more : {n : ℕ} → n ≡ min own.n 16 → i < n → {next : Lifetimes}
-      → ((ls : List MethodLifetime) → first ≡ laid ls
-      → next ≡ laid (ls ++ ((get_or own.list i (lowered Static)).lifetime ∷ []))) → Firsts own next (i + 1)
-  firsts_more m h push =
-      let one : lifetimes_in (take (i + 1) own.list)
-      ≡ lifetimes_in (take i own.list) ++ ((get_or own.list i (lowered Static)).lifetime ∷ []) =
-      rw (add-one i, take-suc own.list i (lowered Static) (omega (arith, full)))
-      (lifetimes_last (take i own.list) (get_or own.list i (lowered Static))) in
-      record { laid_so = push (lifetimes_in (take i own.list)) inv.laid_so ∙ ap laid (sym one) }
-
-  pub firsts_end : {n : ℕ} → n ≡ min own.n 16 → i ≤ n → n ≤ i → first ≡ laid (values_in own)
-  firsts_end {n} m h k =
-      let e : i ≡ min own.n 16 = omega arith in
-      inv.laid_so ∙ ap (λ (l : List Lowered). laid (lifetimes_in l)) (rw e (taken own.n own.list full))
-    where
-      taken : (n : ℕ) (l : List Lowered) → length l ≡ 16 → take (min n 16) l ≡ take n l
-      taken n l full = rw (← full) (take_min n l)

@@ -1,6 +1,6 @@
 -- The three records one after another: what `put_receiver` and `run` answer, and what they store.
 use Rattle.std.specs.Prelude.{Ok, Err}
-use Prim.Native.Nat.{ℕ, ◌≤◌}
+use Prim.Native.Nat.{ℕ}
 use mathlib.Core.Bool.{true, false}
 use mathlib.Core.Path.{◌≡◌, refl, sym, ap, ◌∙◌}
 use mathlib.Core.List.{List, [], ◌∷◌}
@@ -54,9 +54,6 @@ module _ (names : List ℕ) {k : SmallLowerer} (unused_is : k ≡ small_unused n
 
   saw : k.seen ≡ fresh names
   saw = ap (λ (x : SmallLowerer). x.seen) unused_is
-
-  pub receiver_few : k.own ≤ 16
-  receiver_few = omega (arith, ap (λ (x : SmallLowerer). x.own) unused_is)
 
   pub receiver_none : (self slice : List ℕ) → length self ≡ 0
       → Lowers (lower_self names (receiver_of self)) 0 slice slice k (Ok 0)

@@ -4,7 +4,6 @@ use Prim.Native.Nat.{ℕ, ◌-◌, ◌≤◌}
 use mathlib.Core.Bool.{true, ◌&&◌, and-eq-true_iff}
 use mathlib.Core.Path.{◌≡◌, refl, subst}
 use mathlib.Core.List.{List, [], ◌∷◌}
-use native.Mathlib.Omega.{arith}
 use lib.Dec.{eqb, leb}
 use lib.ListN.{length, take, drop}
 use lib.Seq.{length-take-le}
@@ -58,12 +57,6 @@ pub record Part (words : List ℕ) (from to : ℕ) : Type 0 where
   pub ends : to ≤ length words
   pub few : length (take (to - from) (drop from words)) ≤ 16
 
-lifetime_part : {words : List ℕ} {at : ℕ} {reading : Reading Step} {word to : ℕ}
-    → StandsAt words at reading (Some (standing.Lifetime word to)) → (1 ≤ to) × Part words (to - 1) to
-lifetime_part {to = to} (inner.lifetime w d b l) =
-    let one : to - (to - 1) ≡ 1 = omega arith in
-    (omega arith, record { starts = omega arith; ends = l; few = rw (one, w) (omega arith) })
-
 generics_part : {words : List ℕ} {at : ℕ} {reading : Reading Step} {g from to : ℕ}
     → StandsAt words at reading (Some (standing.Generics g from to)) → Holds (λ step rest. fits step ≡ true) reading
     → (g ≤ 16) × Part words from to
@@ -81,9 +74,6 @@ self_part (inner.self_type {ls = ls} {rest = rest} l d b m x) h = record {
 }
 
 module _ {words : List ℕ} {at : ℕ} {r : StepAt} (stands : StandsAt words at (read_step (drop at words)) (Some r)) where
-  pub part_lifetime : {word to : ℕ} → r ≡ standing.Lifetime word to → (1 ≤ to) × Part words (to - 1) to
-  part_lifetime e = lifetime_part (told stands e)
-
   pub part_generics : {g from to : ℕ} → r ≡ standing.Generics g from to → (g ≤ 16) × Part words from to
   part_generics e = generics_part (told stands e) (step_fits (drop at words))
 

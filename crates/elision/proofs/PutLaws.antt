@@ -1,22 +1,20 @@
 -- One step lowered and stored, where the lowerer is shown by small numbers and a list of words: what `put_given`,
 -- `put_self` and `put_step` answer. Each law is over any lowerer that is shown.
 use Rattle.std.specs.Prelude.{Ok, Err, Some, None}
-use Prim.Native.Nat.{ℕ, ◌+◌, ◌-◌, ◌≤◌, ◌<◌}
+use Prim.Native.Nat.{ℕ, ◌+◌, ◌-◌, ◌≤◌}
 use mathlib.Core.Bool.{Bool, true, false}
 use mathlib.Core.Path.{◌≡◌, refl, sym, ap, subst, ◌∙◌}
 use mathlib.Core.List.{List, ◌++◌, map, append-nil}
 use native.Mathlib.Nat.{zero-add, zero-sub}
 use native.Mathlib.Omega.{arith}
-use lib.ListN.{length, get_or, take, drop, set, length-map, length-set}
+use lib.ListN.{length, take, drop, length-map}
 use lib.Seq.{sets, length-sets, take_at}
-use Rattle.answers.specs.declared.Refusal.{Refusal}
 use Rattle.answers.specs.Refusals.{Outcome}
-use Rattle.answers.proofs.Copying.{sets_front, Copying, copying_start, copying_more, copying_end}
+use Rattle.answers.proofs.Copying.{sets_front, Copying}
 use Rattle.records.specs.Reading.{Reading, Read, Fails}
-use Rattle.elision.proofs.OutcomeLaws.{both, same_given, same_refused}
+use Rattle.elision.proofs.OutcomeLaws.{both, same_given}
 use Rattle.elision.specs.declared.steps.StepAt.{StepAt}
 use Rattle.elision.specs.declared.steps.StepAt.TheVariants as standing
-use Rattle.elision.specs.declared.lowerer.Standing.{Standing}
 use Rattle.elision.specs.declared.lowerer.Standing.TheVariants.{Aside}
 use Rattle.elision.specs.declared.lowerer.Seen.{Seen}
 use Rattle.elision.specs.declared.lowerer.Lowerer.{Lowerer}
@@ -24,7 +22,7 @@ use Rattle.elision.specs.declared.put.SmallLowerer.{SmallLowerer}
 use Rattle.elision.specs.declared.put.Put.{Put}
 use Rattle.elision.specs.Steps.{Step, read_step}
 use Rattle.elision.specs.Rfc.{appended, standing_in}
-use Rattle.elision.specs.Machine.{Advanced, advanced, values_in, laid, lower_words, words_step, self_step, lower_step}
+use Rattle.elision.specs.Machine.{Advanced, advanced, laid, lower_words, words_step, self_step, lower_step}
 use Rattle.elision.specs.Inner.{StandsAt, shown, Puts, Shows, Given, Lowers, PutsOne, PutsStep}
 use Rattle.elision.specs.Inner as inner
 use Rattle.elision.proofs.RfcLaws.{laid_values}
@@ -54,24 +52,7 @@ module _ {at : ℕ} {before behind : List ℕ} where
       }
   words_given (Err k) h = both (sym h.answers)
 
-  words_refused : {k : Refusal} (o : Outcome (Advanced Seen)) → Puts o at before behind (Err k) → o ≡ Err k
-  words_refused (Ok a) h = both h.answers
-  words_refused (Err j) h = ap (λ (r : Refusal). Err r) (sym (same_refused h.answers))
-
--- a step that is refused
-one_refused : {step : Lowerer → Outcome (Advanced Lowerer)} {n : ℕ} {k k₁ : SmallLowerer} {before behind : List ℕ}
-    {r : Outcome ℕ} {j : Refusal} → k₁.own ≤ 16 → r ≡ Err j → ((s : Lowerer) → Shows s k → step s ≡ Err j)
-    → PutsOne step n k k₁ before behind r
-one_refused {j = j} few e f = record {
-  few = few;
-  near = λ m q. both (sym e ∙ q);
-  lowers = λ s sh. record {
-    accepted = λ m q. both (sym e ∙ q);
-    refused = λ i q. let same : j ≡ i = same_refused (sym e ∙ q) in f s sh ∙ rw same;
-  };
-}
-
--- and one that is not
+-- a step that is not refused
 one_given : {step : Lowerer → Outcome (Advanced Lowerer)} {n : ℕ} {k k₁ : SmallLowerer} {before behind : List ℕ}
     {m : ℕ} → k₁.own ≤ 16 → m ≤ n + 16 → ((s : Lowerer) → Shows s k → Given (step s) n before behind k₁ m)
     → PutsOne step n k k₁ before behind (Ok m)
@@ -84,79 +65,19 @@ one_given {step} {n} {k} {k₁} {before} {behind} {m} few near f = record {
   };
 }
 
--- ---- kinds 0 and 1
-
-module _ (names : List ℕ) {st : Standing} (out : Bool) (words : List ℕ) (k : SmallLowerer) (n : ℕ)
-    {before behind : List ℕ} (e : st ≡ standing_in out) (few : k.own ≤ 16) where
-  pub given_refused : {j : Refusal} {r : Outcome ℕ} → Puts (lower_words names st words k.seen) n before behind (Err j)
-      → r ≡ Err j → PutsOne (words_step names (standing_in out) words) n k k before behind r
-  given_refused puts q =
-      one_refused few q (λ s sh. rw (sh.saw, ← e, words_refused (lower_words names st words k.seen) puts))
-
-  pub given_puts : {p : Put} → Puts (lower_words names st words k.seen) n before behind (Ok p)
-      → PutsOne (words_step names (standing_in out) words) n k
-      (record { seen = p.seen; kept = k.kept; own = k.own; list = k.list }) before behind (Ok p.at)
-  given_puts {p} puts =
-      one_given few (puts.few p refl) (λ s sh. go s sh (words_given (lower_words names st words k.seen) puts))
-    where
-      go : (s : Lowerer) → Shows s k → GivenWords (lower_words names st words k.seen) n before behind p
-          → Given (words_step names (standing_in out) words s) n before behind
-          (record { seen = p.seen; kept = k.kept; own = k.own; list = k.list }) p.at
-      go s sh g = record {
-        it = advanced g.it.given (record { seen = g.it.left; kept = s.kept; own = s.own });
-        is = rw (sh.saw, ← e, g.is);
-        shows = record { saw = g.saw; keeps = sh.keeps; full = sh.full; many = sh.many; words = sh.words };
-        count = g.count;
-        stored = g.stored;
-      }
-
 -- ---- kind 2: the loop of `put_own`, which copies the words in the list
 
 pub record Storing (list : List ℕ) (count at : ℕ) (out₀ out : List ℕ) (i : ℕ) : Type 0 where
   pub size : length out ≡ length out₀
   pub copied : length list ≡ 16 → Copying list count at out₀ out i
 
-pub storing_start : (list : List ℕ) (count at : ℕ) (out : List ℕ) → Storing list count at out out 0
-storing_start list count at out = record { size = refl; copied = λ full. copying_start list count at out }
-
-module _ {list : List ℕ} {count at : ℕ} {out₀ out : List ℕ} {i : ℕ} (inv : Storing list count at out₀ out i) (few : count ≤ 16) where
-  pub storing_more : i < count → {out₁ : List ℕ} → out₁ ≡ set out (at + i) (get_or list i 0) → Storing list count at out₀ out₁ (i + 1)
-  storing_more h e = record {
-    size = ap length e ∙ length-set out (at + i) (get_or list i 0) ∙ inv.size;
-    copied = λ full. rw e (copying_more (inv.copied full) (omega arith) h);
-  }
-
-  pub storing_end : count ≤ i → length list ≡ 16 → out ≡ sets out₀ at (take count list)
-  storing_end h full = copying_end (inv.copied full) (omega arith) h
-
 -- ---- kind 2: a later use, and the first
-
--- whatever is given, the words in the list
-pub self_again : (names words : List ℕ) {k : SmallLowerer} (n : ℕ) {before behind : List ℕ} → k.kept ≡ true
-    → k.own ≤ 16 → (length k.list ≡ 16 → behind ≡ sets before n (take k.own k.list)) → {m : ℕ} → m ≡ n + k.own
-    → PutsOne (self_step names words) n k k before behind (Ok m)
-self_again names words {k} n t few stored {m} e =
-    one_given few (omega (arith, e)) (λ s sh. record {
-      it = advanced (values_in s.own) s;
-      is = rw (sh.keeps, t);
-      shows = sh;
-      count = e ∙ rw (sh.many t);
-      stored = stored sh.full ∙ rw (sh.words t);
-    })
 
 module _ (names words : List ℕ) (k : SmallLowerer) (n : ℕ) {list₁ : List ℕ} (t : k.kept ≡ false) where
   -- no anonymous ones are appended
   said : {r : Outcome Put} → Puts (lower_words names Aside (appended 0 words) k.seen) 0 k.list list₁ r
       → Puts (lower_words names Aside words k.seen) 0 k.list list₁ r
   said call = rw (zero-sub (length words), append-nil words) at call
-
-  pub self_refused : {j : Refusal} {r : Outcome ℕ} {before behind : List ℕ} → k.own ≤ 16
-      → Puts (lower_words names Aside (appended 0 words) k.seen) 0 k.list list₁ (Err j) → r ≡ Err j
-      → PutsOne (self_step names words) n k (record { seen = k.seen; kept = k.kept; own = k.own; list = list₁ }) before
-      behind r
-  self_refused few call q =
-      one_refused few q
-      (λ s sh. rw (sh.keeps, t, sh.saw, words_refused (lower_words names Aside words k.seen) (said call)))
 
   -- the words given are in the list, and from there in the slice
   pub self_first : {p : Put} {before behind : List ℕ}

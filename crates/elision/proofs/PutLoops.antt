@@ -234,9 +234,6 @@ recording_less stands e = ends_order (ends_there stands e)
 
 module _ {names : List ℕ} {out : Bool} {words : List ℕ} {before : SmallLowerer} {slice₀ slice : List ℕ}
     {k : SmallLowerer} {n at : ℕ} (inv : Recording names out words before slice₀ slice k n at) where
-  pub recording_room : at < length words → (k.own ≤ 16) × (n ≤ 65536)
-  recording_room h = (inv.held, omega (arith, inv.small, inv.few))
-
   pub recording_end : length words ≤ at → (s : Lowerer) → Shows s before
       → Lowers (run_steps names out (steps_of words) s) 0 slice₀ slice k (Ok n)
   recording_end h s sh = reached_end (inv.reached s sh) h

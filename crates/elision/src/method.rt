@@ -47,14 +47,12 @@ pub fn measure(
 {
     shape_of(receiver, steps, returns)?;
     env.check()?;
-    let names = env.names;
-    let named = env.named;
-    let totals = judge(&names[0..named], receiver, steps, returns)?;
+    let totals = judge(&env.names[0..env.named], receiver, steps, returns)?;
     Ok(Lowering {
         selves: totals.selves,
         steps: totals.steps,
         returns: totals.returns,
-        env: lifetimes::LifetimeEnv::from_bounds(named, totals.count, env.bounds),
+        env: lifetimes::LifetimeEnv::from_bounds(env.named, totals.count, env.bounds),
     })
 }
 
@@ -82,10 +80,8 @@ pub fn lower(
     {
         return Err(Refusal::NoRoom);
     }
-    let names = env.names;
-    let named = env.named;
     run(
-        &names[0..named],
+        &env.names[0..env.named],
         receiver,
         steps,
         returns,

@@ -21,7 +21,8 @@ use lifetimes::{Lifetime, MaybeStatic};
 use records::MAX_LIST;
 
 // A lowerer as it goes through the records: what is seen, whether the `Self` type was there, and how many lifetimes it
-// has then, whose words stand in front of the list.
+// has then, whose words stand in front of the list. That these are at most 16 each contract says for itself: a ghost
+// field would put a proof into every record that a law speaks of, and this struct into a file of its own.
 #[derive(Clone, Copy)]
 pub(crate) struct SmallLowerer {
     pub(crate) seen: Seen,

@@ -1,10 +1,9 @@
 -- `type_end` meets its contract: each way out is one law of proofs/TypesLaws.antt.
 use native.Mathlib.Omega.{arith}
-use borrow.Author.Rules.{rules}
 use Rattle.ast_lifetimes.proofs.TypesLaws.{Stands, type_deep, type_none, type_other, type_path}
 use Rattle.ast_lifetimes.proofs.TypesLaws.{type_reference_short, type_reference, type_option, type_result_missing}
 use Rattle.ast_lifetimes.proofs.TypesLaws.{type_result, type_no_code}
-use Rattle.records.proofs.EndLaws.{ends_told, ends_within, lifetimes_end}
+use Rattle.records.proofs.EndLaws.{ends_told, lifetimes_end}
 use Rattle.ast_lifetimes.proofs.types.+type_end.Goals as goal
 
 pub returns-then-nesting-eq0 : goal.returns-then-nesting-eq0
@@ -49,9 +48,6 @@ returns-in_err-second-in-4 t c =
     record { some = c.if-nesting-eq0.false; here = c.if-n-at.false } in
     rw c.from_residual.ensures
     (type_result_missing stands c.in-4.is (ends_told c.type_end-in-4.ensures c.in_err-second-in-4.was))
-
-pub type_end-requires-in-4-2 : goal.type_end-requires-in-4-2
-type_end-requires-in-4-2 t c = (search rules, ends_within (ends_told c.type_end-in-4.ensures c.in_ok-second-in-4.was))
 
 pub returns-in_ok-second-in-4 : goal.returns-in_ok-second-in-4
 returns-in_ok-second-in-4 t c =

@@ -1,9 +1,8 @@
 -- `types_shape` meets its contract. The loop's invariant is `Shaping` of the crate `records`; the measure is how many
 -- words are to be read.
-use native.Mathlib.Omega.{arith}
 use borrow.Author.Rules.{rules}
 use Rattle.std.proofs.lemmas.Result.{err_from_is_err_and}
-use Rattle.records.proofs.EndLaws.{ends_told, ends_past}
+use Rattle.records.proofs.EndLaws.{ends_told}
 use Rattle.records.proofs.ShapeLoops.{shaping_long, shaping_start, shaping_missing, shaping_more, shaping_end}
 use Rattle.ast_lifetimes.specs.Types.{read_type}
 use Rattle.ast_lifetimes.proofs.OptionLaws.{ok_or_missing, ok_or_found}
@@ -22,12 +21,6 @@ returns-in_err-at c = record {
       rw (p.1, p.2, m.1)
       (shaping_missing c.loop-at.invariant.1 c.loop-at-test.true (ends_told c.type_end.ensures m.0));
 }
-
-pub loop-at-smaller : goal.loop-at-smaller
-loop-at-smaller c = omega (
-  arith,
-  ends_past (ends_told c.type_end.ensures (ok_or_found _ c.ok_or.ensures.value c.in_ok-at.was)),
-)
 
 pub loop-at-preserved : goal.loop-at-preserved
 loop-at-preserved c = (

@@ -4,7 +4,7 @@ use mathlib.Core.Path.{◌≡◌}
 use lib.ListN.{length}
 use Rattle.ast_lifetimes.proofs.ThanLaws.{few_names}
 use Rattle.elision.proofs.OutcomeLaws.{passed_on}
-use Rattle.elision.proofs.EntryLaws.{measure_shape, shape_told, measure_shaped, measure_env, valid_told}
+use Rattle.elision.proofs.EntryLaws.{measure_shape, shape_told, measure_env, valid_told}
 use Rattle.elision.proofs.EntryLaws.{measure_refused, measure_all}
 use borrow.Author.Rules.{rules}
 use Rattle.elision.proofs.method.measure.Goals as goal
@@ -25,9 +25,6 @@ slice_bounds-judge-end c =
     let full : length c.args.env.names ≡ 32 = search rules in
     let valid = valid_told (shape_told c.args.env _ _ _ c.in_ok-shape_of.ensures) c.in_ok-check.ensures.answer in
     omega (arith, full, few_names c.args.env valid.none)
-
-pub judge-requires : goal.judge-requires
-judge-requires c = measure_shaped (shape_told c.args.env _ _ _ c.in_ok-shape_of.ensures)
 
 pub returns-in_err-totals : goal.returns-in_err-totals
 returns-in_err-totals c =

@@ -1,8 +1,6 @@
 -- `steps_shape` meets its contract. The loop's invariant is `Shaping` of the crate `records`; the measure is how many
 -- words are to be read.
-use native.Mathlib.Omega.{arith}
 use borrow.Author.Rules.{rules}
-use Rattle.records.proofs.EndLaws.{ends_past}
 use Rattle.records.proofs.ShapeLoops.{shaping_long, shaping_start, shaping_missing, shaping_more, shaping_end}
 use Rattle.elision.specs.Steps.{read_step}
 use Rattle.elision.proofs.StepLaws.{ends_there, missing_end}
@@ -18,9 +16,6 @@ pub returns-in_default : goal.returns-in_default
 returns-in_default c = record {
   answer = shaping_missing c.loop-at.invariant.1 c.loop-at-test.true (missing_end c.in_default.ensures);
 }
-
-pub loop-at-smaller : goal.loop-at-smaller
-loop-at-smaller c = omega (arith, ends_past (ends_there c.in-Some.ensures c.end-at.ensures))
 
 pub loop-at-preserved : goal.loop-at-preserved
 loop-at-preserved c = (

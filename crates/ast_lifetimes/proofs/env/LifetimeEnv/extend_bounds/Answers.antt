@@ -1,24 +1,10 @@
 -- `extend_bounds` meets its contract: each pair is one step of the run.
-use mathlib.Core.Path.{sym, ap, ◌∙◌}
+use mathlib.Core.Path.{◌∙◌}
 use native.Mathlib.Omega.{arith}
 use Rattle.std.proofs.lemmas.Result.{err_from_is_err_and}
-use Rattle.ast_lifetimes.specs.Shapes.{pairs_of}
-use Rattle.ast_lifetimes.specs.Entries.{push_pair}
 use Rattle.ast_lifetimes.proofs.BoundsLaws.{pairs_first, pairs_none}
-use Rattle.ast_lifetimes.proofs.StandsLaws.{folding_start, folding_same, folding_refused, folding_more, folding_end}
+use Rattle.ast_lifetimes.proofs.StandsLaws.{folding_refused, folding_more, folding_end}
 use Rattle.ast_lifetimes.proofs.env.LifetimeEnv.extend_bounds.Goals as goal
-
-pub loop-pair-init : goal.loop-pair-init
-loop-pair-init c =
-    let chunks = c.chunks_exact-pair-items.ensures in
-    rw c.into_iter-pair-iterator.ensures.into_iter_gives (
-      chunks.size,
-      folding_same (folding_start push_pair (pairs_of c.args.words.now) c.requires)
-          (ap pairs_of (sym chunks.rest)),
-    )
-
-pub push-requires : goal.push-requires
-push-requires c = c.loop-pair.invariant.1.stands
 
 pub loop-pair-preserved : goal.loop-pair-preserved
 loop-pair-preserved c =

@@ -29,9 +29,6 @@ overflow_add-at-in-words-2 c = omega (arith, implying_fits c.words.invariant c.w
 pub slice_bounds-extend_path-end : goal.slice_bounds-extend_path-end
 slice_bounds-extend_path-end c = implying_fits c.words.invariant c.words-test.true c.if-code-ne1.false
 
-pub extend_path-requires : goal.extend_path-requires
-extend_path-requires c = record { stands = c.words.invariant.run.stands; reaches = c.words.invariant.reaches }
-
 pub returns-in_err-extend_path : goal.returns-in_err-extend_path
 returns-in_err-extend_path c = let p = err_from_is_err_and c.from_residual.result c.from_residual.ensures.1 in
     rw (p.1, p.2)

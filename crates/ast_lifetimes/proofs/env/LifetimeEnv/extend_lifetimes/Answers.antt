@@ -4,15 +4,8 @@ use native.Mathlib.Omega.{arith}
 use lib.ListN.{drop_of_length-le}
 use lib.Seq.{drop-cons}
 use Rattle.std.proofs.lemmas.Result.{err_from_is_err_and}
-use Rattle.ast_lifetimes.specs.Entries.{declare}
-use Rattle.ast_lifetimes.proofs.StandsLaws.{folding_start, folding_refused, folding_more, folding_end}
+use Rattle.ast_lifetimes.proofs.StandsLaws.{folding_refused, folding_more, folding_end}
 use Rattle.ast_lifetimes.proofs.env.LifetimeEnv.extend_lifetimes.Goals as goal
-
-pub loop-name-init : goal.loop-name-init
-loop-name-init c = folding_start declare c.args.names.now c.requires
-
-pub declare-requires : goal.declare-requires
-declare-requires c = c.loop-name.invariant.stands
 
 pub returns-in_err-declare : goal.returns-in_err-declare
 returns-in_err-declare c = let p = err_from_is_err_and c.from_residual.result c.from_residual.ensures.1 in

@@ -2,7 +2,7 @@
 use native.Mathlib.Omega.{arith}
 use Rattle.std.proofs.lemmas.Result.{err_from_is_err_and}
 use Rattle.ast_lifetimes.proofs.StandsLaws.{stands_few, leaves_stands}
-use Rattle.ast_lifetimes.proofs.PathLoops.{pathing_start, pathing_passed, pathing_refused, pathing_below, pathing_pushed}
+use Rattle.ast_lifetimes.proofs.PathLoops.{pathing_passed, pathing_refused, pathing_below, pathing_pushed}
 use Rattle.ast_lifetimes.proofs.PathLoops.{pathing_end}
 use Rattle.ast_lifetimes.proofs.env.LifetimeEnv.extend_path.Goals as goal
 use Rattle.ast_lifetimes.proofs.env.LifetimeEnv.extend_path.Goals.{then-is_implied+in_ok-bound, else-is_implied}
@@ -10,14 +10,8 @@ use Rattle.ast_lifetimes.proofs.env.LifetimeEnv.extend_path.Goals.{then-is_impli
 pub outlived-taken-requires : goal.outlived-taken-requires
 outlived-taken-requires c = stands_few c.requires.stands
 
-pub loop-word-init : goal.loop-word-init
-loop-word-init c = pathing_start c.args.behind c.args.lifetimes.now c.args.reach.now.sets c.requires.stands c.requires.reaches
-
 pub is_implied-requires : goal.is_implied-requires
 is_implied-requires c = stands_few c.loop-word.invariant.run.stands
-
-pub push-requires : goal.push-requires
-push-requires c = c.loop-word.invariant.run.stands
 
 pub returns-in_err-bound : goal.returns-in_err-bound
 returns-in_err-bound c =

@@ -1,6 +1,6 @@
 -- `from_method_item` meets its contract: the first record that is not in shape refuses.
 use Rattle.std.proofs.lemmas.Result.{err_from_is_err_and}
-use Rattle.ast_lifetimes.proofs.ItemLaws.{item_names, item_bounds, item_types, item_shaped}
+use Rattle.ast_lifetimes.proofs.ItemLaws.{item_names, item_bounds, item_types}
 use Rattle.ast_lifetimes.proofs.env.LifetimeEnv.from_method_item.Goals as goal
 
 pub returns-in_err-names_shape : goal.returns-in_err-names_shape
@@ -28,8 +28,3 @@ returns-in_err-types_shape c = record {
       c.in_ok-names_shape.was c.bounds_shape.ensures.answer c.in_ok-bounds_shape.was c.types_shape.ensures.answer
       c.in_err-types_shape.was);
 }
-
-pub built-requires : goal.built-requires
-built-requires c = item_shaped c.args.names.now c.args.bounds.now c.args.types.now c.names_shape.ensures.answer
-    c.in_ok-names_shape.was c.bounds_shape.ensures.answer c.in_ok-bounds_shape.was c.types_shape.ensures.answer
-    c.in_ok-types_shape.was

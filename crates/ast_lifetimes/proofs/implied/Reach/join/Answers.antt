@@ -1,18 +1,12 @@
 -- `join` meets its contract: each turn joins one set more.
-use mathlib.Core.Path.{◌≡◌, refl, sym, ap, ◌∙◌}
+use mathlib.Core.Path.{refl, sym, ap, ◌∙◌}
 use native.Mathlib.Omega.{arith}
-use borrow.Author.Rules.{rules}
-use lib.ListN.{length, get_or}
+use lib.ListN.{get_or}
 use Rattle.lifetimes.specs.declared.lifetime.Lifetime.{Lifetime}
 use Rattle.lifetimes.specs.Sets.{member}
-use Rattle.ast_lifetimes.proofs.OutlivedLaws.{joining_start, joining_stays, joining_joins, joining_end}
+use Rattle.ast_lifetimes.proofs.OutlivedLaws.{joining_stays, joining_joins, joining_end}
 use Rattle.ast_lifetimes.proofs.implied.Reach.join.Goals as goal
 use Rattle.ast_lifetimes.proofs.implied.Reach.join.Goals.{then-contains, else-contains}
-
-pub loop-x-init : goal.loop-x-init
-loop-x-init c =
-    let full : length c.args.self.now.sets ≡ 32 = search rules in
-    joining_start c.args.bound.longer c.args.bound.shorter c.args.self.now.sets full
 
 pub loop-x-preserved : goal.loop-x-preserved
 loop-x-preserved c =

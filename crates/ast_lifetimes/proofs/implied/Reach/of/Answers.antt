@@ -3,15 +3,12 @@ use mathlib.Core.Path.{◌≡◌}
 use native.Mathlib.Omega.{arith}
 use borrow.Author.Rules.{rules}
 use lib.ListN.{length}
-use Rattle.ast_lifetimes.proofs.OutlivedLaws.{reaching_start, reaching_more}
+use Rattle.ast_lifetimes.proofs.OutlivedLaws.{reaching_more}
 use Rattle.ast_lifetimes.proofs.StandsLaws.{stands_few, stands_pushed, stands_below}
 use Rattle.ast_lifetimes.proofs.implied.Reach.of.Goals as goal
 
 pub each_itself-reach-requires : goal.each_itself-reach-requires
 each_itself-reach-requires c = stands_few c.requires
-
-pub loop-i-init : goal.loop-i-init
-loop-i-init c = reaching_start c.args.env.now.named c.args.env.now.bounds.list _ c.each_itself-reach.ensures
 
 pub offset_bounds-env-i : goal.offset_bounds-env-i
 offset_bounds-env-i c = omega (arith, stands_pushed c.requires, c.requires.few_bounds)
@@ -28,6 +25,3 @@ loop-i-preserved c =
     let whole : length c.args.env.now.bounds.list ≡ 256 = search rules in
     reaching_more c.args.env.now.named c.loop-i.i c.args.env.now.bounds.list _ _
     (omega (arith, whole, stands_pushed c.requires, c.requires.few_bounds)) c.join.ensures c.loop-i.invariant
-
-pub returns : goal.returns
-returns c = let e : c.loop-i.i ≡ c.args.env.now.bounds.pushed = omega arith in rw e at c.loop-i.invariant

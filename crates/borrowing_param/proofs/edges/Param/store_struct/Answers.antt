@@ -15,7 +15,7 @@ use Rattle.borrowing_param.proofs.edges.Param.store_struct.Goals.{then-draws, el
 pub put_pair-next-requires : goal.put_pair-next-requires
 put_pair-next-requires c = let a = c.args in
     let k = c.loop-def.def in
-    let test = c.draws.ensures ∙ ap (drawn (draws_in a.set)) c.from_word.ensures.answer in
+    let test = c.draws.ensures ∙ ap (drawn (draws_in a.set)) c.linked_lifetime.ensures in
     let split = edges_one (draws_in a.set) a.used a.self.number c.from-option.result a.self.path.now k
     c.loop-def-test.true (sym c.if-draws.true ∙ test) in (
       refl,
@@ -29,7 +29,7 @@ put_pair-next-requires c = let a = c.args in
 pub loop-def-preserved : goal.loop-def-preserved
 loop-def-preserved c = let a = c.args in
     let k = c.loop-def.def in
-    let test = c.draws.ensures ∙ ap (drawn (draws_in a.set)) c.from_word.ensures.answer in
+    let test = c.draws.ensures ∙ ap (drawn (draws_in a.set)) c.linked_lifetime.ensures in
     elim c.if-draws.branch [
       | then-draws w ↦ rw (w.next-is, w.pairs-is, w.edges-is) (storing_part c.loop-def.invariant
           (edge a.used a.self.number 3 k c.from-option.result ∷ [])
