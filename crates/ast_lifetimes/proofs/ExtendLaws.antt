@@ -21,7 +21,7 @@ use Rattle.ast_lifetimes.specs.Types.{types_in_shape, type_names_of}
 use Rattle.ast_lifetimes.specs.Env.{all_pair_checks, bounds_for, names_of, bounds_of, named_env, env_checks}
 use Rattle.ast_lifetimes.specs.Env.{implied_on, extended_with, extend_checks, extend_implied}
 use Rattle.ast_lifetimes.specs.Entries.{SoFar, so_far, all_paths, fold, step}
-use Rattle.ast_lifetimes.specs.Inner.{so_far_of, Stands, Leaves}
+use Rattle.ast_lifetimes.specs.Inner.{so_far_of, StandsIn, Leaves}
 use Rattle.ast_lifetimes.proofs.EnvLaws.{in_shape, off_shape}
 use Rattle.ast_lifetimes.proofs.EntryLaws.{fold_types}
 use Rattle.ast_lifetimes.proofs.StandsLaws.{stands_same, stands_here, leaves_stands, leaves_refused, cleared_stands}
@@ -63,10 +63,10 @@ module _ (e : LifetimeEnv) (types : List ℕ) {v : Verdict} (shape : v ≡ shape
 
     module _ (full : length e.names ≡ 32) (whole : length e.bounds.list ≡ 256) {w : Verdict} (p : w ≡ judged (env_checks e))
         (q : w ≡ Ok (tt {0})) {d : LifetimeEnv} (is : d ≡ named_env (names_of e) (bounds_of e)) where
-      stands : Stands (so_far_of e) d
+      stands : StandsIn (so_far_of e) d
       stands = cleared_stands e full whole (valid e p q) is
 
-      pub extend_stands : Stands (so_far_of d) d
+      pub extend_stands : StandsIn (so_far_of d) d
       extend_stands = stands_here stands
 
       outcome : over env_of (fold step (so_far_of d) (all_paths types)) ≡ extend_implied e types

@@ -15,7 +15,7 @@ use Rattle.ast_lifetimes.specs.declared.env.LifetimeEnv.{LifetimeEnv}
 use Rattle.ast_lifetimes.specs.Types.{TypeName, Other, Named, Reference, Option, Result}
 use Rattle.ast_lifetimes.specs.Env.{bounds_of, Behind, Nothing, behind_ref}
 use Rattle.ast_lifetimes.specs.Entries.{Entry, Path, path, paths, SoFar, fold, step}
-use Rattle.ast_lifetimes.specs.Inner.{so_far_of, Stands, Leaves, encode, encode_all, OutliveSets}
+use Rattle.ast_lifetimes.specs.Inner.{so_far_of, StandsIn, Leaves, encode, encode_all, OutliveSets}
 use Rattle.ast_lifetimes.proofs.StandsLaws.{Folding, folding_start, folding_same, folding_end}
 use Rattle.ast_lifetimes.proofs.StandsLaws.{folding_more, folding_refused}
 
@@ -164,7 +164,7 @@ pub record Implying (whole : Outcome SoFar) (words : List ℕ) (e : LifetimeEnv)
   pub reaches : OutliveSets (bounds_of e) e.named sets
 
 pub implying_start : (ts : List TypeName) {words : List ℕ} {e : LifetimeEnv} (sets : List ℕ) → encode_all ts ≡ words
-    → Stands (so_far_of e) e → OutliveSets (bounds_of e) e.named sets
+    → StandsIn (so_far_of e) e → OutliveSets (bounds_of e) e.named sets
     → Implying (fold step (so_far_of e) (flat_map (paths Nothing) ts)) words e sets 0 0
 implying_start ts sets is h r = record {
   pending = ts;

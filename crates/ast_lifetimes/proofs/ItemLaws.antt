@@ -23,7 +23,7 @@ use Rattle.ast_lifetimes.specs.Types.{types_in_shape}
 use Rattle.ast_lifetimes.specs.Env.{named_env, from_method_item}
 use Rattle.ast_lifetimes.specs.Entries.{Name, Bounded, all_paths, entries, SoFar, so_far, fold, declare, push_pair}
 use Rattle.ast_lifetimes.specs.Entries.{step}
-use Rattle.ast_lifetimes.specs.Inner.{so_far_of, Stands, Leaves}
+use Rattle.ast_lifetimes.specs.Inner.{so_far_of, StandsIn, Leaves}
 use Rattle.ast_lifetimes.proofs.EnvLaws.{in_shape, off_shape}
 use Rattle.ast_lifetimes.proofs.EntryLaws.{fold_named, fold_bounded, built_in_order}
 use Rattle.ast_lifetimes.proofs.StandsLaws.{stands_here, leaves_same, leaves_stands, leaves_refused, Folding, folding_part}
@@ -137,7 +137,7 @@ module _ {names bounds types : List ℕ} (sh : Shaped names bounds types) where
   refused q = sym (built_in_order names bounds types sh.all ∙ rw q)
 
   module _ {e₀ : LifetimeEnv} (none : e₀ ≡ named_env [] []) where
-    pub item_stands : Stands (so_far_of e₀) e₀
+    pub item_stands : StandsIn (so_far_of e₀) e₀
     unfolding all bounds_from
     item_stands = stands_here (record { is = none; few_names = omega arith; few_bounds = omega arith; below = refl })
 
@@ -157,7 +157,7 @@ module _ {names bounds types : List ℕ} (sh : Shaped names bounds types) where
             ++ (map Name (method_names names) ++ (map Bounded (method_pairs bounds) ++ all_paths types))) e₁
         one = folding_part start (map Name (impl_names names)) _ refl named ok₁
 
-        pub item_named : Stands (so_far_of e₁) e₁
+        pub item_named : StandsIn (so_far_of e₁) e₁
         item_named = one.stands
 
         module _ {e₂ : LifetimeEnv} {r₂ : Verdict}
@@ -173,7 +173,7 @@ module _ {names bounds types : List ℕ} (sh : Shaped names bounds types) where
             two : Folding step whole (map Name (method_names names) ++ (map Bounded (method_pairs bounds) ++ all_paths types)) e₂
             two = folding_part one (map Bounded (impl_pairs bounds)) _ refl bound ok₂
 
-            pub item_bound : Stands (so_far_of e₂) e₂
+            pub item_bound : StandsIn (so_far_of e₂) e₂
             item_bound = two.stands
 
             module _ {e₃ : LifetimeEnv} {r₃ : Verdict}
@@ -189,7 +189,7 @@ module _ {names bounds types : List ℕ} (sh : Shaped names bounds types) where
                 three : Folding step whole (map Bounded (method_pairs bounds) ++ all_paths types) e₃
                 three = folding_part two (map Name (method_names names)) _ refl renamed ok₃
 
-                pub item_renamed : Stands (so_far_of e₃) e₃
+                pub item_renamed : StandsIn (so_far_of e₃) e₃
                 item_renamed = three.stands
 
                 module _ {e₄ : LifetimeEnv} {r₄ : Verdict}
@@ -205,7 +205,7 @@ module _ {names bounds types : List ℕ} (sh : Shaped names bounds types) where
                     four : Folding step whole (all_paths types) e₄
                     four = folding_part three (map Bounded (method_pairs bounds)) _ refl rebound ok₄
 
-                    pub item_rebound : Stands (so_far_of e₄) e₄
+                    pub item_rebound : StandsIn (so_far_of e₄) e₄
                     item_rebound = four.stands
 
                     module _ {e₅ : LifetimeEnv} {r₅ : Verdict} (i : Leaves (fold step (so_far_of e₄) (all_paths types)) e₅ r₅) where

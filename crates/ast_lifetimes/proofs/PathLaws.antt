@@ -19,7 +19,7 @@ use Rattle.lifetimes.specs.Walk.{FirstFirst, traversal}
 use Rattle.lifetimes.proofs.SetLaws.{member_empty}
 use Rattle.lifetimes.proofs.ReachLaws.{listed_toward}
 use Rattle.ast_lifetimes.specs.Shapes.{is_name, pair}
-use Rattle.ast_lifetimes.specs.Env.{place, is_declared, number_of, reach_of, among, path_pairs}
+use Rattle.ast_lifetimes.specs.Env.{place, is_declared, id_of, reach_of, among, path_pairs}
 use Rattle.ast_lifetimes.specs.Inner.{OutliveSets, outlived_by, is_implied}
 use Rattle.ast_lifetimes.proofs.ShapeLaws.{same_test}
 use Rattle.ast_lifetimes.proofs.NamesLaws.{number_some, number_none}
@@ -56,7 +56,7 @@ module _ (names : List ℕ) (bs : List Bound) (reach : List ℕ) (reaches : Outl
   implied_test word = rw (taken_has (place names word))
 
 -- the answers of `is_implied`
-module _ (names : List ℕ) (taken word : ℕ) {r : Option ℕ} (e : r ≡ number_of names word) (name : 2 ≤ word) where
+module _ (names : List ℕ) (taken word : ℕ) {r : Option ℕ} (e : r ≡ id_of names word) (name : 2 ≤ word) where
   pub implied_known : {at : ℕ} → r ≡ Some at → not (member taken at) ≡ is_implied names taken word
   implied_known h = let k = number_some names word (sym e ∙ h) in rw (le-leb 2 word name, k.0, k.1)
 
@@ -64,7 +64,7 @@ module _ (names : List ℕ) (taken word : ℕ) {r : Option ℕ} (e : r ≡ numbe
   implied_unknown h = rw (le-leb 2 word name, number_none names word (sym e ∙ h))
 
 -- the answers of `outlived`
-module _ (names sets : List ℕ) (word : ℕ) {r : Option ℕ} (e : r ≡ number_of names word) where
+module _ (names sets : List ℕ) (word : ℕ) {r : Option ℕ} (e : r ≡ id_of names word) where
   pub outlived_known : {at : ℕ} → r ≡ Some at → get_or sets at 0 ≡ outlived_by names sets word
   outlived_known h = let k = number_some names word (sym e ∙ h) in rw (k.0, k.1)
 

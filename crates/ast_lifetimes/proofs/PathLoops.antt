@@ -16,7 +16,7 @@ use Rattle.ast_lifetimes.specs.declared.env.LifetimeEnv.{LifetimeEnv}
 use Rattle.ast_lifetimes.specs.Shapes.{Pair, is_name, pair}
 use Rattle.ast_lifetimes.specs.Env.{place, is_declared, pair_checks, bound_of, names_of, bounds_of, among, path_pairs}
 use Rattle.ast_lifetimes.specs.Entries.{SoFar, so_far, fold, push_pair}
-use Rattle.ast_lifetimes.specs.Inner.{so_far_of, Stands, Leaves, OutliveSets, outlived_by, is_implied}
+use Rattle.ast_lifetimes.specs.Inner.{so_far_of, StandsIn, Leaves, OutliveSets, outlived_by, is_implied}
 use Rattle.ast_lifetimes.proofs.StandsLaws.{stands_named, leaves_stands, Folding, folding_same, folding_end}
 use Rattle.ast_lifetimes.proofs.StandsLaws.{folding_more, folding_refused}
 use Rattle.ast_lifetimes.proofs.PathLaws.{implied_test, path_next, path_end}
@@ -29,7 +29,7 @@ pub record More (p : Pair) (e e₁ : LifetimeEnv) : Type 0 where
   pub longer : place (names_of e) p.longer < e.named
   pub shorter : place (names_of e) p.shorter < e.named
 
-pub pushed_more : {A : Type 0} {p : Pair} {e e₁ : LifetimeEnv} {r : Outcome A} → Stands (so_far_of e) e
+pub pushed_more : {A : Type 0} {p : Pair} {e e₁ : LifetimeEnv} {r : Outcome A} → StandsIn (so_far_of e) e
     → Leaves (push_pair (so_far_of e) p) e₁ r → {a : A} → r ≡ Ok a → More p e e₁
 pushed_more {p = p} {e} {e₁} h one q =
     let l = leaves_stands one q in
@@ -58,7 +58,7 @@ module _ {behind : ℕ} {lifetimes : List ℕ} {e₀ e : LifetimeEnv} {sets : Li
       → Leaves (fold push_pair (so_far_of e₀) (path_pairs (names_of e₀) (bounds_of e₀) behind lifetimes)) e (Ok (tt {0}))
   pathing_end h = folding_end inv.run (path_end (names_of e₀) (bounds_of e₀) behind lifetimes i h)
 
-  module _ (inside : i < length lifetimes) (h : Stands (so_far_of e₀) e₀) (sets₀ : List ℕ)
+  module _ (inside : i < length lifetimes) (h : StandsIn (so_far_of e₀) e₀) (sets₀ : List ℕ)
       (r : OutliveSets (bounds_of e₀) e₀.named sets₀) {taken : ℕ} (t : taken ≡ outlived_by (names_of e₀) sets₀ behind)
       {test : Bool} (q : test ≡ is_implied (names_of e) taken (get_or lifetimes i 0)) where
     tested : test ≡ (is_name (get_or lifetimes i 0) && not (among (names_of e₀) (bounds_of e₀) behind (get_or lifetimes i 0)))

@@ -25,12 +25,12 @@ use Rattle.ast_lifetimes.specs.declared.env.LifetimeEnv.{LifetimeEnv}
 use Rattle.ast_lifetimes.specs.Shapes.{Pair}
 use Rattle.ast_lifetimes.specs.Env.{is_declared, bound_of, names_of, bounds_of, named_env, env_checks}
 use Rattle.ast_lifetimes.specs.Entries.{SoFar, so_far, fold, declare, push_pair}
-use Rattle.ast_lifetimes.specs.Inner.{so_far_of, Stands, Leaves}
+use Rattle.ast_lifetimes.specs.Inner.{so_far_of, StandsIn, Leaves}
 use Rattle.ast_lifetimes.proofs.EntryLaws.{fold_append}
 
 -- ---- what stands in an environment
 
-module _ {s : SoFar} {e : LifetimeEnv} (h : Stands s e) where
+module _ {s : SoFar} {e : LifetimeEnv} (h : StandsIn s e) where
   pub stands_names : names_of e ≡ s.names
   unfolding named_env
   stands_names = ap (λ (d : LifetimeEnv). names_of d) h.is ∙ take-append_seam s.names _
@@ -50,8 +50,8 @@ module _ {s : SoFar} {e : LifetimeEnv} (h : Stands s e) where
   pub stands_same : so_far_of e ≡ s
   stands_same = rw (stands_names, stands_bounds)
 
-  pub stands_here : Stands (so_far_of e) e
-  stands_here = subst (λ (t : SoFar). Stands t e) (sym stands_same) h
+  pub stands_here : StandsIn (so_far_of e) e
+  stands_here = subst (λ (t : SoFar). StandsIn t e) (sym stands_same) h
 
   pub stands_few : e.named ≤ 32
   stands_few = rw stands_named h.few_names
@@ -63,7 +63,7 @@ below_at n (b ∷ bs) e zero h = ((and-eq-true_iff (both_below n b) (all_below n
 below_at n (b ∷ bs) e (suc i) h = below_at n bs ((and-eq-true_iff (both_below n b) (all_below n bs)).0 e).1 i (omega arith)
 
 -- the sides of each bound are names' numbers
-pub stands_below : {e : LifetimeEnv} → Stands (so_far_of e) e → (i : ℕ) → i < e.bounds.pushed
+pub stands_below : {e : LifetimeEnv} → StandsIn (so_far_of e) e → (i : ℕ) → i < e.bounds.pushed
     → let b = get_or e.bounds.list i (above 0 0) in (b.longer < e.named) × (b.shorter < e.named)
 stands_below {e} h i k =
     let same : get_or (bounds_of e) i (above 0 0) ≡ get_or e.bounds.list i (above 0 0) = get_or-take e.bounds.pushed e.bounds.list i (above 0 0) k in
@@ -79,9 +79,9 @@ one_behind m d x l h =
     let more : length (l ++ (x ∷ [])) ≡ suc (length l) = length-append l (x ∷ []) ∙ omega arith in
     rw (one, more, set_at l d (replicate (m - suc (length l)) d) x (length l) refl, append_assoc)
 
-module _ {names : List ℕ} {bs : List Bound} {e : LifetimeEnv} (h : Stands (so_far names bs) e) where
+module _ {names : List ℕ} {bs : List Bound} {e : LifetimeEnv} (h : StandsIn (so_far names bs) e) where
   pub stands_declared : (name : ℕ) → length names < 32
-      → Stands (so_far (names ++ (name ∷ [])) bs)
+      → StandsIn (so_far (names ++ (name ∷ [])) bs)
       (record { names = set e.names e.named name; named = e.named + 1; bounds = e.bounds })
   unfolding named_env
   stands_declared name room = record {
@@ -92,7 +92,7 @@ module _ {names : List ℕ} {bs : List Bound} {e : LifetimeEnv} (h : Stands (so_
   }
 
   pub stands_pushed_more : (b : Bound) → length bs < 256 → b.longer < length names → b.shorter < length names
-      → Stands (so_far names (bs ++ (b ∷ [])))
+      → StandsIn (so_far names (bs ++ (b ∷ [])))
       (record {
         names = e.names;
         named = e.named;
@@ -112,10 +112,10 @@ module _ {A : Type 0} {o : Outcome SoFar} {e : LifetimeEnv} where
   pub leaves_err : {x : Refusal} → o ≡ Err x → Leaves {A = A} o e (Err x)
   leaves_err q = record { verdict = rw q; stands = λ s k. refused_accepted (ap verdict_of (sym q ∙ k)) }
 
-  pub leaves_ok : {s : SoFar} → o ≡ Ok s → Stands s e → (a : A) → Leaves o e (Ok a)
+  pub leaves_ok : {s : SoFar} → o ≡ Ok s → StandsIn s e → (a : A) → Leaves o e (Ok a)
   leaves_ok {s} q h a = record {
     verdict = rw q;
-    stands = λ t k. let same : Ok s ≡ Ok t = sym q ∙ k in let is : s ≡ t = cc in subst (λ (u : SoFar). Stands u e) is h;
+    stands = λ t k. let same : Ok s ≡ Ok t = sym q ∙ k in let is : s ≡ t = cc in subst (λ (u : SoFar). StandsIn u e) is h;
   }
 
   pub leaves_same : {p : Outcome SoFar} {r : Outcome A} → o ≡ p → Leaves o e r → Leaves p e r
@@ -130,20 +130,20 @@ module _ {A : Type 0} {o : Outcome SoFar} {e : LifetimeEnv} where
         go (Err y) k = k ∙ (let v : verdict_of r ≡ Err y = l.verdict ∙ ap verdict_of k in
             let w : verdict_of r ≡ Err x = ap verdict_of q in let u : y ≡ x = cc in ap (λ (z : Refusal). Err z) u)
 
-    pub leaves_stands : {a : A} → r ≡ Ok a → (o ≡ Ok (so_far_of e)) × Stands (so_far_of e) e
+    pub leaves_stands : {a : A} → r ≡ Ok a → (o ≡ Ok (so_far_of e)) × StandsIn (so_far_of e) e
     leaves_stands q = go o refl
       where
-        go : (p : Outcome SoFar) → o ≡ p → (o ≡ Ok (so_far_of e)) × Stands (so_far_of e) e
+        go : (p : Outcome SoFar) → o ≡ p → (o ≡ Ok (so_far_of e)) × StandsIn (so_far_of e) e
         go (Ok s) k = let h = l.stands s k in (k ∙ ap (λ (t : SoFar). Ok t) (sym (stands_same h)), stands_here h)
         go (Err y) k = refused_accepted (sym (ap verdict_of k) ∙ sym l.verdict ∙ ap verdict_of q)
 
 -- ---- a run of steps
 
 pub record Folding {B : Type 0} (f : SoFar → B → Outcome SoFar) (whole : Outcome SoFar) (left : List B) (e : LifetimeEnv) : Type 0 where
-  pub stands : Stands (so_far_of e) e
+  pub stands : StandsIn (so_far_of e) e
   pub rest : fold f (so_far_of e) left ≡ whole
 
-pub folding_start : {B : Type 0} (f : SoFar → B → Outcome SoFar) (l : List B) {e : LifetimeEnv} → Stands (so_far_of e) e
+pub folding_start : {B : Type 0} (f : SoFar → B → Outcome SoFar) (l : List B) {e : LifetimeEnv} → StandsIn (so_far_of e) e
     → Folding f (fold f (so_far_of e) l) l e
 folding_start f l h = record { stands = h; rest = refl }
 
@@ -179,7 +179,7 @@ module _ {B : Type 0} {f : SoFar → B → Outcome SoFar} {whole : Outcome SoFar
 
 -- ---- the answers of `declare` and `push`
 
-module _ {e : LifetimeEnv} (h : Stands (so_far_of e) e) (name : ℕ) where
+module _ {e : LifetimeEnv} (h : StandsIn (so_far_of e) e) (name : ℕ) where
   pub declare_full : 32 ≤ e.named → Leaves {A = Unit {0}} (declare (so_far_of e) name) e (Err Full)
   unfolding unless
   declare_full k = leaves_err (rw (le-leb 32 (length (names_of e)) (omega (arith, stands_named h))))
@@ -197,7 +197,7 @@ module _ {e : LifetimeEnv} (h : Stands (so_far_of e) e) (name : ℕ) where
         leaves_ok (rw (lt-leb 32 (length (names_of e)) (omega (arith, stands_named h)), k))
         (stands_declared h name (omega (arith, stands_named h))) (tt {0})
 
-module _ {e : LifetimeEnv} (h : Stands (so_far_of e) e) (p : Pair) where
+module _ {e : LifetimeEnv} (h : StandsIn (so_far_of e) e) (p : Pair) where
   pub push_longer : is_declared (names_of e) p.longer ≡ false → Leaves {A = Bound} (push_pair (so_far_of e) p) e (Err Undeclared)
   unfolding unless
   push_longer k = leaves_err (rw k)
@@ -257,7 +257,7 @@ cleared_env e full whole none {ns} a {bs} b =
 
 -- so an environment that was checked stands, once cleared
 pub cleared_stands : (e : LifetimeEnv) → length e.names ≡ 32 → length e.bounds.list ≡ 256 → NoneDue (env_checks e) → {d : LifetimeEnv}
-    → d ≡ named_env (names_of e) (bounds_of e) → Stands (so_far_of e) d
+    → d ≡ named_env (names_of e) (bounds_of e) → StandsIn (so_far_of e) d
 cleared_stands e full whole none q =
     let named : e.named ≤ 32 = ltb-false 32 e.named (none_first none) in
     let pushed : e.bounds.pushed ≤ 256 = ltb-false 256 e.bounds.pushed (none_first (none_rest none)) in

@@ -22,7 +22,7 @@ use Rattle.answers.proofs.RefusalLaws.{none_first, none_rest, first_more, none_m
 use Rattle.lifetimes.proofs.EnvLaws.{none_due}
 use Rattle.answers.proofs.LentLaws.{answers_refusal, answers_list, has_room}
 use Rattle.ast_lifetimes.specs.declared.env.LifetimeEnv.{LifetimeEnv}
-use Rattle.ast_lifetimes.specs.Env.{place, is_declared, number_of, names_of, bounds_of, reach_of, env_checks, list_than}
+use Rattle.ast_lifetimes.specs.Env.{place, is_declared, id_of, names_of, bounds_of, reach_of, env_checks, list_than}
 use Rattle.ast_lifetimes.proofs.NamesLaws.{number_none, number_some}
 use Rattle.answers.proofs.VerdictLaws.{unless_after}
 
@@ -45,7 +45,7 @@ module _ (d : Bool) (e : LifetimeEnv) (word : ℕ) (slice : List ℕ) where
   unfolding list_than
   than_refused f = answers_refusal _ slice (first_more _ f)
 
-  module _ (none : NoneDue (env_checks e)) (full : length e.names ≡ 32) {found : Option ℕ} (number : found ≡ number_of (names_of e) word) where
+  module _ (none : NoneDue (env_checks e)) (full : length e.names ≡ 32) {found : Option ℕ} (number : found ≡ id_of (names_of e) word) where
     count_named : length (names_of e) ≡ e.named
     count_named = length-take-le e.named e.names (omega (arith, few_names e none))
 

@@ -33,8 +33,8 @@ abbrev pub is_declared : List ℕ → ℕ → Bool
 is_declared names word = ltb (place names word) (length names)
 
 -- the number of a name; none for one that is not declared
-abbrev pub number_of : List ℕ → ℕ → prelude.Option ℕ
-number_of names word = position (λ name. eqb name word) names
+abbrev pub id_of : List ℕ → ℕ → prelude.Option ℕ
+id_of names word = position (λ name. eqb name word) names
 
 -- at a name: a 33rd (4), declared again (2)
 unfoldable pub name_checks : List ℕ → List ℕ → List Check

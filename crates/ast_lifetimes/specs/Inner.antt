@@ -1,5 +1,5 @@
--- For private functions only: what an environment under way holds, and what a step leaves. No public contract cites this
--- file.
+-- For private functions only: what an environment under way holds, and what a step leaves. No public contract cites
+-- this file.
 use Rattle.std.specs.Prelude.{ℕ, ◌≤◌, ◌<◌, Bool, true, cond, ◌&&◌, not, ◌≡◌, ◌↔◌, length, get_or, Ok}
 use mathlib.Core.List.{List, [], ◌∷◌, ◌++◌, flat_map}
 use Rattle.lifetimes.specs.declared.bounds.Bound.{Bound}
@@ -21,7 +21,7 @@ so_far_of e = so_far (names_of e) (bounds_of e)
 
 -- an environment has these names and bounds and nothing behind them; they are within the limits, the bounds between
 -- names
-pub record Stands (s : SoFar) (e : LifetimeEnv) : Type 0 where
+pub record StandsIn (s : SoFar) (e : LifetimeEnv) : Type 0 where
   pub is : e ≡ named_env s.names s.bounds
   pub few_names : length s.names ≤ most_names
   pub few_bounds : length s.bounds ≤ most_bounds
@@ -30,7 +30,7 @@ pub record Stands (s : SoFar) (e : LifetimeEnv) : Type 0 where
 -- what some steps leave: they are refused as their definition is; given, the environment has their names and bounds
 pub record Leaves {A : Type 0} (o : Outcome SoFar) (e : LifetimeEnv) (r : Outcome A) : Type 0 where
   pub verdict : verdict_of r ≡ verdict_of o
-  pub stands : (s : SoFar) → o ≡ Ok s → Stands s e
+  pub stands : (s : SoFar) → o ≡ Ok s → StandsIn s e
 
 -- the words of a type, and of types one after another
 unfoldable pub encode : types.TypeName → List ℕ

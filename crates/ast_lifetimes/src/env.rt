@@ -6,9 +6,9 @@ ghost use Rattle.answers.specs.Lent.{counted, judged, held, room, left, Fills};
 ghost use Rattle.ast_lifetimes.specs.Shapes.{pair, pairs_of, names_in_shape, bounds_in_shape};
 ghost use Rattle.ast_lifetimes.specs.Types.{types_in_shape};
 ghost use Rattle.ast_lifetimes.specs.Env.{named_env, env_checks, names_of, bounds_of, bound_of, from_method_item};
-ghost use Rattle.ast_lifetimes.specs.Env.{most_names, extend_implied, list_than, number_of};
+ghost use Rattle.ast_lifetimes.specs.Env.{most_names, extend_implied, list_than, id_of};
 ghost use Rattle.ast_lifetimes.specs.Entries.{fold, declare, push_pair};
-ghost use Rattle.ast_lifetimes.specs.Inner.{Stands, Leaves, so_far_of};
+ghost use Rattle.ast_lifetimes.specs.Inner.{StandsIn, Leaves, so_far_of};
 
 use super::bounds::bounds_shape;
 use super::names::{names_shape, position};
@@ -144,14 +144,14 @@ impl LifetimeEnv {
     // The number of a name; none for one that is not declared.
     pub(crate) fn id(&self, name: usize) -> Option<usize>
         requires { self.now.named ≤ most_names }
-        ensures { result ≡ number_of (names_of self.now) name }
+        ensures { result ≡ id_of (names_of self.now) name }
     {
         position(&self.names[..self.named], name)
     }
 
     // Declare one name more. Refused by 4 for a 33rd, by 2 for one that is declared.
     fn declare(&mut self, name: usize) -> Result<(), Refusal>
-        requires { Stands (so_far_of self.old) self.old }
+        requires { StandsIn (so_far_of self.old) self.old }
         ensures { Leaves (declare (so_far_of self.old) name) self.new result }
     {
         let named = self.named;
@@ -168,7 +168,7 @@ impl LifetimeEnv {
 
     // Declare some names one after another. Refused at the first bad place.
     fn extend_lifetimes(&mut self, names: &[usize]) -> Result<(), Refusal>
-        requires { Stands (so_far_of self.old) self.old }
+        requires { StandsIn (so_far_of self.old) self.old }
         ensures { Leaves (fold declare (so_far_of self.old) names.now) self.new result }
     {
         for name in names {
@@ -180,7 +180,7 @@ impl LifetimeEnv {
     // Push the bound of two names, and answer it. Refused by 3 for a side that is not declared, longer before shorter,
     // then by 4 for a 257th.
     pub(crate) fn push(&mut self, longer: usize, shorter: usize) -> Result<Bound, Refusal>
-        requires { Stands (so_far_of self.old) self.old }
+        requires { StandsIn (so_far_of self.old) self.old }
         ensures pushed { Leaves (push_pair (so_far_of self.old) (pair longer shorter)) self.new result }
         ensures bound { IfOk result (λ b. b ≡ bound_of (names_of self.old) (pair longer shorter)) }
     {
@@ -201,7 +201,7 @@ impl LifetimeEnv {
 
     // Push some words, pair after pair. Refused at the first bad place.
     fn extend_bounds(&mut self, words: &[usize]) -> Result<(), Refusal>
-        requires { Stands (so_far_of self.old) self.old }
+        requires { StandsIn (so_far_of self.old) self.old }
         ensures { Leaves (fold push_pair (so_far_of self.old) (pairs_of words.now)) self.new result }
     {
         for pair in words.chunks_exact(2) {

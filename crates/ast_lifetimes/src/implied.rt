@@ -7,7 +7,7 @@ ghost use Rattle.lifetimes.specs.declared.bounds.Bound.{Bound};
 ghost use Rattle.ast_lifetimes.specs.Types.{types_in_shape};
 ghost use Rattle.ast_lifetimes.specs.Env.{names_of, bounds_of, most_names};
 ghost use Rattle.ast_lifetimes.specs.Entries.{fold, step, Path, all_paths};
-ghost use Rattle.ast_lifetimes.specs.Inner.{Stands, Leaves, so_far_of, OutliveSets, outlived_by, is_implied};
+ghost use Rattle.ast_lifetimes.specs.Inner.{StandsIn, Leaves, so_far_of, OutliveSets, outlived_by, is_implied};
 
 use super::env::LifetimeEnv;
 use answers::Refusal;
@@ -34,7 +34,7 @@ impl Reach {
 
     // The sets by an environment's bounds.
     fn of(env: &LifetimeEnv) -> Reach
-        requires { Stands (so_far_of env.now) env.now }
+        requires { StandsIn (so_far_of env.now) env.now }
         ensures { OutliveSets (bounds_of env.now) env.now.named result.sets }
     {
         let mut reach = Reach::each_itself(env.named);
@@ -95,7 +95,7 @@ impl LifetimeEnv {
         behind: usize,
         reach: &mut Reach,
     ) -> Result<(), Refusal>
-        requires stands { Stands (so_far_of self.old) self.old }
+        requires stands { StandsIn (so_far_of self.old) self.old }
         requires reaches { OutliveSets (bounds_of self.old) self.old.named reach.old.sets }
         ensures pushed { Leaves (step (so_far_of self.old) (Path behind lifetimes.now)) self.new result }
         ensures reached { OnOk result (OutliveSets (bounds_of self.new) self.new.named reach.new.sets) }
@@ -113,7 +113,7 @@ impl LifetimeEnv {
     // Push what types imply, one after another: a path directly behind a named reference R pushes; an inner reference
     // replaces R, whatever else stands there clears it.
     pub(crate) fn extend_implied(&mut self, types: &[usize]) -> Result<(), Refusal>
-        requires stands { Stands (so_far_of self.old) self.old }
+        requires stands { StandsIn (so_far_of self.old) self.old }
         requires shaped { types_in_shape types.now ≡ true }
         ensures { Leaves (fold step (so_far_of self.old) (all_paths types.now)) self.new result }
     {

@@ -3,7 +3,7 @@ ghost use Rattle.std.specs.Prelude.{◌≡◌};
 ghost use Rattle.answers.specs.Lists.{all};
 ghost use Rattle.records.specs.Reading.{shape_verdict};
 ghost use Rattle.ast_lifetimes.specs.Shapes.{is_name, names_in_shape};
-ghost use Rattle.ast_lifetimes.specs.Env.{number_of};
+ghost use Rattle.ast_lifetimes.specs.Env.{id_of};
 
 use answers::Refusal;
 use records::MAX_WORDS;
@@ -38,7 +38,7 @@ fn all_names(words: &[usize]) -> bool
 
 // The number of a name among some: the first place where it stands; none where it is not declared.
 pub fn position(names: &[usize], name: usize) -> Option<usize>
-    ensures answer { result ≡ number_of names.now name }
+    ensures answer { result ≡ id_of names.now name }
 {
     names.iter().position(|other| *other == name)
 }
