@@ -5,7 +5,6 @@ use Rattle.std.proofs.Common.{Option, None, Some, IfSome, Result, Ok, Err}
 use Rattle.std.specs.Result.{OnOk}
 use Rattle.std.proofs.lemmas.Bool.{lt-leb, cases_lt}
 use Rattle.std.proofs.lemmas.List.{append-nil, length-append, length-take-le}
-use Rattle.std.proofs.Math.Option.{none}
 use Rattle.std.proofs.Math.Seq.{take-append_seam}
 use Rattle.std.specs.Io.KnownBytes.{Appends, Consumes, IsAtEnd}
 use Rattle.sheet.specs.Text.{most_bytes}
@@ -18,7 +17,7 @@ same_response : (a b : List ℕ) → sheet_in a ≡ sheet_in b → response a �
 unfolding response listing_checks sheet_refusals sheet_checks text_checks sheet_of
 same_response a b e = rw e refl
 
-too_long : (bytes : List ℕ) → most_bytes < length bytes → sheet_in bytes ≡ none
+too_long : (bytes : List ℕ) → most_bytes < length bytes → sheet_in bytes ≡ None
 unfolding sheet_in
 too_long bytes h = rw (lt-leb (length bytes) most_bytes h) refl
 

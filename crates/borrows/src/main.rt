@@ -17,13 +17,6 @@ use std::io;
 use std::io::{Read, Write};
 use std::process::ExitCode;
 
-// A line to standard error, where something failed. Where that fails too, nobody is told.
-fn report(rt: &impl Eprint, failed: bool, line: &str) {
-    if failed {
-        let _ = rt.eprintln(line);
-    }
-}
-
 // Whether reading the sheet failed, and what came of writing the answer. No Result of the two: a read that fails stops
 // no writing.
 #[derive(Clone, Copy)]
@@ -46,11 +39,10 @@ fn answer<R: Read, W: Write>(rt: &impl Eprint, input: &mut R, output: &mut W) ->
     let mut sheet: [u8; Text::MAX_BYTES + 1] = room(0);
     let got = read_input(input, &mut sheet);
     let read = got.count;
-    report(
-        rt,
-        got.failed,
-        "borrows: standard input could not be read to its end",
-    );
+    if got.failed {
+        // Where this fails too, nobody is told.
+        let _ = rt.eprintln("borrows: standard input could not be read to its end");
+    }
     let mut out: [u8; listing::ROOM] = room(0);
     let count = respond(&sheet[..read], &mut out);
     let written = output.write_all(&out[..count]);
@@ -65,10 +57,8 @@ fn main(rt: HostRuntime) -> ExitCode {
     let mut stdout = io::writer(&rt);
     let answered = answer(&rt, &mut stdin, &mut stdout);
     let status = status(&answered.written);
-    report(
-        &rt,
-        answered.written.is_err() && status == ExitCode::SUCCESS,
-        "borrows: the answer could not be written whole to standard output",
-    );
+    if answered.written.is_err() && status == ExitCode::SUCCESS {
+        let _ = rt.eprintln("borrows: the answer could not be written whole to standard output");
+    }
     status
 }
