@@ -6,6 +6,8 @@
 // answers a status: 0, or the number of the refusal in the scope paper ("01") or the change requests ("02"). Refused,
 // it leaves every lent slice as it was.
 //
+// C has no `Result`, so that a call tells its status by a number, in a `match` of its own.
+//
 // The scratch is local: no call allocates, keeps anything for the next one, or looks at anything but its arguments.
 #![tactic(auto)]
 

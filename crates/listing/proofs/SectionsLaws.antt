@@ -76,15 +76,8 @@ pub record Answering (answers : List ℕ) (at : ℕ) (out : List ℕ) (next : �
   pub here : i ≤ length answers
   pub left : Leaves (answer_lines_from 0 answers) at out (answer_lines_from i (drop i answers)) next out₁
 
-pub answering_start : (answers : List ℕ) (at : ℕ) (out : List ℕ) → length out < 2 ^ 64 → at < 2 ^ 64
-    → Answering answers at out at out 0
-answering_start answers at out h k = record { here = omega arith; left = leaves_all _ at out h k }
-
 module _ {answers : List ℕ} {at : ℕ} {out : List ℕ} {next : ℕ} {out₁ : List ℕ} {i : ℕ}
     (inv : Answering answers at out next out₁ i) where
-  pub answering_size : length out₁ ≡ length out
-  answering_size = leaves_size inv.left
-
   pub answering_end : length answers ≤ i → Prints (answer_lines_from 0 answers) at out next out₁
   unfolding numbered
   answering_end h =

@@ -1,5 +1,6 @@
 -- For private functions only: a listing made in lent scratch. No public contract cites this file.
-use Rattle.std.specs.Prelude.{ℕ, ◌*◌, ◌≤◌, ◌<◌, true, cond, ◌≡◌, List, [], ◌∷◌, ◌++◌, ltb, length, Ok, Err, Some, None, Option}
+use Rattle.std.specs.Prelude.{ℕ, ◌*◌, ◌≤◌, ◌<◌, true, cond, ◌≡◌, List, [], ◌∷◌, ◌++◌, ltb, length, Ok, Err}
+use Rattle.std.specs.Prelude.{Some, None, Option}
 use Rattle.std.proofs.lemmas.List.Edits.{sets}
 use Rattle.answers.specs.declared.Refusal.TheVariants.{NoRoom}
 use Rattle.lifetimes.specs.declared.env.LifetimeEnv.{LifetimeEnv}

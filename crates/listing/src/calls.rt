@@ -1,8 +1,8 @@
 // The listing of a sheet, from bytes to bytes.
 //
-// A sheet is judged and its answers are made in scratch that is lent (`list_within`), of one of four sizes, so that a
-// small sheet does not pay for a large one. Printing into no room at all measures, so nothing is written before it is
-// known that all fits.
+// A sheet is judged and its answers are made in scratch that is lent (`list_within`), of one of four sizes (`list_in`),
+// so that a small sheet does not pay for a large one. Printing into no room at all measures, so nothing is written
+// before it is known that all fits.
 ghost use Rattle.std.specs.Prelude.{◌≤◌, ◌≡◌, length, Ok};
 ghost use Rattle.answers.specs.Lent.{counted, held, room, left, Fills};
 ghost use Rattle.sheet.specs.Inner.{Roomy};
@@ -94,8 +94,9 @@ fn list_sheet(sheet: &[u8], out: &mut [u8]) -> Result<usize, Refusal>
     list_sized(sheet, out, sheet.len())
 }
 
-// The same in scratch for sheets of so many bytes, and where that is too short, in the next larger. That it calls
-// itself keeps the arrays of the larger sizes out of the frame of the smaller ones.
+// The same in scratch for sheets of so many bytes, as many as this one has or more, and where that is too short, in the
+// next larger. That it calls itself keeps the arrays of the larger sizes out of the frame of the smaller ones, so that
+// the sizes are no loop and no argument.
 fn list_sized(sheet: &[u8], out: &mut [u8], bytes: usize) -> Result<usize, Refusal>
     requires { length sheet.now ≤ bytes }
     ensures { ListsTo (listed_sheet sheet.now) (held out) result (left out) }
@@ -136,7 +137,7 @@ fn list_sized(sheet: &[u8], out: &mut [u8], bytes: usize) -> Result<usize, Refus
 }
 
 // In scratch of one size: so many words for the words of the sheet, for the lowered words of steps and of returns, for
-// the longer lists and for the edges.
+// the longer lists and for the edges. None: that is too short.
 fn list_in<
     const WORDS: usize,
     const GIVEN: usize,

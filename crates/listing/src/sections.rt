@@ -1,4 +1,7 @@
 // The sections of a listing, each its heading and its lines.
+//
+// Each is lent the slice and told the place, and answers the place behind its text, as the printers of `text` that it
+// calls: a struct of the two would be taken apart at each of those calls.
 ghost use Rattle.std.specs.Prelude.{length};
 ghost use mathlib.Core.List.{◌++◌, flat_map};
 ghost use Rattle.answers.specs.Lent.{held, left};

@@ -55,7 +55,7 @@ pub(crate) fn list_within(
     list_records(Records::laid(words, text.ends), scratch, out)
 }
 
-// List records that were read.
+// The same of the sheet's records, read.
 fn list_records(
     records: Records,
     scratch: Scratch,
@@ -112,7 +112,8 @@ fn list_records(
     )
 }
 
-// List an accepted method.
+// List an accepted method. Its lowered words are three slices and no struct: what was moved out of a struct cannot be
+// lent in another but by a caller whose proof is written by hand.
 fn list_method(
     env: LifetimeEnv,
     used: u64,
