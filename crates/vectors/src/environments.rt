@@ -20,8 +20,8 @@ pub(crate) fn new(rt: &impl Print, questions: &mut Questions<'_>) {
 }
 
 // Kind 18: an environment made by hand, and a bound, longer and shorter. `push_bound`: the refusal's number or 0, and
-// the whole environment afterwards; refused, as it was. Behind it, of the longer one and of the shorter one, whether `get_bounds` of the
-// environment as it was knows it.
+// the whole environment afterwards; refused, as it was. Behind it, of the longer one and of the shorter one, whether
+// `get_bounds` of the environment as it was knows it.
 pub(crate) fn push_bound(rt: &impl Print, questions: &mut Questions<'_>) {
     let env = made_by_hand(questions);
     let longer = Lifetime::new(questions.number());
