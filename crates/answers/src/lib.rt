@@ -1,4 +1,4 @@
-// Answers: why a call is refused, and what it answers where it is not.
+// Answers: why a call is refused. A call that may be answers a `Result` with what it gives or a `Refusal`.
 //
 // For every crate here; nothing of lifetimes or sheets is in it. The specs have how a call's answer is said: the first
 // refusal due in one ordered list of checks (`Refusals`), the convention for lent slices (`Lent`), and the list
