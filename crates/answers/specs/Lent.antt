@@ -41,7 +41,7 @@ Fills o s = left s ≡ written o (held s)
 abbrev pub Stays : Slice → Type 0
 Stays s = left s ≡ held s
 
--- whether a call is refused, where its result is beside the answer
+-- whether a call is refused, and by what, without what it gives
 abbrev pub verdict_of : {A : Type 0} → Outcome A → Verdict
 verdict_of (Ok a) = Ok (tt {0})
 verdict_of (Err r) = Err r
@@ -54,7 +54,7 @@ abbrev pub is_accepted : Verdict → Bool
 is_accepted (Ok u) = true
 is_accepted (Err r) = false
 
--- the result beside a verdict: what the call gives, or what it has beside a refusal
+-- what a call gives, or another value where it is refused
 abbrev pub result_or : {A : Type 0} → A → Outcome A → A
 result_or other (Ok a) = a
 result_or other (Err r) = other

@@ -35,7 +35,7 @@ pub(crate) fn judge_places(
 // agreement as its invariant, would be no plainer: each caller has them from a call that says so.
 //
 // Whether the rows of `structs`, so many, are not too many and their fields fit. Accepted, the array holds each row's
-// lifetimes: it is lent, since handed back beside a refusal it would be copied.
+// lifetimes: it is lent, since handed back in the `Result` it would be copied.
 pub(crate) fn index_rows(
     structs: &[usize],
     rows: usize,
