@@ -1,4 +1,4 @@
--- Runs of stores: `sets` of lib.Seq over joined lists, the loop of `copy_to`, and what an answer in a lent slice is.
+-- Runs of stores: `sets` of lib.Seq over joined lists, a loop that copies, and what an answer in a lent slice is.
 use Prim.Native.Nat.{ℕ, zero, suc, ◌+◌, ◌-◌, ◌≤◌, ◌<◌}
 use mathlib.Core.Path.{◌≡◌, refl, sym, ap, ◌∙◌}
 use mathlib.Core.List.{List, [], ◌∷◌, ◌++◌}
@@ -33,7 +33,7 @@ drop_replicate zero m x = rw sub-zero
 drop_replicate (suc n) zero x = rw zero-sub
 drop_replicate (suc n) (suc m) x = rw suc-sub-suc (drop_replicate n m x)
 
--- the loop of `copy_to`: what is left, stored from here, is all of it stored from the start
+-- a loop that copies: what is left, stored from here, is all of it stored from the start
 pub record Copying (items : List ℕ) (n at : ℕ) (out₀ out : List ℕ) (i : ℕ) : Type 0 where
   pub here : i ≤ n
   pub size : length out ≡ length out₀

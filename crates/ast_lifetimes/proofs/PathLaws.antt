@@ -1,4 +1,4 @@
--- What a path implies: the code's test by sets is the definition's by lists, and the loop of `push_path`.
+-- What a path implies: the code's test by sets is the definition's by lists, and the loop of `extend_path`.
 use Rattle.std.specs.Prelude.{Option, Some, None}
 use Prim.Native.Nat.{ℕ, suc, ◌+◌, ◌≤◌, ◌<◌}
 use mathlib.Core.Bool.{Bool, true, false, cond, ◌&&◌, not, true≢false}
