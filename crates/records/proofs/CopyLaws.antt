@@ -3,11 +3,11 @@ use Rattle.std.specs.Prelude.{Ok, Err}
 use Prim.Native.Nat.{ℕ, ◌≤◌, ◌<◌, min}
 use mathlib.Core.Bool.{Bool, true, false}
 use mathlib.Core.Path.{◌≡◌, refl, sym, ap, ◌∙◌}
-use mathlib.Core.List.{List, [], ◌∷◌, ◌++◌}
+use mathlib.Core.List.{List, [], ◌∷◌}
 use native.Mathlib.Omega.{arith}
 use borrow.Author.Tests.{leb-true, leb-false, ltb-true, ltb-false}
 use lib.Dec.{leb}
-use lib.ListN.{length, drop, take}
+use lib.ListN.{length, take}
 use lib.Seq.{sets, take_all, length-take-le}
 use Rattle.answers.specs.declared.Refusal.{Refusal}
 use Rattle.answers.specs.declared.Refusal.TheVariants.{NoRoom}
@@ -15,7 +15,7 @@ use Rattle.answers.specs.Refusals.{Check, Outcome, unless, FirstDue, here, later
 use Rattle.answers.specs.Lent.{counted, written, room_check}
 use Rattle.answers.proofs.RefusalLaws.{due_given, refused_due, given_due, none_first}
 use Rattle.answers.proofs.LentLaws.{answers_refusal, answers_list, no_room, has_room}
-use Rattle.answers.proofs.Copying.{sets_front}
+use Rattle.answers.proofs.Copying.{sets_front, Copying, copying_end}
 use Rattle.records.specs.Copied.{copied}
 
 -- the first words, so many or all there are
@@ -40,14 +40,16 @@ module _ (count : ℕ) (words : List ℕ) where
     unfolding copied
     copy_refused h = answers_refusal (take count words) out (no_room (length out) (take count words) (omega (arith, how_many_lem, e)))
 
-    pub copy_done : n ≤ length out → (Ok n ≡ counted (copied words count (length out)))
-        × (take n words ++ drop n out ≡ written (copied words count (length out)) out)
+    pub copy_done : {i : ℕ} {out' : List ℕ} → n ≤ length out → Copying words n 0 out out' i → n ≤ i
+        → (Ok n ≡ counted (copied words count (length out))) × (out' ≡ written (copied words count (length out)) out)
     unfolding copied
-    copy_done room =
+    copy_done {i} {out'} room inv h =
         let all = answers_list (take count words) out (has_room (length out) (take count words) (omega (arith, how_many_lem, e)) end) in
-        let long : n ≡ length (take count words) = e ∙ sym how_many_lem in
         let same : take n words ≡ take count words = rw e taken in
-        (ap (λ (k : ℕ). Ok k) long ∙ all.0, rw (same, long) all.1)
+        let stored : out' ≡ sets out 0 (take count words) = rw same at (copying_end inv (omega (arith, e)) h) in (
+          ap (λ (k : ℕ). Ok k) (e ∙ sym how_many_lem) ∙ all.0,
+          stored ∙ sets_front out (take count words) (omega (arith, how_many_lem, e)) ∙ all.1,
+        )
 
 -- one check alone that is refused is due
 first_here : {r : Refusal} {c : Check} → FirstDue r (c ∷ []) → c.due ≡ true
