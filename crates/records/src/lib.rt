@@ -40,7 +40,8 @@ pub fn copy_words(words: &[usize], count: usize, out: &mut [usize]) -> Result<us
     if out.len() < n {
         return Err(Refusal::NoRoom);
     }
-    // Not the library's `copy_from_slice`: it wants memmove of C, and the static library gets by with memcpy and memset.
+    // Not the library's `copy_from_slice`: it wants memmove of C, and the static library gets by with memcpy and
+    // memset.
     for i in 0..n {
         out[i] = words[i];
     }
