@@ -1,7 +1,7 @@
 -- What is lent, and the convention for answers in a lent slice. A call gives a list of words or a refusal. Given, the
 -- words stand in the slice's first places, what follows stays, and the answer is how many they are. Refused, the answer
 -- is the refusal and the slice stays as it was.
-use Rattle.std.specs.Prelude.{ℕ, Bool, true, false, ◌≡◌, List, ◌++◌, ltb, length, drop, Ok, Err}
+use Rattle.std.specs.Prelude.{ℕ, ◌≡◌, List, ◌++◌, ltb, length, drop, Ok, Err}
 use Rattle.std.specs.Borrow.{MutBor}
 use denote.Triple.Both.{Both}
 use Rattle.answers.specs.declared.Refusal.TheVariants.{NoRoom}
@@ -49,10 +49,6 @@ verdict_of (Err r) = Err r
 -- the verdict of some checks alone
 abbrev pub judged : List Check → Verdict
 judged checks = verdict_of (unless checks (tt {0}))
-
-abbrev pub is_accepted : Verdict → Bool
-is_accepted (Ok u) = true
-is_accepted (Err r) = false
 
 -- what a call gives, or another value where it is refused
 abbrev pub result_or : {A : Type 0} → A → Outcome A → A
