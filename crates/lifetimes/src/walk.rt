@@ -69,8 +69,7 @@ impl Index {
         start: usize,
         items: &mut [usize; LifetimeEnv::MAX_LIFETIMES],
     ) -> Walked
-        requires walkable { Walkable self.now start }
-        requires len { length items.old ≡ most_lifetimes }
+        requires { Walkable self.now start }
         ensures count_le_most_lifetimes { (result.count ≤ most_lifetimes) × (length (left items) ≡ most_lifetimes) }
         ensures complete { (g : Graph) → Indexed g self.now → Complete g start (left items) result }
     {

@@ -9,13 +9,10 @@ use Rattle.lifetimes.proofs.ReachAnswers.{list_by_lem}
 use Rattle.lifetimes.proofs.reach.list.Goals as goal
 
 pub walk-requires : goal.walk-requires
-walk-requires c = record {
-  walkable = (
-    (graph_in (order_of c.args.ast) c.args.longer (bounds_of c.args.env.now), c.link.ensures.indexed),
-    omega (arith, c.link.ensures.count, c.requires.none_due.1),
-  );
-  len = c.requires.len;
-}
+walk-requires c = (
+  (graph_in (order_of c.args.ast) c.args.longer (bounds_of c.args.env.now), c.link.ensures.indexed),
+  omega (arith, c.link.ensures.count, c.requires.1),
+)
 
 pub returns : goal.returns
 returns c = (

@@ -29,7 +29,7 @@ returns-then-env-start c =
 pub list-n-requires : goal.list-n-requires
 list-n-requires c =
     let none : NoneDue (env_checks c.args.env) = check_passed c.args.env c.in_ok-check.ensures.answer in
-    record { none_due = (none, omega (arith, c.index-start.ensures.answer)); len = refl }
+    (none, omega (arith, c.index-start.ensures.answer))
 
 pub returns-then-out-n : goal.returns-then-out-n
 returns-then-out-n c =
