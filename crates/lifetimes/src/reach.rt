@@ -138,8 +138,7 @@ fn list(
     items: &mut [usize; LifetimeEnv::MAX_LIFETIMES],
 ) -> usize
     requires { NoneDue (env_checks env.now) × (start < env.now.count) }
-    ensures { (result ≤ most_lifetimes) × (length (left items) ≡ most_lifetimes)
-        × (take result (left items) ≡ list_by ast longer env.now start) }
+    ensures { (result ≤ most_lifetimes) × (take result (left items) ≡ list_by ast longer env.now start) }
 {
     Index::link(env, ast, longer).walk(start, items).count
 }

@@ -16,8 +16,7 @@ walk-requires c = (
 
 pub returns : goal.returns
 returns c = (
-  c.walk.ensures.count_le_most_lifetimes.0,
-  c.walk.ensures.count_le_most_lifetimes.1,
+  c.walk.ensures.count_le_most_lifetimes,
   (c.walk.ensures.complete (graph_in (order_of c.args.ast) c.args.longer (bounds_of c.args.env.now)) c.link.ensures.indexed).items
       ∙ list_by_lem c.args.ast c.args.longer c.args.env.now c.args.start,
 )
