@@ -137,10 +137,8 @@ fn list(
     start: usize,
     items: &mut [usize; LifetimeEnv::MAX_LIFETIMES],
 ) -> usize
-    requires none_due { NoneDue (env_checks env.now) × (start < env.now.count) }
-    requires len { length items.old ≡ most_lifetimes }
-    ensures { (result ≤ most_lifetimes) × (length (left items) ≡ most_lifetimes)
-        × (take result (left items) ≡ list_by ast longer env.now start) }
+    requires { NoneDue (env_checks env.now) × (start < env.now.count) }
+    ensures { (result ≤ most_lifetimes) × (take result (left items) ≡ list_by ast longer env.now start) }
 {
     Index::link(env, ast, longer).walk(start, items).count
 }
@@ -161,8 +159,7 @@ impl Index {
 
     // All traversals: the set of each to its place, and how many words all lists have together.
     fn measure(&self, reach: &mut [u64; LifetimeEnv::MAX_LIFETIMES]) -> usize
-        requires measurable { Measurable self.now }
-        requires reach_len { length reach.old ≡ most_lifetimes }
+        requires { Measurable self.now }
         ensures { (g : Graph) → Indexed g self.now → Measures g self.now.count (held reach) (left reach) result }
     {
         let mut items = [0usize; LifetimeEnv::MAX_LIFETIMES];
@@ -183,7 +180,7 @@ impl Index {
         reach: &mut [u64; LifetimeEnv::MAX_LIFETIMES],
     ) -> usize
         requires layable { Layable self.now (length words.old) }
-        requires count_in_bounds { (self.now.count ≤ length ends.old) × (length reach.old ≡ most_lifetimes) }
+        requires count_in_bounds { self.now.count ≤ length ends.old }
         ensures { (g : Graph) → Indexed g self.now
             → Lays g self.now.count (held words) (held ends) (held reach) (left words) (left ends) (left reach) result }
     {

@@ -1,5 +1,5 @@
 // One traversal over the index.
-ghost use Rattle.std.specs.Prelude.{◌≡◌, ◌≤◌, length};
+ghost use Rattle.std.specs.Prelude.{◌≤◌};
 ghost use Rattle.lifetimes.specs.Index.{Graph, Chained, Indexed, Ready, Standing, Steps, Walkable};
 ghost use Rattle.lifetimes.specs.Index.{Complete};
 ghost use Rattle.answers.specs.Lent.{left};
@@ -69,9 +69,8 @@ impl Index {
         start: usize,
         items: &mut [usize; LifetimeEnv::MAX_LIFETIMES],
     ) -> Walked
-        requires walkable { Walkable self.now start }
-        requires len { length items.old ≡ most_lifetimes }
-        ensures count_le_most_lifetimes { (result.count ≤ most_lifetimes) × (length (left items) ≡ most_lifetimes) }
+        requires { Walkable self.now start }
+        ensures count_le_most_lifetimes { result.count ≤ most_lifetimes }
         ensures complete { (g : Graph) → Indexed g self.now → Complete g start (left items) result }
     {
         let limit = self.limit(start);

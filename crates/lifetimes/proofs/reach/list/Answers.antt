@@ -9,18 +9,14 @@ use Rattle.lifetimes.proofs.ReachAnswers.{list_by_lem}
 use Rattle.lifetimes.proofs.reach.list.Goals as goal
 
 pub walk-requires : goal.walk-requires
-walk-requires c = record {
-  walkable = (
-    (graph_in (order_of c.args.ast) c.args.longer (bounds_of c.args.env.now), c.link.ensures.indexed),
-    omega (arith, c.link.ensures.count, c.requires.none_due.1),
-  );
-  len = c.requires.len;
-}
+walk-requires c = (
+  (graph_in (order_of c.args.ast) c.args.longer (bounds_of c.args.env.now), c.link.ensures.indexed),
+  omega (arith, c.link.ensures.count, c.requires.1),
+)
 
 pub returns : goal.returns
 returns c = (
-  c.walk.ensures.count_le_most_lifetimes.0,
-  c.walk.ensures.count_le_most_lifetimes.1,
+  c.walk.ensures.count_le_most_lifetimes,
   (c.walk.ensures.complete (graph_in (order_of c.args.ast) c.args.longer (bounds_of c.args.env.now)) c.link.ensures.indexed).items
       ∙ list_by_lem c.args.ast c.args.longer c.args.env.now c.args.start,
 )

@@ -1,7 +1,6 @@
 -- `traverse` meets its contract: each of its answers is that of the first check that is due, or the list.
 use Prim.Native.Nat.{ℕ}
 use mathlib.Core.List.{List}
-use mathlib.Core.Path.{refl}
 use Rattle.std.proofs.lemmas.Result.{err_from_is_err_and}
 use native.Mathlib.Omega.{arith}
 use Rattle.answers.specs.Refusals.{NoneDue}
@@ -29,7 +28,7 @@ returns-then-env-start c =
 pub list-n-requires : goal.list-n-requires
 list-n-requires c =
     let none : NoneDue (env_checks c.args.env) = check_passed c.args.env c.in_ok-check.ensures.answer in
-    record { none_due = (none, omega (arith, c.index-start.ensures.answer)); len = refl }
+    (none, omega (arith, c.index-start.ensures.answer))
 
 pub returns-then-out-n : goal.returns-then-out-n
 returns-then-out-n c =
@@ -38,7 +37,7 @@ returns-then-out-n c =
     let it = let i = c.index-start.ensures.answer in
     list_short c.args.env c.args.lifetime.0 asked c.args.out.now
     none (omega (arith, i, c.if-env-start.false)) _ c.list-n.result
-    (omega (arith, c.list-n.ensures)) (rw i at c.list-n.ensures.2) c.if-out-n.true in
+    (omega (arith, c.list-n.ensures)) (rw i at c.list-n.ensures.1) c.if-out-n.true in
     record { value = it.0; fills = it.1 }
 
 pub returns : goal.returns
@@ -48,5 +47,5 @@ returns c =
     let i = c.index-start.ensures.answer in
     let a = list_given c.args.env c.args.lifetime.0 asked c.args.out.now none
     (omega (arith, i, c.if-env-start.false)) _ c.list-n.result (omega (arith, c.list-n.ensures)) (rw i at
-    c.list-n.ensures.2) c.if-out-n.false in
+    c.list-n.ensures.1) c.if-out-n.false in
     record { value = a.0; fills = rw c.copy_from_slice.ensures.after a.1 }

@@ -1,7 +1,7 @@
 -- `all_lists` meets its contract: each of its answers is that of the first check that is due, or all lists as `lay`
 -- lays them.
 use native.Mathlib.Omega.{arith}
-use mathlib.Core.Path.{refl, sym, ◌∙◌}
+use mathlib.Core.Path.{sym, ◌∙◌}
 use Rattle.std.proofs.lemmas.Result.{err_from_is_err_and}
 use borrow.Author.Tests.{leb-true, leb-false}
 use Rattle.lifetimes.specs.Index.{graph_of}
@@ -48,7 +48,7 @@ lay-total-requires c =
     let fit = c.all_fit.ensures g c.link-index.ensures.indexed in
     record {
       layable = (g, c.link-index.ensures.indexed, leb-true _ _ (sym fit.fits ∙ c.if-not-all_fit.false));
-      count_in_bounds = (omega (arith, c.link-index.ensures.count, c.if-ends-self.false), refl);
+      count_in_bounds = omega (arith, c.link-index.ensures.count, c.if-ends-self.false);
     }
 
 pub returns : goal.returns

@@ -1,5 +1,4 @@
 -- `reach_sets` meets its contract: refused as the environment is, or all sets as `measure` gives them.
-use mathlib.Core.Path.{refl}
 use Rattle.std.proofs.lemmas.Result.{err_from_is_err_and}
 use Rattle.lifetimes.specs.Index.{graph_of}
 use Rattle.lifetimes.proofs.EnvLaws.{check_passed, check_failed}
@@ -16,10 +15,7 @@ pub link-index-requires : goal.link-index-requires
 link-index-requires c = check_passed c.args.self c.in_ok-check.ensures.answer
 
 pub measure-requires : goal.measure-requires
-measure-requires c = record {
-  measurable = (graph_of c.args.longer c.args.self, c.link-index.ensures.indexed);
-  reach_len = refl;
-}
+measure-requires c = (graph_of c.args.longer c.args.self, c.link-index.ensures.indexed)
 
 pub returns : goal.returns
 returns c = record {

@@ -5,11 +5,10 @@ use Rattle.lifetimes.proofs.index.Index.measure.Goals as goal
 
 pub loop-x-preserved : goal.loop-x-preserved
 loop-x-preserved c = let few = c.walk-walked.ensures.count_le_most_lifetimes in (
-  few.1,
   omega (arith, few),
-  λ g k. measuring_more (c.loop-x.invariant.2 g k) c.loop-x-test.true {items = c.walk-walked.new.items}
+  λ g k. measuring_more (c.loop-x.invariant.1 g k) c.loop-x-test.true {items = c.walk-walked.new.items}
       (omega (arith, few)) (c.walk-walked.ensures.complete g k),
 )
 
 pub returns : goal.returns
-returns c = λ g k. measuring_end (c.loop-x.invariant.2 g k) c.loop-x-test.false
+returns c = λ g k. measuring_end (c.loop-x.invariant.1 g k) c.loop-x-test.false

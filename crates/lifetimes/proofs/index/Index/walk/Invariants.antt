@@ -6,5 +6,5 @@ use Rattle.lifetimes.proofs.WalkLoops.{Walking}
 use Rattle.lifetimes.proofs.index.Index.walk.Given as goal
 
 abbrev pub invariant-loop-count : goal.invariant-loop-count
-invariant-loop-count l = (length l.items ≡ 64) × (length l.stack ≡ 64)
+invariant-loop-count l = (length l.stack ≡ 64)
     × ((g : Graph) → Indexed g l.self → Walking g l.limit l.start l.items l.stack l.count l.seen l.depth l.at)
