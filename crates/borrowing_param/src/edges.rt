@@ -111,7 +111,6 @@ fn put_pair(
     pairs: &mut [u64; ParamBorrowInfo::MAX_DEFS],
 ) -> usize
     requires { (edge.kind ≡ 3) × (edge.def < most_defs) × (edge.used < most_lifetimes)
-        × (length pairs.old ≡ most_defs)
         × (width * (at + 1) ≤ length edges.old) }
     ensures { Stores (edge ∷ []) at (held pairs) (held edges) result (left pairs) (left edges) }
 {
@@ -155,8 +154,7 @@ impl<'a> Param<'a> {
         at: usize,
         pairs: &mut [u64; ParamBorrowInfo::MAX_DEFS],
     ) -> usize
-        requires inside { (length self.path.now ≤ most_defs) × (used < most_lifetimes)
-            × (length pairs.old ≡ most_defs) }
+        requires inside { (length self.path.now ≤ most_defs) × (used < most_lifetimes) }
         requires parts_in_bounds { width * (at + length (bring (draws_in set) used self.number
             (typed self.parts self.path.now))) ≤ length edges.old }
         ensures { Stores (bring (draws_in set) used self.entry.number (typed self.entry.parts self.entry.path.now)) at
@@ -217,8 +215,7 @@ impl<'a> Param<'a> {
         at: usize,
         pairs: &mut [u64; ParamBorrowInfo::MAX_DEFS],
     ) -> usize
-        requires inside { (length self.path.now ≤ most_defs) × (used < most_lifetimes)
-            × (length pairs.old ≡ most_defs) }
+        requires inside { (length self.path.now ≤ most_defs) × (used < most_lifetimes) }
         requires parts_in_bounds { width * (at + length (struct_of (draws_in set) used self.number
             (typed self.parts self.path.now))) ≤ length edges.old }
         ensures { Stores (struct_of (draws_in set) used self.entry.number
@@ -267,7 +264,7 @@ impl BorrowingParamVisitor {
         at: usize,
         pairs: &mut [u64; ParamBorrowInfo::MAX_DEFS],
     ) -> usize
-        requires inside { (length param.path.now ≤ most_defs) × (length pairs.old ≡ most_defs) }
+        requires inside { length param.path.now ≤ most_defs }
         requires param_in_bounds { width * (at + length (all_in self.now.used self.now.draws
             (typed param.parts param.path.now) param.number)) ≤ length edges.old }
         ensures { Stores (all_in self.now.used self.now.draws (typed param.entry.parts param.entry.path.now)

@@ -70,7 +70,7 @@ impl BorrowingParamVisitor {
     // How many parameters there are, and how many edges they bring to all used lifetimes; and the numbers of their
     // answers. It goes from place to place by what stands there, so the loop stays a `while`.
     fn count_params(&self, params: &[usize], numbers: &mut [usize; MAX_PARAMS]) -> BorrowMap
-        requires { Params params.now × (length numbers.old ≡ most_params) }
+        requires { Params params.now }
         ensures { CountsParams self.now.used self.now.draws (param_types params.now) (held numbers) result
             (left numbers) }
     {
@@ -128,7 +128,7 @@ fn store_to(
     stored: usize,
     pairs: &mut [u64; ParamBorrowInfo::MAX_DEFS],
 ) -> usize
-    requires params { Params params.now × (used < most_lifetimes) × (length pairs.old ≡ most_defs) }
+    requires params { Params params.now × (used < most_lifetimes) }
     requires params_in_bounds { width * (stored + length (bring_from (draws_in set) used 0 (param_types params.now)))
         ≤ length edges.old }
     ensures { Stores (bring_from (draws_in set) used 0 (param_types params.now)) stored (held pairs) (held edges)

@@ -18,7 +18,7 @@ store-next-requires c = let o = passing_next c.loop-place.invariant.passing c.lo
     c.type_at-found.ensures.answer
     c.in-Some.is in
     record {
-      inside = (path_few c.args.params.now c.in-Some.parts.from c.path_words-path.ensures.answer o.few, c.requires.params.1, c.loop-place.invariant.storing.sets16);
+      inside = (path_few c.args.params.now c.in-Some.parts.from c.path_words-path.ensures.answer o.few, c.requires.params.1);
       parts_in_bounds = rw c.path_words-path.ensures.answer (to_fits c.loop-place.invariant o);
     }
 

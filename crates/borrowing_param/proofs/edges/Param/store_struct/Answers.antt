@@ -21,7 +21,6 @@ put_pair-next-requires c = let a = c.args in
       refl,
       omega (arith, c.requires.inside.0, c.loop-def-test.true),
       c.requires.inside.1,
-      c.loop-def.invariant.sets16,
       storing_fits c.loop-def.invariant (edge a.used a.self.number 3 k c.from-option.result ∷ [])
           (left_edges (draws_in a.set) a.used a.self.number c.from-option.result a.self.path.now (k + 1)) split,
     )

@@ -23,7 +23,7 @@ store-next-requires c = let v = c.args.self.now in
     let split = all_here v.used v.draws (typed p.parts p.path.now) p.number c.loop-l.l h
     (sym c.if-contains.true ∙ c.contains.ensures.answer
     ∙ ap (λ (x : Lifetime). member v.used x.0) c.new.ensures.answer) in record {
-      inside = (c.requires.inside.0, h, c.loop-l.invariant.1.sets16);
+      inside = (c.requires.inside, h);
       parts_in_bounds = storing_fits c.loop-l.invariant.1
           (bring (draws_in (get_or v.draws c.loop-l.l 0)) c.loop-l.l p.number (typed p.parts p.path.now))
           (left_all v.used v.draws (typed p.parts p.path.now) p.number (c.loop-l.l + 1)) split;

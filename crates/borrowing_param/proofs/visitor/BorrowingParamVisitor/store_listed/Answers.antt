@@ -31,7 +31,7 @@ store_to-next-requires c = let v = c.args.self.now in
     let split = listed_here v.used v.draws types c.loop-l.l h
     (sym c.if-contains.true ∙ c.contains.ensures.answer
     ∙ ap (λ (x : Lifetime). member v.used x.0) c.new.ensures.answer) in record {
-      params = (c.requires.0, h, c.loop-l.invariant.1.sets16);
+      params = (c.requires.0, h);
       params_in_bounds = storing_fits c.loop-l.invariant.1
           (bring_from (draws_in (get_or v.draws c.loop-l.l 0)) c.loop-l.l 0 types)
           (left_listed v.used v.draws types (c.loop-l.l + 1)) split;

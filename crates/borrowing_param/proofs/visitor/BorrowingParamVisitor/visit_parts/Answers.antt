@@ -30,7 +30,7 @@ returns-then-room-brought-2 c = visit_no_room c.args.self.now c.args.edges.now
 
 pub store-self-requires : goal.store-self-requires
 store-self-requires c = record {
-  inside = (path_few c.args.params.now c.args.parts.from c.path_words-path.ensures.answer c.requires.0, refl);
+  inside = path_few c.args.params.now c.args.parts.from c.path_words-path.ensures.answer c.requires.0;
   param_in_bounds = rw c.path_words-path.ensures.answer (brought_room c.args.self.now
       (type_in c.args.params.now c.args.parts) c.args.param _
       (rw c.path_words-path.ensures.answer at c.count-brought.ensures)
