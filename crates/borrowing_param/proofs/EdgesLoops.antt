@@ -10,8 +10,8 @@ use native.Mathlib.Numerals.{add-one}
 use native.Mathlib.Omega.{arith}
 use borrow.Author.Tests.{lt-ltb, eq-eqb, ne_eqb}
 use lib.Count.{count_leading_zeros, leading_length}
-use lib.Dec.{eqb, ltb}
-use lib.ListN.{length, get_or, drop, set, length-append, length-set, drop_of_length-le}
+use lib.Dec.{ltb}
+use lib.ListN.{length, get_or, drop, set, length-append, drop_of_length-le}
 use lib.Seq.{sets, length-sets, drop-cons}
 use Rattle.lifetimes.specs.declared.lifetime.Lifetime.{Lifetime}
 use Rattle.lifetimes.specs.declared.maybe_static.MaybeStatic.{MaybeStatic}
@@ -35,30 +35,17 @@ unfolding notes
 notes_append pairs [] fs = refl
 notes_append pairs (e ∷ es) fs = notes_append (note pairs e) es fs
 
-note_length : (pairs : List ℕ) (e : LifetimeEdge) → length (note pairs e) ≡ length pairs
-note_length pairs e = go (eqb e.kind 3)
-  where
-    go : (t : Bool) → length (cond t (set pairs e.def (insert (get_or pairs e.def 0) e.used)) pairs) ≡ length pairs
-    go true = length-set pairs e.def (insert (get_or pairs e.def 0) e.used)
-    go false = refl
-
-notes_length : (pairs : List ℕ) (es : List LifetimeEdge) → length (notes pairs es) ≡ length pairs
-unfolding notes
-notes_length pairs [] = refl
-notes_length pairs (e ∷ es) = notes_length (note pairs e) es ∙ note_length pairs e
-
 -- what is left to store
 pub record Storing (all left : List LifetimeEdge) (at₀ : ℕ) (pairs₀ words₀ : List ℕ) (at : ℕ) (pairs words : List ℕ) : Type 0 where
   pub stand : sets words (width * at) (flat_map edge_words left) ≡ sets words₀ (width * at₀) (flat_map edge_words all)
   pub many : at + length left ≡ at₀ + length all
   pub carry : notes pairs left ≡ notes pairs₀ all
   pub size : length words ≡ length words₀
-  pub sets16 : length pairs ≡ 16
   pub room : width * (at₀ + length all) ≤ length words₀
 
-pub storing_start : (all : List LifetimeEdge) (at : ℕ) (pairs words : List ℕ) → length pairs ≡ 16
+pub storing_start : (all : List LifetimeEdge) (at : ℕ) (pairs words : List ℕ)
     → width * (at + length all) ≤ length words → Storing all all at pairs words at pairs words
-storing_start all at pairs words l h = record { stand = refl; many = refl; carry = refl; size = refl; sets16 = l; room = h }
+storing_start all at pairs words h = record { stand = refl; many = refl; carry = refl; size = refl; room = h }
 
 module _ {all now : List LifetimeEdge} {at₀ : ℕ} {pairs₀ words₀ : List ℕ} {at : ℕ} {pairs words : List ℕ}
     (inv : Storing all now at₀ pairs₀ words₀ at pairs words) where
@@ -89,7 +76,6 @@ module _ {all now : List LifetimeEdge} {at₀ : ℕ} {pairs₀ words₀ : List �
           many = omega (arith, s.stores.count);
           carry = rw s.carries (sym (notes_append pairs part rest) ∙ noted);
           size = ap length s.stores.stored ∙ length-sets words (width * at) (flat_map edge_words part) ∙ inv.size;
-          sets16 = ap length s.carries ∙ notes_length pairs part ∙ inv.sets16;
           room = inv.room;
         }
 
@@ -100,7 +86,6 @@ module _ {all now : List LifetimeEdge} {at₀ : ℕ} {pairs₀ words₀ : List �
         many = rw e at inv.many;
         carry = rw e at inv.carry;
         size = inv.size;
-        sets16 = inv.sets16;
         room = inv.room;
       }
 

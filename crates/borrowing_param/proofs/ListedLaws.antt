@@ -258,14 +258,14 @@ pub record StoringTo (draws : ℕ → Bool) (used : ℕ) (words : List ℕ) (typ
   pub storing : Storing (bring_from draws used 0 types) (bring_from draws used param left) at₀ pairs₀ edges₀ stored pairs edges
 
 pub to_start : (draws : ℕ → Bool) (used : ℕ) {words : List ℕ} {types : List LoweredType} → ReadsTypes words types
-    → (at : ℕ) (pairs edges : List ℕ) → length pairs ≡ 16
+    → (at : ℕ) (pairs edges : List ℕ)
     → width * (at + length (bring_from draws used 0 types)) ≤ length edges
     → StoringTo draws used words types at pairs edges at 0 0 pairs edges
-to_start draws used {words} {types} l at pairs edges h k =
+to_start draws used {words} {types} l at pairs edges k =
     record {
       left = types;
       passing = passing_start l;
-      storing = storing_start (bring_from draws used 0 types) at pairs edges h k;
+      storing = storing_start (bring_from draws used 0 types) at pairs edges k;
     }
 
 module _ {draws : ℕ → Bool} {used : ℕ} {words : List ℕ} {types : List LoweredType} {at₀ : ℕ} {pairs₀ edges₀ : List ℕ}

@@ -1,7 +1,7 @@
 -- `store_listed` meets its contract. The loop's invariant is `Storing` of proofs/EdgesLoops.antt, over the edges that are
 -- left.
 use Prim.Native.Nat.{◌+◌}
-use mathlib.Core.Path.{◌≡◌, refl, sym, ap, ◌∙◌}
+use mathlib.Core.Path.{◌≡◌, sym, ap, ◌∙◌}
 use native.Mathlib.Nat.{zero-add}
 use lib.ListN.{get_or}
 use Rattle.lifetimes.specs.declared.lifetime.Lifetime.{Lifetime}
@@ -19,7 +19,7 @@ pub loop-l-init : goal.loop-l-init
 loop-l-init c = let v = c.args.self.now in (
   c.past_last-limit.ensures,
   storing_none
-      (storing_start (listed_edges (visitor_in v.used v.draws) (param_types c.args.params.now)) 0 _ c.args.edges.now refl
+      (storing_start (listed_edges (visitor_in v.used v.draws) (param_types c.args.params.now)) 0 _ c.args.edges.now
       (rw zero-add c.requires.1))
       (listed_left v.used v.draws (param_types c.args.params.now)),
 )
