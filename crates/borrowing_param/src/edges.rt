@@ -13,7 +13,7 @@ ghost use Rattle.hir_types.specs.LoweredTypes.{lifetimes_of};
 ghost use Rattle.borrowing_param.specs.Brings.{drawn, any_drawn, one_edge, bring};
 ghost use Rattle.borrowing_param.specs.Visit.{draws_in};
 ghost use Rattle.borrowing_param.specs.Inner.{SetBelow, typed, CountsFor, CountsAll, struct_of, all_in};
-ghost use Rattle.borrowing_param.specs.Inner.{Stores, StoresWords};
+ghost use Rattle.borrowing_param.specs.Inner.{Stores, StoresPlain};
 
 use super::visitor::{BorrowingParamVisitor, LifetimeEdge, ParamBorrowInfo};
 use hir_types::{Kind, Parts};
@@ -90,34 +90,38 @@ pub(crate) fn past_last(set: u64) -> usize
     set::CAPACITY - u64::leading_zeros(set) as usize
 }
 
-// Store one edge behind so many.
-fn put(edges: &mut [usize], at: usize, edge: LifetimeEdge)
-    requires { width * (at + 1) ≤ length edges.old }
-    ensures { left edges ≡ sets (held edges) (width * at) (edge_words edge) }
-{
-    let from = at * BorrowingParamVisitor::EDGE_WORDS;
-    edges[from] = edge.used;
-    edges[from + 1] = edge.param;
-    edges[from + 2] = edge.kind;
-    edges[from + 3] = edge.def;
-    edges[from + 4] = edge.option;
+// Where edges are stored: the lent words, how many edges stand in them, and the pairs of a struct.
+#[derive(Drop)]
+pub(crate) struct Sink<'a> {
+    pub edges: &'a mut [usize],
+    pub at: usize,
+    pub pairs: [u64; ParamBorrowInfo::MAX_DEFS],
 }
 
-// Store one edge of a struct behind so many, and its pair. Answers how many there are then.
-fn put_pair(
-    edge: LifetimeEdge,
-    edges: &mut [usize],
-    at: usize,
-    pairs: &mut [u64; ParamBorrowInfo::MAX_DEFS],
-) -> usize
-    requires { (edge.kind ≡ 3) × (edge.def < most_defs) × (edge.used < most_lifetimes)
-        × (length pairs.old ≡ most_defs)
-        × (width * (at + 1) ≤ length edges.old) }
-    ensures { Stores (edge ∷ []) at (held pairs) (held edges) result (left pairs) (left edges) }
-{
-    put(edges, at, edge);
-    pairs[edge.def] = set::insert(pairs[edge.def], Lifetime::new(edge.used));
-    at + 1
+impl<'a> Sink<'a> {
+    // Store one edge.
+    fn put(&mut self, edge: LifetimeEdge)
+        requires { width * (self.old.at + 1) ≤ length self.old.edges.now }
+        ensures { StoresPlain (edge ∷ []) self.old self.new }
+    {
+        let from = self.at * BorrowingParamVisitor::EDGE_WORDS;
+        self.edges[from] = edge.used;
+        self.edges[from + 1] = edge.param;
+        self.edges[from + 2] = edge.kind;
+        self.edges[from + 3] = edge.def;
+        self.edges[from + 4] = edge.option;
+        self.at += 1;
+    }
+
+    // Store one edge of a struct, and its pair.
+    fn put_pair(&mut self, edge: LifetimeEdge)
+        requires { (edge.kind ≡ 3) × (edge.def < most_defs) × (edge.used < most_lifetimes)
+            × (width * (self.old.at + 1) ≤ length self.old.edges.now) }
+        ensures { Stores (edge ∷ []) self.old self.new }
+    {
+        self.put(edge);
+        self.pairs[edge.def] = set::insert(self.pairs[edge.def], Lifetime::new(edge.used));
+    }
 }
 
 impl<'a> Param<'a> {
@@ -146,49 +150,39 @@ impl<'a> Param<'a> {
         }
     }
 
-    // Store its edges to one used lifetime behind so many, and the pairs of a struct. Answers how many there are then.
-    pub(crate) fn store(
-        self,
-        set: u64,
-        used: usize,
-        edges: &mut [usize],
-        at: usize,
-        pairs: &mut [u64; ParamBorrowInfo::MAX_DEFS],
-    ) -> usize
-        requires inside { (length self.path.now ≤ most_defs) × (used < most_lifetimes)
-            × (length pairs.old ≡ most_defs) }
-        requires parts_in_bounds { width * (at + length (bring (draws_in set) used self.number
-            (typed self.parts self.path.now))) ≤ length edges.old }
-        ensures { Stores (bring (draws_in set) used self.entry.number (typed self.entry.parts self.entry.path.now)) at
-            (held pairs) (held edges) result (left pairs) (left edges) }
+    // Store its edges to one used lifetime, and the pairs of a struct.
+    pub(crate) fn store(self, set: u64, used: usize, sink: &mut Sink)
+        requires inside { (length self.path.now ≤ most_defs) × (used < most_lifetimes) }
+        requires parts_in_bounds { width * (sink.old.at + length (bring (draws_in set) used self.number
+            (typed self.parts self.path.now))) ≤ length sink.old.edges.now }
+        ensures { Stores (bring (draws_in set) used self.entry.number (typed self.entry.parts self.entry.path.now))
+            sink.old sink.new }
     {
         match self.parts.kind {
-            Kind::Plain => at,
-            Kind::Opaque => self.store_one(set, LifetimeEdge::OPAQUE, used, edges, at),
-            Kind::Slice => self.store_one(set, LifetimeEdge::SLICE, used, edges, at),
-            Kind::Struct(_) => self.store_struct(set, used, edges, at, pairs),
+            Kind::Plain => {}
+            Kind::Opaque => self.store_one(set, LifetimeEdge::OPAQUE, used, sink),
+            Kind::Slice => self.store_one(set, LifetimeEdge::SLICE, used, sink),
+            Kind::Struct(_) => self.store_struct(set, used, sink),
         }
     }
 
     // Store the one edge of an opaque or a slice, if it has one.
-    fn store_one(self, set: u64, kind: usize, used: usize, edges: &mut [usize], at: usize) -> usize
-        requires { width * (at + length (one_edge (draws_in set) used self.number kind
-            (lifetimes_of (typed self.parts self.path.now)))) ≤ length edges.old }
-        ensures { StoresWords (one_edge (draws_in set) used self.entry.number kind
-            (lifetimes_of (typed self.entry.parts self.entry.path.now))) at (held edges) result (left edges) }
+    fn store_one(self, set: u64, kind: usize, used: usize, sink: &mut Sink)
+        requires { width * (sink.old.at + length (one_edge (draws_in set) used self.number kind
+            (lifetimes_of (typed self.parts self.path.now)))) ≤ length sink.old.edges.now }
+        ensures { StoresPlain (one_edge (draws_in set) used self.entry.number kind
+            (lifetimes_of (typed self.entry.parts self.entry.path.now))) sink.old sink.new }
     {
         if !self.is_drawn(set) {
-            return at;
+            return;
         }
-        let edge = LifetimeEdge {
+        sink.put(LifetimeEdge {
             used,
             param: self.number,
             kind,
             def: 0,
             option: 0,
-        };
-        put(edges, at, edge);
-        at + 1
+        });
     }
 
     // The method's lifetime at the use of a struct for a lifetime of its definition, by the view of its path words. The
@@ -209,24 +203,14 @@ impl<'a> Param<'a> {
     }
 
     // Store the edges of a struct, and their pairs.
-    fn store_struct(
-        self,
-        set: u64,
-        used: usize,
-        edges: &mut [usize],
-        at: usize,
-        pairs: &mut [u64; ParamBorrowInfo::MAX_DEFS],
-    ) -> usize
-        requires inside { (length self.path.now ≤ most_defs) × (used < most_lifetimes)
-            × (length pairs.old ≡ most_defs) }
-        requires parts_in_bounds { width * (at + length (struct_of (draws_in set) used self.number
-            (typed self.parts self.path.now))) ≤ length edges.old }
+    fn store_struct(self, set: u64, used: usize, sink: &mut Sink)
+        requires inside { (length self.path.now ≤ most_defs) × (used < most_lifetimes) }
+        requires parts_in_bounds { width * (sink.old.at + length (struct_of (draws_in set) used self.number
+            (typed self.parts self.path.now))) ≤ length sink.old.edges.now }
         ensures { Stores (struct_of (draws_in set) used self.entry.number
-            (typed self.entry.parts self.entry.path.now)) at (held pairs) (held edges) result
-            (left pairs) (left edges) }
+            (typed self.entry.parts self.entry.path.now)) sink.old sink.new }
     {
         let option = usize::from(self.parts.option);
-        let mut next = at;
         for def in 0..self.path.len() {
             if draws(set, self.linked_lifetime(def)) {
                 let edge = LifetimeEdge {
@@ -236,10 +220,9 @@ impl<'a> Param<'a> {
                     def,
                     option,
                 };
-                next = put_pair(edge, edges, next, pairs);
+                sink.put_pair(edge);
             }
         }
-        next
     }
 }
 
@@ -259,27 +242,20 @@ impl BorrowingParamVisitor {
         n
     }
 
-    // Store the edges of a parameter to all used lifetimes, ascending, behind so many.
-    pub(crate) fn store(
-        &self,
-        param: Param,
-        edges: &mut [usize],
-        at: usize,
-        pairs: &mut [u64; ParamBorrowInfo::MAX_DEFS],
-    ) -> usize
-        requires inside { (length param.path.now ≤ most_defs) × (length pairs.old ≡ most_defs) }
-        requires param_in_bounds { width * (at + length (all_in self.now.used self.now.draws
-            (typed param.parts param.path.now) param.number)) ≤ length edges.old }
-        ensures { Stores (all_in self.now.used self.now.draws (typed param.entry.parts param.entry.path.now)
-            param.entry.number) at (held pairs) (held edges) result (left pairs) (left edges) }
+    // Store the edges of a parameter to all used lifetimes, ascending.
+    pub(crate) fn store(&self, param: Param, sink: &mut Sink)
+        requires inside { length param.path.now ≤ most_defs }
+        requires param_in_bounds { width * (sink.old.at + length (all_in self.now.used self.now.draws
+            (typed param.parts param.path.now) param.number)) ≤ length sink.old.edges.now }
+        ensures stored { Stores (all_in self.now.used self.now.draws (typed param.entry.parts param.entry.path.now)
+            param.entry.number) sink.old sink.new }
+        ensures same_reference { sink.new.edges.ghost_name ≡ sink.old.edges.ghost_name }
     {
         let limit = past_last(self.used);
-        let mut next = at;
         for l in 0..limit {
             if set::contains(self.used, Lifetime::new(l)) {
-                next = param.store(self.draws[l], l, edges, next, pairs);
+                param.store(self.draws[l], l, sink);
             }
         }
-        next
     }
 }

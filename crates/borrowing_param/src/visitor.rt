@@ -8,7 +8,7 @@ ghost use Rattle.borrowing_param.specs.Inner.{type_in, FoundAt, number_by};
 ghost use Rattle.hir_types.specs.Places.{Coded};
 ghost use Rattle.answers.specs.Lent.{held, left};
 
-use super::edges::{Param, past_last};
+use super::edges::{Param, Sink, past_last};
 use answers::Refusal;
 use hir_types::{Kind, Parts, path_words, type_at};
 use lifetimes::{Lifetime, LifetimeEnv, set};
@@ -154,7 +154,7 @@ impl BorrowingParamVisitor {
         };
         let brought = self.count(visited);
         let number = number_of(params, parts, brought);
-        let mut pairs = [set::EMPTY; ParamBorrowInfo::MAX_DEFS];
+        let pairs = [set::EMPTY; ParamBorrowInfo::MAX_DEFS];
         if brought == 0 {
             return Ok(ParamBorrowInfo { number, pairs });
         }
@@ -165,8 +165,17 @@ impl BorrowingParamVisitor {
         if room - brought < self.stored {
             return Err(Refusal::NoRoom);
         }
-        self.stored = self.store(visited, edges, self.stored, &mut pairs);
-        Ok(ParamBorrowInfo { number, pairs })
+        let mut sink = Sink {
+            edges,
+            at: self.stored,
+            pairs,
+        };
+        self.store(visited, &mut sink);
+        self.stored = sink.at;
+        Ok(ParamBorrowInfo {
+            number,
+            pairs: sink.pairs,
+        })
     }
 }
 

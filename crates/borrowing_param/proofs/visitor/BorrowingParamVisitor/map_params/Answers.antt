@@ -5,9 +5,6 @@ use Rattle.borrowing_param.proofs.ListedLaws.{no_room_answers, no_room_edges, nu
 use borrow.Author.Rules.{rules}
 use Rattle.borrowing_param.proofs.visitor.BorrowingParamVisitor.map_params.Goals as goal
 
-pub count_params-counted-requires : goal.count_params-counted-requires
-count_params-counted-requires c = (c.requires, refl)
-
 pub returns-then-answers-counted : goal.returns-then-answers-counted
 returns-then-answers-counted c = search (no_room_answers, rules)
 

@@ -16,14 +16,14 @@ use Rattle.borrowing_param.proofs.visitor.BorrowingParamVisitor.store.Goals.{the
 pub loop-l-init : goal.loop-l-init
 loop-l-init c = search (storing_start, storing_none, all_left, rules)
 
-pub store-next-requires : goal.store-next-requires
-store-next-requires c = let v = c.args.self.now in
+pub store-requires : goal.store-requires
+store-requires c = let v = c.args.self.now in
     let p = c.args.param in
     let h = below_64 c.loop-l.invariant.0 c.loop-l-test.true in
     let split = all_here v.used v.draws (typed p.parts p.path.now) p.number c.loop-l.l h
     (sym c.if-contains.true ∙ c.contains.ensures.answer
     ∙ ap (λ (x : Lifetime). member v.used x.0) c.new.ensures.answer) in record {
-      inside = (c.requires.inside.0, h, c.loop-l.invariant.1.sets16);
+      inside = (c.requires.inside, h);
       parts_in_bounds = storing_fits c.loop-l.invariant.1
           (bring (draws_in (get_or v.draws c.loop-l.l 0)) c.loop-l.l p.number (typed p.parts p.path.now))
           (left_all v.used v.draws (typed p.parts p.path.now) p.number (c.loop-l.l + 1)) split;
@@ -36,15 +36,15 @@ loop-l-preserved c = let v = c.args.self.now in
     let test : c.contains.result ≡ member v.used c.loop-l.l =
     c.contains.ensures.answer ∙ ap (λ (x : Lifetime). member v.used x.0) c.new.ensures.answer in
     elim c.if-contains.branch [
-      | then-contains w ↦ rw (w.next-is, w.pairs-is, w.edges-is) (
+      | then-contains w ↦ rw w.sink-is (
         c.loop-l.invariant.0,
         storing_part c.loop-l.invariant.1
             (bring (draws_in (get_or v.draws c.loop-l.l 0)) c.loop-l.l p.number (typed p.parts p.path.now))
             (left_all v.used v.draws (typed p.parts p.path.now) p.number (c.loop-l.l + 1))
             (all_here v.used v.draws (typed p.parts p.path.now) p.number c.loop-l.l h (sym w.if-contains.true ∙ test))
-            w.store-next.ensures,
+            w.store.ensures,
       )
-      | else-contains w ↦ rw (w.next-is, w.pairs-is, w.edges-is) (
+      | else-contains w ↦ rw w.sink-is (
         c.loop-l.invariant.0,
         storing_none c.loop-l.invariant.1
             (all_not v.used v.draws (typed p.parts p.path.now) p.number c.loop-l.l h (sym w.if-contains.false ∙ test)),
@@ -52,4 +52,8 @@ loop-l-preserved c = let v = c.args.self.now in
     ]
 
 pub returns : goal.returns
-returns c = search (storing_end, all_end, rules)
+returns c = let v = c.args.self.now in
+    let p = c.args.param in
+    let s = storing_end c.loop-l.invariant.1 (all_end v.used v.draws (typed p.parts p.path.now) p.number c.loop-l.invariant.0
+    c.loop-l.l c.loop-l-test.false) in
+    record { stored = s; same_reference = s.same }
