@@ -162,6 +162,10 @@ stands_end (inner.lifetime w d b e) = ends d b e
 stands_end (inner.generics l d b m e) = ends d b e
 stands_end (inner.self_type l d b m e) = ends d b e
 
+pub stands_told : {words : List ℕ} {at : ℕ} {reading : Reading Step} {r s : Option StepAt} → StandsAt words at reading r
+    → r ≡ s → StandsAt words at reading s
+stands_told {words = words} {at} {reading} h e = subst (λ (x : Option StepAt). StandsAt words at reading x) e h
+
 pub ends_there : {words : List ℕ} {at : ℕ} {reading : Reading Step} {r : StepAt} → StandsAt words at reading (Some r)
     → {to : ℕ} → to ≡ step_end r → EndsAt words at reading (Some to)
 ends_there {words} {at} {reading} stands e = subst (λ (x : ℕ). EndsAt words at reading (Some x)) (sym e) (stands_end stands)
