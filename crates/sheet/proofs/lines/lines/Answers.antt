@@ -2,7 +2,8 @@
 use mathlib.Core.Path.{refl}
 use Rattle.answers.specs.declared.Refusal.TheVariants.{Unreadable}
 use Rattle.hir_types.proofs.QuestionLaws.{handed_on, was_some, was_none}
-use Rattle.sheet.proofs.LinesLaws.{line_told, lining_start, lining_none, lining_many, lining_stored, lining_long, lining_end, lining_more}
+use Rattle.sheet.proofs.LinesLaws.{line_told, lining_start, lining_none, lining_many}
+use Rattle.sheet.proofs.LinesLaws.{lining_stored, lining_long, lining_end, lining_more}
 use Rattle.sheet.proofs.lines.lines.Goals as goal
 
 pub loop-i-init : goal.loop-i-init
