@@ -1,5 +1,6 @@
 -- Steps in a record: the ways out of `read_step`, and where a step ends that stands somewhere.
-use Rattle.std.specs.Prelude.{Some, None, Option}
+use Rattle.std.specs.Prelude.{Some, None, Option, Ok, Err}
+use Rattle.std.specs.Option.{ok_or}
 use Prim.Native.Nat.{ℕ, suc, ◌+◌, ◌-◌, ◌≤◌, ◌<◌}
 use mathlib.Core.Path.{◌≡◌, sym, ap, subst, ◌∙◌}
 use mathlib.Core.List.{List, ◌∷◌, ◌++◌}
@@ -8,9 +9,12 @@ use native.Mathlib.Omega.{arith}
 use borrow.Author.Tests.{eq-eqb, ne_eqb, le-leb, lt-leb}
 use lib.ListN.{length, get_or, take, drop, length-append, length-drop, drop_of_length-le}
 use lib.Seq.{drop-cons, take_at}
+use Rattle.answers.specs.declared.Refusal.{Refusal}
+use Rattle.answers.specs.Refusals.{Outcome}
 use Rattle.records.specs.Reading.{Reading, Read, onward, read_lifetimes}
 use Rattle.records.specs.Ends.{EndsAt, ends, missing}
 use Rattle.records.proofs.ReadingLaws.{Holds, LifetimesIn, holds_read, lifetimes_read}
+use Rattle.ast_lifetimes.proofs.OptionLaws.{ok_or_missing, ok_or_found}
 use Rattle.elision.specs.declared.steps.StepAt.{StepAt}
 use Rattle.elision.specs.declared.steps.StepAt.TheVariants as standing
 use Rattle.elision.specs.Steps.{Step, Generics, SelfType, read_step}
@@ -161,6 +165,16 @@ stands_end : {words : List ℕ} {at : ℕ} {reading : Reading Step} {r : StepAt}
 stands_end (inner.lifetime w d b e) = ends d b e
 stands_end (inner.generics l d b m e) = ends d b e
 stands_end (inner.self_type l d b m e) = ends d b e
+
+-- what a `?` tells of the step that was read in front of it
+module _ {words : List ℕ} {at : ℕ} {reading : Reading Step} {r : Option StepAt} (stands : StandsAt words at reading r)
+    (x : Refusal) {o : Outcome StepAt} (f : o ≡ ok_or r x) where
+  pub step_lost : {y : Refusal} → o ≡ Err y → StandsAt words at reading None × (y ≡ x)
+  step_lost k = let none = ok_or_missing x f k in
+      (subst (λ (q : Option StepAt). StandsAt words at reading q) none.0 stands, none.1)
+
+  pub step_found : {q : StepAt} → o ≡ Ok q → StandsAt words at reading (Some q)
+  step_found k = subst (λ (q : Option StepAt). StandsAt words at reading q) (ok_or_found x f k) stands
 
 pub ends_there : {words : List ℕ} {at : ℕ} {reading : Reading Step} {r : StepAt} → StandsAt words at reading (Some r)
     → {to : ℕ} → to ≡ step_end r → EndsAt words at reading (Some to)

@@ -267,9 +267,7 @@ pub(crate) fn lower_word(
     if word == 0 {
         return Ok(lowers(standing, MaybeStatic::Static, seen));
     }
-    let Some(at) = position(names, word) else {
-        return Err(Refusal::Undeclared);
-    };
+    let at = position(names, word).ok_or(Refusal::Undeclared)?;
     let lifetime = MaybeStatic::NonStatic(Lifetime::new(at));
     Ok(lowers(standing, lifetime, seen))
 }

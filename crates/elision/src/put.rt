@@ -114,9 +114,7 @@ impl SmallLowerer {
         let mut n = 0;
         let mut at = 0;
         while at < words.len() {
-            let Some(step) = read_step(words, at) else {
-                return Err(Refusal::Malformed);
-            };
+            let step = read_step(words, at).ok_or(Refusal::Malformed)?;
             n = self.put_step(names, words, step, output, n, out)?;
             at = step.end();
         }

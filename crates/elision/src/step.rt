@@ -21,9 +21,7 @@ impl Lowerer {
     ) -> Result<Stepped, Refusal>
         ensures answer { result ≡ stepped (worded_step names.now output words.now self) }
     {
-        let Some(step) = read_step(words, 0) else {
-            return Err(Refusal::Malformed);
-        };
+        let step = read_step(words, 0).ok_or(Refusal::Malformed)?;
         if step.end() != words.len() {
             return Err(Refusal::Malformed);
         }

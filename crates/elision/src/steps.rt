@@ -59,9 +59,7 @@ pub fn steps_shape(steps: &[usize]) -> Result<(), Refusal>
     }
     let mut at = 0;
     while at < steps.len() {
-        let Some(step) = read_step(steps, at) else {
-            return Err(Refusal::Malformed);
-        };
+        let step = read_step(steps, at).ok_or(Refusal::Malformed)?;
         at = step.end();
     }
     Ok(())

@@ -1,7 +1,7 @@
 -- The loop of `lines`: the lines so far, and reading on at the next line.
 use Prim.Native.Nat.{ℕ, ◌+◌, ◌-◌, ◌≤◌, ◌<◌}
 use mathlib.Core.Bool.{Bool, true, false, ◌&&◌}
-use mathlib.Core.Path.{◌≡◌, refl, sym, ap, ◌∙◌}
+use mathlib.Core.Path.{◌≡◌, refl, sym, ap, subst, ◌∙◌}
 use mathlib.Core.Logic.{⊎_elim}
 use mathlib.Core.List.{List, [], ◌∷◌, ◌++◌, append-nil, append_assoc, flat_map, flatten}
 use Rattle.std.specs.Prelude.{None, Option, Some, Ok, Err}
@@ -20,8 +20,14 @@ use Rattle.sheet.specs.Text.{most_word}
 use Rattle.sheet.specs.Reading.{LineStart, line_before, read_lines, records_of, ten, all_short}
 use Rattle.answers.specs.Lists.{ends_from, all}
 use Rattle.sheet.specs.Answer.{text_with}
-use Rattle.sheet.specs.Inner.{read_from, NoLine, LineAt, ten_ends, TenStored}
+use Rattle.sheet.specs.declared.lines.LineEnd.{LineEnd}
+use Rattle.sheet.specs.Inner.{read_from, NoLine, LineAt, LineRead, ten_ends, TenStored}
 use Rattle.sheet.proofs.SpellingLaws.{read_spelt}
+
+-- what is said of the line that was read holds of what that is
+pub line_told : (bytes : List ℕ) (from : ℕ) (words words' : List ℕ) (to : ℕ) {r s : Option LineEnd}
+    → LineRead bytes from words words' to r → r ≡ s → LineRead bytes from words words' to s
+line_told bytes from words words' to h e = subst (λ (x : Option LineEnd). LineRead bytes from words words' to x) e h
 
 -- lines before other lines
 abbrev pub lines_before : List (List ℕ) → Option (List (List ℕ)) → Option (List (List ℕ))

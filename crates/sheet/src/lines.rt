@@ -72,9 +72,7 @@ pub(crate) fn lines(bytes: &[u8], from: usize, words: &mut [usize]) -> Result<Te
     let mut short = true;
     let mut ends = [0usize; Text::RECORDS];
     for i in 0..Text::RECORDS {
-        let Some(line) = line(bytes, at, words, count) else {
-            return Err(Refusal::Unreadable);
-        };
+        let line = line(bytes, at, words, count).ok_or(Refusal::Unreadable)?;
         short &= line.count - count <= MAX_WORDS;
         at = line.at;
         count = line.count;
