@@ -51,6 +51,10 @@ pub record StoresWords (es : List LifetimeEdge) (at : ℕ) (words : List ℕ) (a
   pub count : at₁ ≡ at + length es
   pub stored : words₁ ≡ sets words (width * at) (flat_map edge_words es)
 
+-- room for some edges in a sink
+abbrev pub RoomFor : List LifetimeEdge → Sink → Type 0
+RoomFor es s = width * (s.at + length es) ≤ length s.edges.now
+
 -- the same in a sink, which stays that of the same words: as words alone, and with the pairs
 pub record StoresPlain (es : List LifetimeEdge) (s s₁ : Sink) : Type 0 where
   pub stores : StoresWords es s.at s.edges.now s₁.at s₁.edges.now

@@ -13,7 +13,7 @@ ghost use Rattle.hir_types.specs.LoweredTypes.{lifetimes_of};
 ghost use Rattle.borrowing_param.specs.Brings.{drawn, any_drawn, one_edge, bring};
 ghost use Rattle.borrowing_param.specs.Visit.{draws_in};
 ghost use Rattle.borrowing_param.specs.Inner.{SetBelow, typed, CountsFor, CountsAll, struct_of, all_in};
-ghost use Rattle.borrowing_param.specs.Inner.{Stores, StoresPlain};
+ghost use Rattle.borrowing_param.specs.Inner.{RoomFor, Stores, StoresPlain};
 
 use super::visitor::{BorrowingParamVisitor, LifetimeEdge, ParamBorrowInfo};
 use hir_types::{Kind, Parts};
@@ -101,7 +101,7 @@ pub(crate) struct Sink<'a> {
 impl<'a> Sink<'a> {
     // Store one edge.
     fn put(&mut self, edge: LifetimeEdge)
-        requires { width * (self.old.at + 1) ≤ length self.old.edges.now }
+        requires { RoomFor (edge ∷ []) self.old }
         ensures { StoresPlain (edge ∷ []) self.old self.new }
     {
         let from = self.at * BorrowingParamVisitor::EDGE_WORDS;
@@ -116,7 +116,7 @@ impl<'a> Sink<'a> {
     // Store one edge of a struct, and its pair.
     fn put_pair(&mut self, edge: LifetimeEdge)
         requires { (edge.kind ≡ 3) × (edge.def < most_defs) × (edge.used < most_lifetimes)
-            × (width * (self.old.at + 1) ≤ length self.old.edges.now) }
+            × RoomFor (edge ∷ []) self.old }
         ensures { Stores (edge ∷ []) self.old self.new }
     {
         self.put(edge);
@@ -153,8 +153,8 @@ impl<'a> Param<'a> {
     // Store its edges to one used lifetime, and the pairs of a struct.
     pub(crate) fn store(self, set: u64, used: usize, sink: &mut Sink)
         requires inside { (length self.path.now ≤ most_defs) × (used < most_lifetimes) }
-        requires parts_in_bounds { width * (sink.old.at + length (bring (draws_in set) used self.number
-            (typed self.parts self.path.now))) ≤ length sink.old.edges.now }
+        requires parts_in_bounds { RoomFor (bring (draws_in set) used self.number (typed self.parts self.path.now))
+            sink.old }
         ensures { Stores (bring (draws_in set) used self.entry.number (typed self.entry.parts self.entry.path.now))
             sink.old sink.new }
     {
@@ -168,8 +168,8 @@ impl<'a> Param<'a> {
 
     // Store the one edge of an opaque or a slice, if it has one.
     fn store_one(self, set: u64, kind: usize, used: usize, sink: &mut Sink)
-        requires { width * (sink.old.at + length (one_edge (draws_in set) used self.number kind
-            (lifetimes_of (typed self.parts self.path.now)))) ≤ length sink.old.edges.now }
+        requires { RoomFor (one_edge (draws_in set) used self.number kind
+            (lifetimes_of (typed self.parts self.path.now))) sink.old }
         ensures { StoresPlain (one_edge (draws_in set) used self.entry.number kind
             (lifetimes_of (typed self.entry.parts self.entry.path.now))) sink.old sink.new }
     {
@@ -205,8 +205,8 @@ impl<'a> Param<'a> {
     // Store the edges of a struct, and their pairs.
     fn store_struct(self, set: u64, used: usize, sink: &mut Sink)
         requires inside { (length self.path.now ≤ most_defs) × (used < most_lifetimes) }
-        requires parts_in_bounds { width * (sink.old.at + length (struct_of (draws_in set) used self.number
-            (typed self.parts self.path.now))) ≤ length sink.old.edges.now }
+        requires parts_in_bounds { RoomFor (struct_of (draws_in set) used self.number
+            (typed self.parts self.path.now)) sink.old }
         ensures { Stores (struct_of (draws_in set) used self.entry.number
             (typed self.entry.parts self.entry.path.now)) sink.old sink.new }
     {
@@ -245,11 +245,10 @@ impl BorrowingParamVisitor {
     // Store the edges of a parameter to all used lifetimes, ascending.
     pub(crate) fn store(&self, param: Param, sink: &mut Sink)
         requires inside { length param.path.now ≤ most_defs }
-        requires param_in_bounds { width * (sink.old.at + length (all_in self.now.used self.now.draws
-            (typed param.parts param.path.now) param.number)) ≤ length sink.old.edges.now }
-        ensures stored { Stores (all_in self.now.used self.now.draws (typed param.entry.parts param.entry.path.now)
+        requires param_in_bounds { RoomFor (all_in self.now.used self.now.draws
+            (typed param.parts param.path.now) param.number) sink.old }
+        ensures { Stores (all_in self.now.used self.now.draws (typed param.entry.parts param.entry.path.now)
             param.entry.number) sink.old sink.new }
-        ensures same_reference { sink.new.edges.ghost_name ≡ sink.old.edges.ghost_name }
     {
         let limit = past_last(self.used);
         for l in 0..limit {

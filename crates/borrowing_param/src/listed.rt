@@ -7,7 +7,7 @@ ghost use Rattle.methods.specs.Method.{most_params};
 ghost use Rattle.borrowing_param.specs.Edges.{width, most_defs};
 ghost use Rattle.borrowing_param.specs.Visit.{draws_in};
 ghost use Rattle.borrowing_param.specs.BorrowMap.{listed_edges, borrow_map, MapsTo};
-ghost use Rattle.borrowing_param.specs.Inner.{Stores};
+ghost use Rattle.borrowing_param.specs.Inner.{RoomFor, Stores};
 ghost use Rattle.borrowing_param.specs.InnerMap.{param_types, Params, visitor_in, bring_from, CountsParams, map_of};
 ghost use Rattle.borrowing_param.specs.InnerMap.{listed_words};
 
@@ -125,10 +125,8 @@ impl BorrowingParamVisitor {
 // used here. It goes from place to place by what stands there, so the loop stays a `while`.
 fn store_to(set: u64, params: &[usize], used: usize, sink: &mut Sink)
     requires params { Params params.now × (used < most_lifetimes) }
-    requires params_in_bounds { width * (sink.old.at + length (bring_from (draws_in set) used 0
-        (param_types params.now))) ≤ length sink.old.edges.now }
-    ensures stored { Stores (bring_from (draws_in set) used 0 (param_types params.now)) sink.old sink.new }
-    ensures same_reference { sink.new.edges.ghost_name ≡ sink.old.edges.ghost_name }
+    requires params_in_bounds { RoomFor (bring_from (draws_in set) used 0 (param_types params.now)) sink.old }
+    ensures { Stores (bring_from (draws_in set) used 0 (param_types params.now)) sink.old sink.new }
 {
     let mut number = 0;
     let mut place = 0;

@@ -38,4 +38,4 @@ loop-place-preserved c = let o = passing_next c.loop-place.invariant.passing c.l
     to_more c.loop-place.invariant o (rw c.path_words-path.ensures.answer at c.store.ensures)
 
 pub returns : goal.returns
-returns c = let s = to_end c.loop-place.invariant c.loop-place-test.false in record { stored = s; same_reference = s.same }
+returns c = search (to_end, rules)

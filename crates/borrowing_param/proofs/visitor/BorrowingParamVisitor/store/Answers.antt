@@ -52,8 +52,4 @@ loop-l-preserved c = let v = c.args.self.now in
     ]
 
 pub returns : goal.returns
-returns c = let v = c.args.self.now in
-    let p = c.args.param in
-    let s = storing_end c.loop-l.invariant.1 (all_end v.used v.draws (typed p.parts p.path.now) p.number c.loop-l.invariant.0
-    c.loop-l.l c.loop-l-test.false) in
-    record { stored = s; same_reference = s.same }
+returns c = search (storing_end, all_end, rules)

@@ -49,7 +49,7 @@ loop-l-preserved c = let v = c.args.self.now in
         storing_part c.loop-l.invariant.1
             (bring_from (draws_in (get_or v.draws c.loop-l.l 0)) c.loop-l.l 0 types)
             (left_listed v.used v.draws types (c.loop-l.l + 1))
-            (listed_here v.used v.draws types c.loop-l.l h (sym w.if-contains.true ∙ test)) w.store_to.ensures.stored,
+            (listed_here v.used v.draws types c.loop-l.l h (sym w.if-contains.true ∙ test)) w.store_to.ensures,
       )
       | else-contains w ↦ rw w.sink-is (
         c.loop-l.invariant.0,

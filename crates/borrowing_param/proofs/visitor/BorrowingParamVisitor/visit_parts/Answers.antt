@@ -43,5 +43,5 @@ returns c = visit_room c.args.self.now c.args.edges.now
     (type_in c.args.params.now c.args.parts)
     c.args.param (rw c.path_words-path.ensures.answer at c.count-brought.ensures) c.number_of-number.ensures
     c.if-brought-eq0.false (room_behind _ _ _ _ refl c.if-room-brought.false c.if-room-brought-2.false)
-    (rw c.path_words-path.ensures.answer at c.store.ensures.stored.stores)
-    (rw c.path_words-path.ensures.answer at c.store.ensures.stored.carries) (search rules)
+    (rw c.path_words-path.ensures.answer at c.store.ensures.stores)
+    (rw c.path_words-path.ensures.answer at c.store.ensures.carries) (search rules)
