@@ -223,6 +223,7 @@ fn list_than(
 {
     env.check()?;
     let named = env.named;
+    // None is no refusal here: an unknown name lists nothing.
     let Some(at) = env.id(name) else {
         return Ok(0);
     };

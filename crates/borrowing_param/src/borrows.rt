@@ -91,7 +91,7 @@ fn borrow_within(
 }
 
 // The same of a method made by hand, from its environment and its records. Refused as the method is (1, 13, 4, 7, 8),
-// then by 9.
+// then by 9. Its eight parameters are what whoever makes a method by hand has, and stay as they were called.
 pub fn borrow_method(
     env: LifetimeEnv,
     structs: &[usize],

@@ -193,6 +193,7 @@ impl<'a> Param<'a> {
         ensures { result ≡ from_word (get_or self.entry.path.now def 0) }
     {
         let linked = LinkedLifetimes::new(self.path, self.path.len());
+        // A word is there, so that neither way out is met, and there is no refusal to hand on.
         let Ok(found) = linked.def_to_use(DefLifetime::new(def)) else {
             return MaybeStatic::Static;
         };

@@ -83,6 +83,7 @@ impl BorrowingParamVisitor {
         let mut at = 0;
         while at < params.len() {
             let found = type_at(params, at);
+            // None is no refusal: in shape a type is there.
             let Some(parts) = found else {
                 return counted;
             };
@@ -132,6 +133,7 @@ fn store_to(set: u64, params: &[usize], used: usize, sink: &mut Sink)
     let mut place = 0;
     while place < params.len() {
         let found = type_at(params, place);
+        // None is no refusal: in shape a type is there.
         let Some(parts) = found else {
             return;
         };

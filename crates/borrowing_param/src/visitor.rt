@@ -45,7 +45,8 @@ pub struct BorrowingParamVisitor {
     pub stored: usize,
 }
 
-// What a visit answers, or why it is refused; and the visitor afterwards.
+// What a visit answers, or why it is refused; and the visitor afterwards, which is there either way: no flag beside a
+// value.
 #[derive(Clone, Copy)]
 pub struct Visited {
     pub info: Result<ParamBorrowInfo, Refusal>,
@@ -127,9 +128,7 @@ impl BorrowingParamVisitor {
         ensures { outcome result (state self.new (left edges))
             ≡ visit_param structs.now params.now (state self.old (held edges)) param }
     {
-        let Some(parts) = param_at(params, param) else {
-            return Err(Refusal::Malformed);
-        };
+        let parts = param_at(params, param).ok_or(Refusal::Malformed)?;
         check_structs_and_params(structs, params)?;
         self.visit_parts(params, parts, param, edges)
     }

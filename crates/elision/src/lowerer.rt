@@ -31,7 +31,8 @@ pub struct Lowered {
     pub lifetime: MaybeStatic<Lifetime>,
 }
 
-// The lowered lifetimes of one type: the first n of the array. In the Rust it is in hir/lifetimes.rs.
+// The lowered lifetimes of one type: the first n of the array, which is of fixed length, since there is no heap here.
+// In the Rust it is in hir/lifetimes.rs.
 #[derive(Clone, Copy)]
 pub struct Lifetimes {
     pub n: usize,
@@ -134,7 +135,8 @@ impl Lowerer {
         })
     }
 
-    // One lifetime (kind 0), of a parameter or of the output. Refused by 3, 4, 5, 6.
+    // One lifetime (kind 0), of a parameter or of the output. Refused by 3, 4, 5, 6. Here and in the other steps
+    // `output` stays a bool, as in the definitions: an enum of two names would be no plainer.
     pub fn lower_lifetime(
         self,
         names: &[usize],

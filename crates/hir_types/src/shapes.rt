@@ -116,7 +116,8 @@ fn row_end(structs: &[usize], at: usize, number: usize) -> Option<usize>
     types_end(structs, at + 2, fields, number)
 }
 
-// Where so many types end that stand one after another from a place on.
+// Where so many types end that stand one after another from a place on. `types_fit` of the crate methods has this loop
+// over another step; a closure for the step, with a contract of its own, would be no plainer than the two loops.
 fn types_end(words: &[usize], from: usize, count: usize, rows: usize) -> Option<usize>
     requires { from ≤ length words.now }
     ensures { EndsFrom words.now from (read_types rows count (drop from words.now)) result }

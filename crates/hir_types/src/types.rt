@@ -126,7 +126,8 @@ pub fn type_at(words: &[usize], at: usize) -> Option<Parts>
     }
 }
 
-// The type that stands at a place and is no option; whether it is under one is handed on.
+// The type that stands at a place and is no option; whether it is under one is handed on, to stand in the answer: a
+// fact and no switch, so it stays a bool.
 fn bare_at(words: &[usize], at: usize, option: bool) -> Option<Parts>
     ensures { LocatesBare words.now at option (read_bare option (drop at words.now)) result }
 {

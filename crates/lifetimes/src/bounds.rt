@@ -31,7 +31,8 @@ impl Bound {
         numbers_below(self.longer as usize, self.shorter as usize, limit)
     }
 
-    // The side that a traversal in this direction comes from.
+    // The side that a traversal in this direction comes from. Here and in all calls `longer` stays a bool: it is a fact
+    // of two values, as in the definitions, and an enum of two names would be no plainer.
     pub(crate) fn near(self, longer: bool) -> usize
         ensures { result ≡ near longer self }
     {
@@ -54,7 +55,8 @@ impl Bound {
     }
 }
 
-// Bounds in push order: the first `pushed` of the array. The environment of a method holds them, and that of the AST.
+// Bounds in push order: the first `pushed` of the array, which is of fixed length, since there is no heap here. The
+// environment of a method holds them, and that of the AST.
 #[derive(Clone, Copy)]
 pub struct Bounds {
     pub pushed: usize,

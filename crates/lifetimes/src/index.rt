@@ -25,7 +25,7 @@ pub(crate) struct Index {
 
 impl Index {
     // The index of an environment, whose bounds are linked in push order, or, for the AST's order, from the last to the
-    // first.
+    // first. `ast` and `longer` are facts of two values: see `Bound::near`.
     pub(crate) fn link(env: &LifetimeEnv, ast: bool, longer: bool) -> Index
         requires { NoneDue (env_checks env.now) }
         ensures indexed { Indexed (graph_in (order_of ast) longer (bounds_of env.now)) result }

@@ -81,6 +81,7 @@ impl Index {
         let mut at = self.last[start] as usize;
         for count in 1..limit {
             let stepped = self.advance(&stack, seen, at, depth);
+            // None is the end of the traversal, no refusal.
             let Some(lifetime) = stepped.next else {
                 return Walked { count, seen };
             };

@@ -140,6 +140,7 @@ fn list_method(
     let longer = env.all_lists(true, lists, &mut ends)?;
     let visitor = BorrowingParamVisitor::from_sets(used, &longer.sets);
     let mut answers = [0usize; MAX_PARAMS];
+    // The refusal is not handed on: it says that the scratch is too short, or that the edges are too many.
     let Ok(map) = visitor.borrow_map(records.structs, records.params, &mut answers, edges) else {
         return too_many(edges.len());
     };

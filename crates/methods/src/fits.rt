@@ -71,7 +71,7 @@ pub(crate) fn params_fit(
 }
 
 // Where so many types end that stand one after another from a place on, if all fit by the lifetimes of the rows that
-// they may name.
+// they may name. The loop of `types_end` in the crate hir_types, over another step: see there.
 fn types_fit(
     words: &[usize],
     from: usize,

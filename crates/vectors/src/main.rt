@@ -77,6 +77,7 @@ fn answer(rt: &impl Print, kind: usize, questions: &mut Questions<'_>) {
 fn answer_all(rt: &impl Print, words: &[usize]) {
     let mut questions = Questions { left: words };
     for _ in words {
+        // None is the end of the questions.
         let Some(kind) = questions.left.split_off_first() else {
             return;
         };

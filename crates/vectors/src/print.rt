@@ -47,7 +47,7 @@ pub(crate) fn end(rt: &impl Print) {
     let _ = rt.print("\n");
 }
 
-// The number of an outcome: 0 where nothing is refused.
+// The number of an outcome: 0 where nothing is refused. `readings` has it too: see there.
 pub(crate) fn number_of<T>(outcome: &Result<T, Refusal>) -> usize {
     match outcome {
         Ok(_) => 0,

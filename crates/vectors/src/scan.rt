@@ -9,6 +9,7 @@ pub(crate) fn numbers(bytes: &[u8], words: &mut [usize]) -> usize
         .split(|byte| !byte.is_ascii_digit())
         .filter(|run| !run.is_empty());
     for count in 0..words.len() {
+        // None is the end of the bytes.
         let Some(digits) = runs.next() else {
             return count;
         };
