@@ -20,12 +20,11 @@ use Rattle.answers.specs.Lists.{range, filter, numbered}
 use Rattle.lifetimes.specs.Sets.{member, insert, members}
 use Rattle.hir_types.specs.declared.types.Kind.TheVariants.{Plain, Opaque, Struct, Slice}
 use Rattle.hir_types.specs.LoweredTypes.{LoweredType, lifetimes_of}
-use Rattle.borrowing_param.specs.declared.edges.Sink.{Sink}
 use Rattle.borrowing_param.specs.declared.visitor.LifetimeEdge.{LifetimeEdge}
 use Rattle.borrowing_param.specs.Edges.{edge, width, edge_words}
 use Rattle.borrowing_param.specs.Brings.{drawn, any_drawn, one_edge, struct_edges, option_of, bring, note, notes}
 use Rattle.borrowing_param.specs.Visit.{draws_in}
-use Rattle.borrowing_param.specs.Inner.{CountsFor, SetBelow, all_in, CountsAll, struct_of, StoresPlain, Stores}
+use Rattle.borrowing_param.specs.Inner.{CountsFor, SetBelow, all_in, CountsAll, struct_of, StoresWords, Stores}
 use Rattle.borrowing_param.proofs.JoinLaws.{join_cons, join_append, sets_behind, words_many}
 use Rattle.borrowing_param.proofs.EdgesLaws.{bring_few}
 
@@ -37,61 +36,54 @@ notes_append pairs [] fs = refl
 notes_append pairs (e ∷ es) fs = notes_append (note pairs e) es fs
 
 -- what is left to store
-pub record Storing (all left : List LifetimeEdge) (s₀ s : Sink) : Type 0 where
-  pub stand : sets s.edges.now (width * s.at) (flat_map edge_words left)
-      ≡ sets s₀.edges.now (width * s₀.at) (flat_map edge_words all)
-  pub many : s.at + length left ≡ s₀.at + length all
-  pub same : s.edges.ghost_name ≡ s₀.edges.ghost_name
-  pub carry : notes s.pairs left ≡ notes s₀.pairs all
-  pub size : length s.edges.now ≡ length s₀.edges.now
-  pub room : width * (s₀.at + length all) ≤ length s₀.edges.now
+pub record Storing (all left : List LifetimeEdge) (at₀ : ℕ) (pairs₀ words₀ : List ℕ) (at : ℕ) (pairs words : List ℕ) : Type 0 where
+  pub stand : sets words (width * at) (flat_map edge_words left) ≡ sets words₀ (width * at₀) (flat_map edge_words all)
+  pub many : at + length left ≡ at₀ + length all
+  pub carry : notes pairs left ≡ notes pairs₀ all
+  pub size : length words ≡ length words₀
+  pub room : width * (at₀ + length all) ≤ length words₀
 
-pub storing_start : (all : List LifetimeEdge) (s : Sink) → width * (s.at + length all) ≤ length s.edges.now
-    → Storing all all s s
-storing_start all s h = record { stand = refl; many = refl; same = refl; carry = refl; size = refl; room = h }
+pub storing_start : (all : List LifetimeEdge) (at : ℕ) (pairs words : List ℕ)
+    → width * (at + length all) ≤ length words → Storing all all at pairs words at pairs words
+storing_start all at pairs words h = record { stand = refl; many = refl; carry = refl; size = refl; room = h }
 
-module _ {all now : List LifetimeEdge} {s₀ s : Sink} (inv : Storing all now s₀ s) where
-  pub storing_end : now ≡ [] → Stores all s₀ s
+module _ {all now : List LifetimeEdge} {at₀ : ℕ} {pairs₀ words₀ : List ℕ} {at : ℕ} {pairs words : List ℕ}
+    (inv : Storing all now at₀ pairs₀ words₀ at pairs words) where
+  pub storing_end : now ≡ [] → Stores all at₀ pairs₀ words₀ at pairs words
   unfolding flat_map notes
   storing_end e =
-      let done : s.at ≡ s₀.at + length all = sym (add-zero s.at) ∙ (rw e at inv.many) in
-      record {
-        stores = record { count = done; stored = rw e at inv.stand };
-        same = inv.same;
-        carries = rw e at inv.carry;
-      }
+      let done : at ≡ at₀ + length all = sym (add-zero at) ∙ (rw e at inv.many) in
+      record { stores = record { count = done; stored = rw e at inv.stand }; carries = rw e at inv.carry }
 
   module _ (part rest : List LifetimeEdge) (split : now ≡ part ++ rest) where
-    pub storing_fits : width * (s.at + length part) ≤ length s.edges.now
+    pub storing_fits : width * (at + length part) ≤ length words
     storing_fits =
-        let sum : s.at + (length part + length rest) ≡ s₀.at + length all = rw (split, length-append) at inv.many in
+        let sum : at + (length part + length rest) ≡ at₀ + length all = rw (split, length-append) at inv.many in
         omega (arith, inv.room, inv.size)
 
-    pub storing_part : {s₁ : Sink} → Stores part s s₁ → Storing all rest s₀ s₁
-    storing_part {s₁} t =
-        let sum : s.at + (length part + length rest) ≡ s₀.at + length all = rw (split, length-append) at inv.many in
-        let place : width * s₁.at ≡ width * s.at + length (flat_map edge_words part) =
-        omega (arith, words_many part, t.stores.count) in
-        let joined : sets s.edges.now (width * s.at) (flat_map edge_words part ++ flat_map edge_words rest)
-        ≡ sets s₀.edges.now (width * s₀.at) (flat_map edge_words all) =
+    pub storing_part : {at₁ : ℕ} {pairs₁ words₁ : List ℕ} → Stores part at pairs words at₁ pairs₁ words₁
+        → Storing all rest at₀ pairs₀ words₀ at₁ pairs₁ words₁
+    storing_part {at₁} {pairs₁} {words₁} s =
+        let sum : at + (length part + length rest) ≡ at₀ + length all = rw (split, length-append) at inv.many in
+        let place : width * at₁ ≡ width * at + length (flat_map edge_words part) = omega (arith, words_many part, s.stores.count) in
+        let joined : sets words (width * at) (flat_map edge_words part ++ flat_map edge_words rest)
+        ≡ sets words₀ (width * at₀) (flat_map edge_words all) =
         rw (split, join_append edge_words part rest) at inv.stand in
-        let noted : notes s.pairs (part ++ rest) ≡ notes s₀.pairs all = rw split at inv.carry in
+        let noted : notes pairs (part ++ rest) ≡ notes pairs₀ all = rw split at inv.carry in
         record {
-          stand = rw (place, t.stores.stored)
-              (sym (sets_behind s.edges.now (width * s.at) (flat_map edge_words part) (flat_map edge_words rest)) ∙ joined);
-          many = omega (arith, t.stores.count);
-          same = t.same ∙ inv.same;
-          carry = rw t.carries (sym (notes_append s.pairs part rest) ∙ noted);
-          size = ap length t.stores.stored ∙ length-sets s.edges.now (width * s.at) (flat_map edge_words part) ∙ inv.size;
+          stand = rw (place, s.stores.stored)
+              (sym (sets_behind words (width * at) (flat_map edge_words part) (flat_map edge_words rest)) ∙ joined);
+          many = omega (arith, s.stores.count);
+          carry = rw s.carries (sym (notes_append pairs part rest) ∙ noted);
+          size = ap length s.stores.stored ∙ length-sets words (width * at) (flat_map edge_words part) ∙ inv.size;
           room = inv.room;
         }
 
-  pub storing_none : {rest : List LifetimeEdge} → now ≡ rest → Storing all rest s₀ s
+  pub storing_none : {rest : List LifetimeEdge} → now ≡ rest → Storing all rest at₀ pairs₀ words₀ at pairs words
   storing_none e =
       record {
         stand = rw e at inv.stand;
         many = rw e at inv.many;
-        same = inv.same;
         carry = rw e at inv.carry;
         size = inv.size;
         room = inv.room;
@@ -110,28 +102,21 @@ put_words words at e =
     let b₄ : at * 5 + 4 ≡ suc (suc (suc (suc (at * 5)))) = omega arith in
     rw (b, b₁, b₂, b₃, b₄)
 
-pub put_stored : (e : LifetimeEdge) (s s₁ : Sink) → s₁.at ≡ s.at + 1
-    → s₁.edges.now ≡ set (set (set (set (set s.edges.now (s.at * 5) e.used) (s.at * 5 + 1) e.param) (s.at * 5 + 2) e.kind)
-    (s.at * 5 + 3) e.def) (s.at * 5 + 4) e.option
-    → s₁.edges.ghost_name ≡ s.edges.ghost_name → s₁.pairs ≡ s.pairs → StoresPlain (e ∷ []) s s₁
-unfolding flat_map
-put_stored e s s₁ n w g p =
-    record { stores = record { count = n; stored = w ∙ put_words s.edges.now s.at e }; same = g; kept = p }
-
 -- an opaque or a slice
-module _ (draws : ℕ → Bool) (used param kind : ℕ) (ms : List (MaybeStatic Lifetime)) (s : Sink) where
-  pub one_stored : any_drawn draws ms ≡ true → {s₁ : Sink} → StoresPlain (edge used param kind 0 0 ∷ []) s s₁
-      → StoresPlain (one_edge draws used param kind ms) s s₁
-  one_stored e q = rw e q
+module _ (draws : ℕ → Bool) (used param kind : ℕ) (ms : List (MaybeStatic Lifetime)) (at : ℕ) (words : List ℕ) where
+  pub one_stored : any_drawn draws ms ≡ true → {words₁ : List ℕ}
+      → words₁ ≡ sets words (width * at) (edge_words (edge used param kind 0 0))
+      → StoresWords (one_edge draws used param kind ms) at words (at + 1) words₁
+  unfolding flat_map
+  one_stored e q = rw e (record { count = refl; stored = q })
 
-  pub one_room : any_drawn draws ms ≡ true
-      → width * (s.at + length (one_edge draws used param kind ms)) ≤ length s.edges.now
-      → width * (s.at + 1) ≤ length s.edges.now
+  pub one_room : any_drawn draws ms ≡ true → width * (at + length (one_edge draws used param kind ms)) ≤ length words
+      → width * (at + 1) ≤ length words
   one_room e h = rw e at h
 
-  pub none_stored : any_drawn draws ms ≡ false → StoresPlain (one_edge draws used param kind ms) s s
+  pub none_stored : any_drawn draws ms ≡ false → StoresWords (one_edge draws used param kind ms) at words at words
   unfolding flat_map
-  none_stored e = rw e (record { stores = record { count = sym (add-zero s.at); stored = refl }; same = refl; kept = refl })
+  none_stored e = rw e (record { count = sym (add-zero at); stored = refl })
 
 -- ---- a struct: the edges that are left
 
@@ -160,19 +145,15 @@ option_byte true = refl
 option_byte false = refl
 
 -- one of them, with its pair
-pub pair_stored : (e : LifetimeEdge) (s s₁ s₂ : Sink) {put n : ℕ} → e.kind ≡ 3 → e.used < 64 → n ≡ e.used
-    → StoresPlain (e ∷ []) s s₁
-    → put ≡ cond (ltb n 64) (insert (get_or s₁.pairs e.def 0) n) (get_or s₁.pairs e.def 0)
-    → s₂.at ≡ s₁.at → s₂.edges.now ≡ s₁.edges.now → s₂.edges.ghost_name ≡ s₁.edges.ghost_name
-    → s₂.pairs ≡ set s₁.pairs e.def put → Stores (e ∷ []) s s₂
-unfolding notes
-pair_stored e s s₁ s₂ {put} {n} is few same t r a w g p =
-    let puts : put ≡ insert (get_or s.pairs e.def 0) e.used = r ∙ rw (t.kept, same, lt-ltb e.used 64 few) in
-    record {
-      stores = record { count = a ∙ t.stores.count; stored = w ∙ t.stores.stored };
-      same = g ∙ t.same;
-      carries = p ∙ rw (t.kept, puts, eq-eqb e.kind 3 is);
-    }
+pub pair_stored : (e : LifetimeEdge) (at : ℕ) (pairs words : List ℕ) {words₁ : List ℕ} {put n : ℕ} → e.kind ≡ 3
+    → e.used < 64 → n ≡ e.used
+    → words₁ ≡ sets words (width * at) (edge_words e)
+    → put ≡ cond (ltb n 64) (insert (get_or pairs e.def 0) n) (get_or pairs e.def 0)
+    → Stores (e ∷ []) at pairs words (at + 1) (set pairs e.def put) words₁
+unfolding flat_map notes
+pair_stored e at pairs words {words₁} {put} {n} is few same q r =
+    let puts : put ≡ insert (get_or pairs e.def 0) e.used = r ∙ rw (same, lt-ltb e.used 64 few) in
+    record { stores = record { count = refl; stored = q }; carries = rw (puts, eq-eqb e.kind 3 is) }
 
 -- ---- the edges by kind
 
@@ -200,38 +181,34 @@ module _ (draws : ℕ → Bool) (used param : ℕ) (t : LoweredType) (at n : ℕ
   unfolding bring
   room_struct e h = rw e at h
 
-module _ (draws : ℕ → Bool) (used param : ℕ) (t : LoweredType) {s : Sink} where
-  pub for_plain : t.kind ≡ Plain → Stores (bring draws used param t) s s
+module _ (draws : ℕ → Bool) (used param : ℕ) (t : LoweredType) {at : ℕ} {pairs words : List ℕ} where
+  pub for_plain : t.kind ≡ Plain → Stores (bring draws used param t) at pairs words at pairs words
   unfolding bring flat_map notes
-  for_plain e =
-      rw e (record { stores = record { count = sym (add-zero s.at); stored = refl }; same = refl; carries = refl })
+  for_plain e = rw e (record { stores = record { count = sym (add-zero at); stored = refl }; carries = refl })
 
-  pub for_opaque : t.kind ≡ Opaque → {s₁ : Sink} → StoresPlain (one_edge draws used param 1 (lifetimes_of t)) s s₁
-      → Stores (bring draws used param t) s s₁
+  pub for_opaque : t.kind ≡ Opaque → {at₁ : ℕ} {words₁ : List ℕ}
+      → StoresWords (one_edge draws used param 1 (lifetimes_of t)) at words at₁ words₁
+      → Stores (bring draws used param t) at pairs words at₁ pairs words₁
   unfolding bring
-  for_opaque e q =
+  for_opaque e s =
       rw e
-      (record {
-        stores = q.stores;
-        same = q.same;
-        carries = q.kept ∙ one_carries s.pairs used param 1 (λ z. omega arith) (any_drawn draws (lifetimes_of t));
-      })
+      (record
+      { stores = s; carries = one_carries pairs used param 1 (λ z. omega arith) (any_drawn draws (lifetimes_of t)) })
 
-  pub for_slice : t.kind ≡ Slice → {s₁ : Sink} → StoresPlain (one_edge draws used param 2 (lifetimes_of t)) s s₁
-      → Stores (bring draws used param t) s s₁
+  pub for_slice : t.kind ≡ Slice → {at₁ : ℕ} {words₁ : List ℕ}
+      → StoresWords (one_edge draws used param 2 (lifetimes_of t)) at words at₁ words₁
+      → Stores (bring draws used param t) at pairs words at₁ pairs words₁
   unfolding bring
-  for_slice e q =
+  for_slice e s =
       rw e
-      (record {
-        stores = q.stores;
-        same = q.same;
-        carries = q.kept ∙ one_carries s.pairs used param 2 (λ z. omega arith) (any_drawn draws (lifetimes_of t));
-      })
+      (record
+      { stores = s; carries = one_carries pairs used param 2 (λ z. omega arith) (any_drawn draws (lifetimes_of t)) })
 
-  pub for_struct : {row : ℕ} → t.kind ≡ Struct row → {s₁ : Sink} → Stores (struct_of draws used param t) s s₁
-      → Stores (bring draws used param t) s s₁
+  pub for_struct : {row : ℕ} → t.kind ≡ Struct row → {at₁ : ℕ} {pairs₁ words₁ : List ℕ}
+      → Stores (struct_of draws used param t) at pairs words at₁ pairs₁ words₁
+      → Stores (bring draws used param t) at pairs words at₁ pairs₁ words₁
   unfolding bring
-  for_struct e q = rw e q
+  for_struct e s = rw e s
 
 -- ---- the used lifetimes one after another
 

@@ -33,7 +33,6 @@ use Rattle.hir_types.specs.Rows.{Row, rows_of, read_known, types_of, structs_in_
 use Rattle.hir_types.proofs.LocatedLaws.{type_located}
 use Rattle.hir_types.proofs.FoundLaws.{found_told, missing_told}
 use Rattle.methods.specs.Method.{types_in, row_checks, param_checks, structs_and_params_checks, structs_and_params_verdict}
-use Rattle.borrowing_param.specs.declared.edges.Sink.{Sink}
 use Rattle.borrowing_param.specs.declared.listed.BorrowMap.{BorrowMap}
 use Rattle.borrowing_param.specs.declared.visitor.LifetimeEdge.{LifetimeEdge}
 use Rattle.borrowing_param.specs.declared.visitor.BorrowingParamVisitor.{BorrowingParamVisitor}
@@ -42,7 +41,7 @@ use Rattle.borrowing_param.specs.Brings.{bring, answer_number}
 use Rattle.borrowing_param.specs.Visit.{used_of, draws_in, draws_of, bring_to, bring_all, holding}
 use Rattle.borrowing_param.specs.BorrowMap.{listed_to, listed_edges, answers_from, Mapping, mapping_of, borrow_map}
 use Rattle.borrowing_param.specs.BorrowMap.{map_answer, map_answers, map_edges, MapsTo}
-use Rattle.borrowing_param.specs.Inner.{type_in, number_by, SetBelow, CountsAll, Stores}
+use Rattle.borrowing_param.specs.Inner.{type_in, number_by, SetBelow, CountsAll, StoresWords, Stores}
 use Rattle.borrowing_param.specs.InnerMap.{ReadsTypes, done, more, param_types, Params, visitor_in, bring_from}
 use Rattle.borrowing_param.specs.InnerMap.{CountsParams, map_room_checks, map_of}
 use Rattle.borrowing_param.proofs.JoinLaws.{join_cons, words_many}
@@ -252,25 +251,27 @@ module _ (v : BorrowingParamVisitor) where
 
 -- ---- the loop of `store_to`
 
-pub record StoringTo (draws : ℕ → Bool) (used : ℕ) (words : List ℕ) (types : List LoweredType) (s₀ : Sink)
-    (param at : ℕ) (s : Sink) : Type 0 where
+pub record StoringTo (draws : ℕ → Bool) (used : ℕ) (words : List ℕ) (types : List LoweredType) (at₀ : ℕ)
+    (pairs₀ edges₀ : List ℕ) (stored param at : ℕ) (pairs edges : List ℕ) : Type 0 where
   pub left : List LoweredType
   pub passing : Passing words types left at param
-  pub storing : Storing (bring_from draws used 0 types) (bring_from draws used param left) s₀ s
+  pub storing : Storing (bring_from draws used 0 types) (bring_from draws used param left) at₀ pairs₀ edges₀ stored pairs edges
 
 pub to_start : (draws : ℕ → Bool) (used : ℕ) {words : List ℕ} {types : List LoweredType} → ReadsTypes words types
-    → (s : Sink) → width * (s.at + length (bring_from draws used 0 types)) ≤ length s.edges.now
-    → StoringTo draws used words types s 0 0 s
-to_start draws used {words} {types} l s k =
+    → (at : ℕ) (pairs edges : List ℕ)
+    → width * (at + length (bring_from draws used 0 types)) ≤ length edges
+    → StoringTo draws used words types at pairs edges at 0 0 pairs edges
+to_start draws used {words} {types} l at pairs edges k =
     record {
       left = types;
       passing = passing_start l;
-      storing = storing_start (bring_from draws used 0 types) s k;
+      storing = storing_start (bring_from draws used 0 types) at pairs edges k;
     }
 
-module _ {draws : ℕ → Bool} {used : ℕ} {words : List ℕ} {types : List LoweredType} {s₀ : Sink} {param at : ℕ} {s : Sink}
-    (inv : StoringTo draws used words types s₀ param at s) where
-  pub to_end : length words ≤ at → Stores (bring_from draws used 0 types) s₀ s
+module _ {draws : ℕ → Bool} {used : ℕ} {words : List ℕ} {types : List LoweredType} {at₀ : ℕ} {pairs₀ edges₀ : List ℕ}
+    {stored param at : ℕ} {pairs edges : List ℕ}
+    (inv : StoringTo draws used words types at₀ pairs₀ edges₀ stored param at pairs edges) where
+  pub to_end : length words ≤ at → Stores (bring_from draws used 0 types) at₀ pairs₀ edges₀ stored pairs edges
   unfolding numbered
   to_end h = storing_end inv.storing (rw (passing_end inv.passing h))
 
@@ -280,7 +281,7 @@ module _ {draws : ℕ → Bool} {used : ℕ} {words : List ℕ} {types : List Lo
     unfolding numbered
     to_split = rw (o.split, add-one param)
 
-    pub to_fits : width * (s.at + length (bring draws used param (type_in words p))) ≤ length s.edges.now
+    pub to_fits : width * (stored + length (bring draws used param (type_in words p))) ≤ length edges
     to_fits =
         storing_fits inv.storing (bring draws used param (type_in words p))
         (bring_from draws used (param + 1) o.rest) to_split
@@ -288,14 +289,15 @@ module _ {draws : ℕ → Bool} {used : ℕ} {words : List ℕ} {types : List Lo
     pub to_few : length types ≤ 16 → param < 16
     to_few h = let size : length inv.left ≡ suc (length o.rest) = ap length o.split in omega (arith, inv.passing.many)
 
-    pub to_more : {s₁ : Sink} → Stores (bring draws used param (type_in words p)) s s₁
-        → StoringTo draws used words types s₀ (param + 1) p.next s₁
-    to_more t = record {
+    pub to_more : {stored₁ : ℕ} {pairs₁ edges₁ : List ℕ}
+        → Stores (bring draws used param (type_in words p)) stored pairs edges stored₁ pairs₁ edges₁
+        → StoringTo draws used words types at₀ pairs₀ edges₀ stored₁ (param + 1) p.next pairs₁ edges₁
+    to_more s = record {
       left = o.rest;
       passing = o.passing;
       storing =
           storing_part inv.storing (bring draws used param (type_in words p))
-          (bring_from draws used (param + 1) o.rest) to_split t;
+          (bring_from draws used (param + 1) o.rest) to_split s;
     }
 
 -- ---- the loop of `store_listed`: what is left, for the used lifetimes from a number on
@@ -325,11 +327,6 @@ module _ (used : ℕ) (drawn : List ℕ) (types : List LoweredType) where
 
     pub listed_not : false ≡ member used i → left_listed used drawn types i ≡ left_listed used drawn types (i + 1)
     listed_not q = rw (used_not used i h q)
-
--- the words of a sink, given back
-pub given_back : {es : List LifetimeEdge} {s₀ s : Sink} → Stores es s₀ s → {words : List ℕ} → words ≡ s.edges.now
-    → words ≡ sets s₀.edges.now (width * s₀.at) (flat_map edge_words es)
-given_back s e = e ∙ s.stores.stored
 
 -- ---- the loop of `count_params`
 
@@ -445,11 +442,11 @@ module _ (v : BorrowingParamVisitor) (types : List LoweredType) {numbers₀ : Li
   listed_room {e} fits = omega (arith, c.edges, div-add-mod' e 5)
 
   pub mapped : {answers edges : Slice} → n.params ≤ room answers → n.edges ≤ room edges / 5 → length numbers₀ ≡ 16
-      → Fills (copied numbers n.params (room answers)) answers → length types ≤ 16
-      → left edges ≡ sets (held edges) 0 (flat_map edge_words (listed_edges (visitor_in v.used v.draws) types))
+      → {stored : ℕ} → Fills (copied numbers n.params (room answers)) answers
+      → length types ≤ 16 → StoresWords (listed_edges (visitor_in v.used v.draws) types) 0 (held edges) stored (left edges)
       → MapsTo (map_of v types (room answers) (room edges))
       (Ok n) answers edges
-  mapped {answers} {edges} k fits size a few s =
+  mapped {answers} {edges} k fits size {stored} a few s =
       let past : length (flat_map edge_words (listed_edges v types)) ≤ room edges =
       omega (arith, edges_size, div-add-mod' (room edges) 5) in
       let none : NoneDue (map_room_checks v types (room answers) (room edges)) =
@@ -467,7 +464,7 @@ module _ (v : BorrowingParamVisitor) (types : List LoweredType) {numbers₀ : Li
       ∙ ap (sets (held answers) 0) first ∙ sets_front (held answers) (answers_from v 0 types) (omega (arith, answers_size)) in
       let stored_words : left edges ≡ flat_map edge_words (listed_edges v types)
       ++ drop (length (flat_map edge_words (listed_edges v types))) (held edges) =
-      s ∙ ap (λ (l : List LifetimeEdge). sets (held edges) 0 (flat_map edge_words l)) edges_are
+      s.stored ∙ ap (λ (l : List LifetimeEdge). sets (held edges) 0 (flat_map edge_words l)) edges_are
       ∙ sets_front (held edges) (flat_map edge_words (listed_edges v types)) past in
       let count : n.edges ≡ length (listed_edges v types) = c.edges ∙ ap length edges_are in
       record { counts = rw (given, answers_size, ← count); answers_filled = rw given stands; edges_filled = rw given stored_words }

@@ -37,7 +37,7 @@ use Rattle.borrowing_param.specs.Edges.{width}
 use Rattle.borrowing_param.specs.Brings.{answer_number, notes, empty_pairs, answer_of}
 use Rattle.borrowing_param.specs.Visit.{bring_all, holding, State, state, VisitOutcome, outcome, visit_with, visit}
 use Rattle.borrowing_param.specs.VisitParam.{type_at, visit_checks, visit_param}
-use Rattle.borrowing_param.specs.Inner.{type_in, nth_type, FoundAt, number_by, all_in, CountsAll, StoresWords}
+use Rattle.borrowing_param.specs.Inner.{type_in, nth_type, FoundAt, number_by, all_in, CountsAll, Stores}
 use Rattle.borrowing_param.proofs.VisitsLaws.{visit_stores}
 
 -- ---- the type with a number
@@ -322,14 +322,14 @@ module _ (v : BorrowingParamVisitor) (words : List ℕ) (t : LoweredType) (param
     unfolding visit
     visit_no_room h = sym (goes v words (answer_of t.kind es) es (λ e. some (many ∙ e)) (rw (← many) h))
 
-    pub visit_room : width * (v.stored + n) ≤ length words → {next : ℕ} {pairs words₁ words₂ : List ℕ}
-        → StoresWords es v.stored words next words₁ → pairs ≡ notes empty_pairs es → words₂ ≡ words₁
-        → outcome (Ok (record { number = number; pairs = pairs })) (state (holding v next) words₂)
+    pub visit_room : width * (v.stored + n) ≤ length words → {next : ℕ} {pairs words₁ : List ℕ}
+        → Stores es v.stored empty_pairs words next pairs words₁
+        → outcome (Ok (record { number = number; pairs = pairs })) (state (holding v next) words₁)
         ≡ visit (state v words) t param
     unfolding visit
-    visit_room h s p e =
+    visit_room h s =
         sym (visit_stores (state v words) (answer_of t.kind es) es (rw (← many) h)
-        ∙ rw (← s.count, ← s.stored, ← p, ← e, ← named))
+        ∙ rw (← s.stores.count, ← s.stores.stored, ← s.carries, ← named))
 
 -- room for what is counted is room for what is brought
 pub brought_room : (v : BorrowingParamVisitor) (t : LoweredType) (param words : ℕ) {n : ℕ}

@@ -14,7 +14,6 @@ use Rattle.hir_types.specs.declared.types.Parts.{Parts}
 use Rattle.hir_types.specs.LoweredTypes.{LoweredType, read_lowered}
 use Rattle.hir_types.specs.Places.{Locates, CodedAt}
 use Rattle.borrowing_param.specs.declared.visitor.LifetimeEdge.{LifetimeEdge}
-use Rattle.borrowing_param.specs.declared.edges.Sink.{Sink}
 use Rattle.borrowing_param.specs.Edges.{width, edge_words}
 use Rattle.borrowing_param.specs.Brings.{drawn, struct_edges, option_of, bring, notes}
 use Rattle.borrowing_param.specs.Visit.{draws_in}
@@ -46,25 +45,15 @@ pub record CountsAll (used : ℕ) (drawn : List ℕ) (t : LoweredType) (n : ℕ)
 abbrev pub struct_of : (ℕ → Bool) → ℕ → ℕ → LoweredType → List LifetimeEdge
 struct_of draws used param t = struct_edges draws used param (option_of t.option) 0 (map from_word t.path)
 
--- some edges were stored behind so many: how many there are then, and the words
+-- some edges were stored behind so many: how many there are then, and the words; and their pairs
 pub record StoresWords (es : List LifetimeEdge) (at : ℕ) (words : List ℕ) (at₁ : ℕ) (words₁ : List ℕ) : Type 0 where
   pub count : at₁ ≡ at + length es
   pub stored : words₁ ≡ sets words (width * at) (flat_map edge_words es)
 
--- room for some edges in a sink
-abbrev pub RoomFor : List LifetimeEdge → Sink → Type 0
-RoomFor es s = width * (s.at + length es) ≤ length s.edges.now
-
--- the same in a sink, which stays that of the same words: as words alone, and with the pairs
-pub record StoresPlain (es : List LifetimeEdge) (s s₁ : Sink) : Type 0 where
-  pub stores : StoresWords es s.at s.edges.now s₁.at s₁.edges.now
-  pub same : s₁.edges.ghost_name ≡ s.edges.ghost_name
-  pub kept : s₁.pairs ≡ s.pairs
-
-pub record Stores (es : List LifetimeEdge) (s s₁ : Sink) : Type 0 where
-  pub stores : StoresWords es s.at s.edges.now s₁.at s₁.edges.now
-  pub same : s₁.edges.ghost_name ≡ s.edges.ghost_name
-  pub carries : s₁.pairs ≡ notes s.pairs es
+pub record Stores (es : List LifetimeEdge) (at : ℕ) (pairs words : List ℕ) (at₁ : ℕ)
+    (pairs₁ words₁ : List ℕ) : Type 0 where
+  pub stores : StoresWords es at words at₁ words₁
+  pub carries : pairs₁ ≡ notes pairs es
 
 -- the type with a number, one after another from the front of some words
 unfoldable pub nth_type : ℕ → List ℕ → Reading LoweredType

@@ -39,10 +39,6 @@ visitor_in used drawn = record { used = used; draws = drawn; stored = 0 }
 abbrev pub bring_from : (ℕ → Bool) → ℕ → ℕ → List LoweredType → List LifetimeEdge
 bring_from draws used param ts = numbered (λ p t. bring draws used p t) param ts
 
--- the words of all edges, in listing order
-abbrev pub listed_words : ℕ → List ℕ → List LoweredType → List ℕ
-listed_words used drawn types = flat_map edge_words (listed_edges (visitor_in used drawn) types)
-
 -- how many parameters there are, how many edges, and the numbers of the answers
 pub record CountsParams (used : ℕ) (drawn : List ℕ) (types : List LoweredType) (numbers : List ℕ) (r : BorrowMap)
     (numbers₁ : List ℕ) : Type 0 where

@@ -13,7 +13,7 @@ ghost use Rattle.hir_types.specs.LoweredTypes.{lifetimes_of};
 ghost use Rattle.borrowing_param.specs.Brings.{drawn, any_drawn, one_edge, bring};
 ghost use Rattle.borrowing_param.specs.Visit.{draws_in};
 ghost use Rattle.borrowing_param.specs.Inner.{SetBelow, typed, CountsFor, CountsAll, struct_of, all_in};
-ghost use Rattle.borrowing_param.specs.Inner.{RoomFor, Stores, StoresPlain};
+ghost use Rattle.borrowing_param.specs.Inner.{Stores, StoresWords};
 
 use super::visitor::{BorrowingParamVisitor, LifetimeEdge, ParamBorrowInfo};
 use hir_types::{Kind, Parts};
@@ -90,38 +90,33 @@ pub(crate) fn past_last(set: u64) -> usize
     set::CAPACITY - u64::leading_zeros(set) as usize
 }
 
-// Where edges are stored: the lent words, how many edges stand in them, and the pairs of a struct.
-#[derive(Drop)]
-pub(crate) struct Sink<'a> {
-    pub edges: &'a mut [usize],
-    pub at: usize,
-    pub pairs: [u64; ParamBorrowInfo::MAX_DEFS],
+// Store one edge behind so many.
+fn put(edges: &mut [usize], at: usize, edge: LifetimeEdge)
+    requires { width * (at + 1) ≤ length edges.old }
+    ensures { left edges ≡ sets (held edges) (width * at) (edge_words edge) }
+{
+    let from = at * BorrowingParamVisitor::EDGE_WORDS;
+    edges[from] = edge.used;
+    edges[from + 1] = edge.param;
+    edges[from + 2] = edge.kind;
+    edges[from + 3] = edge.def;
+    edges[from + 4] = edge.option;
 }
 
-impl<'a> Sink<'a> {
-    // Store one edge.
-    fn put(&mut self, edge: LifetimeEdge)
-        requires { RoomFor (edge ∷ []) self.old }
-        ensures { StoresPlain (edge ∷ []) self.old self.new }
-    {
-        let from = self.at * BorrowingParamVisitor::EDGE_WORDS;
-        self.edges[from] = edge.used;
-        self.edges[from + 1] = edge.param;
-        self.edges[from + 2] = edge.kind;
-        self.edges[from + 3] = edge.def;
-        self.edges[from + 4] = edge.option;
-        self.at += 1;
-    }
-
-    // Store one edge of a struct, and its pair.
-    fn put_pair(&mut self, edge: LifetimeEdge)
-        requires { (edge.kind ≡ 3) × (edge.def < most_defs) × (edge.used < most_lifetimes)
-            × RoomFor (edge ∷ []) self.old }
-        ensures { Stores (edge ∷ []) self.old self.new }
-    {
-        self.put(edge);
-        self.pairs[edge.def] = set::insert(self.pairs[edge.def], Lifetime::new(edge.used));
-    }
+// Store one edge of a struct behind so many, and its pair. Answers how many there are then.
+fn put_pair(
+    edge: LifetimeEdge,
+    edges: &mut [usize],
+    at: usize,
+    pairs: &mut [u64; ParamBorrowInfo::MAX_DEFS],
+) -> usize
+    requires { (edge.kind ≡ 3) × (edge.def < most_defs) × (edge.used < most_lifetimes)
+        × (width * (at + 1) ≤ length edges.old) }
+    ensures { Stores (edge ∷ []) at (held pairs) (held edges) result (left pairs) (left edges) }
+{
+    put(edges, at, edge);
+    pairs[edge.def] = set::insert(pairs[edge.def], Lifetime::new(edge.used));
+    at + 1
 }
 
 impl<'a> Param<'a> {
@@ -150,39 +145,48 @@ impl<'a> Param<'a> {
         }
     }
 
-    // Store its edges to one used lifetime, and the pairs of a struct.
-    pub(crate) fn store(self, set: u64, used: usize, sink: &mut Sink)
+    // Store its edges to one used lifetime behind so many, and the pairs of a struct. Answers how many there are then.
+    pub(crate) fn store(
+        self,
+        set: u64,
+        used: usize,
+        edges: &mut [usize],
+        at: usize,
+        pairs: &mut [u64; ParamBorrowInfo::MAX_DEFS],
+    ) -> usize
         requires inside { (length self.path.now ≤ most_defs) × (used < most_lifetimes) }
-        requires parts_in_bounds { RoomFor (bring (draws_in set) used self.number (typed self.parts self.path.now))
-            sink.old }
-        ensures { Stores (bring (draws_in set) used self.entry.number (typed self.entry.parts self.entry.path.now))
-            sink.old sink.new }
+        requires parts_in_bounds { width * (at + length (bring (draws_in set) used self.number
+            (typed self.parts self.path.now))) ≤ length edges.old }
+        ensures { Stores (bring (draws_in set) used self.entry.number (typed self.entry.parts self.entry.path.now)) at
+            (held pairs) (held edges) result (left pairs) (left edges) }
     {
         match self.parts.kind {
-            Kind::Plain => {}
-            Kind::Opaque => self.store_one(set, LifetimeEdge::OPAQUE, used, sink),
-            Kind::Slice => self.store_one(set, LifetimeEdge::SLICE, used, sink),
-            Kind::Struct(_) => self.store_struct(set, used, sink),
+            Kind::Plain => at,
+            Kind::Opaque => self.store_one(set, LifetimeEdge::OPAQUE, used, edges, at),
+            Kind::Slice => self.store_one(set, LifetimeEdge::SLICE, used, edges, at),
+            Kind::Struct(_) => self.store_struct(set, used, edges, at, pairs),
         }
     }
 
     // Store the one edge of an opaque or a slice, if it has one.
-    fn store_one(self, set: u64, kind: usize, used: usize, sink: &mut Sink)
-        requires { RoomFor (one_edge (draws_in set) used self.number kind
-            (lifetimes_of (typed self.parts self.path.now))) sink.old }
-        ensures { StoresPlain (one_edge (draws_in set) used self.entry.number kind
-            (lifetimes_of (typed self.entry.parts self.entry.path.now))) sink.old sink.new }
+    fn store_one(self, set: u64, kind: usize, used: usize, edges: &mut [usize], at: usize) -> usize
+        requires { width * (at + length (one_edge (draws_in set) used self.number kind
+            (lifetimes_of (typed self.parts self.path.now)))) ≤ length edges.old }
+        ensures { StoresWords (one_edge (draws_in set) used self.entry.number kind
+            (lifetimes_of (typed self.entry.parts self.entry.path.now))) at (held edges) result (left edges) }
     {
         if !self.is_drawn(set) {
-            return;
+            return at;
         }
-        sink.put(LifetimeEdge {
+        let edge = LifetimeEdge {
             used,
             param: self.number,
             kind,
             def: 0,
             option: 0,
-        });
+        };
+        put(edges, at, edge);
+        at + 1
     }
 
     // The method's lifetime at the use of a struct for a lifetime of its definition, by the view of its path words. The
@@ -204,14 +208,23 @@ impl<'a> Param<'a> {
     }
 
     // Store the edges of a struct, and their pairs.
-    fn store_struct(self, set: u64, used: usize, sink: &mut Sink)
+    fn store_struct(
+        self,
+        set: u64,
+        used: usize,
+        edges: &mut [usize],
+        at: usize,
+        pairs: &mut [u64; ParamBorrowInfo::MAX_DEFS],
+    ) -> usize
         requires inside { (length self.path.now ≤ most_defs) × (used < most_lifetimes) }
-        requires parts_in_bounds { RoomFor (struct_of (draws_in set) used self.number
-            (typed self.parts self.path.now)) sink.old }
+        requires parts_in_bounds { width * (at + length (struct_of (draws_in set) used self.number
+            (typed self.parts self.path.now))) ≤ length edges.old }
         ensures { Stores (struct_of (draws_in set) used self.entry.number
-            (typed self.entry.parts self.entry.path.now)) sink.old sink.new }
+            (typed self.entry.parts self.entry.path.now)) at (held pairs) (held edges) result
+            (left pairs) (left edges) }
     {
         let option = usize::from(self.parts.option);
+        let mut next = at;
         for def in 0..self.path.len() {
             if draws(set, self.linked_lifetime(def)) {
                 let edge = LifetimeEdge {
@@ -221,9 +234,10 @@ impl<'a> Param<'a> {
                     def,
                     option,
                 };
-                sink.put_pair(edge);
+                next = put_pair(edge, edges, next, pairs);
             }
         }
+        next
     }
 }
 
@@ -243,19 +257,27 @@ impl BorrowingParamVisitor {
         n
     }
 
-    // Store the edges of a parameter to all used lifetimes, ascending.
-    pub(crate) fn store(&self, param: Param, sink: &mut Sink)
+    // Store the edges of a parameter to all used lifetimes, ascending, behind so many.
+    pub(crate) fn store(
+        &self,
+        param: Param,
+        edges: &mut [usize],
+        at: usize,
+        pairs: &mut [u64; ParamBorrowInfo::MAX_DEFS],
+    ) -> usize
         requires inside { length param.path.now ≤ most_defs }
-        requires param_in_bounds { RoomFor (all_in self.now.used self.now.draws
-            (typed param.parts param.path.now) param.number) sink.old }
+        requires param_in_bounds { width * (at + length (all_in self.now.used self.now.draws
+            (typed param.parts param.path.now) param.number)) ≤ length edges.old }
         ensures { Stores (all_in self.now.used self.now.draws (typed param.entry.parts param.entry.path.now)
-            param.entry.number) sink.old sink.new }
+            param.entry.number) at (held pairs) (held edges) result (left pairs) (left edges) }
     {
         let limit = past_last(self.used);
+        let mut next = at;
         for l in 0..limit {
             if set::contains(self.used, Lifetime::new(l)) {
-                param.store(self.draws[l], l, sink);
+                next = param.store(self.draws[l], l, edges, next, pairs);
             }
         }
+        next
     }
 }

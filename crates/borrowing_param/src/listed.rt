@@ -1,17 +1,15 @@
 // Edges in listing order: by used lifetime, parameter, lifetime of the definition; and the answers by parameter.
 ghost use Rattle.std.specs.Prelude.{◌≡◌, ◌+◌, ◌*◌, ◌≤◌, ◌<◌, length};
-ghost use Rattle.std.proofs.lemmas.List.Edits.{sets};
 ghost use Rattle.answers.specs.Lent.{held, room, left};
 ghost use Rattle.lifetimes.specs.Limits.{most_lifetimes};
 ghost use Rattle.methods.specs.Method.{most_params};
 ghost use Rattle.borrowing_param.specs.Edges.{width, most_defs};
 ghost use Rattle.borrowing_param.specs.Visit.{draws_in};
 ghost use Rattle.borrowing_param.specs.BorrowMap.{listed_edges, borrow_map, MapsTo};
-ghost use Rattle.borrowing_param.specs.Inner.{RoomFor, Stores};
+ghost use Rattle.borrowing_param.specs.Inner.{Stores, StoresWords};
 ghost use Rattle.borrowing_param.specs.InnerMap.{param_types, Params, visitor_in, bring_from, CountsParams, map_of};
-ghost use Rattle.borrowing_param.specs.InnerMap.{listed_words};
 
-use super::edges::{Param, Sink, past_last};
+use super::edges::{Param, past_last};
 use super::visitor::{BorrowingParamVisitor, ParamBorrowInfo, number_of};
 use answers::Refusal;
 use hir_types::{path_words, type_at};
@@ -65,7 +63,7 @@ impl BorrowingParamVisitor {
             return Err(Refusal::NoRoom);
         }
         let _ = copy_words(&numbers, counted.params, answers);
-        self.store_listed(params, edges);
+        let _ = self.store_listed(params, edges);
         Ok(counted)
     }
 
@@ -101,41 +99,50 @@ impl BorrowingParamVisitor {
         counted
     }
 
-    // Store the edges of all parameters, by used lifetime.
-    fn store_listed(&self, params: &[usize], edges: &mut [usize])
+    // Store the edges of all parameters, by used lifetime. Answers how many there are.
+    fn store_listed(&self, params: &[usize], edges: &mut [usize]) -> usize
         requires { Params params.now × (width * length (listed_edges (visitor_in self.now.used self.now.draws)
             (param_types params.now)) ≤ length edges.old) }
-        ensures { left edges
-            ≡ sets (held edges) 0 (listed_words self.now.used self.now.draws (param_types params.now)) }
+        ensures { StoresWords (listed_edges (visitor_in self.now.used self.now.draws) (param_types params.now)) 0
+            (held edges) result (left edges) }
     {
         let limit = past_last(self.used);
-        let mut sink = Sink {
-            edges,
-            at: 0,
-            pairs: [set::EMPTY; ParamBorrowInfo::MAX_DEFS],
-        };
+        let mut pairs = [set::EMPTY; ParamBorrowInfo::MAX_DEFS];
+        let mut next = 0;
         for l in 0..limit {
             if set::contains(self.used, Lifetime::new(l)) {
-                store_to(self.draws[l], params, l, &mut sink);
+                next = store_to(self.draws[l], params, l, edges, next, &mut pairs);
             }
         }
+        next
     }
 }
 
-// Store the edges of all parameters to one used lifetime. `Param::store` notes the pairs of structs too; they are not
-// used here. It goes from place to place by what stands there, so the loop stays a `while`.
-fn store_to(set: u64, params: &[usize], used: usize, sink: &mut Sink)
+// Store the edges of all parameters to one used lifetime behind so many. Answers how many there are then.
+// `Param::store` notes the pairs of structs too; they are not used here. It goes from place to place by what stands
+// there, so the loop stays a `while`.
+fn store_to(
+    set: u64,
+    params: &[usize],
+    used: usize,
+    edges: &mut [usize],
+    stored: usize,
+    pairs: &mut [u64; ParamBorrowInfo::MAX_DEFS],
+) -> usize
     requires params { Params params.now × (used < most_lifetimes) }
-    requires params_in_bounds { RoomFor (bring_from (draws_in set) used 0 (param_types params.now)) sink.old }
-    ensures { Stores (bring_from (draws_in set) used 0 (param_types params.now)) sink.old sink.new }
+    requires params_in_bounds { width * (stored + length (bring_from (draws_in set) used 0 (param_types params.now)))
+        ≤ length edges.old }
+    ensures { Stores (bring_from (draws_in set) used 0 (param_types params.now)) stored (held pairs) (held edges)
+        result (left pairs) (left edges) }
 {
+    let mut next = stored;
     let mut number = 0;
     let mut place = 0;
     while place < params.len() {
         let found = type_at(params, place);
         // None is no refusal: in shape a type is there.
         let Some(parts) = found else {
-            return;
+            return next;
         };
         let path = path_words(params, parts.from, parts.count);
         let param = Param {
@@ -143,8 +150,9 @@ fn store_to(set: u64, params: &[usize], used: usize, sink: &mut Sink)
             parts,
             path,
         };
-        param.store(set, used, sink);
+        next = param.store(set, used, edges, next, pairs);
         number += 1;
         place = parts.next;
     }
+    next
 }

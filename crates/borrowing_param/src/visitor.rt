@@ -8,7 +8,7 @@ ghost use Rattle.borrowing_param.specs.Inner.{type_in, FoundAt, number_by};
 ghost use Rattle.hir_types.specs.Places.{Coded};
 ghost use Rattle.answers.specs.Lent.{held, left};
 
-use super::edges::{Param, Sink, past_last};
+use super::edges::{Param, past_last};
 use answers::Refusal;
 use hir_types::{Kind, Parts, path_words, type_at};
 use lifetimes::{Lifetime, LifetimeEnv, set};
@@ -153,7 +153,7 @@ impl BorrowingParamVisitor {
         };
         let brought = self.count(visited);
         let number = number_of(params, parts, brought);
-        let pairs = [set::EMPTY; ParamBorrowInfo::MAX_DEFS];
+        let mut pairs = [set::EMPTY; ParamBorrowInfo::MAX_DEFS];
         if brought == 0 {
             return Ok(ParamBorrowInfo { number, pairs });
         }
@@ -164,17 +164,8 @@ impl BorrowingParamVisitor {
         if room - brought < self.stored {
             return Err(Refusal::NoRoom);
         }
-        let mut sink = Sink {
-            edges,
-            at: self.stored,
-            pairs,
-        };
-        self.store(visited, &mut sink);
-        self.stored = sink.at;
-        Ok(ParamBorrowInfo {
-            number,
-            pairs: sink.pairs,
-        })
+        self.stored = self.store(visited, edges, self.stored, &mut pairs);
+        Ok(ParamBorrowInfo { number, pairs })
     }
 }
 

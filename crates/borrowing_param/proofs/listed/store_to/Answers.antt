@@ -13,8 +13,8 @@ loop-place-init c = search (to_start, rules)
 pub returns-in_default : goal.returns-in_default
 returns-in_default c = search (passing_missing, rules)
 
-pub store-requires : goal.store-requires
-store-requires c = let o = passing_next c.loop-place.invariant.passing c.loop-place-test.true
+pub store-next-requires : goal.store-next-requires
+store-next-requires c = let o = passing_next c.loop-place.invariant.passing c.loop-place-test.true
     c.type_at-found.ensures.answer
     c.in-Some.is in
     record {
@@ -35,7 +35,7 @@ pub loop-place-preserved : goal.loop-place-preserved
 loop-place-preserved c = let o = passing_next c.loop-place.invariant.passing c.loop-place-test.true
     c.type_at-found.ensures.answer
     c.in-Some.is in
-    to_more c.loop-place.invariant o (rw c.path_words-path.ensures.answer at c.store.ensures)
+    to_more c.loop-place.invariant o (rw c.path_words-path.ensures.answer at c.store-next.ensures)
 
 pub returns : goal.returns
 returns c = search (to_end, rules)

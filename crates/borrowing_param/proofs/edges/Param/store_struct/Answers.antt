@@ -12,8 +12,8 @@ use Rattle.borrowing_param.proofs.EdgesLoops.{storing_end, left_edges, edges_non
 use Rattle.borrowing_param.proofs.edges.Param.store_struct.Goals as goal
 use Rattle.borrowing_param.proofs.edges.Param.store_struct.Goals.{then-draws, else-draws}
 
-pub put_pair-requires : goal.put_pair-requires
-put_pair-requires c = let a = c.args in
+pub put_pair-next-requires : goal.put_pair-next-requires
+put_pair-next-requires c = let a = c.args in
     let k = c.loop-def.def in
     let test = c.draws.ensures ∙ ap (drawn (draws_in a.set)) c.linked_lifetime.ensures in
     let split = edges_one (draws_in a.set) a.used a.self.number c.from-option.result a.self.path.now k
@@ -30,12 +30,12 @@ loop-def-preserved c = let a = c.args in
     let k = c.loop-def.def in
     let test = c.draws.ensures ∙ ap (drawn (draws_in a.set)) c.linked_lifetime.ensures in
     elim c.if-draws.branch [
-      | then-draws w ↦ rw w.sink-is (storing_part c.loop-def.invariant
+      | then-draws w ↦ rw (w.next-is, w.pairs-is, w.edges-is) (storing_part c.loop-def.invariant
           (edge a.used a.self.number 3 k c.from-option.result ∷ [])
           (left_edges (draws_in a.set) a.used a.self.number c.from-option.result a.self.path.now (k + 1))
           (edges_one (draws_in a.set) a.used a.self.number c.from-option.result a.self.path.now k
-          c.loop-def-test.true (sym w.if-draws.true ∙ test)) w.put_pair.ensures)
-      | else-draws w ↦ rw w.sink-is (storing_none c.loop-def.invariant
+          c.loop-def-test.true (sym w.if-draws.true ∙ test)) w.put_pair-next.ensures)
+      | else-draws w ↦ rw (w.next-is, w.pairs-is, w.edges-is) (storing_none c.loop-def.invariant
           (edges_skip (draws_in a.set) a.used a.self.number c.from-option.result a.self.path.now k
           c.loop-def-test.true (sym w.if-draws.false ∙ test)))
     ]

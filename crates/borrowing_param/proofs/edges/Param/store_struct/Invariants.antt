@@ -10,4 +10,4 @@ use Rattle.borrowing_param.proofs.edges.Param.store_struct.Given as goal
 
 abbrev pub invariant-loop-def : goal.invariant-loop-def
 invariant-loop-def l = Storing (struct_edges (draws_in l.set) l.used l.self.number l.option 0 (map from_word l.self.path.now))
-    (left_edges (draws_in l.set) l.used l.self.number l.option l.self.path.now l.def) l.initial.sink l.sink
+    (left_edges (draws_in l.set) l.used l.self.number l.option l.self.path.now l.def) l.at l.initial.pairs l.initial.edges l.next l.pairs l.edges

@@ -16,8 +16,8 @@ use Rattle.borrowing_param.proofs.visitor.BorrowingParamVisitor.store.Goals.{the
 pub loop-l-init : goal.loop-l-init
 loop-l-init c = search (storing_start, storing_none, all_left, rules)
 
-pub store-requires : goal.store-requires
-store-requires c = let v = c.args.self.now in
+pub store-next-requires : goal.store-next-requires
+store-next-requires c = let v = c.args.self.now in
     let p = c.args.param in
     let h = below_64 c.loop-l.invariant.0 c.loop-l-test.true in
     let split = all_here v.used v.draws (typed p.parts p.path.now) p.number c.loop-l.l h
@@ -36,15 +36,15 @@ loop-l-preserved c = let v = c.args.self.now in
     let test : c.contains.result ≡ member v.used c.loop-l.l =
     c.contains.ensures.answer ∙ ap (λ (x : Lifetime). member v.used x.0) c.new.ensures.answer in
     elim c.if-contains.branch [
-      | then-contains w ↦ rw w.sink-is (
+      | then-contains w ↦ rw (w.next-is, w.pairs-is, w.edges-is) (
         c.loop-l.invariant.0,
         storing_part c.loop-l.invariant.1
             (bring (draws_in (get_or v.draws c.loop-l.l 0)) c.loop-l.l p.number (typed p.parts p.path.now))
             (left_all v.used v.draws (typed p.parts p.path.now) p.number (c.loop-l.l + 1))
             (all_here v.used v.draws (typed p.parts p.path.now) p.number c.loop-l.l h (sym w.if-contains.true ∙ test))
-            w.store.ensures,
+            w.store-next.ensures,
       )
-      | else-contains w ↦ rw w.sink-is (
+      | else-contains w ↦ rw (w.next-is, w.pairs-is, w.edges-is) (
         c.loop-l.invariant.0,
         storing_none c.loop-l.invariant.1
             (all_not v.used v.draws (typed p.parts p.path.now) p.number c.loop-l.l h (sym w.if-contains.false ∙ test)),

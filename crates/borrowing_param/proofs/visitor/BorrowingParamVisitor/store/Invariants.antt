@@ -8,4 +8,4 @@ abbrev pub invariant-loop-l : goal.invariant-loop-l
 invariant-loop-l l = SetBelow l.self.used l.limit
     × Storing (all_in l.self.used l.self.draws (typed l.param.parts l.param.path.now) l.param.number)
     (left_all l.self.used l.self.draws (typed l.param.parts l.param.path.now) l.param.number l.l)
-    l.initial.sink l.sink
+    l.at l.initial.pairs l.initial.edges l.next l.pairs l.edges

@@ -9,4 +9,4 @@ use Rattle.borrowing_param.proofs.visitor.BorrowingParamVisitor.store_listed.Giv
 
 abbrev pub invariant-loop-l : goal.invariant-loop-l
 invariant-loop-l l = SetBelow l.self.used l.limit × Storing (listed_edges (visitor_in l.self.used l.self.draws) (param_types l.params))
-    (left_listed l.self.used l.self.draws (param_types l.params) l.l) l.initial.sink l.sink
+    (left_listed l.self.used l.self.draws (param_types l.params) l.l) 0 l.initial.pairs l.initial.edges l.next l.pairs l.edges
