@@ -104,6 +104,8 @@ fn put(edges: &mut [usize], at: usize, edge: LifetimeEdge)
 }
 
 // Store one edge of a struct behind so many, and its pair. Answers how many there are then.
+// `edges`, `at` and `pairs` stay three parameters: a struct that lends them proves, but the place then lies in memory,
+// and `borrow_sheet` takes 19 % more on 4,096 edges.
 fn put_pair(
     edge: LifetimeEdge,
     edges: &mut [usize],
