@@ -18,6 +18,8 @@ use lifetimes::{Bound, Bounds, Lifetime};
 
 // The names of a method in order of declaration, the first `named` of the array: a name's number is its place. And the
 // bounds between them.
+// The array is of fixed length beside a count, since there is no heap here. No PartialEq: derived, it would also
+// compare the places behind the count.
 #[derive(Clone, Copy)]
 pub struct LifetimeEnv {
     pub names: [usize; LifetimeEnv::MAX_NAMES],
@@ -142,6 +144,8 @@ impl LifetimeEnv {
     }
 
     // The number of a name; none for one that is not declared.
+    // That `named` is within its limit stays a clause, and so does `StandsIn` below: the struct is public, callers
+    // build any value of it, and a ghost invariant would bar that.
     pub(crate) fn id(&self, name: usize) -> Option<usize>
         requires { self.now.named ≤ most_names }
         ensures { result ≡ id_of (names_of self.now) name }

@@ -118,6 +118,8 @@ impl LifetimeEnv {
         ensures { Leaves (fold step (so_far_of self.old) (all_paths types.now)) self.new result }
     {
         let mut reach = Reach::of(self);
+        // No Option: `behind` is the record's own word, of which 0 ('static) and 1 (anonymous) push nothing either. The
+        // codes are the record's, as 01 gives them.
         let mut behind = 0;
         let mut at = 0;
         // No range to go over: a path's length is read from it.

@@ -30,6 +30,7 @@ pub struct Borrows {
 // parameter's answer to the second; the edges, in listing order, to the third. Refused in the papers' order: 10; 1 over
 // all records; 13 for 1 in `force`; 2 to 7 at the first bad place; 8; then 9 where a slice is too short. 34, 16 and
 // 43,520 words are always enough.
+// The three slices stay parameters, here and below, as callers have them.
 pub fn borrow_sheet(
     sheet: &[u8],
     used: &mut [usize],

@@ -20,7 +20,7 @@ use hir_types::{Kind, Parts};
 use lifetimes::{DefLifetime, Lifetime, LinkedLifetimes, MaybeStatic, set};
 
 impl LifetimeEdge {
-    // The kinds. They stay numbers and are no enum: `edge_at` gives whatever five words stand in a slice.
+    // The kinds. `kind` and `option` stay numbers: `edge_at` gives whatever five words stand in a slice.
     pub const OPAQUE: usize = 1;
 
     pub const SLICE: usize = 2;
@@ -121,6 +121,8 @@ fn put_pair(
     at + 1
 }
 
+// That a path is at most 16 words and a used lifetime below 64 stays a clause where it is wanted: as ghost fields they
+// would stand in each law.
 impl<'a> Param<'a> {
     // Whether one of its lifetimes draws: of its path words, or its own.
     fn is_drawn(self, set: u64) -> bool

@@ -45,6 +45,8 @@ impl BorrowingParamVisitor {
     }
 
     // All parameters of a record that is in shape. Refused by 9 where a slice is too short, before anything is written.
+    // `Params` stays a clause of four private functions: a slice carries no fact, and a struct around the one slice
+    // would be no plainer.
     fn map_params(
         &self,
         params: &[usize],

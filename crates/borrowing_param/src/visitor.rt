@@ -28,8 +28,8 @@ pub struct LifetimeEdge {
 
 // What a visit answers: 01's number of the answer, 0 to 4; and for each lifetime of a struct's definition the set of
 // the used lifetimes that it has an edge to (the map in the Rust's `StructBorrowInfo`).
-// The number stays a number and is no enum, for speed: it is worked out without a branch (`number_of`), which an enum
-// has at each use.
+// The number stays a number and is no enum, for speed: of a slice or an opaque it is worked out without a branch
+// (`number_by`), which an enum has at each use.
 #[derive(Clone, Copy)]
 pub struct ParamBorrowInfo {
     pub number: usize,

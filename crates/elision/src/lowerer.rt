@@ -48,6 +48,7 @@ pub struct Seen {
 
 // What a lowerer knows between two steps. `kept` says whether the `Self` type was there already; `own` are its
 // lifetimes then (in the Rust `self_lifetimes`, and what is seen `elision_source` and `num_lifetimes`).
+// `kept` and `own` are no Option: made by hand, a lowerer may hold lifetimes that do not count, and a step leaves them.
 #[derive(Clone, Copy)]
 pub struct Lowerer {
     pub seen: Seen,
@@ -200,6 +201,7 @@ impl Lowerer {
 }
 
 // The lifetimes of a list that may say more than its array holds, with nothing behind them.
+// Push by push and no copy: the places behind the count are to be static.
 fn first_of(own: Lifetimes) -> Lifetimes
     ensures { result ≡ laid (values_in own) }
 {
@@ -222,6 +224,8 @@ pub(crate) fn standing_in(output: bool) -> Standing
 }
 
 // Lower some words, then anonymous ones until there are as many as generics.
+// `put_words` has this loop too: it writes words to a slice as they come, this one makes an array of lifetimes. A
+// closure for the one word would be no plainer. At most 16 words: a clause, since a slice has no such type.
 fn lower_words(
     names: &[usize],
     standing: Standing,
@@ -263,6 +267,7 @@ pub(crate) fn lower_word(
 ) -> Result<Worded, Refusal>
     ensures { result ≡ worded (lower_word names.now standing word seen) }
 {
+    // The codes are the record's, as 01 gives them: 0 is 'static, 1 anonymous.
     if word == 1 {
         return lower_anonymous(standing, seen);
     }

@@ -37,6 +37,7 @@ struct Totals {
 // What `lower` answers of these records, before it looks at its slices: how many words each would be written, and the
 // method's environment. Refused by 1 over the three records, by 4 and 8 as the AST environment is, then by 3, 4, 5, 6
 // at the first bad place.
+// The three records, and below the three slices, stay parameters, as callers have them.
 pub fn measure(
     env: ast_lifetimes::LifetimeEnv,
     receiver: &[usize],
@@ -108,6 +109,8 @@ pub fn finish(
 }
 
 // Lower the records only to judge and to count.
+// That the records are in shape stays a clause: `shape_of` has judged it, and a slice carries no fact. The records and
+// the slices stay parameters: a struct of lent slices would be taken apart at each call.
 fn judge(
     names: &[usize],
     receiver: &[usize],

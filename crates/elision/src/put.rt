@@ -23,6 +23,7 @@ use records::MAX_LIST;
 // A lowerer as it goes through the records: what is seen, whether the `Self` type was there, and how many lifetimes it
 // has then, whose words stand in front of the list. That these are at most 16 each contract says for itself: a ghost
 // field would put a proof into every record that a law speaks of, and this struct into a file of its own.
+// `kept` is a bool beside the lifetimes as in `Lowerer`; their array is of fixed length, since there is no heap here.
 #[derive(Clone, Copy)]
 pub(crate) struct SmallLowerer {
     pub(crate) seen: Seen,
@@ -122,6 +123,8 @@ impl SmallLowerer {
     }
 
     // Lower a step that stands somewhere in a record, and store its words; the answer is the place behind them.
+    // `n`, and `at` below, are at most 65,536, so that no sum overflows; a record gives at most 8,192. It stays a
+    // clause: a type for the one number would be no plainer. `output` stays a bool: see `Lowerer::lower_lifetime`.
     fn put_step(
         &mut self,
         names: &[usize],
@@ -225,6 +228,7 @@ impl SmallLowerer {
 
 // Lower some words, then anonymous ones until there are as many as generics, and store each from a place on, as far as
 // the slice takes them.
+// The loop of `lower_words`, see there.
 fn put_words(
     names: &[usize],
     standing: Standing,

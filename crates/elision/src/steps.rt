@@ -58,6 +58,7 @@ pub fn steps_shape(steps: &[usize]) -> Result<(), Refusal>
         return Err(Refusal::Malformed);
     }
     let mut at = 0;
+    // No range to go over: where the next step stands is read from this one.
     while at < steps.len() {
         let step = read_step(steps, at).ok_or(Refusal::Malformed)?;
         at = step.end();
@@ -71,6 +72,7 @@ pub(crate) fn read_step(words: &[usize], at: usize) -> Option<StepAt>
 {
     let kind = *words.get(at)?;
     let next = at + 1;
+    // The codes are the record's, as 01 gives them.
     match kind {
         0 => Some(StepAt::Lifetime {
             word: *words.get(next)?,

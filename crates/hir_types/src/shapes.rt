@@ -26,6 +26,7 @@ pub fn structs_shape(structs: &[usize]) -> Result<usize, Refusal>
     }
     let mut at = 0;
     let mut rows = 0;
+    // No range to go over, here and below: where the next item stands is read from this one.
     while at < structs.len() {
         at = row_end(structs, at, rows).ok_or(Refusal::Malformed)?;
         rows += 1;
@@ -85,6 +86,8 @@ pub struct Shape {
 
 // Whether the four records of a method are in shape, and how much stands in them. Refused by 1 over all four, then by
 // 13 for 1 in `force`.
+// The four records stay parameters, here and in the crates above, as callers have them; `Records` is of the crate
+// sheet, above this one.
 pub fn method_shape(
     structs: &[usize],
     params: &[usize],

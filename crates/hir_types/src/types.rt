@@ -149,6 +149,7 @@ fn bare_at(words: &[usize], at: usize, option: bool) -> Option<Parts>
 }
 
 // The opaque whose code stands at a place.
+// That `at` is among the words stays a clause of the three: the code was read there.
 fn opaque_at(words: &[usize], at: usize, option: bool) -> Option<Parts>
     requires { at < length words.now }
     ensures { LocatesBare words.now at option (read_opaque option (drop (at + 1) words.now)) result }

@@ -30,6 +30,7 @@ pub fn read_input<R: Read>(reader: &mut R, bytes: &mut [u8]) -> Input
     ensures whole { result.failed ≡ false → result.count < length bytes.new → IsAtEnd (R.remaining reader.new) }
 {
     let mut count = 0;
+    // No range to go over: each read says how many bytes it gave.
     while count < bytes.len() {
         let got = reader.read(&mut bytes[count..]);
         match got {

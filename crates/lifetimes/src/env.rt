@@ -12,6 +12,7 @@ use answers::Refusal;
 
 // How many lifetimes are declared, how many there are in all, and the bounds. The declared ones come first; the others
 // are elided. The Rust has two lists at each lifetime instead of the one.
+// No PartialEq: derived, it would also compare the places behind the bounds' count.
 #[derive(Clone, Copy)]
 pub struct LifetimeEnv {
     pub declared: usize,

@@ -14,6 +14,9 @@ use super::env::LifetimeEnv;
 // How many lifetimes the environment has, declared and in all. For each bound its far side, and the bound before it
 // with the same near side; for each lifetime the last bound whose near side it is. A bound's number is its place
 // counted from 1, and 0 stands for none.
+// 0 and no Option: a u16 holds it, and each step of a traversal reads one. `far` and `before` are two arrays and none
+// of pairs: a byte and a u16 in a pair would take four bytes. The arrays are of fixed length, since there is no heap
+// here.
 #[derive(Clone, Copy)]
 pub(crate) struct Index {
     pub(crate) declared: usize,
@@ -25,7 +28,8 @@ pub(crate) struct Index {
 
 impl Index {
     // The index of an environment, whose bounds are linked in push order, or, for the AST's order, from the last to the
-    // first. `ast` and `longer` are facts of two values: see `Bound::near`.
+    // first. `ast` stays a bool, here and in the traversals, as `longer` does (`Bound::near`): an order has two
+    // values, and an enum of two names would be no plainer.
     pub(crate) fn link(env: &LifetimeEnv, ast: bool, longer: bool) -> Index
         requires { NoneDue (env_checks env.now) }
         ensures indexed { Indexed (graph_in (order_of ast) longer (bounds_of env.now)) result }

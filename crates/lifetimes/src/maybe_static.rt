@@ -23,6 +23,7 @@ pub trait Numbered {
     ghost kept: { (n : ℕ) → number (numbered n) ≡ n };
 }
 
+// Both kinds hand on to their own `new` and `index`, which are public and stay as they were called.
 impl Numbered for Lifetime {
     ghost numbered = { lifetime };
 

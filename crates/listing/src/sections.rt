@@ -41,6 +41,7 @@ pub(crate) fn put_lowered(
 }
 
 // Each lifetime and its list: the lists stand one after another in a slice, and another says where each ends.
+// That the ends ascend stays a clause: it speaks of two slices, as `all_lists` writes them.
 pub(crate) fn put_longer(out: &mut [u8], at: usize, words: &[usize], ends: &[usize]) -> usize
     requires { Ascend 0 (length words.now) ends.now }
     ensures { Prints (longer_heading ++ list_lines 0 (cut_from 0 words.now ends.now)) at (held out) result (left out) }

@@ -8,8 +8,8 @@ ghost use Rattle.listing.specs.InnerListing.{sections};
 use super::sections::{put_answers, put_edges, put_headed, put_longer, put_lowered};
 
 // All sections, one after another, from the front of a slice: how many lifetimes, used lifetimes, parameters and edges
-// there are (`counts`); lowered words; longer lists by their ends; answers; edges. Nine parameters and no struct: what
-// was moved out of a struct of lent slices cannot be lent in another (see `list_method`).
+// there are (`counts`); lowered words; longer lists by their ends; answers; edges. Nine parameters and no struct: see
+// `list_method`.
 pub(crate) fn put_listing(
     out: &mut [u8],
     counts: &[usize; 4],

@@ -42,6 +42,8 @@ pub(crate) struct Scratch<'a> {
 }
 
 // List a sheet. `words` takes the words of any sheet of so many bytes. None: the scratch is too short.
+// That the edges have no more room than a listing takes stays a clause: it is of one slice of `Scratch`, and taken
+// apart with it.
 pub(crate) fn list_within(
     sheet: &[u8],
     words: &mut [usize],

@@ -9,6 +9,7 @@ use hir_types::{Own, path_words, type_at};
 use lifetimes::{Lifetime, MaybeStatic, set};
 
 // The lifetimes of so many types, which stand at the front of some words, as a set; none where one is past the count.
+// That `count` is at most 64 stays a clause of the four: a type for the one number would be no plainer.
 pub(crate) fn collect_types(words: &[usize], types: usize, count: usize) -> Option<u64>
     requires { count ≤ most_lifetimes }
     ensures { TypesCollect words.now 0 types count 0 result }

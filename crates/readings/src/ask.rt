@@ -15,6 +15,7 @@ const UNWRITTEN: usize = Text::MAX_WORD + 1;
 const NO_ENDS: [usize; Text::RECORDS] = [0; Text::RECORDS];
 
 // A text asked about, by the kind of the question.
+// The kinds are numbers and no enum: their names would stand twice, in the questions and here.
 pub(crate) fn ask(rt: &impl Print, text: &[u8], kind: usize, length: usize) {
     match kind {
         1 => response(rt, text),

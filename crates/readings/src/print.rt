@@ -30,8 +30,8 @@ pub(crate) fn counted(rt: &impl Print, text: &[u8]) {
     let _ = rt.write_all(text);
 }
 
-// The number of an outcome: 0 where nothing is refused. `vectors` has it too: programs share no library but `input`,
-// which knows of no refusal.
+// The number of an outcome: 0 where nothing is refused. `vectors` has it too: a public function of
+// `answers` for two programs, with its contract and its edit, would be no plainer.
 pub(crate) fn number_of<T>(outcome: &Result<T, Refusal>) -> usize {
     match outcome {
         Ok(_) => 0,

@@ -12,6 +12,7 @@ use std::process::ExitCode;
 use text::{put_line, put_text};
 
 // A refusal, as the program prints it.
+// `put_headed` of the crate listing is private: a public one for two lines would be no plainer.
 fn refuse(refusal: Refusal, out: &mut [u8]) -> usize {
     let next = put_text(out, 0, b"refusal\n");
     put_line(out, next, &[refusal.number()])

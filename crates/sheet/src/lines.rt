@@ -19,6 +19,7 @@ struct LineEnd {
 }
 
 // Store a word, where the slice has the place.
+// elision has these three lines too: a public function for them, with its contract, would be no plainer.
 fn put(words: &mut [usize], at: usize, word: usize)
     ensures { left words ≡ set (held words) at word }
 {

@@ -101,6 +101,7 @@ pub(crate) fn scan(sheet: &[u8], scratch: &mut [usize]) -> Result<Text, Refusal>
 
 // Write the words of an accepted text, `count` of them, where the slice takes them all; else none. Says whether it
 // does.
+// A bool and no Result: by it the contract says which of two things the slice holds.
 fn write_all(sheet: &[u8], count: usize, words: &mut [usize]) -> bool
     requires { NoneDue (text_checks sheet.now) }
     ensures value { result ≡ leb count (room words) }

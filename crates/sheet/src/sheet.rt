@@ -62,6 +62,8 @@ fn read_sized(sheet: &[u8], words: &mut [usize], bytes: usize) -> Result<Text, R
 }
 
 // The same in scratch of one size.
+// `Roomy` stays a clause, here and in the crates above: it speaks of a sheet and of the scratch beside it, and a struct
+// that lends both would be taken apart at once.
 fn read_in<const N: usize>(sheet: &[u8], words: &mut [usize]) -> Result<Text, Refusal>
     requires enough { Roomy sheet.now N }
     requires most { N ≤ record_count * most_words }

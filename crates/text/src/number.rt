@@ -11,6 +11,7 @@ pub struct Found {
 }
 
 // Whether a number with one digit more is within a limit; `tenth` is a tenth of it.
+// By comparison with a tenth: `value * 10` may overflow for a limit near usize::MAX, and `checked_mul` is no plainer.
 fn fits(value: usize, digit: usize, limit: usize, tenth: usize) -> bool
     requires { (digit ≤ 9) × (tenth ≡ limit / 10) }
     ensures { result ≡ leb (value * 10 + digit) limit }

@@ -2,6 +2,7 @@
 //
 // Each printer stores its text from a place on, as far as the slice goes, and answers the place behind the text, at
 // most `usize::MAX`. A slice ends there at the latest, so a place behind a byte that was stored is never held to that.
+// Slice and place are no struct: the answer is the next place.
 ghost use Rattle.std.specs.Prelude.{◌+◌, ◌-◌, ◌^◌, min, ◌≡◌, [], ◌∷◌, length, replicate};
 ghost use Rattle.std.proofs.lemmas.List.Edits.{sets};
 ghost use Rattle.answers.specs.Lent.{held, left};
@@ -25,6 +26,8 @@ pub fn put_text(out: &mut [u8], at: usize, text: &[u8]) -> usize
     ensures stored { left out ≡ sets (held out) at text.now }
 {
     let n = text.len().min(out.len().saturating_sub(at));
+    // Byte by byte, here and below: the place may be behind the slice's end, where no part of it can be lent to the
+    // library's copying.
     for i in 0..n {
         out[at + i] = text[i];
     }

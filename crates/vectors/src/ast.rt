@@ -27,6 +27,7 @@ pub(crate) fn from_method_item(rt: &impl Print, questions: &mut Questions<'_>) {
 }
 
 // Kind 2: record names. Its shape.
+// One function a kind, here and below, as for all kinds: the table in main.rt names them.
 pub(crate) fn names_shape(rt: &impl Print, questions: &mut Questions<'_>) {
     print::verdict(rt, ast_lifetimes::names_shape(questions.record()));
 }
@@ -107,6 +108,8 @@ pub(crate) fn print_whole(rt: &impl Print, env: LifetimeEnv) {
 }
 
 // One list of a name.
+// `reach` has this and `list` for a method's environment: a trait over the two would be no plainer. `longer` says which
+// of two calls is asked; an enum of two names would be no plainer.
 fn print_list(rt: &impl Print, env: LifetimeEnv, name: usize, longer: bool) {
     let mut out = [0usize; LifetimeEnv::MAX_NAMES];
     let listed = list(env, name, longer, &mut out);

@@ -21,6 +21,7 @@ pub(crate) fn all_lists(rt: &impl Print, questions: &mut Questions<'_>) {
 }
 
 // One list of a lifetime.
+// `ast` has this and `list` for the AST's environment: see there.
 fn print_list(rt: &impl Print, env: LifetimeEnv, lifetime: usize, longer: bool) {
     let mut out = [0usize; LifetimeEnv::MAX_LIFETIMES];
     let listed = list(env, Lifetime::new(lifetime), longer, &mut out);
