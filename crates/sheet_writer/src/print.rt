@@ -12,8 +12,8 @@ use text::{put_line, put_text};
 pub(crate) fn put_sheet(out: &mut [u8], records: Records) -> usize
     ensures { Prints (text (records_in records.entry)) 0 (held out) result (left out) }
 {
-    // The sheet's first line stands here and in the crate sheet, which compares all its bytes: a text is no constant of
-    // a contract, and each has its own against the definition `heading`.
+    // The sheet's first line stands here and in the crate sheet: both are held to the one definition `heading`, so that
+    // a constant for both would be no plainer.
     let heading = b"names bounds types self steps returns structs params output force\n";
     let environment = put_text(out, 0, heading);
     let elision = put_three(

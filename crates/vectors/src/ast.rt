@@ -26,22 +26,6 @@ pub(crate) fn from_method_item(rt: &impl Print, questions: &mut Questions<'_>) {
     print::end(rt);
 }
 
-// Kind 2: record names. Its shape.
-// One function a kind, here and below, as for all kinds: the table in main.rt names them.
-pub(crate) fn names_shape(rt: &impl Print, questions: &mut Questions<'_>) {
-    print::verdict(rt, ast_lifetimes::names_shape(questions.record()));
-}
-
-// Kind 3: record bounds. Its shape.
-pub(crate) fn bounds_shape(rt: &impl Print, questions: &mut Questions<'_>) {
-    print::verdict(rt, ast_lifetimes::bounds_shape(questions.record()));
-}
-
-// Kind 4: record types. Its shape.
-pub(crate) fn types_shape(rt: &impl Print, questions: &mut Questions<'_>) {
-    print::verdict(rt, ast_lifetimes::types_shape(questions.record()));
-}
-
 // Kind 5: an environment made by hand, a name, and how long the lent slice is, at most 40. The number of `check`; then
 // for `longer_than` and for `shorter_than` the refusal's number or 0, the count, and all words of the slice, whose
 // words were 99.

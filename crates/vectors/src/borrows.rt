@@ -11,6 +11,7 @@ pub(crate) fn borrow(rt: &impl Print, questions: &mut Questions<'_>) {
     let mut lengths = Questions {
         left: questions.record(),
     };
+    // As in `called` and `exported`: a function that made the three arrays could not lend them to its caller.
     let mut used: [usize; rooms::WORDS] = rooms::words();
     let mut answers: [usize; rooms::WORDS] = rooms::words();
     let mut edges: [usize; rooms::EDGES] = rooms::words();

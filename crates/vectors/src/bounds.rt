@@ -27,7 +27,8 @@ pub(crate) fn made_by_hand(questions: &mut Questions<'_>) -> Bounds {
     Bounds { pushed, list }
 }
 
-// All bounds up to the last that is not 0 0, with their number in front.
+// All bounds up to the last that is not 0 0, with their number in front. `print_drawn` cuts the end in the same way:
+// with a closure for what is empty, and its contract, the two would be no plainer.
 pub(crate) fn print_filled(rt: &impl Print, bounds: &Bounds) {
     let empty = bounds
         .list

@@ -48,13 +48,3 @@ fn counts(lowering: Lowering) -> [usize; 5] {
         lowering.env.count,
     ]
 }
-
-// Kind 8: record self. Its shape.
-pub(crate) fn self_shape(rt: &impl Print, questions: &mut Questions<'_>) {
-    print::verdict(rt, elision::self_shape(questions.record()));
-}
-
-// Kind 9: record steps, or returns. Its shape.
-pub(crate) fn steps_shape(rt: &impl Print, questions: &mut Questions<'_>) {
-    print::verdict(rt, elision::steps_shape(questions.record()));
-}

@@ -28,6 +28,8 @@ mod visits;
 mod words;
 mod writes;
 
+use ast_lifetimes::{bounds_shape, names_shape, types_shape};
+use elision::{self_shape, steps_shape};
 use input::{read_input, room};
 use questions::Questions;
 
@@ -36,14 +38,15 @@ use questions::Questions;
 fn answer(rt: &impl Print, kind: usize, questions: &mut Questions<'_>) {
     match kind {
         1 => ast::from_method_item(rt, questions),
-        2 => ast::names_shape(rt, questions),
-        3 => ast::bounds_shape(rt, questions),
-        4 => ast::types_shape(rt, questions),
+        // A record, and its shape: names, bounds, types; self, and steps or returns.
+        2 => print::verdict(rt, names_shape(questions.record())),
+        3 => print::verdict(rt, bounds_shape(questions.record())),
+        4 => print::verdict(rt, types_shape(questions.record())),
+        8 => print::verdict(rt, self_shape(questions.record())),
+        9 => print::verdict(rt, steps_shape(questions.record())),
         5 => ast::lists(rt, questions),
         6 => ast::extend_implicit_lifetime_bounds(rt, questions),
         7 => lowering::lower(rt, questions),
-        8 => lowering::self_shape(rt, questions),
-        9 => lowering::steps_shape(rt, questions),
         10 => lowered::used_method_lifetimes(rt, questions),
         11 => lowered::compute_for_struct_field(rt, questions),
         12 => lowered::type_lifetimes(rt, questions),
