@@ -70,7 +70,7 @@ const READER_GONE: u8 = 141;
 // What a program ends with, once its answer was written or could not be. Where the answer's reader has gone, the status
 // is what a shell gives for a program that SIGPIPE ended; else it is 0.
 pub fn status(written: &Result<(), io::Error>) -> ExitCode
-    ensures { MatchResult written.now (λ _. exit_status result ≡ 0) (λ e.
+    ensures answer { MatchResult written.now (λ _. exit_status result ≡ 0) (λ e.
         (error_kind e ≡ ErrorKind.BrokenPipe → exit_status result ≡ 141)
         × (error_kind e ≢ ErrorKind.BrokenPipe → exit_status result ≡ 0)) }
 {
