@@ -4,12 +4,28 @@
 // and a line with the number, as the program `borrows` does.
 #![tactic(auto)]
 
+ghost use Rattle.std.specs.Prelude.{◌≡◌, length};
+
 use answers::Refusal;
 use input::{read_input, room, status};
 use sheet::{Text, read_sheet};
 use sheet_writer::{MAX_WRITTEN, write_laid};
 use std::process::ExitCode;
 use text::{put_line, put_text};
+
+// Room for a sheet, and for the byte that tells that it is too long.
+fn room_for_sheet() -> [u8; Text::MAX_BYTES + 1]
+    ensures size { 65537 ≡ length result }
+{
+    room(0)
+}
+
+// Room for any sheet that is written.
+fn room_for_text() -> [u8; MAX_WRITTEN]
+    ensures size { 61506 ≡ length result }
+{
+    room(0)
+}
 
 // A refusal, as the program prints it.
 // `put_headed` of the crate listing is private: a public one for two lines would be no plainer.
@@ -40,10 +56,9 @@ fn answer(rt: &impl Print, sheet: &[u8], out: &mut [u8]) -> ExitCode {
 }
 
 fn main(rt: HostRuntime) -> ExitCode {
-    // Behind the longest sheet, room for the byte that tells that it is too long.
-    let mut sheet: [u8; Text::MAX_BYTES + 1] = room(0);
+    let mut sheet = room_for_sheet();
     let mut stdin = rt.stdin();
     let read = read_input(&mut stdin, &mut sheet).count;
-    let mut out: [u8; MAX_WRITTEN] = room(0);
+    let mut out = room_for_text();
     answer(&rt, &sheet[..read], &mut out)
 }
