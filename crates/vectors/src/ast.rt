@@ -35,7 +35,7 @@ pub(crate) fn lists(rt: &impl Print, questions: &mut Questions<'_>) {
     let n = questions.number().min(ROOM);
     print::first(rt, print::number_of(&env.check()));
     for longer in [true, false] {
-        let mut out: [usize; ROOM] = rooms::words();
+        let mut out: [usize; ROOM] = rooms::few();
         let lent = &mut out[..n];
         let listed = list(env, name, longer, lent);
         print::next(rt, print::number_of(&listed));

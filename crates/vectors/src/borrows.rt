@@ -12,9 +12,9 @@ pub(crate) fn borrow(rt: &impl Print, questions: &mut Questions<'_>) {
         left: questions.record(),
     };
     // As in `called` and `exported`: a function that made the three arrays could not lend them to its caller.
-    let mut used: [usize; rooms::WORDS] = rooms::words();
-    let mut answers: [usize; rooms::WORDS] = rooms::words();
-    let mut edges: [usize; rooms::EDGES] = rooms::words();
+    let mut used = rooms::words();
+    let mut answers = rooms::words();
+    let mut edges = rooms::edges();
     let used = &mut used[..lengths.number().min(rooms::WORDS)];
     let answers = &mut answers[..lengths.number().min(rooms::WORDS)];
     let edges = &mut edges[..lengths.number().min(rooms::EDGES)];

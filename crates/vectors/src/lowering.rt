@@ -18,24 +18,35 @@ pub(crate) fn lower(rt: &impl Print, questions: &mut Questions<'_>) {
     let receiver = questions.record();
     let steps = questions.record();
     let returns = questions.record();
-    let mut own: [usize; OWN] = rooms::words();
-    let mut given: [usize; rooms::WORDS] = rooms::words();
-    let mut taken: [usize; rooms::WORDS] = rooms::words();
-    let own = &mut own[..questions.number().min(OWN)];
-    let given = &mut given[..questions.number().min(rooms::WORDS)];
-    let taken = &mut taken[..questions.number().min(rooms::WORDS)];
+    let lengths = [questions.number(), questions.number(), questions.number()];
     match made {
         Err(refusal) => print::first(rt, refusal.number()),
-        Ok(env) => {
-            let lowering = elision::lower(env, receiver, steps, returns, own, given, taken);
-            print::first(rt, print::number_of(&lowering));
-            print::all(rt, &lowering.map_or([0; 5], counts));
-            print::all(rt, own);
-            print::all(rt, given);
-            print::all(rt, taken);
-        }
+        Ok(env) => print_lowered(rt, env, receiver, steps, returns, lengths),
     }
     print::end(rt);
+}
+
+// What `lower` answers, lent slices of these lengths, and all words of the slices.
+fn print_lowered(
+    rt: &impl Print,
+    env: LifetimeEnv,
+    receiver: &[usize],
+    steps: &[usize],
+    returns: &[usize],
+    lengths: [usize; 3],
+) {
+    let mut own: [usize; OWN] = rooms::few();
+    let mut given = rooms::words();
+    let mut taken = rooms::words();
+    let own = &mut own[..lengths[0].min(OWN)];
+    let given = &mut given[..lengths[1].min(rooms::WORDS)];
+    let taken = &mut taken[..lengths[2].min(rooms::WORDS)];
+    let lowering = elision::lower(env, receiver, steps, returns, own, given, taken);
+    print::first(rt, print::number_of(&lowering));
+    print::all(rt, &lowering.map_or([0; 5], counts));
+    print::all(rt, own);
+    print::all(rt, given);
+    print::all(rt, taken);
 }
 
 // How many words each record gave, and how many lifetimes are declared and there are.

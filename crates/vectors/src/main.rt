@@ -28,6 +28,8 @@ mod visits;
 mod words;
 mod writes;
 
+ghost use Rattle.std.specs.Prelude.{◌≡◌, length};
+
 use ast_lifetimes::{bounds_shape, names_shape, types_shape};
 use elision::{self_shape, steps_shape};
 use input::{read_input, room};
@@ -94,11 +96,25 @@ const BYTES: usize = 524288;
 // How many numbers: every other byte may be one.
 const NUMBERS: usize = 262144;
 
+// Room for the bytes that are read.
+fn room_for_bytes() -> [u8; BYTES]
+    ensures size { 524288 ≡ length result }
+{
+    room(0)
+}
+
+// Room for their numbers.
+fn room_for_numbers() -> [usize; NUMBERS]
+    ensures size { 262144 ≡ length result }
+{
+    room(0)
+}
+
 fn main(rt: HostRuntime) {
-    let mut bytes: [u8; BYTES] = room(0);
+    let mut bytes = room_for_bytes();
     let mut stdin = rt.stdin();
     let n = read_input(&mut stdin, &mut bytes).count;
-    let mut words: [usize; NUMBERS] = room(0);
+    let mut words = room_for_numbers();
     let count = scan::numbers(&bytes[..n], &mut words);
     answer_all(&rt, &words[..count]);
 }

@@ -1,5 +1,5 @@
-// Room for what a call writes. A slice that is lent is a part of an array, as long as the question says. Every word is
-// 99 before and every byte a dot, so that each one that is written shows.
+// Room for what a call writes. A slice that is lent is a part of one of these arrays, as long as the question says.
+// Every word is 99 before and every byte a dot, so that each one that is written shows.
 ghost use Rattle.std.specs.Prelude.{◌≡◌, length};
 
 use input::room;
@@ -14,14 +14,30 @@ pub(crate) const EDGES: usize = 20480;
 // longest.
 pub(crate) const BYTES: usize = 16384;
 
-pub(crate) fn words<const N: usize>() -> [usize; N]
-    ensures { N ≡ length result }
+// Every word before it is written.
+const UNWRITTEN: usize = 99;
+
+pub(crate) fn words() -> [usize; WORDS]
+    ensures size { 8192 ≡ length result }
 {
-    room(99)
+    room(UNWRITTEN)
 }
 
-pub(crate) fn bytes<const N: usize>() -> [u8; N]
-    ensures { N ≡ length result }
+pub(crate) fn edges() -> [usize; EDGES]
+    ensures size { 20480 ≡ length result }
+{
+    room(UNWRITTEN)
+}
+
+pub(crate) fn bytes() -> [u8; BYTES]
+    ensures size { 16384 ≡ length result }
 {
     room(b'.')
+}
+
+// A few words, for a call that writes no more.
+pub(crate) fn few<const N: usize>() -> [usize; N]
+    ensures size { N ≡ length result }
+{
+    room(UNWRITTEN)
 }

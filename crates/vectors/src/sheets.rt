@@ -12,12 +12,12 @@ use sheet::Text;
 // Kind 24, one slice for words: `lower_sheet`. The refusal's number or 0, the ten ends, the whole environment, and all
 // words of the slice. Refused, the ends are 0, and there is no lifetime.
 pub(crate) fn lower(rt: &impl Print, questions: &mut Questions<'_>) {
-    let mut bytes: [u8; rooms::BYTES] = rooms::bytes();
+    let mut bytes = rooms::bytes();
     let n = scan::lay(questions.record(), &mut bytes);
     let mut lengths = Questions {
         left: questions.record(),
     };
-    let mut words: [usize; rooms::WORDS] = rooms::words();
+    let mut words = rooms::words();
     let words = &mut words[..lengths.number().min(rooms::WORDS)];
     let method = lower_sheet(&bytes[..n], words);
     print::first(rt, print::number_of(&method));
@@ -34,7 +34,7 @@ pub(crate) fn lower(rt: &impl Print, questions: &mut Questions<'_>) {
 // Kind 25, slices for used lifetimes, answers, edges and counts: `borrow_sheet`, lent the first three, what it answers
 // and all words of the slices; then `borrows_sheet`, its status and all words of the four.
 pub(crate) fn borrow(rt: &impl Print, questions: &mut Questions<'_>) {
-    let mut bytes: [u8; rooms::BYTES] = rooms::bytes();
+    let mut bytes = rooms::bytes();
     let n = scan::lay(questions.record(), &mut bytes);
     let lengths = questions.record();
     called(rt, &bytes[..n], Questions { left: lengths });
@@ -45,9 +45,9 @@ pub(crate) fn borrow(rt: &impl Print, questions: &mut Questions<'_>) {
 // `borrow_sheet`, with slices of these lengths.
 fn called(rt: &impl Print, sheet: &[u8], given: Questions<'_>) {
     let mut lengths = given;
-    let mut used: [usize; rooms::WORDS] = rooms::words();
-    let mut answers: [usize; rooms::WORDS] = rooms::words();
-    let mut edges: [usize; rooms::EDGES] = rooms::words();
+    let mut used = rooms::words();
+    let mut answers = rooms::words();
+    let mut edges = rooms::edges();
     let used = &mut used[..lengths.number().min(rooms::WORDS)];
     let answers = &mut answers[..lengths.number().min(rooms::WORDS)];
     let edges = &mut edges[..lengths.number().min(rooms::EDGES)];
@@ -60,10 +60,10 @@ fn called(rt: &impl Print, sheet: &[u8], given: Questions<'_>) {
 // `borrows_sheet`, with slices of these lengths.
 fn exported(rt: &impl Print, sheet: &[u8], given: Questions<'_>) {
     let mut lengths = given;
-    let mut used: [usize; rooms::WORDS] = rooms::words();
-    let mut answers: [usize; rooms::WORDS] = rooms::words();
-    let mut edges: [usize; rooms::EDGES] = rooms::words();
-    let mut counts: [usize; rooms::WORDS] = rooms::words();
+    let mut used = rooms::words();
+    let mut answers = rooms::words();
+    let mut edges = rooms::edges();
+    let mut counts = rooms::words();
     let used = &mut used[..lengths.number().min(rooms::WORDS)];
     let answers = &mut answers[..lengths.number().min(rooms::WORDS)];
     let edges = &mut edges[..lengths.number().min(rooms::EDGES)];
@@ -78,7 +78,7 @@ fn exported(rt: &impl Print, sheet: &[u8], given: Questions<'_>) {
 // Kind 26, a slice for bytes and one for their number: `listing`, lent the first, the refusal's number or 0, the count
 // and all bytes of the slice; then `borrows_listing`, its status, and all bytes and words of both.
 pub(crate) fn list(rt: &impl Print, questions: &mut Questions<'_>) {
-    let mut bytes: [u8; rooms::BYTES] = rooms::bytes();
+    let mut bytes = rooms::bytes();
     let n = scan::lay(questions.record(), &mut bytes);
     let sheet = &bytes[..n];
     let mut lengths = Questions {
@@ -86,14 +86,14 @@ pub(crate) fn list(rt: &impl Print, questions: &mut Questions<'_>) {
     };
     let n = lengths.number().min(rooms::BYTES);
     let counted = lengths.number().min(rooms::WORDS);
-    let mut out: [u8; rooms::BYTES] = rooms::bytes();
+    let mut out = rooms::bytes();
     let lent = &mut out[..n];
     let listed = listing(sheet, lent);
     print::first(rt, print::number_of(&listed));
     print::next(rt, listed.unwrap_or(0));
     print::bytes(rt, lent);
-    let mut out: [u8; rooms::BYTES] = rooms::bytes();
-    let mut counts: [usize; rooms::WORDS] = rooms::words();
+    let mut out = rooms::bytes();
+    let mut counts = rooms::words();
     let lent = &mut out[..n];
     let counts = &mut counts[..counted];
     print::next(rt, borrows_listing(sheet, lent, counts));

@@ -16,7 +16,7 @@ pub(crate) fn put(rt: &impl Print, questions: &mut Questions<'_>) {
     let width = questions.number();
     let given = questions.record();
     let n = questions.number().min(rooms::BYTES);
-    let mut out: [u8; rooms::BYTES] = rooms::bytes();
+    let mut out = rooms::bytes();
     let lent = &mut out[..n];
     let behind = match which {
         0 => put_bytes(lent, at, given),
@@ -32,7 +32,7 @@ pub(crate) fn put(rt: &impl Print, questions: &mut Questions<'_>) {
 
 // `put_text` of the bytes of a record.
 fn put_bytes(out: &mut [u8], at: usize, given: &[usize]) -> usize {
-    let mut bytes: [u8; rooms::BYTES] = rooms::bytes();
+    let mut bytes = rooms::bytes();
     let n = scan::lay(given, &mut bytes);
     put_text(out, at, &bytes[..n])
 }
@@ -40,7 +40,7 @@ fn put_bytes(out: &mut [u8], at: usize, given: &[usize]) -> usize {
 // Kind 29: a record of bytes, a place, and a limit. `read_number`: 0 for nothing; or 1, the value, and the place behind
 // its digits.
 pub(crate) fn read(rt: &impl Print, questions: &mut Questions<'_>) {
-    let mut bytes: [u8; rooms::BYTES] = rooms::bytes();
+    let mut bytes = rooms::bytes();
     let n = scan::lay(questions.record(), &mut bytes);
     let place = questions.number();
     let found = read_number(&bytes[..n], place, questions.number());

@@ -10,22 +10,36 @@ use lifetimes::{LifetimeEnv, set};
 // all words of the slice, which were 99.
 pub(crate) fn visit_params(rt: &impl Print, questions: &mut Questions<'_>) {
     let m = lowered::made_by_hand(questions);
-    let mut edges: [usize; rooms::EDGES] = rooms::words();
-    let edges = &mut edges[..questions.number().min(rooms::EDGES)];
+    let length = questions.number();
     let visits = questions.record();
     let created = BorrowingParamVisitor::new(m.env, m.structs, m.params, m.output, m.force);
     print::first(rt, print::number_of(&created));
-    if let Ok(first) = created {
-        let mut visitor = first;
-        for param in visits {
-            let visited = visitor.visit_param(m.structs, m.params, *param, edges);
-            print_info(rt, visited.info);
-            visitor = visited.visitor;
-        }
-        print::next(rt, visitor.stored);
-        print::all(rt, edges);
+    if let Ok(visitor) = created {
+        print_visits(rt, visitor, m.structs, m.params, visits, length);
     }
     print::end(rt);
+}
+
+// What each visit answers, all of them lent one slice of this length; then how many edges are stored, and all words of
+// the slice.
+fn print_visits(
+    rt: &impl Print,
+    first: BorrowingParamVisitor,
+    structs: &[usize],
+    params: &[usize],
+    visits: &[usize],
+    length: usize,
+) {
+    let mut edges = rooms::edges();
+    let edges = &mut edges[..length.min(rooms::EDGES)];
+    let mut visitor = first;
+    for param in visits {
+        let visited = visitor.visit_param(structs, params, *param, edges);
+        print_info(rt, visited.info);
+        visitor = visited.visitor;
+    }
+    print::next(rt, visitor.stored);
+    print::all(rt, edges);
 }
 
 // What a visit answers: the refusal's number or 0, the answer's number, and of how many definition lifetimes there are

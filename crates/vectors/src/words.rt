@@ -13,7 +13,7 @@ pub(crate) fn list(rt: &impl Print, questions: &mut Questions<'_>) {
     let given = questions.record();
     let count = questions.number();
     let n = questions.number().min(rooms::WORDS);
-    let mut out: [usize; rooms::WORDS] = rooms::words();
+    let mut out = rooms::words();
     let lent = &mut out[..n];
     let listed = match which {
         0 => set::members(set_of(given), lent),

@@ -23,7 +23,7 @@ pub(crate) fn ten(rt: &impl Print, questions: &mut Questions<'_>) {
         output: questions.record(),
         force: questions.record(),
     };
-    let mut out: [u8; rooms::BYTES] = rooms::bytes();
+    let mut out = rooms::bytes();
     let out = &mut out[..questions.number().min(rooms::BYTES)];
     print::first(rt, print::number_of(&sheet_shape(records)));
     let written = write_sheet(records, out);
@@ -41,14 +41,14 @@ pub(crate) fn laid(rt: &impl Print, questions: &mut Questions<'_>) {
     let ends = questions.record();
     let n = questions.number().min(rooms::BYTES);
     let counted = questions.number().min(rooms::WORDS);
-    let mut out: [u8; rooms::BYTES] = rooms::bytes();
+    let mut out = rooms::bytes();
     let lent = &mut out[..n];
     let written = write_laid(words, ends, lent);
     print::first(rt, print::number_of(&written));
     print::next(rt, written.unwrap_or(0));
     print::bytes(rt, lent);
-    let mut out: [u8; rooms::BYTES] = rooms::bytes();
-    let mut counts: [usize; rooms::WORDS] = rooms::words();
+    let mut out = rooms::bytes();
+    let mut counts = rooms::words();
     let lent = &mut out[..n];
     let counts = &mut counts[..counted];
     print::next(rt, borrows_write_sheet(words, ends, lent, counts));
