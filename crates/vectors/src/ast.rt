@@ -3,6 +3,8 @@
 // An environment made by hand is asked for as: how many names are declared, the record of names, how many bounds are
 // pushed, the record of pairs longer, shorter by number. The two counts are taken as they are, beyond every limit too;
 // what the records leave of the arrays is 0.
+ghost use Rattle.vectors.specs.Left.{TakesNumbers};
+
 use super::questions::Questions;
 use super::{bounds, print, rooms};
 use answers::Refusal;
@@ -15,7 +17,9 @@ const ROOM: usize = 40;
 // Kind 1: records names, bounds, types. `from_method_item`: the refusal's number; or 0, how many names and how many
 // bounds there are, the bounds, and for each name the list of those that outlive it and the list of those that it
 // outlives, each with its length in front.
-pub(crate) fn from_method_item(rt: &impl Print, questions: &mut Questions<'_>) {
+pub(crate) fn from_method_item(rt: &impl Print, questions: &mut Questions<'_>)
+    ensures left { TakesNumbers questions.old.left.now questions.new.left.now }
+{
     let names = questions.record();
     let bounds = questions.record();
     let made = LifetimeEnv::from_method_item(names, bounds, questions.record());
@@ -29,7 +33,9 @@ pub(crate) fn from_method_item(rt: &impl Print, questions: &mut Questions<'_>) {
 // Kind 5: an environment made by hand, a name, and how long the lent slice is, at most 40. The number of `check`; then
 // for `longer_than` and for `shorter_than` the refusal's number or 0, the count, and all words of the slice, whose
 // words were 99.
-pub(crate) fn lists(rt: &impl Print, questions: &mut Questions<'_>) {
+pub(crate) fn lists(rt: &impl Print, questions: &mut Questions<'_>)
+    ensures left { TakesNumbers questions.old.left.now questions.new.left.now }
+{
     let env = made_by_hand(questions);
     let name = questions.number();
     let n = questions.number().min(ROOM);
@@ -47,7 +53,9 @@ pub(crate) fn lists(rt: &impl Print, questions: &mut Questions<'_>) {
 
 // Kind 6: an environment made by hand, and the record types. `extend_implicit_lifetime_bounds`: the refusal's number or
 // 0, and the whole environment; refused, as it was.
-pub(crate) fn extend_implicit_lifetime_bounds(rt: &impl Print, questions: &mut Questions<'_>) {
+pub(crate) fn extend_implicit_lifetime_bounds(rt: &impl Print, questions: &mut Questions<'_>)
+    ensures left { TakesNumbers questions.old.left.now questions.new.left.now }
+{
     let env = made_by_hand(questions);
     let extended = env.extend_implicit_lifetime_bounds(questions.record());
     print::first(rt, print::number_of(&extended));
@@ -56,7 +64,9 @@ pub(crate) fn extend_implicit_lifetime_bounds(rt: &impl Print, questions: &mut Q
 }
 
 // An environment made by hand.
-pub(crate) fn made_by_hand(questions: &mut Questions<'_>) -> LifetimeEnv {
+pub(crate) fn made_by_hand(questions: &mut Questions<'_>) -> LifetimeEnv
+    ensures left { TakesNumbers questions.old.left.now questions.new.left.now }
+{
     let named = questions.number();
     let words = questions.record();
     let mut names = [0usize; LifetimeEnv::MAX_NAMES];

@@ -1,4 +1,6 @@
 // Questions for the crate `borrowing_param` that borrow a whole method.
+ghost use Rattle.vectors.specs.Left.{TakesNumbers};
+
 use super::questions::Questions;
 use super::{lowered, print, rooms};
 use answers::Refusal;
@@ -6,7 +8,9 @@ use borrowing_param::{Borrows, borrow_method};
 
 // Kind 23: a method made by hand, and the record of how long the three lent slices are: used lifetimes, answers, edges.
 // `borrow_method`: what it answers, and all words of the slices.
-pub(crate) fn borrow(rt: &impl Print, questions: &mut Questions<'_>) {
+pub(crate) fn borrow(rt: &impl Print, questions: &mut Questions<'_>)
+    ensures left { TakesNumbers questions.old.left.now questions.new.left.now }
+{
     let m = lowered::made_by_hand(questions);
     let mut lengths = Questions {
         left: questions.record(),

@@ -1,11 +1,15 @@
 // Bounds made by hand, asked about by themselves, and printed: what the AST's environments and those of methods share.
+ghost use Rattle.vectors.specs.Left.{TakesNumbers};
+
 use super::print;
 use super::questions::Questions;
 use lifetimes::{Bound, Bounds, Lifetime};
 
 // Kind 31: how many lifetimes there are, how many bounds are pushed, taken as it is, and the record of pairs longer,
 // shorter. `Bounds::check`: the refusal's number or 0.
-pub(crate) fn check(rt: &impl Print, questions: &mut Questions<'_>) {
+pub(crate) fn check(rt: &impl Print, questions: &mut Questions<'_>)
+    ensures left { TakesNumbers questions.old.left.now questions.new.left.now }
+{
     let lifetimes = questions.number();
     let bounds = made_by_hand(questions);
     print::verdict(rt, bounds.check(lifetimes));
@@ -13,7 +17,9 @@ pub(crate) fn check(rt: &impl Print, questions: &mut Questions<'_>) {
 
 // Bounds of which so many count as pushed, whatever their number is; their places hold the pairs of a record, longer
 // and shorter, and 0 0 behind them.
-pub(crate) fn made_by_hand(questions: &mut Questions<'_>) -> Bounds {
+pub(crate) fn made_by_hand(questions: &mut Questions<'_>) -> Bounds
+    ensures left { TakesNumbers questions.old.left.now questions.new.left.now }
+{
     let pushed = questions.number();
     let pairs = questions.record();
     let none = Bound {

@@ -4,13 +4,17 @@
 // A method's environment made by hand is asked for as: how many lifetimes are declared, how many there are, how many
 // bounds are pushed, the record of pairs longer, shorter. The three numbers are taken as they are, beyond every limit
 // too; what the record leaves of the bounds is 0 0.
+ghost use Rattle.vectors.specs.Left.{TakesNumbers};
+
 use super::questions::Questions;
 use super::{ast, bounds, print};
 use lifetimes::{Bounds, Lifetime, LifetimeEnv};
 
 // Kind 17: how many lifetimes are declared, how many there are, and the record of pairs. `LifetimeEnv::new`: the
 // refusal's number or 0, and the whole environment; refused, one of no lifetimes.
-pub(crate) fn new(rt: &impl Print, questions: &mut Questions<'_>) {
+pub(crate) fn new(rt: &impl Print, questions: &mut Questions<'_>)
+    ensures left { TakesNumbers questions.old.left.now questions.new.left.now }
+{
     let declared = questions.number();
     let count = questions.number();
     let made = LifetimeEnv::new(declared, count, questions.record());
@@ -22,7 +26,9 @@ pub(crate) fn new(rt: &impl Print, questions: &mut Questions<'_>) {
 // Kind 18: an environment made by hand, and a bound, longer and shorter. `push_bound`: the refusal's number or 0, and
 // the whole environment afterwards; refused, as it was. Behind it, of the longer one and of the shorter one, whether
 // `get_bounds` of the environment as it was knows it.
-pub(crate) fn push_bound(rt: &impl Print, questions: &mut Questions<'_>) {
+pub(crate) fn push_bound(rt: &impl Print, questions: &mut Questions<'_>)
+    ensures left { TakesNumbers questions.old.left.now questions.new.left.now }
+{
     let env = made_by_hand(questions);
     let longer = Lifetime::new(questions.number());
     let shorter = Lifetime::new(questions.number());
@@ -46,7 +52,9 @@ pub(crate) fn none(rt: &impl Print) {
 }
 
 // An environment made by hand.
-pub(crate) fn made_by_hand(questions: &mut Questions<'_>) -> LifetimeEnv {
+pub(crate) fn made_by_hand(questions: &mut Questions<'_>) -> LifetimeEnv
+    ensures left { TakesNumbers questions.old.left.now questions.new.left.now }
+{
     let declared = questions.number();
     let count = questions.number();
     LifetimeEnv::from_bounds(declared, count, bounds::made_by_hand(questions))

@@ -1,4 +1,6 @@
 // Questions for the crates `hir_types` and `methods`, and methods made by hand.
+ghost use Rattle.vectors.specs.Left.{TakesNumbers};
+
 use super::questions::Questions;
 use super::{environments, print};
 use lifetimes::{Lifetime, LifetimeEnv, MaybeStatic, set};
@@ -16,7 +18,9 @@ pub(crate) struct Method<'a> {
 }
 
 // A method made by hand.
-pub(crate) fn made_by_hand<'a>(questions: &mut Questions<'a>) -> Method<'a> {
+pub(crate) fn made_by_hand<'a>(questions: &mut Questions<'a>) -> Method<'a>
+    ensures left { TakesNumbers questions.old.left.now questions.new.left.now }
+{
     let env = environments::made_by_hand(questions);
     let structs = questions.record();
     let params = questions.record();
@@ -33,7 +37,9 @@ pub(crate) fn made_by_hand<'a>(questions: &mut Questions<'a>) -> Method<'a> {
 
 // Kind 10: a method made by hand. `check_method`: the refusal's number or 0. Then `used_method_lifetimes`: the
 // refusal's number; or 0 and the set, ascending.
-pub(crate) fn used_method_lifetimes(rt: &impl Print, questions: &mut Questions<'_>) {
+pub(crate) fn used_method_lifetimes(rt: &impl Print, questions: &mut Questions<'_>)
+    ensures left { TakesNumbers questions.old.left.now questions.new.left.now }
+{
     let m = made_by_hand(questions);
     let verdict = methods::check_method(m.env, m.structs, m.params, m.output, m.force);
     let used = methods::used_method_lifetimes(m.env, m.structs, m.params, m.output, m.force);
@@ -45,7 +51,9 @@ pub(crate) fn used_method_lifetimes(rt: &impl Print, questions: &mut Questions<'
 
 // Kind 11: record structs, a row, a field. `compute_for_struct_field`: the refusal's number; or 0 and how many pairs
 // there are, 0 for none, and they.
-pub(crate) fn compute_for_struct_field(rt: &impl Print, questions: &mut Questions<'_>) {
+pub(crate) fn compute_for_struct_field(rt: &impl Print, questions: &mut Questions<'_>)
+    ensures left { TakesNumbers questions.old.left.now questions.new.left.now }
+{
     let structs = questions.record();
     let row = questions.number();
     let found = methods::compute_for_struct_field(structs, row, questions.number());
@@ -70,7 +78,9 @@ fn print_pairs(rt: &impl Print, lifetimes: FieldLifetimes) {
 
 // Kind 12: a record, a lowered type, and an index. `type_lifetimes`: the refusal's number; or 0, and 0 for none, 1 for
 // a static lifetime, 2 and the number of another.
-pub(crate) fn type_lifetimes(rt: &impl Print, questions: &mut Questions<'_>) {
+pub(crate) fn type_lifetimes(rt: &impl Print, questions: &mut Questions<'_>)
+    ensures left { TakesNumbers questions.old.left.now questions.new.left.now }
+{
     let words = questions.record();
     let found = hir_types::type_lifetimes(words, questions.number());
     print::first(rt, print::number_of(&found));

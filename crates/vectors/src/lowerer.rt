@@ -3,6 +3,8 @@
 // Such a lowerer is asked for as: its source (0 none, 1 `&self`, 2 one position, else several) and the lowered word of
 // its lifetime, how many lifetimes there are, whether the `Self` type was there already (0 no), how many lifetimes it
 // had, and the record of their lowered words, the first 16 of them; the others are static.
+ghost use Rattle.vectors.specs.Left.{TakesNumbers};
+
 use super::questions::Questions;
 use super::{ast, print};
 use answers::Refusal;
@@ -15,7 +17,9 @@ use records::MAX_LIST;
 // (`lower_step`), which are the record. The refusal's number or 0; the lowerer afterwards: source and its word, how
 // many lifetimes, 1 if the `Self` type was there, its lifetimes; and those of the step. A list of lifetimes is how many
 // it has, and its 16 words. Refused, the lowerer is as it was, and the step has no lifetimes.
-pub(crate) fn step(rt: &impl Print, questions: &mut Questions<'_>) {
+pub(crate) fn step(rt: &impl Print, questions: &mut Questions<'_>)
+    ensures left { TakesNumbers questions.old.left.now questions.new.left.now }
+{
     let names = questions.record();
     let lowerer = made_by_hand(questions);
     let kind = questions.number();
@@ -34,7 +38,9 @@ pub(crate) fn step(rt: &impl Print, questions: &mut Questions<'_>) {
 
 // Kind 15: a lowerer made by hand, and an AST environment made by hand as in ast.rt. `finish`: the refusal's number or
 // 0, and how many lifetimes are declared, how many there are, how many bounds are pushed; refused, none.
-pub(crate) fn finish(rt: &impl Print, questions: &mut Questions<'_>) {
+pub(crate) fn finish(rt: &impl Print, questions: &mut Questions<'_>)
+    ensures left { TakesNumbers questions.old.left.now questions.new.left.now }
+{
     let lowerer = made_by_hand(questions);
     let made = elision::finish(lowerer, ast::made_by_hand(questions));
     print::first(rt, print::number_of(&made));
@@ -47,7 +53,9 @@ pub(crate) fn finish(rt: &impl Print, questions: &mut Questions<'_>) {
 
 // Kind 21: record of names, and record self, of at most one word. `no_self_ref` where self is empty, else
 // `lower_self_ref`: what kind 14 prints; refused, the lowerer of `no_self_ref`.
-pub(crate) fn start(rt: &impl Print, questions: &mut Questions<'_>) {
+pub(crate) fn start(rt: &impl Print, questions: &mut Questions<'_>)
+    ensures left { TakesNumbers questions.old.left.now questions.new.left.now }
+{
     let names = questions.record();
     let receiver = questions.record();
     let lowerer = Lowerer::no_self_ref(names);
@@ -61,7 +69,9 @@ pub(crate) fn start(rt: &impl Print, questions: &mut Questions<'_>) {
 
 // Kind 22: record of names, a lowerer made by hand, and the records of two steps' words. `input_then_output`, and in it
 // `Lowerer::step` on a lent lowerer twice: the refusal's number or 0 and the lifetimes, both of the second step.
-pub(crate) fn input_then_output(rt: &impl Print, questions: &mut Questions<'_>) {
+pub(crate) fn input_then_output(rt: &impl Print, questions: &mut Questions<'_>)
+    ensures left { TakesNumbers questions.old.left.now questions.new.left.now }
+{
     let names = questions.record();
     let lowerer = made_by_hand(questions);
     let input = questions.record();
@@ -72,7 +82,9 @@ pub(crate) fn input_then_output(rt: &impl Print, questions: &mut Questions<'_>) 
 }
 
 // A lowerer made by hand.
-fn made_by_hand(questions: &mut Questions<'_>) -> Lowerer {
+fn made_by_hand(questions: &mut Questions<'_>) -> Lowerer
+    ensures left { TakesNumbers questions.old.left.now questions.new.left.now }
+{
     let code = questions.number();
     let lifetime = MaybeStatic::from_word(questions.number());
     let source = match code {

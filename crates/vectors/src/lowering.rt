@@ -1,4 +1,6 @@
 // Questions for the crate `elision`.
+ghost use Rattle.vectors.specs.Left.{TakesNumbers};
+
 use super::questions::Questions;
 use super::{print, rooms};
 use ast_lifetimes::LifetimeEnv;
@@ -11,7 +13,9 @@ const OWN: usize = 4;
 // and 8,192 words. The number of `from_method_item` if it refuses; else what `lower` answers: the refusal's number or
 // 0, the three counts, how many lifetimes are declared and how many there are, and all words of the slices, which were
 // 99. Refused, the five numbers are 0.
-pub(crate) fn lower(rt: &impl Print, questions: &mut Questions<'_>) {
+pub(crate) fn lower(rt: &impl Print, questions: &mut Questions<'_>)
+    ensures left { TakesNumbers questions.old.left.now questions.new.left.now }
+{
     let names = questions.record();
     let bounds = questions.record();
     let made = LifetimeEnv::from_method_item(names, bounds, questions.record());

@@ -29,6 +29,7 @@ mod words;
 mod writes;
 
 ghost use Rattle.std.specs.Prelude.{◌≡◌, length};
+ghost use Rattle.vectors.specs.Left.{TakesNumbers};
 
 use ast_lifetimes::{bounds_shape, names_shape, types_shape};
 use elision::{self_shape, steps_shape};
@@ -37,7 +38,9 @@ use questions::Questions;
 
 // Print the answer to the first question, whose kind is read. Behind a kind that is not known all is taken off, so that
 // the answers stop. The kinds are numbers and no enum: their names would stand twice, there and here.
-fn answer(rt: &impl Print, kind: usize, questions: &mut Questions<'_>) {
+fn answer(rt: &impl Print, kind: usize, questions: &mut Questions<'_>)
+    ensures left { TakesNumbers questions.old.left.now questions.new.left.now }
+{
     match kind {
         1 => ast::from_method_item(rt, questions),
         // A record, and its shape: names, bounds, types; self, and steps or returns.

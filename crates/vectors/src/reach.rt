@@ -1,4 +1,6 @@
 // Questions for the crate `lifetimes`.
+ghost use Rattle.vectors.specs.Left.{TakesNumbers};
+
 use super::questions::Questions;
 use super::{environments, print};
 use answers::Refusal;
@@ -7,7 +9,9 @@ use lifetimes::{Lifetime, LifetimeEnv};
 // Kind 16: an environment made by hand as in environments.rt. The number of `check`; and if it is 0, for each lifetime
 // up to the count the list of `all_longer_lifetimes` and the list of `all_shorter_lifetimes`, each with its length in
 // front; for the one at the count twice the number by which it is refused.
-pub(crate) fn all_lists(rt: &impl Print, questions: &mut Questions<'_>) {
+pub(crate) fn all_lists(rt: &impl Print, questions: &mut Questions<'_>)
+    ensures left { TakesNumbers questions.old.left.now questions.new.left.now }
+{
     let env = environments::made_by_hand(questions);
     let verdict = env.check();
     print::first(rt, print::number_of(&verdict));

@@ -1,4 +1,6 @@
 // Questions for the crate `borrowing_param`.
+ghost use Rattle.vectors.specs.Left.{TakesNumbers};
+
 use super::questions::Questions;
 use super::{lowered, print, rooms, words};
 use answers::Refusal;
@@ -8,7 +10,9 @@ use lifetimes::{LifetimeEnv, set};
 // Kind 13: a method made by hand, how many words the lent slice has, at most 20,480, and the record of the params to
 // visit. The number of `new` if it refuses; else 0, for each visit what it answers, then how many edges are stored and
 // all words of the slice, which were 99.
-pub(crate) fn visit_params(rt: &impl Print, questions: &mut Questions<'_>) {
+pub(crate) fn visit_params(rt: &impl Print, questions: &mut Questions<'_>)
+    ensures left { TakesNumbers questions.old.left.now questions.new.left.now }
+{
     let m = lowered::made_by_hand(questions);
     let length = questions.number();
     let visits = questions.record();
@@ -68,7 +72,9 @@ fn print_info(rt: &impl Print, answer: Result<ParamBorrowInfo, Refusal>) {
 }
 
 // Kind 27: a record of words, and a place. `edge_at`: 0 for none; or 1 and the values of the edge.
-pub(crate) fn edge(rt: &impl Print, questions: &mut Questions<'_>) {
+pub(crate) fn edge(rt: &impl Print, questions: &mut Questions<'_>)
+    ensures left { TakesNumbers questions.old.left.now questions.new.left.now }
+{
     let edges = questions.record();
     match edge_at(edges, questions.number()) {
         None => print::first(rt, 0),
@@ -87,7 +93,9 @@ pub(crate) fn edge(rt: &impl Print, questions: &mut Questions<'_>) {
 // on, each as a number; the first 64 are taken, and the others are empty. `BorrowingParamVisitor::from_sets`: the set
 // of the used lifetimes as a number, how many edges are stored, and the drawn sets up to the last that is not empty,
 // with their number in front.
-pub(crate) fn from_sets(rt: &impl Print, questions: &mut Questions<'_>) {
+pub(crate) fn from_sets(rt: &impl Print, questions: &mut Questions<'_>)
+    ensures left { TakesNumbers questions.old.left.now questions.new.left.now }
+{
     let used = words::set_of(questions.record());
     let mut sets = [set::EMPTY; LifetimeEnv::MAX_LIFETIMES];
     for (set, number) in sets.iter_mut().zip(questions.record()) {

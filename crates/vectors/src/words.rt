@@ -1,5 +1,7 @@
 // Questions for the crates `lifetimes` and `records`: lists that a call copies to one slice, and the words of
 // lifetimes.
+ghost use Rattle.vectors.specs.Left.{TakesNumbers};
+
 use super::questions::Questions;
 use super::{print, rooms};
 use lifetimes::{DefLifetime, Lifetime, MaybeStatic, Numbered, set};
@@ -8,7 +10,9 @@ use records::copy_words;
 // Kind 19: 0 for `set::members`, else `copy_words`; a record, a number, and how long the lent slice is. The set is that
 // of the record's lifetimes, those below 64; the copy is of so many of the record's words as the number says. The
 // refusal's number or 0, the count, and all words of the slice.
-pub(crate) fn list(rt: &impl Print, questions: &mut Questions<'_>) {
+pub(crate) fn list(rt: &impl Print, questions: &mut Questions<'_>)
+    ensures left { TakesNumbers questions.old.left.now questions.new.left.now }
+{
     let which = questions.number();
     let given = questions.record();
     let count = questions.number();
@@ -27,7 +31,9 @@ pub(crate) fn list(rt: &impl Print, questions: &mut Questions<'_>) {
 
 // Kind 20: 0 for static, else the lifetime with the number behind it. Its lowered word as a lifetime of a method, and
 // as one of a definition: 0 and the word, or 1 and 0 where it has none.
-pub(crate) fn word(rt: &impl Print, questions: &mut Questions<'_>) {
+pub(crate) fn word(rt: &impl Print, questions: &mut Questions<'_>)
+    ensures left { TakesNumbers questions.old.left.now questions.new.left.now }
+{
     let code = questions.number();
     let number = questions.number();
     let method = lifetime::<Lifetime>(code, number).word();

@@ -2,6 +2,8 @@
 // `sheet`, and for the call of `exports` that writes.
 //
 // Lent are at most 16,384 bytes, which were dots, and at most 8,192 words, each 99.
+ghost use Rattle.vectors.specs.Left.{TakesNumbers};
+
 use super::questions::Questions;
 use super::{print, rooms};
 use exports::borrows_write_sheet;
@@ -10,7 +12,9 @@ use sheet_writer::{write_laid, write_sheet};
 
 // Kind 33: the ten records of a sheet, and how long the lent slice is. `sheet_shape`: the refusal's number or 0. Then
 // `write_sheet`: the refusal's number or 0, the count, and all bytes of the slice.
-pub(crate) fn ten(rt: &impl Print, questions: &mut Questions<'_>) {
+pub(crate) fn ten(rt: &impl Print, questions: &mut Questions<'_>)
+    ensures left { TakesNumbers questions.old.left.now questions.new.left.now }
+{
     let records = Records {
         names: questions.record(),
         bounds: questions.record(),
@@ -36,7 +40,9 @@ pub(crate) fn ten(rt: &impl Print, questions: &mut Questions<'_>) {
 // Kind 34: a record of words, a record of ends, and how long the slices for bytes and for their number are.
 // `write_laid`, lent the first: the refusal's number or 0, the count, and all bytes of the slice. Then
 // `borrows_write_sheet`: its status, and all bytes and words of both.
-pub(crate) fn laid(rt: &impl Print, questions: &mut Questions<'_>) {
+pub(crate) fn laid(rt: &impl Print, questions: &mut Questions<'_>)
+    ensures left { TakesNumbers questions.old.left.now questions.new.left.now }
+{
     let words = questions.record();
     let ends = questions.record();
     let n = questions.number().min(rooms::BYTES);

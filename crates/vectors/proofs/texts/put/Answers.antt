@@ -1,0 +1,5 @@
+use Rattle.vectors.proofs.LeftLaws.{takes_more}
+use Rattle.vectors.proofs.texts.put.Goals as goal
+
+pub returns : goal.returns
+returns g c = record { left = search takes_more }
