@@ -1,4 +1,6 @@
 // Asking: both calls of the crate `sheet`, or `respond` of the crate `listing`, each with a slice of its own.
+ghost use Rattle.std.specs.Prelude.{◌≡◌, length};
+
 use super::print;
 use answers::Refusal;
 use input::room;
@@ -30,17 +32,24 @@ fn response(rt: &impl Print, text: &[u8]) {
     print::counted(rt, &out[..n]);
 }
 
+// Room for words, none of them written.
+fn unwritten() -> [usize; WORDS]
+    ensures size { 10240 ≡ length result }
+{
+    room(UNWRITTEN)
+}
+
 // The line of a text: its bytes, then for `read_text` and for `read_sheet`, each lent so many words (at most 10,240),
 // the refusal's number or 0, the ten ends, and the words of the lent slice up to the last that was written, with their
 // number in front.
 fn both(rt: &impl Print, text: &[u8], length: usize) {
     let n = length.min(WORDS);
-    let mut words: [usize; WORDS] = room(UNWRITTEN);
+    let mut words = unwritten();
     print::first(rt, text.len());
     let lent = &mut words[..n];
     let answer = read_text(text, lent);
     print_answer(rt, answer, lent);
-    let mut words: [usize; WORDS] = room(UNWRITTEN);
+    let mut words = unwritten();
     let lent = &mut words[..n];
     let answer = read_sheet(text, lent);
     print_answer(rt, answer, lent);

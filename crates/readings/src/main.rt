@@ -14,14 +14,15 @@ mod pieces;
 mod print;
 mod questions;
 
-ghost use Rattle.std.specs.Prelude.{◌≤◌, length};
+ghost use Rattle.std.specs.Prelude.{◌≡◌, length};
+ghost use Rattle.readings.specs.Left.{TakesBytes};
 
 use input::{read_input, room};
 use questions::Questions;
 
 // Print the answer to the first question, whose LF is read, with room for its text.
 fn answer(rt: &impl Print, questions: &mut Questions<'_>, text: &mut [u8])
-    ensures { length questions.new.left.now ≤ length questions.old.left.now }
+    ensures left { TakesBytes questions.old.left.now questions.new.left.now }
 {
     let kind = questions.number();
     let length = questions.number();
@@ -44,10 +45,24 @@ const BYTES: usize = 262144;
 // How many a text has room for: more than any sheet may have.
 const TEXT: usize = 69632;
 
+// Room for the bytes that are read.
+fn room_for_bytes() -> [u8; BYTES]
+    ensures size { 262144 ≡ length result }
+{
+    room(0)
+}
+
+// Room for a text.
+fn room_for_text() -> [u8; TEXT]
+    ensures size { 69632 ≡ length result }
+{
+    room(0)
+}
+
 fn main(rt: HostRuntime) {
-    let mut bytes: [u8; BYTES] = room(0);
+    let mut bytes = room_for_bytes();
     let mut stdin = rt.stdin();
     let n = read_input(&mut stdin, &mut bytes).count;
-    let mut text: [u8; TEXT] = room(0);
+    let mut text = room_for_text();
     answer_all(&rt, &bytes[..n], &mut text);
 }

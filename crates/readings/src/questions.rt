@@ -1,5 +1,6 @@
 // Reading: what is left of the questions, whose numbers and bytes are taken off the front.
-ghost use Rattle.std.specs.Prelude.{◌≤◌, length};
+ghost use Rattle.std.specs.Prelude.{◌≤◌};
+ghost use Rattle.readings.specs.Left.{TakesBytes};
 
 #[derive(Clone, Copy)]
 pub(crate) struct Questions<'a> {
@@ -9,7 +10,7 @@ pub(crate) struct Questions<'a> {
 impl<'a> Questions<'a> {
     // So many bytes; those that there are where bytes are missing.
     pub(crate) fn bytes(&mut self, count: usize) -> &'a [u8]
-        ensures { length self.new.left.now ≤ length self.old.left.now }
+        ensures left { TakesBytes self.old.left.now self.new.left.now }
     {
         let (taken, left) = self.left.split_at(count.min(self.left.len()));
         self.left = left;
@@ -18,7 +19,7 @@ impl<'a> Questions<'a> {
 
     // A number, and with it the byte that ends it; from 131,070 on, 131,072.
     pub(crate) fn number(&mut self) -> usize
-        ensures { length self.new.left.now ≤ length self.old.left.now }
+        ensures left { TakesBytes self.old.left.now self.new.left.now }
     {
         let all = self.left.len();
         let count = self
@@ -34,10 +35,12 @@ impl<'a> Questions<'a> {
     }
 }
 
-// A number with one digit more behind it.
-fn with_digit(number: usize, digit: u8) -> usize {
+// A number with one digit more behind it; from 131,070 on, 131,072.
+fn with_digit(number: usize, digit: u8) -> usize
+    ensures limit { result ≤ 131072 }
+{
     if 13106 < number {
         return 131072;
     }
-    number * 10 + usize::from(digit.wrapping_sub(b'0'))
+    (number * 10 + usize::from(digit.wrapping_sub(b'0'))).min(131072)
 }

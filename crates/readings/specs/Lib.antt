@@ -1,0 +1,2 @@
+-- Definitions that private contracts cite.
+pub mod Left
