@@ -3,7 +3,6 @@ ghost use Rattle.std.specs.Prelude.{◌≡◌, length};
 
 use super::print;
 use answers::Refusal;
-use input::room;
 use listing::{ROOM, respond};
 use sheet::{Text, read_sheet, read_text};
 
@@ -27,7 +26,7 @@ pub(crate) fn ask(rt: &impl Print, text: &[u8], kind: usize, length: usize) {
 
 // What the program answers to a text, behind a line with the number of its bytes.
 fn response(rt: &impl Print, text: &[u8]) {
-    let mut out: [u8; ROOM] = room(0);
+    let mut out = [0u8; ROOM];
     let n = respond(text, &mut out);
     print::counted(rt, &out[..n]);
 }
@@ -36,7 +35,7 @@ fn response(rt: &impl Print, text: &[u8]) {
 fn unwritten() -> [usize; WORDS]
     ensures size { 10240 ≡ length result }
 {
-    room(UNWRITTEN)
+    [UNWRITTEN; WORDS]
 }
 
 // The line of a text: its bytes, then for `read_text` and for `read_sheet`, each lent so many words (at most 10,240),
@@ -45,12 +44,11 @@ fn unwritten() -> [usize; WORDS]
 fn both(rt: &impl Print, text: &[u8], length: usize) {
     let n = length.min(WORDS);
     let mut words = unwritten();
-    print::first(rt, text.len());
     let lent = &mut words[..n];
+    print::first(rt, text.len());
     let answer = read_text(text, lent);
     print_answer(rt, answer, lent);
-    let mut words = unwritten();
-    let lent = &mut words[..n];
+    lent.fill(UNWRITTEN);
     let answer = read_sheet(text, lent);
     print_answer(rt, answer, lent);
     print::end(rt);

@@ -65,10 +65,7 @@ fn answer(rt: &impl Print, kind: usize, questions: &mut Questions<'_>)
         20 => words::word(rt, questions),
         21 => lowerer::start(rt, questions),
         22 => lowerer::input_then_output(rt, questions),
-        23 => borrows::borrow(rt, questions),
-        24 => sheets::lower(rt, questions),
-        25 => sheets::borrow(rt, questions),
-        26 => sheets::list(rt, questions),
+        23..=26 => answer_large(rt, kind, questions),
         27 => visits::edge(rt, questions),
         28 => texts::put(rt, questions),
         29 => texts::read(rt, questions),
@@ -78,6 +75,19 @@ fn answer(rt: &impl Print, kind: usize, questions: &mut Questions<'_>)
         33 => writes::ten(rt, questions),
         34 => writes::laid(rt, questions),
         _ => questions.left = &[],
+    }
+}
+
+// Print the answer to a question of the kinds that are lent the most. It stands by itself: in `answer` each question, of
+// whatever kind, would pay at entry for these arrays.
+fn answer_large(rt: &impl Print, kind: usize, questions: &mut Questions<'_>)
+    ensures left { TakesNumbers questions.old.left.now questions.new.left.now }
+{
+    match kind {
+        23 => borrows::borrow(rt, questions),
+        24 => sheets::lower(rt, questions),
+        25 => sheets::borrow(rt, questions),
+        _ => sheets::list(rt, questions),
     }
 }
 
