@@ -98,12 +98,10 @@ some_same e = cc
 pub none_some : {x : ℕ} {A : Type 0} → ◌≡◌ {A = Option ℕ} None (Some x) → A
 none_some e = let z : ◌≡◌ {A = ℕ} 0 1 = cc in absurd (omega arith)
 
--- what the view of path words answers for a lifetime of the definition
-pub linked_is : (path words : List ℕ) {count def : ℕ} → words ≡ path → count ≡ length path → def < length path
-    → {d : DefLifetime} → d ≡ def_lifetime def → {r : Outcome (Option ℕ)} → r ≡ linked_word words count d
-    → r ≡ Ok (Some (get_or path def 0))
-linked_is path words {count} {def} same many h is e =
-    e ∙ rw (same, many, is) (word_there path (length path) refl def h)
+-- what the link of path words answers for a lifetime of the definition
+pub linked_is : (path : List ℕ) {def : ℕ} → def < length path → {d : DefLifetime} → d ≡ def_lifetime def
+    → {r : Outcome (Option ℕ)} → r ≡ linked_word path (length path) d → r ≡ Ok (Some (get_or path def 0))
+linked_is path {def} h is e = e ∙ rw is (word_there path (length path) refl def h)
 
 -- path words lent: no more than are said to be there
 pub path_few : (words : List ℕ) (from : ℕ) {path : List ℕ} {count : ℕ} → path ≡ take count (drop from words) → count ≤ 16

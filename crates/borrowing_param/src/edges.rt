@@ -17,7 +17,7 @@ ghost use Rattle.borrowing_param.specs.Inner.{Stores, StoresWords};
 
 use super::visitor::{BorrowingParamVisitor, LifetimeEdge, ParamBorrowInfo};
 use hir_types::{Kind, Parts};
-use lifetimes::{DefLifetime, Lifetime, LinkedLifetimes, MaybeStatic, set};
+use lifetimes::{DefLifetime, Lifetime, MaybeStatic, linked_word, set};
 
 impl LifetimeEdge {
     // The kinds. `kind` and `option` stay numbers: `edge_at` gives whatever five words stand in a slice.
@@ -193,19 +193,18 @@ impl<'a> Param<'a> {
         at + 1
     }
 
-    // The method's lifetime at the use of a struct for a lifetime of its definition, by the view of its path words. The
+    // The method's lifetime at the use of a struct for a lifetime of its definition, by the struct's path words. The
     // definition's count is how many they are: the check of the records has refused by 7 where its row says another, so
     // that a visit does not look the row up.
     fn linked_lifetime(self, def: usize) -> MaybeStatic<Lifetime>
         requires { def < length self.path.now }
         ensures { result ≡ from_word (get_or self.entry.path.now def 0) }
     {
-        let linked = LinkedLifetimes::new(self.path, self.path.len());
         // A word is there, so that neither way out is met, and there is no refusal to hand on.
-        let Ok(found) = linked.def_to_use(DefLifetime::new(def)) else {
+        let Ok(linked) = linked_word(self.path, self.path.len(), DefLifetime::new(def)) else {
             return MaybeStatic::Static;
         };
-        let Some(word) = found else {
+        let Some(word) = linked else {
             return MaybeStatic::Static;
         };
         MaybeStatic::from_word(word)

@@ -8,11 +8,11 @@ use mathlib.Core.List.{List, [], ◌∷◌, ◌++◌}
 use native.Mathlib.Nat.{zero-add}
 use native.Mathlib.Numerals.{add-one}
 use native.Mathlib.Omega.{arith}
-use lib.Dec.{ltb}
+use lib.Dec.{eqb, ltb}
 use lib.ListN.{length, get_or, take, drop, set, replicate, length-append, length-set, length-replicate, drop_of_length-le}
 use lib.ListN.{get_or-eq_default}
 use lib.Seq.{sets, sets-eq, drop-cons}
-use borrow.Author.Tests.{lt-ltb, le-ltb, ltb-true, ltb-false}
+use borrow.Author.Tests.{lt-ltb, le-ltb, ltb-true, ltb-false, eqb-true, not-false}
 use Rattle.records.proofs.ReadingLaws.{passed, fails_read}
 use Rattle.answers.specs.declared.Refusal.{Refusal}
 use Rattle.answers.specs.declared.Refusal.TheVariants.{Malformed}
@@ -21,19 +21,22 @@ use Rattle.lifetimes.specs.declared.maybe_static.MaybeStatic.{MaybeStatic}
 use Rattle.lifetimes.specs.declared.maybe_static.MaybeStatic.TheVariants.{Static, NonStatic}
 use Rattle.lifetimes.specs.Numbers.{def_lifetime}
 use Rattle.lifetimes.specs.LoweredWords.{def_from_word}
-use Rattle.answers.specs.Refusals.{unless, over, FirstDue, NoneDue, later, next}
-use Rattle.answers.proofs.RefusalLaws.{due_given, due_refused, refused_first, accepted_none}
+use Rattle.answers.specs.Refusals.{unless, over, FirstDue, NoneDue, later, end, next, Outcome}
+use Rattle.lifetimes.specs.Linked.{linked_pair}
+use Rattle.answers.proofs.RefusalLaws.{due_given, due_refused, refused_first, accepted_none, none_first, none_rest}
+use Rattle.answers.proofs.RefusalLaws.{none_split}
+use Rattle.lifetimes.proofs.LinkedLaws.{pair_told, pair_only}
 use Rattle.records.specs.Reading.{Read, Fails}
 use Rattle.hir_types.specs.declared.types.Parts.{Parts}
 use Rattle.hir_types.specs.declared.types.Kind.{Kind}
-use Rattle.hir_types.specs.declared.types.Kind.TheVariants.{Plain, Opaque, Slice}
+use Rattle.hir_types.specs.declared.types.Kind.TheVariants.{Plain, Opaque, Struct, Slice}
 use Rattle.hir_types.specs.LoweredTypes.{LoweredType, read_lowered}
-use Rattle.hir_types.specs.Rows.{row_with, read_known, read_types, read_row, rows_of, structs_in_shape, how_many}
+use Rattle.hir_types.specs.Rows.{Row, row_with, read_known, read_types, read_row, rows_of, structs_in_shape, how_many}
 use Rattle.hir_types.proofs.FoundLaws.{Found}
 use Rattle.hir_types.proofs.ShapeLaws.{counted_shape, refused_shape}
 use Rattle.methods.specs.declared.fields.FieldPair.{FieldPair}
 use Rattle.methods.specs.declared.fields.FieldLifetimes.{FieldLifetimes}
-use Rattle.methods.specs.Method.{row_at, row_checks}
+use Rattle.methods.specs.Method.{row_at, misfits, type_checks, row_checks}
 use Rattle.methods.specs.Fields.{field_in, field_at, is_struct, field_pair, filled_by, pairs_from, field_checks}
 use Rattle.methods.specs.Fields.{field_pairs, placed, given_pairs}
 use Rattle.methods.specs.Inner.{RowStands, RowIs, row_is, Indexes, SkipTo, skip_to, TypesSkip, FieldIs, struct, other}
@@ -166,7 +169,7 @@ no_struct h = ⊎_elim (λ a. rw a) (λ b. ⊎_elim (λ c. rw c) (λ d. rw d) b)
 
 module _ {structs : List ℕ} {row field : ℕ} where
   -- what the call says, once it is known which way it came out
-  pub field_told : {r s : Option Parts} → FieldIs structs row field r → r ≡ s → FieldIs structs row field s
+  pub field_told : {r s : Option (ℕ × Parts)} → FieldIs structs row field r → r ≡ s → FieldIs structs row field s
   field_told h e = subst (FieldIs structs row field) e h
 
   pub field_no_row : length (rows_of structs) ≤ row → FieldIs structs row field None
@@ -213,11 +216,11 @@ module _ {structs : List ℕ} {row field : ℕ} where
       pub field_other : is_struct p.kind ≡ false → FieldIs structs row field None
       field_other e = let t = (same_found g row s.reads).stands in other (rw (← t.kind) e)
 
-      pub field_struct : is_struct p.kind ≡ true → FieldIs structs row field (Some p)
-      field_struct e =
-          let t = (same_found g row s.reads).stands in
-          let few : length (field_at (rows_of structs) row field).path ≤ 16 = omega (arith, t.count, t.few) in
-          struct (rw (← t.kind) e) few t.path
+      pub field_struct : {inner : ℕ} → p.kind ≡ Struct inner → FieldIs structs row field (Some (inner, p))
+      field_struct {inner} e =
+          let f = same_found g row s.reads in
+          let few : length (field_at (rows_of structs) row field).path ≤ 16 = omega (arith, f.stands.count, f.stands.few) in
+          struct (sym f.stands.kind ∙ e) (ltb-true inner row (rw e at f.known)) few f.stands.path
 
 -- ---- `pairs_of`
 
@@ -252,12 +255,40 @@ pub pairing_start : (path : List ℕ) (declared : ℕ) {a b : DefLifetime} → a
     → Pairing path declared (replicate 16 (record { def = a; outer = b })) 0 0
 pairing_start path declared e f = record { before = omega arith; size = rw length-replicate; counts = zero-add _; stored = rw (e, f) }
 
--- the next word fills a lifetime of the field's definition
-module _ {path : List ℕ} {declared : ℕ} {pairs : List FieldPair} {n i : ℕ} (inv : Pairing path declared pairs n i)
-    (inside : i < length path) {m : MaybeStatic DefLifetime} (word : m ≡ def_from_word (get_or path i 0)) where
+-- the next word is linked with a lifetime of the field's definition
+pub record Linking (path : List ℕ) (declared : ℕ) (pairs : List FieldPair) (n i : ℕ) (def : DefLifetime)
+    (m : MaybeStatic DefLifetime) : Type 0 where
+  pub pairing : Pairing path declared pairs n i
+  pub inside : i < length path
+  pub defines : def ≡ def_lifetime i
+  pub word : m ≡ def_from_word (get_or path i 0)
+
+module _ (path : List ℕ) (count : ℕ) (same : length path ≡ count) {i : ℕ}
+    {linked : Outcome (Option (ℕ × DefLifetime))} (e : linked ≡ linked_pair path count i) (h : i < count) where
+  pub linking : {declared : ℕ} {pairs : List FieldPair} {n : ℕ} → Pairing path declared pairs n i
+      → {o : Option (ℕ × DefLifetime)} → linked ≡ Ok o → {word : ℕ} {def : DefLifetime} → o ≡ Some (word, def)
+      → {m : MaybeStatic DefLifetime} → m ≡ def_from_word word → Linking path declared pairs n i def m
+  linking inv t {word} {def} s q =
+      let pair : linked ≡ Ok (Some (word, def)) = t ∙ rw s in
+      let told = pair_told path count same i h e pair in
+      record { pairing = inv; inside = omega arith; defines = told.1; word = q ∙ rw told.0 }
+
+  -- the link is not refused, and its pair is there
+  pub never_refused : {B : Type 0} → ((o : Option (ℕ × DefLifetime)) → linked ≡ Ok o → ⊥) → B
+  never_refused f = pair_only path count same i h e (λ word def q. f (Some (word, def)) q)
+
+  pub never_past : {B : Type 0} {o : Option (ℕ × DefLifetime)} → linked ≡ Ok o
+      → ((p : ℕ × DefLifetime) → o ≡ Some p → ⊥) → B
+  never_past t f = pair_only path count same i h e (λ word def q. f (word, def) (let z = sym t ∙ q in cc z))
+
+module _ {path : List ℕ} {declared : ℕ} {pairs : List FieldPair} {n i : ℕ} {def : DefLifetime} {m : MaybeStatic DefLifetime}
+    (l : Linking path declared pairs n i def m) where
+  abbrev inv : Pairing path declared pairs n i
+  inv = l.pairing
+
   here : pairs_from declared i (drop i path) ≡ filled_by declared i m ++ pairs_from declared (i + 1) (drop (i + 1) path)
   unfolding numbered
-  here = rw (word, add-one i, drop-cons path i 0 inside)
+  here = rw (l.word, add-one i, drop-cons path i 0 l.inside)
 
   skipped : filled_by declared i m ≡ [] → Pairing path declared pairs n (i + 1)
   skipped e =
@@ -276,9 +307,8 @@ module _ {path : List ℕ} {declared : ℕ} {pairs : List FieldPair} {n i : ℕ}
     pub pairing_past : declared ≤ outer.0 → Pairing path declared pairs n (i + 1)
     pairing_past h = skipped (rw (e, le-ltb outer.0 declared h))
 
-    pub pairing_more : outer.0 < declared → {def : DefLifetime} → def ≡ def_lifetime i
-        → Pairing path declared (set pairs n (record { def = def; outer = outer })) (n + 1) (i + 1)
-    pairing_more h {def} defines =
+    pub pairing_more : outer.0 < declared → Pairing path declared (set pairs n (record { def = def; outer = outer })) (n + 1) (i + 1)
+    pairing_more h =
         let s : pairs_from declared i (drop i path) ≡ field_pair i outer.0 ∷ pairs_from declared (i + 1)
         (drop (i + 1) path) = here ∙ rw (e, lt-ltb outer.0 declared h) in
         let c : n + suc (length (pairs_from declared (i + 1) (drop (i + 1) path))) ≡ length (pairs_from declared 0 path) =
@@ -287,7 +317,7 @@ module _ {path : List ℕ} {declared : ℕ} {pairs : List FieldPair} {n i : ℕ}
           before = omega (arith, inv.before);
           size = length-set pairs n (record { def = def; outer = outer }) ∙ inv.size;
           counts = omega arith;
-          stored = rw (defines, add-one n) (rw s at inv.stored);
+          stored = rw (l.defines, add-one n) (rw s at inv.stored);
         }
 
 module _ {path : List ℕ} {declared : ℕ} {pairs : List FieldPair} {n i : ℕ} (inv : Pairing path declared pairs n i) where
@@ -319,6 +349,30 @@ module _ {path : List ℕ} {declared : ℕ} {pairs : List FieldPair} {n i : ℕ}
         go [] k q = absurd (e k)
         go (p ∷ l) k q = rw (k, q)
 
+-- ---- a field of rows that were accepted: its words are as many as the lifetimes of its definition
+
+type_linked : (rows : List Row) (types : List LoweredType) (j : ℕ) → NoneDue (type_checks rows types)
+    → misfits rows (field_in types j) ≡ false
+type_linked rows [] j n = refl
+type_linked rows (t ∷ types) zero n = none_first n
+type_linked rows (t ∷ types) (suc j) n = type_linked rows types j (none_rest n)
+
+row_linked : (rows : List Row) (number : ℕ) (more : List Row) (k : ℕ) → NoneDue (row_checks rows number more)
+    → NoneDue (type_checks rows (row_at more k).fields)
+unfolding numbered
+row_linked rows number [] k n = end
+row_linked rows number (row ∷ more) zero n =
+    (none_split (type_checks rows row.fields) (row_checks rows (suc number) more) (none_rest n)).0
+row_linked rows number (row ∷ more) (suc k) n =
+    row_linked rows (suc number) more k
+    (none_split (type_checks rows row.fields) (row_checks rows (suc number) more) (none_rest n)).1
+
+fits_linked : (rows : List Row) (t : LoweredType) {inner : ℕ} → t.kind ≡ Struct inner → misfits rows t ≡ false
+    → length t.path ≡ (row_at rows inner).lifetimes
+fits_linked rows t {inner} e h =
+    let m : not (eqb (length t.path) (row_at rows inner).lifetimes) ≡ false = rw e at h in
+    eqb-true (length t.path) (row_at rows inner).lifetimes (not-false (eqb (length t.path) (row_at rows inner).lifetimes) m)
+
 -- ---- the ways out
 
 module _ (structs : List ℕ) (row field : ℕ) where
@@ -335,16 +389,16 @@ module _ (structs : List ℕ) (row field : ℕ) where
     unfolding field_pairs unless
     compute_other (other h) = rw (in_order.0, h)
 
-    module _ {p : Parts} (asked : FieldIs structs row field (Some p)) where
-      asked_struct : (is_struct (field_at (rows_of structs) row field).kind ≡ true)
+    module _ {inner : ℕ} {p : Parts} (asked : FieldIs structs row field (Some (inner, p))) where
+      asked_struct : ((field_at (rows_of structs) row field).kind ≡ Struct inner) × (inner < row)
           × (length (field_at (rows_of structs) row field).path ≤ 16)
           × (take p.count (drop p.from structs) ≡ (field_at (rows_of structs) row field).path)
       asked_struct = go asked
         where
-          go : FieldIs structs row field (Some p) → (is_struct (field_at (rows_of structs) row field).kind ≡ true)
-              × (length (field_at (rows_of structs) row field).path ≤ 16)
+          go : FieldIs structs row field (Some (inner, p)) → ((field_at (rows_of structs) row field).kind ≡ Struct inner)
+              × (inner < row) × (length (field_at (rows_of structs) row field).path ≤ 16)
               × (take p.count (drop p.from structs) ≡ (field_at (rows_of structs) row field).path)
-          go (struct a b c) = (a, b, c)
+          go (struct a b c d) = (a, b, c, d)
 
       -- there are rows as far as the one asked for
       asked_row : row < length (rows_of structs)
@@ -356,7 +410,8 @@ module _ (structs : List ℕ) (row field : ℕ) where
               let d : row_at (rows_of structs) row ≡ row_with 0 [] =
               get_or-eq_default (rows_of structs) (row_with 0 []) (ltb-false row (length (rows_of structs)) b) in
               let plain : is_struct (field_at (rows_of structs) row field).kind ≡ false = rw d in
-              passed (sym plain ∙ asked_struct.0)
+              let is : is_struct (field_at (rows_of structs) row field).kind ≡ true = rw asked_struct.0 in
+              passed (sym plain ∙ is)
 
       fine : not (structs_in_shape structs && is_struct (field_at (rows_of structs) row field).kind) ≡ false
       fine = rw (in_order.0, asked_struct.0)
@@ -371,24 +426,33 @@ module _ (structs : List ℕ) (row field : ℕ) where
             rw (due_refused (pairs_from (row_at (rows_of structs) row).lifetimes 0 (field_at (rows_of structs) row field).path) due)
 
         module _ (x : Indexes structs lifetimes (Ok (tt {0}))) where
-          pub few_rows : row < 32
-          few_rows = omega (arith, asked_row, x.few refl)
+          pub few_rows : (row < 32) × (inner < 32)
+          few_rows = (omega (arith, asked_row, x.few refl), omega (arith, asked_row, asked_struct.1, x.few refl))
+
+          rows_none : NoneDue (row_checks (rows_of structs) 0 (rows_of structs))
+          rows_none = accepted_none (tt {0}) (row_checks (rows_of structs) 0 (rows_of structs)) (sym x.verdict)
 
           module _ {path : List ℕ} (lent : path ≡ take p.count (drop p.from structs)) where
-            pub path_few : length path ≤ 16
-            path_few = omega (arith, asked_struct.1, ap length (lent ∙ asked_struct.2))
+            pub path_linked : (length path ≡ get_or lifetimes inner 0) × (get_or lifetimes inner 0 ≤ 16)
+            path_linked =
+                let l : length (field_at (rows_of structs) row field).path ≡ (row_at (rows_of structs) inner).lifetimes =
+                fits_linked (rows_of structs) (field_at (rows_of structs) row field) asked_struct.0
+                (type_linked (rows_of structs) (row_at (rows_of structs) row).fields field
+                (row_linked (rows_of structs) 0 (rows_of structs) row rows_none)) in
+                let d : get_or lifetimes inner 0 ≡ (row_at (rows_of structs) inner).lifetimes =
+                x.holding refl inner (omega (arith, asked_row, asked_struct.1)) in
+                (ap length (lent ∙ asked_struct.3) ∙ l ∙ sym d, omega (arith, asked_struct.2))
 
             pub compute_given : {r : Option FieldLifetimes} → r ≡ given_pairs (pairs_from (get_or lifetimes row 0) 0 path)
                 → Ok r ≡ over given_pairs (field_pairs structs row field)
             unfolding field_pairs
             compute_given g =
-                let none : NoneDue (field_checks structs row field) = next fine
-                (accepted_none (tt {0}) (row_checks (rows_of structs) 0 (rows_of structs)) (sym x.verdict)) in
+                let none : NoneDue (field_checks structs row field) = next fine rows_none in
                 rw (
                   due_given (pairs_from (row_at (rows_of structs) row).lifetimes 0
                       (field_at (rows_of structs) row field).path) none,
                   g,
                   x.holding refl row asked_row,
                   lent,
-                  asked_struct.2,
+                  asked_struct.3,
                 )

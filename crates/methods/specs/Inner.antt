@@ -108,10 +108,11 @@ abbrev pub TypesSkip : List ℕ → ℕ → ℕ → Option ℕ → Type 0
 TypesSkip words from count r = (n : ℕ) (types : List LoweredType) (rest : List ℕ)
     → read_types n count (drop from words) ≡ Read types rest → SkipTo words rest r
 
--- the field asked for: it is a struct, and its words stand there; or it is none
-pub data FieldIs (structs : List ℕ) (row field : ℕ) : Option Parts → Type 0 where
-  struct : {p : Parts} → is_struct (field_at (rows_of structs) row field).kind ≡ true
+-- the field asked for: it is a struct, its row stands before the row asked for, and its words stand there; or it is
+-- none
+pub data FieldIs (structs : List ℕ) (row field : ℕ) : Option (ℕ × Parts) → Type 0 where
+  struct : {inner : ℕ} {p : Parts} → (field_at (rows_of structs) row field).kind ≡ Struct inner → inner < row
       → length (field_at (rows_of structs) row field).path ≤ most_list
       → take p.count (drop p.from structs) ≡ (field_at (rows_of structs) row field).path
-      → FieldIs structs row field (Some p)
+      → FieldIs structs row field (Some (inner, p))
   other : is_struct (field_at (rows_of structs) row field).kind ≡ false → FieldIs structs row field None

@@ -9,7 +9,7 @@ ghost use Rattle.methods.specs.Inner.{RowIs, TypesSkip, FieldIs};
 use super::fits::{MAX_ROWS, index_rows};
 use answers::Refusal;
 use hir_types::{Kind, Parts, path_words, structs_shape, type_at};
-use lifetimes::{DefLifetime, MaybeStatic};
+use lifetimes::{DefLifetime, MaybeStatic, linked_pair};
 use records::MAX_LIST;
 
 // A lifetime of a field's definition, and the lifetime of the outer definition that fills it.
@@ -38,17 +38,16 @@ pub fn compute_for_struct_field(
     ensures answer { result ≡ over given_pairs (field_pairs structs.now row field) }
 {
     let rows = structs_shape(structs)?;
-    let parts = field_at(structs, rows, row, field).ok_or(Refusal::Malformed)?;
+    let (inner, parts) = field_at(structs, rows, row, field).ok_or(Refusal::Malformed)?;
     let mut lifetimes = [0usize; MAX_ROWS];
     index_rows(structs, rows, &mut lifetimes)?;
     let path = path_words(structs, parts.from, parts.count);
-    Ok(pairs_of(path, lifetimes[row]))
+    Ok(pairs_of(path, lifetimes[inner], lifetimes[row]))
 }
 
-// The pairs of a field's path words: the word at a place fills the lifetime of the field's own definition with that
-// number. They are as many as its lifetimes, so that each place has one.
-fn pairs_of(path: &[usize], declared: usize) -> Option<FieldLifetimes>
-    requires { length path.now ≤ most_list }
+// The pairs of a field's path words, which are as many as the lifetimes of the field's own definition: so they link.
+fn pairs_of(path: &[usize], count: usize, declared: usize) -> Option<FieldLifetimes>
+    requires { (length path.now ≡ count) × (count ≤ most_list) }
     ensures { result ≡ given_pairs (pairs_from declared 0 path.now) }
 {
     let none = FieldPair {
@@ -56,26 +55,33 @@ fn pairs_of(path: &[usize], declared: usize) -> Option<FieldLifetimes>
         outer: DefLifetime::new(0),
     };
     let mut pairs = [none; MAX_LIST];
-    let mut count = 0;
-    for (i, word) in path.iter().enumerate() {
-        let lifetime = MaybeStatic::<DefLifetime>::from_word(*word);
+    let mut n = 0;
+    for i in 0..count {
+        // A pair is there, so that neither way out is met, and there is no refusal to hand on.
+        let Ok(linked) = linked_pair(path, count, i) else {
+            continue;
+        };
+        let Some((word, def)) = linked else {
+            continue;
+        };
+        let lifetime = MaybeStatic::<DefLifetime>::from_word(word);
         let MaybeStatic::NonStatic(outer) = lifetime else {
             continue;
         };
         if outer.index() < declared {
-            let def = DefLifetime::new(i);
-            pairs[count] = FieldPair { def, outer };
-            count += 1;
+            pairs[n] = FieldPair { def, outer };
+            n += 1;
         }
     }
-    if count == 0 {
+    if n == 0 {
         return None;
     }
-    Some(FieldLifetimes { count, pairs })
+    Some(FieldLifetimes { count: n, pairs })
 }
 
-// The field with a number of the row with a number, if it is there and is a struct.
-fn field_at(structs: &[usize], rows: usize, row: usize, field: usize) -> Option<Parts>
+// The field with a number of the row with a number, if it is there and is a struct: the row that it names, and its
+// parts.
+fn field_at(structs: &[usize], rows: usize, row: usize, field: usize) -> Option<(usize, Parts)>
     requires { (structs_in_shape structs.now ≡ true) × (length (rows_of structs.now) ≡ rows) }
     ensures { FieldIs structs.now row field result }
 {
@@ -89,7 +95,7 @@ fn field_at(structs: &[usize], rows: usize, row: usize, field: usize) -> Option<
     let at = skip_types(structs, place + 2, field)?;
     let parts = type_at(structs, at)?;
     match parts.kind {
-        Kind::Struct(_) => Some(parts),
+        Kind::Struct(inner) => Some((inner, parts)),
         Kind::Plain | Kind::Opaque | Kind::Slice => None,
     }
 }

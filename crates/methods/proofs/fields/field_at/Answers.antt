@@ -1,8 +1,6 @@
 -- `field_at` meets its contract: each way out is one law of proofs/FieldsLaws.antt.
-use mathlib.Core.Path.{ap}
 use native.Mathlib.Omega.{arith}
 use Rattle.hir_types.proofs.FoundLaws.{type_found, type_lost}
-use Rattle.methods.specs.Fields.{is_struct}
 use Rattle.methods.proofs.FieldsLaws.{field_no_row, field_past, field_unskipped, field_stands}
 use Rattle.methods.proofs.FieldsLaws.{field_lost, no_struct, field_other, field_struct}
 use Rattle.methods.proofs.fields.field_at.Goals as goal
@@ -26,7 +24,7 @@ returns-in_err-parts c =
 pub returns-in-Struct : goal.returns-in-Struct
 returns-in-Struct c =
     let stands = field_stands c.in_ok-place.ensures c.if-structs-place.false c.in_ok-at.ensures in
-    field_struct stands (type_found _ _ c.in_ok-parts.ensures.answer) (ap is_struct c.in-Struct.is)
+    field_struct stands (type_found _ _ c.in_ok-parts.ensures.answer) c.in-Struct.is
 
 pub returns-in-Plain : goal.returns-in-Plain
 returns-in-Plain c =

@@ -3,4 +3,4 @@ use Rattle.methods.proofs.FieldsLaws.{Pairing}
 use Rattle.methods.proofs.fields.pairs_of.Given as goal
 
 abbrev pub invariant-loop-i : goal.invariant-loop-i
-invariant-loop-i l = Pairing l.path l.declared l.pairs l.count l.i
+invariant-loop-i l = Pairing l.path l.declared l.pairs l.n l.i
