@@ -78,8 +78,8 @@ fn answer(rt: &impl Print, kind: usize, questions: &mut Questions<'_>)
     }
 }
 
-// Print the answer to a question of the kinds that are lent the most. It stands by itself: in `answer` each question, of
-// whatever kind, would pay at entry for these arrays.
+// Print the answer to a question of the kinds that are lent the most. It stands by itself: in `answer` each question,
+// of whatever kind, would pay at entry for these arrays.
 fn answer_large(rt: &impl Print, kind: usize, questions: &mut Questions<'_>)
     ensures left { TakesNumbers questions.old.left.now questions.new.left.now }
 {
