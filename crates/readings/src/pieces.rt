@@ -19,17 +19,22 @@ pub(crate) fn lay_all(questions: &mut Questions<'_>, count: usize, text: &mut [u
     size
 }
 
-// Put a piece so many times into a text, from a place on. Answers the place behind it.
+// Put a piece so many times into a text, from a place on, as far as it has room: once, and then what stands there
+// again, twice as much at each turn, so that a piece of one byte is no call for each byte. Answers the place behind it.
 fn lay_times(piece: &[u8], times: usize, text: &mut [u8], start: usize) -> usize
     requires { start ≤ length text.old }
     ensures { result ≤ length text.new }
 {
-    let mut at = start;
-    for _ in 0..times {
-        let part = &mut text[at..];
-        let n = piece.len().min(part.len());
-        part[..n].copy_from_slice(&piece[..n]);
-        at += n;
+    let size = piece.len().saturating_mul(times).min(text.len() - start);
+    let mut laid = piece.len().min(size);
+    text[start..start + laid].copy_from_slice(&piece[..laid]);
+    for _ in 0..usize::BITS {
+        let n = laid.min(size - laid);
+        if n == 0 {
+            break;
+        }
+        text.copy_within(start..start + n, start + laid);
+        laid += n;
     }
-    at
+    start + size
 }
