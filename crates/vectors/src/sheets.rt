@@ -21,9 +21,15 @@ pub(crate) fn lower(rt: &impl Print, questions: &mut Questions<'_>)
     let mut lengths = Questions {
         left: questions.record(),
     };
+    lowered(rt, &bytes[..n], lengths.number());
+    print::end(rt);
+}
+
+// `lower_sheet`, with a slice of this length.
+fn lowered(rt: &impl Print, sheet: &[u8], length: usize) {
     let mut words = rooms::words();
-    let words = &mut words[..lengths.number().min(rooms::WORDS)];
-    let method = lower_sheet(&bytes[..n], words);
+    let words = &mut words[..length.min(rooms::WORDS)];
+    let method = lower_sheet(sheet, words);
     print::first(rt, print::number_of(&method));
     let method = method.unwrap_or(SheetMethod {
         ends: [0; Text::RECORDS],
@@ -32,7 +38,6 @@ pub(crate) fn lower(rt: &impl Print, questions: &mut Questions<'_>)
     print::all(rt, &method.ends);
     environments::print_environment(rt, method.env);
     print::all(rt, words);
-    print::end(rt);
 }
 
 // Kind 25, slices for used lifetimes, answers, edges and counts: `borrow_sheet`, lent the first three, what it answers
@@ -92,20 +97,30 @@ pub(crate) fn list(rt: &impl Print, questions: &mut Questions<'_>)
     let mut lengths = Questions {
         left: questions.record(),
     };
-    let n = lengths.number().min(rooms::BYTES);
-    let counted = lengths.number().min(rooms::WORDS);
+    let length = lengths.number();
+    let counted = lengths.number();
+    listed(rt, sheet, length);
+    exported_listing(rt, sheet, length, counted);
+    print::end(rt);
+}
+
+// `listing`, with a slice of this length.
+fn listed(rt: &impl Print, sheet: &[u8], length: usize) {
     let mut out = rooms::bytes();
-    let lent = &mut out[..n];
+    let lent = &mut out[..length.min(rooms::BYTES)];
     let listed = listing(sheet, lent);
     print::first(rt, print::number_of(&listed));
     print::next(rt, listed.unwrap_or(0));
     print::bytes(rt, lent);
+}
+
+// `borrows_listing`, with slices of these lengths.
+fn exported_listing(rt: &impl Print, sheet: &[u8], length: usize, counted: usize) {
     let mut out = rooms::bytes();
     let mut counts = rooms::words();
-    let lent = &mut out[..n];
-    let counts = &mut counts[..counted];
+    let lent = &mut out[..length.min(rooms::BYTES)];
+    let counts = &mut counts[..counted.min(rooms::WORDS)];
     print::next(rt, borrows_listing(sheet, lent, counts));
     print::bytes(rt, lent);
     print::all(rt, counts);
-    print::end(rt);
 }

@@ -45,20 +45,30 @@ pub(crate) fn laid(rt: &impl Print, questions: &mut Questions<'_>)
 {
     let words = questions.record();
     let ends = questions.record();
-    let n = questions.number().min(rooms::BYTES);
-    let counted = questions.number().min(rooms::WORDS);
+    let length = questions.number();
+    let counted = questions.number();
+    written(rt, words, ends, length);
+    exported(rt, words, ends, length, counted);
+    print::end(rt);
+}
+
+// `write_laid`, with a slice of this length.
+fn written(rt: &impl Print, words: &[usize], ends: &[usize], length: usize) {
     let mut out = rooms::bytes();
-    let lent = &mut out[..n];
+    let lent = &mut out[..length.min(rooms::BYTES)];
     let written = write_laid(words, ends, lent);
     print::first(rt, print::number_of(&written));
     print::next(rt, written.unwrap_or(0));
     print::bytes(rt, lent);
+}
+
+// `borrows_write_sheet`, with slices of these lengths.
+fn exported(rt: &impl Print, words: &[usize], ends: &[usize], length: usize, counted: usize) {
     let mut out = rooms::bytes();
     let mut counts = rooms::words();
-    let lent = &mut out[..n];
-    let counts = &mut counts[..counted];
+    let lent = &mut out[..length.min(rooms::BYTES)];
+    let counts = &mut counts[..counted.min(rooms::WORDS)];
     print::next(rt, borrows_write_sheet(words, ends, lent, counts));
     print::bytes(rt, lent);
     print::all(rt, counts);
-    print::end(rt);
 }
