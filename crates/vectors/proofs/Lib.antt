@@ -1,1 +1,2 @@
+-- Laws of what is left of the questions.
 pub mod LeftLaws

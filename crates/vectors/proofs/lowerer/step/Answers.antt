@@ -1,3 +1,4 @@
+-- `step` leaves what was left, from some place on: records, a lowerer and numbers are taken off in turn.
 use Rattle.vectors.proofs.LeftLaws.{takes_more}
 use Rattle.vectors.proofs.lowerer.step.Goals as goal
 

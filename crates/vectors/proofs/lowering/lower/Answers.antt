@@ -1,3 +1,4 @@
+-- `lower` leaves what was left, from some place on: six records and three lengths are taken off in turn.
 use Rattle.vectors.proofs.LeftLaws.{takes_more}
 use Rattle.vectors.proofs.lowering.lower.Goals as goal
 

@@ -1,3 +1,4 @@
+-- `put` leaves what was left, from some place on: numbers and a record are taken off in turn.
 use Rattle.vectors.proofs.LeftLaws.{takes_more}
 use Rattle.vectors.proofs.texts.put.Goals as goal
 
