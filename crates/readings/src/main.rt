@@ -15,14 +15,14 @@ mod print;
 mod questions;
 
 ghost use Rattle.std.specs.Prelude.{◌≡◌, length};
-ghost use Rattle.readings.specs.Left.{TakesBytes};
+ghost use Rattle.input.specs.Left.{TakesFront};
 
 use input::{read_input, room};
 use questions::Questions;
 
 // Print the answer to the first question, whose LF is read, with room for its text.
 fn answer(rt: &impl Print, questions: &mut Questions<'_>, text: &mut [u8])
-    ensures left { TakesBytes questions.old.left.now questions.new.left.now }
+    ensures left { TakesFront questions.old.left.now questions.new.left.now }
 {
     let kind = questions.number();
     let length = questions.number();

@@ -1,13 +1,13 @@
 // A text put together from the pieces of a question, so that a long one takes few bytes.
 ghost use Rattle.std.specs.Prelude.{◌≤◌, length};
-ghost use Rattle.readings.specs.Left.{TakesBytes};
+ghost use Rattle.input.specs.Left.{TakesFront};
 
 use super::questions::Questions;
 
 // Put so many pieces one behind another into a text, as far as it has room. Answers the text's size.
 pub(crate) fn lay_all(questions: &mut Questions<'_>, count: usize, text: &mut [u8]) -> usize
     ensures size_in_bounds { result ≤ length text.new }
-    ensures left { TakesBytes questions.old.left.now questions.new.left.now }
+    ensures left { TakesFront questions.old.left.now questions.new.left.now }
 {
     let mut size = 0;
     for _ in 0..count {

@@ -1,6 +1,6 @@
 // Reading: what is left of the questions, whose numbers and bytes are taken off the front.
 ghost use Rattle.std.specs.Prelude.{◌≤◌};
-ghost use Rattle.readings.specs.Left.{TakesBytes};
+ghost use Rattle.input.specs.Left.{TakesFront};
 
 #[derive(Clone, Copy)]
 pub(crate) struct Questions<'a> {
@@ -10,7 +10,7 @@ pub(crate) struct Questions<'a> {
 impl<'a> Questions<'a> {
     // So many bytes; those that there are where bytes are missing.
     pub(crate) fn bytes(&mut self, count: usize) -> &'a [u8]
-        ensures left { TakesBytes self.old.left.now self.new.left.now }
+        ensures left { TakesFront self.old.left.now self.new.left.now }
     {
         let (taken, left) = self.left.split_at(count.min(self.left.len()));
         self.left = left;
@@ -19,7 +19,7 @@ impl<'a> Questions<'a> {
 
     // A number, and with it the byte that ends it; from 131,070 on, 131,072.
     pub(crate) fn number(&mut self) -> usize
-        ensures left { TakesBytes self.old.left.now self.new.left.now }
+        ensures left { TakesFront self.old.left.now self.new.left.now }
     {
         let all = self.left.len();
         let count = self

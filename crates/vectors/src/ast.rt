@@ -3,7 +3,7 @@
 // An environment made by hand is asked for as: how many names are declared, the record of names, how many bounds are
 // pushed, the record of pairs longer, shorter by number. The two counts are taken as they are, beyond every limit too;
 // what the records leave of the arrays is 0.
-ghost use Rattle.vectors.specs.Left.{TakesNumbers};
+ghost use Rattle.input.specs.Left.{TakesFront};
 
 use super::questions::Questions;
 use super::{bounds, print, rooms};
@@ -18,7 +18,7 @@ const ROOM: usize = 40;
 // bounds there are, the bounds, and for each name the list of those that outlive it and the list of those that it
 // outlives, each with its length in front.
 pub(crate) fn from_method_item(rt: &impl Print, questions: &mut Questions<'_>)
-    ensures left { TakesNumbers questions.old.left.now questions.new.left.now }
+    ensures left { TakesFront questions.old.left.now questions.new.left.now }
 {
     let names = questions.record();
     let bounds = questions.record();
@@ -34,7 +34,7 @@ pub(crate) fn from_method_item(rt: &impl Print, questions: &mut Questions<'_>)
 // for `longer_than` and for `shorter_than` the refusal's number or 0, the count, and all words of the slice, whose
 // words were 99.
 pub(crate) fn lists(rt: &impl Print, questions: &mut Questions<'_>)
-    ensures left { TakesNumbers questions.old.left.now questions.new.left.now }
+    ensures left { TakesFront questions.old.left.now questions.new.left.now }
 {
     let env = made_by_hand(questions);
     let name = questions.number();
@@ -54,7 +54,7 @@ pub(crate) fn lists(rt: &impl Print, questions: &mut Questions<'_>)
 // Kind 6: an environment made by hand, and the record types. `extend_implicit_lifetime_bounds`: the refusal's number or
 // 0, and the whole environment; refused, as it was.
 pub(crate) fn extend_implicit_lifetime_bounds(rt: &impl Print, questions: &mut Questions<'_>)
-    ensures left { TakesNumbers questions.old.left.now questions.new.left.now }
+    ensures left { TakesFront questions.old.left.now questions.new.left.now }
 {
     let env = made_by_hand(questions);
     let extended = env.extend_implicit_lifetime_bounds(questions.record());
@@ -65,7 +65,7 @@ pub(crate) fn extend_implicit_lifetime_bounds(rt: &impl Print, questions: &mut Q
 
 // An environment made by hand.
 pub(crate) fn made_by_hand(questions: &mut Questions<'_>) -> LifetimeEnv
-    ensures left { TakesNumbers questions.old.left.now questions.new.left.now }
+    ensures left { TakesFront questions.old.left.now questions.new.left.now }
 {
     let named = questions.number();
     let words = questions.record();

@@ -1,5 +1,5 @@
 // Questions for the crate `borrowing_param` that borrow a whole method.
-ghost use Rattle.vectors.specs.Left.{TakesNumbers};
+ghost use Rattle.input.specs.Left.{TakesFront};
 
 use super::questions::Questions;
 use super::{lowered, print, rooms};
@@ -9,7 +9,7 @@ use borrowing_param::{Borrows, borrow_method};
 // Kind 23: a method made by hand, and the record of how long the three lent slices are: used lifetimes, answers, edges.
 // `borrow_method`: what it answers, and all words of the slices.
 pub(crate) fn borrow(rt: &impl Print, questions: &mut Questions<'_>)
-    ensures left { TakesNumbers questions.old.left.now questions.new.left.now }
+    ensures left { TakesFront questions.old.left.now questions.new.left.now }
 {
     let m = lowered::made_by_hand(questions);
     let mut lengths = Questions {

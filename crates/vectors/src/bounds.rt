@@ -1,5 +1,5 @@
 // Bounds made by hand, asked about by themselves, and printed: what the AST's environments and those of methods share.
-ghost use Rattle.vectors.specs.Left.{TakesNumbers};
+ghost use Rattle.input.specs.Left.{TakesFront};
 
 use super::print;
 use super::questions::Questions;
@@ -8,7 +8,7 @@ use lifetimes::{Bound, Bounds, Lifetime};
 // Kind 31: how many lifetimes there are, how many bounds are pushed, taken as it is, and the record of pairs longer,
 // shorter. `Bounds::check`: the refusal's number or 0.
 pub(crate) fn check(rt: &impl Print, questions: &mut Questions<'_>)
-    ensures left { TakesNumbers questions.old.left.now questions.new.left.now }
+    ensures left { TakesFront questions.old.left.now questions.new.left.now }
 {
     let lifetimes = questions.number();
     let bounds = made_by_hand(questions);
@@ -18,7 +18,7 @@ pub(crate) fn check(rt: &impl Print, questions: &mut Questions<'_>)
 // Bounds of which so many count as pushed, whatever their number is; their places hold the pairs of a record, longer
 // and shorter, and 0 0 behind them.
 pub(crate) fn made_by_hand(questions: &mut Questions<'_>) -> Bounds
-    ensures left { TakesNumbers questions.old.left.now questions.new.left.now }
+    ensures left { TakesFront questions.old.left.now questions.new.left.now }
 {
     let pushed = questions.number();
     let pairs = questions.record();

@@ -4,7 +4,7 @@
 // A method's environment made by hand is asked for as: how many lifetimes are declared, how many there are, how many
 // bounds are pushed, the record of pairs longer, shorter. The three numbers are taken as they are, beyond every limit
 // too; what the record leaves of the bounds is 0 0.
-ghost use Rattle.vectors.specs.Left.{TakesNumbers};
+ghost use Rattle.input.specs.Left.{TakesFront};
 
 use super::questions::Questions;
 use super::{ast, bounds, print};
@@ -13,7 +13,7 @@ use lifetimes::{Bounds, Lifetime, LifetimeEnv};
 // Kind 17: how many lifetimes are declared, how many there are, and the record of pairs. `LifetimeEnv::new`: the
 // refusal's number or 0, and the whole environment; refused, one of no lifetimes.
 pub(crate) fn new(rt: &impl Print, questions: &mut Questions<'_>)
-    ensures left { TakesNumbers questions.old.left.now questions.new.left.now }
+    ensures left { TakesFront questions.old.left.now questions.new.left.now }
 {
     let declared = questions.number();
     let count = questions.number();
@@ -27,7 +27,7 @@ pub(crate) fn new(rt: &impl Print, questions: &mut Questions<'_>)
 // the whole environment afterwards; refused, as it was. Behind it, of the longer one and of the shorter one, whether
 // `get_bounds` of the environment as it was knows it.
 pub(crate) fn push_bound(rt: &impl Print, questions: &mut Questions<'_>)
-    ensures left { TakesNumbers questions.old.left.now questions.new.left.now }
+    ensures left { TakesFront questions.old.left.now questions.new.left.now }
 {
     let env = made_by_hand(questions);
     let longer = Lifetime::new(questions.number());
@@ -53,7 +53,7 @@ pub(crate) fn none(rt: &impl Print) {
 
 // An environment made by hand.
 pub(crate) fn made_by_hand(questions: &mut Questions<'_>) -> LifetimeEnv
-    ensures left { TakesNumbers questions.old.left.now questions.new.left.now }
+    ensures left { TakesFront questions.old.left.now questions.new.left.now }
 {
     let declared = questions.number();
     let count = questions.number();

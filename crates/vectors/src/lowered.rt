@@ -1,5 +1,5 @@
 // Questions for the crates `hir_types` and `methods`, and methods made by hand.
-ghost use Rattle.vectors.specs.Left.{TakesNumbers};
+ghost use Rattle.input.specs.Left.{TakesFront};
 
 use super::questions::Questions;
 use super::{environments, print};
@@ -19,7 +19,7 @@ pub(crate) struct Method<'a> {
 
 // A method made by hand.
 pub(crate) fn made_by_hand<'a>(questions: &mut Questions<'a>) -> Method<'a>
-    ensures left { TakesNumbers questions.old.left.now questions.new.left.now }
+    ensures left { TakesFront questions.old.left.now questions.new.left.now }
 {
     let env = environments::made_by_hand(questions);
     let structs = questions.record();
@@ -38,7 +38,7 @@ pub(crate) fn made_by_hand<'a>(questions: &mut Questions<'a>) -> Method<'a>
 // Kind 10: a method made by hand. `check_method`: the refusal's number or 0. Then `used_method_lifetimes`: the
 // refusal's number; or 0 and the set, ascending.
 pub(crate) fn used_method_lifetimes(rt: &impl Print, questions: &mut Questions<'_>)
-    ensures left { TakesNumbers questions.old.left.now questions.new.left.now }
+    ensures left { TakesFront questions.old.left.now questions.new.left.now }
 {
     let m = made_by_hand(questions);
     let verdict = methods::check_method(m.env, m.structs, m.params, m.output, m.force);
@@ -52,7 +52,7 @@ pub(crate) fn used_method_lifetimes(rt: &impl Print, questions: &mut Questions<'
 // Kind 11: record structs, a row, a field. `compute_for_struct_field`: the refusal's number; or 0 and how many pairs
 // there are, 0 for none, and they.
 pub(crate) fn compute_for_struct_field(rt: &impl Print, questions: &mut Questions<'_>)
-    ensures left { TakesNumbers questions.old.left.now questions.new.left.now }
+    ensures left { TakesFront questions.old.left.now questions.new.left.now }
 {
     let structs = questions.record();
     let row = questions.number();
@@ -79,7 +79,7 @@ fn print_pairs(rt: &impl Print, lifetimes: FieldLifetimes) {
 // Kind 12: a record, a lowered type, and an index. `type_lifetimes`: the refusal's number; or 0, and 0 for none, 1 for
 // a static lifetime, 2 and the number of another.
 pub(crate) fn type_lifetimes(rt: &impl Print, questions: &mut Questions<'_>)
-    ensures left { TakesNumbers questions.old.left.now questions.new.left.now }
+    ensures left { TakesFront questions.old.left.now questions.new.left.now }
 {
     let words = questions.record();
     let found = hir_types::type_lifetimes(words, questions.number());

@@ -3,7 +3,7 @@
 // Such a lowerer is asked for as: its source (0 none, 1 `&self`, 2 one position, else several) and the lowered word of
 // its lifetime, how many lifetimes there are, whether the `Self` type was there already (0 no), how many lifetimes it
 // had, and the record of their lowered words, the first 16 of them; the others are static.
-ghost use Rattle.vectors.specs.Left.{TakesNumbers};
+ghost use Rattle.input.specs.Left.{TakesFront};
 
 use super::questions::Questions;
 use super::{ast, print};
@@ -18,7 +18,7 @@ use records::MAX_LIST;
 // many lifetimes, 1 if the `Self` type was there, its lifetimes; and those of the step. A list of lifetimes is how many
 // it has, and its 16 words. Refused, the lowerer is as it was, and the step has no lifetimes.
 pub(crate) fn step(rt: &impl Print, questions: &mut Questions<'_>)
-    ensures left { TakesNumbers questions.old.left.now questions.new.left.now }
+    ensures left { TakesFront questions.old.left.now questions.new.left.now }
 {
     let names = questions.record();
     let lowerer = made_by_hand(questions);
@@ -39,7 +39,7 @@ pub(crate) fn step(rt: &impl Print, questions: &mut Questions<'_>)
 // Kind 15: a lowerer made by hand, and an AST environment made by hand as in ast.rt. `finish`: the refusal's number or
 // 0, and how many lifetimes are declared, how many there are, how many bounds are pushed; refused, none.
 pub(crate) fn finish(rt: &impl Print, questions: &mut Questions<'_>)
-    ensures left { TakesNumbers questions.old.left.now questions.new.left.now }
+    ensures left { TakesFront questions.old.left.now questions.new.left.now }
 {
     let lowerer = made_by_hand(questions);
     let made = elision::finish(lowerer, ast::made_by_hand(questions));
@@ -54,7 +54,7 @@ pub(crate) fn finish(rt: &impl Print, questions: &mut Questions<'_>)
 // Kind 21: record of names, and record self, of at most one word. `no_self_ref` where self is empty, else
 // `lower_self_ref`: what kind 14 prints; refused, the lowerer of `no_self_ref`.
 pub(crate) fn start(rt: &impl Print, questions: &mut Questions<'_>)
-    ensures left { TakesNumbers questions.old.left.now questions.new.left.now }
+    ensures left { TakesFront questions.old.left.now questions.new.left.now }
 {
     let names = questions.record();
     let receiver = questions.record();
@@ -70,7 +70,7 @@ pub(crate) fn start(rt: &impl Print, questions: &mut Questions<'_>)
 // Kind 22: record of names, a lowerer made by hand, and the records of two steps' words. `input_then_output`, and in it
 // `Lowerer::step` on a lent lowerer twice: the refusal's number or 0 and the lifetimes, both of the second step.
 pub(crate) fn input_then_output(rt: &impl Print, questions: &mut Questions<'_>)
-    ensures left { TakesNumbers questions.old.left.now questions.new.left.now }
+    ensures left { TakesFront questions.old.left.now questions.new.left.now }
 {
     let names = questions.record();
     let lowerer = made_by_hand(questions);
@@ -83,7 +83,7 @@ pub(crate) fn input_then_output(rt: &impl Print, questions: &mut Questions<'_>)
 
 // A lowerer made by hand.
 fn made_by_hand(questions: &mut Questions<'_>) -> Lowerer
-    ensures left { TakesNumbers questions.old.left.now questions.new.left.now }
+    ensures left { TakesFront questions.old.left.now questions.new.left.now }
 {
     let code = questions.number();
     let lifetime = MaybeStatic::from_word(questions.number());

@@ -1,5 +1,5 @@
 // Questions for the crate `elision`.
-ghost use Rattle.vectors.specs.Left.{TakesNumbers};
+ghost use Rattle.input.specs.Left.{TakesFront};
 
 use super::questions::Questions;
 use super::{print, rooms};
@@ -14,7 +14,7 @@ const OWN: usize = 4;
 // 0, the three counts, how many lifetimes are declared and how many there are, and all words of the slices, which were
 // 99. Refused, the five numbers are 0.
 pub(crate) fn lower(rt: &impl Print, questions: &mut Questions<'_>)
-    ensures left { TakesNumbers questions.old.left.now questions.new.left.now }
+    ensures left { TakesFront questions.old.left.now questions.new.left.now }
 {
     let names = questions.record();
     let bounds = questions.record();

@@ -29,7 +29,7 @@ mod words;
 mod writes;
 
 ghost use Rattle.std.specs.Prelude.{◌≡◌, length};
-ghost use Rattle.vectors.specs.Left.{TakesNumbers};
+ghost use Rattle.input.specs.Left.{TakesFront};
 
 use ast_lifetimes::{bounds_shape, names_shape, types_shape};
 use elision::{self_shape, steps_shape};
@@ -39,7 +39,7 @@ use questions::Questions;
 // Print the answer to the first question, whose kind is read. Behind a kind that is not known all is taken off, so that
 // the answers stop. The kinds are numbers and no enum: their names would stand twice, there and here.
 fn answer(rt: &impl Print, kind: usize, questions: &mut Questions<'_>)
-    ensures left { TakesNumbers questions.old.left.now questions.new.left.now }
+    ensures left { TakesFront questions.old.left.now questions.new.left.now }
 {
     match kind {
         1 => ast::from_method_item(rt, questions),
@@ -81,7 +81,7 @@ fn answer(rt: &impl Print, kind: usize, questions: &mut Questions<'_>)
 // Print the answer to a question of the kinds that are lent the most. It stands by itself: in `answer` each question,
 // of whatever kind, would pay at entry for these arrays.
 fn answer_large(rt: &impl Print, kind: usize, questions: &mut Questions<'_>)
-    ensures left { TakesNumbers questions.old.left.now questions.new.left.now }
+    ensures left { TakesFront questions.old.left.now questions.new.left.now }
 {
     match kind {
         23 => borrows::borrow(rt, questions),

@@ -1,5 +1,5 @@
 // Questions for the crate `lifetimes`.
-ghost use Rattle.vectors.specs.Left.{TakesNumbers};
+ghost use Rattle.input.specs.Left.{TakesFront};
 
 use super::questions::Questions;
 use super::{environments, print};
@@ -10,7 +10,7 @@ use lifetimes::{Lifetime, LifetimeEnv};
 // up to the count the list of `all_longer_lifetimes` and the list of `all_shorter_lifetimes`, each with its length in
 // front; for the one at the count twice the number by which it is refused.
 pub(crate) fn all_lists(rt: &impl Print, questions: &mut Questions<'_>)
-    ensures left { TakesNumbers questions.old.left.now questions.new.left.now }
+    ensures left { TakesFront questions.old.left.now questions.new.left.now }
 {
     let env = environments::made_by_hand(questions);
     let verdict = env.check();

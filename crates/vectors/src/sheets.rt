@@ -1,7 +1,7 @@
 // Questions about whole sheets, for the crates `borrowing_param`, `listing` and `exports`.
 //
 // Each is the record of the sheet's bytes, and the record of how long the lent slices are.
-ghost use Rattle.vectors.specs.Left.{TakesNumbers};
+ghost use Rattle.input.specs.Left.{TakesFront};
 
 use super::questions::Questions;
 use super::{borrows, environments, print, rooms, scan};
@@ -14,7 +14,7 @@ use sheet::Text;
 // Kind 24, one slice for words: `lower_sheet`. The refusal's number or 0, the ten ends, the whole environment, and all
 // words of the slice. Refused, the ends are 0, and there is no lifetime.
 pub(crate) fn lower(rt: &impl Print, questions: &mut Questions<'_>)
-    ensures left { TakesNumbers questions.old.left.now questions.new.left.now }
+    ensures left { TakesFront questions.old.left.now questions.new.left.now }
 {
     let mut bytes = rooms::bytes();
     let n = scan::lay(questions.record(), &mut bytes);
@@ -43,7 +43,7 @@ fn lowered(rt: &impl Print, sheet: &[u8], length: usize) {
 // Kind 25, slices for used lifetimes, answers, edges and counts: `borrow_sheet`, lent the first three, what it answers
 // and all words of the slices; then `borrows_sheet`, its status and all words of the four.
 pub(crate) fn borrow(rt: &impl Print, questions: &mut Questions<'_>)
-    ensures left { TakesNumbers questions.old.left.now questions.new.left.now }
+    ensures left { TakesFront questions.old.left.now questions.new.left.now }
 {
     let mut bytes = rooms::bytes();
     let n = scan::lay(questions.record(), &mut bytes);
@@ -89,7 +89,7 @@ fn exported(rt: &impl Print, sheet: &[u8], given: Questions<'_>) {
 // Kind 26, a slice for bytes and one for their number: `listing`, lent the first, the refusal's number or 0, the count
 // and all bytes of the slice; then `borrows_listing`, its status, and all bytes and words of both.
 pub(crate) fn list(rt: &impl Print, questions: &mut Questions<'_>)
-    ensures left { TakesNumbers questions.old.left.now questions.new.left.now }
+    ensures left { TakesFront questions.old.left.now questions.new.left.now }
 {
     let mut bytes = rooms::bytes();
     let n = scan::lay(questions.record(), &mut bytes);

@@ -1,7 +1,7 @@
 // Questions for the crate `text`: its printers, and its reader of one number.
 //
 // Bytes are asked for as a record of words, each by its remainder by 256; the first 16,384 are taken.
-ghost use Rattle.vectors.specs.Left.{TakesNumbers};
+ghost use Rattle.input.specs.Left.{TakesFront};
 
 use super::questions::Questions;
 use super::{print, rooms, scan};
@@ -12,7 +12,7 @@ use text::{put_following, put_line, put_number, put_padded, put_text, read_numbe
 // width for 2, the record for the others; for 0 it is of bytes. The place that is answered, and all bytes of the slice,
 // which were dots.
 pub(crate) fn put(rt: &impl Print, questions: &mut Questions<'_>)
-    ensures left { TakesNumbers questions.old.left.now questions.new.left.now }
+    ensures left { TakesFront questions.old.left.now questions.new.left.now }
 {
     let which = questions.number();
     let at = questions.number();
@@ -44,7 +44,7 @@ fn put_bytes(out: &mut [u8], at: usize, given: &[usize]) -> usize {
 // Kind 29: a record of bytes, a place, and a limit. `read_number`: 0 for nothing; or 1, the value, and the place behind
 // its digits.
 pub(crate) fn read(rt: &impl Print, questions: &mut Questions<'_>)
-    ensures left { TakesNumbers questions.old.left.now questions.new.left.now }
+    ensures left { TakesFront questions.old.left.now questions.new.left.now }
 {
     let mut bytes = rooms::bytes();
     let n = scan::lay(questions.record(), &mut bytes);

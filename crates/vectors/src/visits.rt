@@ -1,5 +1,5 @@
 // Questions for the crate `borrowing_param`.
-ghost use Rattle.vectors.specs.Left.{TakesNumbers};
+ghost use Rattle.input.specs.Left.{TakesFront};
 
 use super::questions::Questions;
 use super::{lowered, print, rooms, words};
@@ -11,7 +11,7 @@ use lifetimes::{LifetimeEnv, set};
 // visit. The number of `new` if it refuses; else 0, for each visit what it answers, then how many edges are stored and
 // all words of the slice, which were 99.
 pub(crate) fn visit_params(rt: &impl Print, questions: &mut Questions<'_>)
-    ensures left { TakesNumbers questions.old.left.now questions.new.left.now }
+    ensures left { TakesFront questions.old.left.now questions.new.left.now }
 {
     let m = lowered::made_by_hand(questions);
     let length = questions.number();
@@ -73,7 +73,7 @@ fn print_info(rt: &impl Print, answer: Result<ParamBorrowInfo, Refusal>) {
 
 // Kind 27: a record of words, and a place. `edge_at`: 0 for none; or 1 and the values of the edge.
 pub(crate) fn edge(rt: &impl Print, questions: &mut Questions<'_>)
-    ensures left { TakesNumbers questions.old.left.now questions.new.left.now }
+    ensures left { TakesFront questions.old.left.now questions.new.left.now }
 {
     let edges = questions.record();
     match edge_at(edges, questions.number()) {
@@ -94,7 +94,7 @@ pub(crate) fn edge(rt: &impl Print, questions: &mut Questions<'_>)
 // of the used lifetimes as a number, how many edges are stored, and the drawn sets up to the last that is not empty,
 // with their number in front.
 pub(crate) fn from_sets(rt: &impl Print, questions: &mut Questions<'_>)
-    ensures left { TakesNumbers questions.old.left.now questions.new.left.now }
+    ensures left { TakesFront questions.old.left.now questions.new.left.now }
 {
     let used = words::set_of(questions.record());
     let mut sets = [set::EMPTY; LifetimeEnv::MAX_LIFETIMES];

@@ -1,6 +1,6 @@
 // Questions for the crates `lifetimes` and `records`: lists that a call copies to one slice, and the words of
 // lifetimes.
-ghost use Rattle.vectors.specs.Left.{TakesNumbers};
+ghost use Rattle.input.specs.Left.{TakesFront};
 
 use super::questions::Questions;
 use super::{print, rooms};
@@ -11,7 +11,7 @@ use records::copy_words;
 // of the record's lifetimes, those below 64; the copy is of so many of the record's words as the number says. The
 // refusal's number or 0, the count, and all words of the slice.
 pub(crate) fn list(rt: &impl Print, questions: &mut Questions<'_>)
-    ensures left { TakesNumbers questions.old.left.now questions.new.left.now }
+    ensures left { TakesFront questions.old.left.now questions.new.left.now }
 {
     let which = questions.number();
     let given = questions.record();
@@ -32,7 +32,7 @@ pub(crate) fn list(rt: &impl Print, questions: &mut Questions<'_>)
 // Kind 20: 0 for static, else the lifetime with the number behind it. Its lowered word as a lifetime of a method, and
 // as one of a definition: 0 and the word, or 1 and 0 where it has none.
 pub(crate) fn word(rt: &impl Print, questions: &mut Questions<'_>)
-    ensures left { TakesNumbers questions.old.left.now questions.new.left.now }
+    ensures left { TakesFront questions.old.left.now questions.new.left.now }
 {
     let code = questions.number();
     let number = questions.number();

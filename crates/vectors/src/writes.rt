@@ -2,7 +2,7 @@
 // `sheet`, and for the call of `exports` that writes.
 //
 // Lent are at most 16,384 bytes, which were dots, and at most 8,192 words, each 99.
-ghost use Rattle.vectors.specs.Left.{TakesNumbers};
+ghost use Rattle.input.specs.Left.{TakesFront};
 
 use super::questions::Questions;
 use super::{print, rooms};
@@ -13,7 +13,7 @@ use sheet_writer::{write_laid, write_sheet};
 // Kind 33: the ten records of a sheet, and how long the lent slice is. `sheet_shape`: the refusal's number or 0. Then
 // `write_sheet`: the refusal's number or 0, the count, and all bytes of the slice.
 pub(crate) fn ten(rt: &impl Print, questions: &mut Questions<'_>)
-    ensures left { TakesNumbers questions.old.left.now questions.new.left.now }
+    ensures left { TakesFront questions.old.left.now questions.new.left.now }
 {
     let records = Records {
         names: questions.record(),
@@ -41,7 +41,7 @@ pub(crate) fn ten(rt: &impl Print, questions: &mut Questions<'_>)
 // `write_laid`, lent the first: the refusal's number or 0, the count, and all bytes of the slice. Then
 // `borrows_write_sheet`: its status, and all bytes and words of both.
 pub(crate) fn laid(rt: &impl Print, questions: &mut Questions<'_>)
-    ensures left { TakesNumbers questions.old.left.now questions.new.left.now }
+    ensures left { TakesFront questions.old.left.now questions.new.left.now }
 {
     let words = questions.record();
     let ends = questions.record();

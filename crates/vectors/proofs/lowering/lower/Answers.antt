@@ -1,5 +1,5 @@
 -- `lower` leaves what was left, from some place on: six records and three lengths are taken off in turn.
-use Rattle.vectors.proofs.LeftLaws.{takes_more}
+use Rattle.input.proofs.LeftLaws.{takes_more}
 use Rattle.vectors.proofs.lowering.lower.Goals as goal
 
 pub returns : goal.returns

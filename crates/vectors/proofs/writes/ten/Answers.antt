@@ -1,5 +1,5 @@
 -- `ten` leaves what was left, from some place on: ten records and a length are taken off in turn.
-use Rattle.vectors.proofs.LeftLaws.{takes_more}
+use Rattle.input.proofs.LeftLaws.{takes_more}
 use Rattle.vectors.proofs.writes.ten.Goals as goal
 
 pub returns : goal.returns

@@ -1,0 +1,2 @@
+-- Laws for the programs.
+pub mod LeftLaws

@@ -1,0 +1,2 @@
+-- Definitions that private contracts of the programs cite.
+pub mod Left

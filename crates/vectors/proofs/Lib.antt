@@ -1,2 +1,0 @@
--- Laws of what is left of the questions.
-pub mod LeftLaws

@@ -1,2 +1,0 @@
--- Definitions that private contracts cite.
-pub mod Left
